@@ -1,0 +1,109 @@
+/*
+ * nengapiko.h - HART frames (HCF_SPEC-081 revision 9.0), written and read.
+ *
+ * Link with the archive of the crate frame_c. Both functions take every
+ * argument that the rules below allow, stay inside the buffers that they are
+ * lent, and return. They keep no state, allocate nothing and may be called
+ * from several threads at once.
+ *
+ * Buffers. Each buffer belongs to the caller before, during and after the
+ * call; nothing is kept of it. A pointer is never NULL, also where its length
+ * is 0, and points to as many elements as its length says. A buffer that is
+ * written does not overlap another argument of the same call.
+ *
+ * Refusals. Both functions return 0, or the number of the lowest condition
+ * below that applies. After a refusal every buffer is as it was.
+ */
+#ifndef NENGAPIKO_H
+#define NENGAPIKO_H
+
+#include <stdbool.h>
+#include <stddef.h>
+#include <stdint.h>
+
+#ifdef __cplusplus
+extern "C" {
+#endif
+
+/* The frame types, as the delimiter's bits 2 to 0 carry them. */
+enum nengapiko_type {
+    NENGAPIKO_BACK = 1, /* burst */
+    NENGAPIKO_STX = 2,  /* a master's request */
+    NENGAPIKO_ACK = 6   /* a device's answer */
+};
+
+/* What a function returns. */
+enum nengapiko_answer {
+    NENGAPIKO_TAKEN = 0,           /* written, or read */
+    NENGAPIKO_PREAMBLE_LENGTH = 3, /* write: preamble outside 5 to 20 */
+    NENGAPIKO_ADDRESS = 4,         /* write: polling address above 63, or unique address above 38 bits */
+    NENGAPIKO_DATA_LONG = 6,       /* write: more than 255 data bytes */
+    NENGAPIKO_DATA_LENGTH = 9,     /* write: an ACK or BACK with fewer than 2 data bytes */
+    NENGAPIKO_FEW_PREAMBLES = 11,  /* read: fewer than two 0xFF in front */
+    NENGAPIKO_NO_DELIMITER = 12,   /* write: type not 2, 6 or 1; read: the byte behind the preamble is no delimiter */
+    NENGAPIKO_ENDS_EARLY = 13,     /* read: the bytes end before the frame does */
+    NENGAPIKO_UNSOUND = 14,        /* read: an ACK or BACK with count below 2, else a wrong check byte */
+    NENGAPIKO_BUFFER_SHORT = 15    /* write: the frame does not fit from the place named */
+};
+
+/* The longest frame, in bytes: 20 preambles, a long address, 255 data bytes. */
+enum { NENGAPIKO_LONGEST_FRAME = 284 };
+
+/* Where each number of a frame stands in the array that a read fills. */
+enum nengapiko_field {
+    NENGAPIKO_PREAMBLE = 0,  /* how many 0xFF stand in front of the delimiter, 2 or more */
+    NENGAPIKO_TYPE = 1,      /* an enum nengapiko_type */
+    NENGAPIKO_LONG = 2,      /* 1 for a unique address, 0 for a polling address */
+    NENGAPIKO_PRIMARY = 3,   /* the master bit: 1 for the primary master */
+    NENGAPIKO_BURST = 4,     /* the burst flag */
+    NENGAPIKO_ADDRESSED = 5, /* the polling address, 6 bits, or the unique address, 38 bits */
+    NENGAPIKO_EXPANSION = 6, /* how many expansion bytes stand behind the address, 0 to 3 */
+    NENGAPIKO_COMMAND = 7,   /* the command, 0 to 255 */
+    NENGAPIKO_START = 8,     /* where the data begins in the bytes that were read */
+    NENGAPIKO_COUNT = 9,     /* how many data bytes there are, 0 to 255 */
+    NENGAPIKO_END = 10,      /* the place behind the check byte, where another frame may begin */
+    NENGAPIKO_FIELDS = 11    /* how many numbers there are */
+};
+
+/*
+ * Writes a frame into buffer[place] and the bytes behind it, and no other.
+ *
+ *   preamble      how many 0xFF go in front, 5 to 20
+ *   type          NENGAPIKO_STX, NENGAPIKO_ACK or NENGAPIKO_BACK
+ *   long_address  true for a unique address (5 bytes), false for a polling address (1 byte)
+ *   primary       the master bit: true for the primary master
+ *   burst         the burst flag
+ *   address       0 to 63 for a polling address, 0 to 2^38 - 1 for a unique one; unique 0 is broadcast
+ *   command       any
+ *   data, count   the data bytes: 0 to 255, at least 2 for ACK and BACK
+ *   buffer, size  where the frame goes, and the buffer's whole size
+ *   place         where in the buffer the frame begins
+ *   end           set to the place behind the frame's check byte; left as it was by a refusal
+ *
+ * Returns 0, 3, 4, 6, 9, 12 or 15.
+ */
+uint32_t nengapiko_write(size_t preamble, uint8_t type, bool long_address,
+                         bool primary, bool burst, uint64_t address,
+                         uint8_t command, const uint8_t *data, size_t count,
+                         uint8_t *buffer, size_t size, size_t place,
+                         size_t *end);
+
+/*
+ * Reads the frame at the front of some bytes. Bytes behind its end are not looked at.
+ *
+ *   bytes, size   what was received, from the preamble on
+ *   fields        NENGAPIKO_FIELDS numbers, filled as enum nengapiko_field says;
+ *                 left as they were by a refusal
+ *
+ * The data are bytes[fields[NENGAPIKO_START]] and the fields[NENGAPIKO_COUNT] - 1 bytes behind it.
+ *
+ * Returns 0, 11, 12, 13 or 14.
+ */
+uint32_t nengapiko_read(const uint8_t *bytes, size_t size,
+                        uint64_t fields[NENGAPIKO_FIELDS]);
+
+#ifdef __cplusplus
+}
+#endif
+
+#endif
