@@ -34,16 +34,16 @@ enum nengapiko_type {
 
 /* What a function returns. */
 enum nengapiko_answer {
-    NENGAPIKO_TAKEN = 0,           /* written, or read */
-    NENGAPIKO_PREAMBLE_LENGTH = 3, /* write: preamble outside 5 to 20 */
-    NENGAPIKO_ADDRESS = 4,         /* write: polling address above 63, or unique address above 38 bits */
-    NENGAPIKO_DATA_LONG = 6,       /* write: more than 255 data bytes */
-    NENGAPIKO_DATA_LENGTH = 9,     /* write: an ACK or BACK with fewer than 2 data bytes */
-    NENGAPIKO_FEW_PREAMBLES = 11,  /* read: fewer than two 0xFF in front */
-    NENGAPIKO_NO_DELIMITER = 12,   /* write: type not 2, 6 or 1; read: the byte behind the preamble is no delimiter */
-    NENGAPIKO_ENDS_EARLY = 13,     /* read: the bytes end before the frame does */
-    NENGAPIKO_UNSOUND = 14,        /* read: an ACK or BACK with count below 2, else a wrong check byte */
-    NENGAPIKO_BUFFER_SHORT = 15    /* write: the frame does not fit from the place named */
+    NENGAPIKO_TAKEN = 0,                  /* written, or read */
+    NENGAPIKO_REFUSED_PREAMBLE = 3,       /* write: preamble outside 5 to 20 */
+    NENGAPIKO_REFUSED_ADDRESS = 4,        /* write: polling address above 63, or unique address above 38 bits */
+    NENGAPIKO_REFUSED_DATA_LONG = 6,      /* write: more than 255 data bytes */
+    NENGAPIKO_REFUSED_DATA_LENGTH = 9,    /* write: an ACK or BACK with fewer than 2 data bytes */
+    NENGAPIKO_REFUSED_FEW_PREAMBLES = 11, /* read: fewer than two 0xFF in front */
+    NENGAPIKO_REFUSED_NO_DELIMITER = 12,  /* write: type not 2, 6 or 1; read: the byte behind the preamble is no delimiter */
+    NENGAPIKO_REFUSED_ENDS_EARLY = 13,    /* read: the bytes end before the frame does */
+    NENGAPIKO_REFUSED_UNSOUND = 14,       /* read: an ACK or BACK with count below 2, else a wrong check byte */
+    NENGAPIKO_REFUSED_BUFFER_SHORT = 15   /* write: the frame does not fit from the place named */
 };
 
 /* The longest frame, in bytes: 20 preambles, a long address, 255 data bytes. */
@@ -56,7 +56,7 @@ enum nengapiko_field {
     NENGAPIKO_LONG = 2,      /* 1 for a unique address, 0 for a polling address */
     NENGAPIKO_PRIMARY = 3,   /* the master bit: 1 for the primary master */
     NENGAPIKO_BURST = 4,     /* the burst flag */
-    NENGAPIKO_ADDRESSED = 5, /* the polling address, 6 bits, or the unique address, 38 bits */
+    NENGAPIKO_ADDRESS = 5,   /* the polling address, 6 bits, or the unique address, 38 bits */
     NENGAPIKO_EXPANSION = 6, /* how many expansion bytes stand behind the address, 0 to 3 */
     NENGAPIKO_COMMAND = 7,   /* the command, 0 to 255 */
     NENGAPIKO_START = 8,     /* where the data begins in the bytes that were read */
