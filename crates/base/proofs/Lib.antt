@@ -1,0 +1,4 @@
+-- The laws of the shared definitions, which the proofs of every layer cite.
+pub mod Choices
+pub mod Stores
+pub mod Tables

@@ -1,0 +1,4 @@
+-- What the definitions of every layer share.
+pub mod Choice
+pub mod Refusal
+pub mod Store

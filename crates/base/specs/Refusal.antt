@@ -1,0 +1,24 @@
+-- Document 01, "Refusals, by where each is checked": the number of each.
+use Prim.Native.Nat.{ℕ}
+use Rattle.base.specs.declared.Refusal.{Refusal}
+use Rattle.base.specs.declared.Refusal.the-variants.{PreambleLength, Address, DataLong, DataLength, FewPreambles, NoDelimiter, EndsEarly, Unsound, BufferShort}
+
+abbrev pub number : Refusal → ℕ
+-- preamble outside 5 to 20
+number PreambleLength = 3
+-- polling above 63 or unique above 38 bits
+number Address = 4
+-- data above 255
+number DataLong = 6
+-- data outside 2 to 255
+number DataLength = 9
+-- fewer than two preambles
+number FewPreambles = 11
+-- writer: type not 2, 6 or 1; reader: the byte behind the preamble is no delimiter
+number NoDelimiter = 12
+-- bytes end early
+number EndsEarly = 13
+-- ACK or BACK with count below 2, else wrong check byte
+number Unsound = 14
+-- buffer too short
+number BufferShort = 15

@@ -1,0 +1,9 @@
+-- Bytes stored in a lent buffer. The laws are in proofs/Stores.antt.
+use Prim.Native.Nat.{ℕ, suc}
+use mathlib.Core.List.{List, [], _∷_}
+use lib.ListN.{set}
+
+-- the buffer with the bytes stored from a place on, one behind the other: every other byte, and the buffer's length, stay
+unfoldable pub stored : List ℕ → ℕ → List ℕ → List ℕ
+stored buffer place [] = buffer
+stored buffer place (b ∷ bytes) = stored (set buffer place b) (suc place) bytes

@@ -1,0 +1,46 @@
+// What every layer shares: the refusals of document 01, and a range test.
+ghost use mathlib.Core.Path.{_≡_};
+ghost use Rattle.base.specs.Choice.{_outside_to_};
+ghost use Rattle.base.specs.Refusal.{number};
+
+// Why a call is refused. Each is a number of document 01's table.
+pub enum Refusal {
+    PreambleLength,
+    Address,
+    DataLong,
+    DataLength,
+    FewPreambles,
+    NoDelimiter,
+    EndsEarly,
+    Unsound,
+    BufferShort,
+}
+
+impl Refusal {
+    // Its number in the table.
+    pub fn number(self) -> u32
+        ensures { λ r. ⌜ r ≡ number self ⌝ }
+    {
+        match self {
+            Refusal::PreambleLength => 3,
+            Refusal::Address => 4,
+            Refusal::DataLong => 6,
+            Refusal::DataLength => 9,
+            Refusal::FewPreambles => 11,
+            Refusal::NoDelimiter => 12,
+            Refusal::EndsEarly => 13,
+            Refusal::Unsound => 14,
+            Refusal::BufferShort => 15,
+        }
+    }
+}
+
+// Whether x lies outside low to high, both of which are inside.
+pub fn outside(x: usize, low: usize, high: usize) -> bool
+    ensures { λ r. ⌜ r ≡ (x outside low to high) ⌝ }
+{
+    if x < low {
+        return true;
+    }
+    high < x
+}
