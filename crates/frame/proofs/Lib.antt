@@ -1,0 +1,3 @@
+-- The laws and theorems of the frame's definitions.
+pub mod Delimiters
+pub mod Checks

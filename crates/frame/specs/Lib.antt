@@ -1,0 +1,7 @@
+-- The HART frame, from document 01, "Frames" and "Refusals", in its order.
+pub mod Delimiter
+pub mod Address
+pub mod Check
+pub mod Frame
+pub mod Write
+pub mod Read

@@ -1,0 +1,81 @@
+-- The frame reader. Document 01, "Frames": "the reader needs two" preambles and "gives the fields, the end, and the data as that part of the caller's bytes"; "Refusals", the line of the frame reader.
+use Prim.Native.Nat.{ℕ, _+_}
+use mathlib.Core.Bool.{Bool}
+use mathlib.Core.List.{List, [], _∷_}
+use lib.ListN.{length, take, drop}
+use Rattle.base.specs.Choice.{if_then_else_, _<?_, _≤?_, _=?_}
+use Rattle.base.specs.declared.Refusal.the-variants.{FewPreambles, NoDelimiter, EndsEarly, Unsound}
+use Rattle.frame.specs.Delimiter.{delimiterOf}
+use Rattle.frame.specs.Address.{addressLength, byteAt, masterBit, burstFlag, addressOf}
+use Rattle.frame.specs.Check.{exclusiveOr}
+use Rattle.frame.specs.Frame.{tooFew}
+use Rattle.frame.specs.declared.Delimiter.{Delimiter}
+use Rattle.frame.specs.declared.Delimiter.the-variants.{Is, Not}
+use Rattle.frame.specs.declared.Header.{Header}
+use Rattle.frame.specs.declared.Found.{Found}
+use Rattle.frame.specs.declared.Read.{Read}
+use Rattle.frame.specs.declared.Read.the-variants.{Frame, Refused}
+
+-- how many 0xFF stand in front
+unfoldable pub preambles : List ℕ → ℕ
+preambles [] = 0
+preambles (b ∷ bytes) = if b =? 0xFF then preambles bytes + 1 else 0
+
+-- Below, `body` is what stands from the delimiter on, behind so many preambles. The command stands behind address and expansion bytes, the byte count behind the command.
+abbrev pub commandPlace : Bool → ℕ → ℕ
+commandPlace long expansion = addressLength long + expansion + 1
+
+abbrev pub headerOf : ℕ → Bool → ℕ → List ℕ → Header
+headerOf frame long place body = record {
+  frame = frame;
+  long = long;
+  primary = masterBit body;
+  burst = burstFlag body;
+  address = addressOf long body;
+  command = byteAt body place;
+}
+
+-- the frame, with its command at this place of the body and so many data bytes
+abbrev pub foundAt : ℕ → List ℕ → ℕ → Bool → ℕ → ℕ → ℕ → Found
+foundAt preamble body frame long expansion place count = record {
+  preamble = preamble;
+  header = headerOf frame long place body;
+  expansion = expansion;
+  start = preamble + (place + 2);
+  count = count;
+  end = preamble + (place + 3 + count);
+}
+
+-- behind the byte count: "13: bytes end early; 14: ACK or BACK with count below 2, else wrong check byte"
+abbrev pub withCount : ℕ → List ℕ → ℕ → Bool → ℕ → ℕ → ℕ → Read
+withCount preamble body frame long expansion place count =
+    if length body ≤? place + 2 + count then Refused EndsEarly else
+    if tooFew frame count then Refused Unsound else
+    if exclusiveOr (take (place + 3 + count) body) =? 0 then Frame (foundAt preamble body frame long expansion place count) else
+    Refused Unsound
+
+-- behind the delimiter
+abbrev pub withCommand : ℕ → List ℕ → ℕ → Bool → ℕ → ℕ → Read
+withCommand preamble body frame long expansion place =
+    if length body ≤? place + 1 then Refused EndsEarly else
+    withCount preamble body frame long expansion place (byteAt body (place + 1))
+
+-- "12: the byte behind them is no delimiter"
+abbrev pub withDelimiter : ℕ → List ℕ → Delimiter → Read
+withDelimiter preamble body Not = Refused NoDelimiter
+withDelimiter preamble body (Is frame long expansion) = withCommand preamble body frame long expansion (commandPlace long expansion)
+
+unfoldable pub readBody : ℕ → List ℕ → Read
+readBody preamble body =
+    if length body =? 0 then Refused EndsEarly else
+    withDelimiter preamble body (delimiterOf (byteAt body 0))
+
+-- "11: fewer than two preambles"
+unfoldable pub readFrame : List ℕ → Read
+readFrame bytes =
+    if preambles bytes <? 2 then Refused FewPreambles else
+    readBody (preambles bytes) (drop (preambles bytes) bytes)
+
+-- the part of the caller's bytes that begins at a place and has so many bytes; none where it would run past the end
+abbrev pub partOf : List ℕ → ℕ → ℕ → List ℕ
+partOf bytes start count = if start + count ≤? length bytes then take count (drop start bytes) else []
