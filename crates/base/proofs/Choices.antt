@@ -2,8 +2,12 @@
 use Prim.Native.Nat.{ℕ, _<_, _≤_}
 use mathlib.Core.Path.{_≡_, refl, sym, _∙_}
 use mathlib.Core.Bool.{Bool, true, false}
-use borrow.Author.Tests.{lt-ltb, le-ltb, le-leb, lt-leb, eq-eqb, ne-eqb}
-use Rattle.base.specs.Choice.{if_then_else_, _<?_, _≤?_, _=?_}
+use native.Mathlib.Omega.{arith}
+use borrow.Author.Tests.{lt-ltb, le-ltb, le-leb, lt-leb, eq-eqb, ne-eqb, ltb-false}
+use Rattle.base.specs.Choice.{if_then_else_, _<?_, _≤?_, _=?_, _outside_to_}
+
+pub true-false : true ≡ false → ⊥
+true-false e = let k : _≡_ {A = ℕ} 0 1 = cc in omega arith
 
 module _ {A : Type 0} where
   pub if-true : (t : Bool) (x a b : A) → t ≡ true → x ≡ a → x ≡ (if t then a else b)
@@ -13,6 +17,13 @@ module _ {A : Type 0} where
   pub if-false : (t : Bool) (x a b : A) → t ≡ false → x ≡ b → x ≡ (if t then a else b)
   unfolding if_then_else_
   if-false t x a b e p = rw e p
+
+  -- what a choice is, as an equation
+  pub if-is-true : (t : Bool) (a b : A) → t ≡ true → (if t then a else b) ≡ a
+  if-is-true t a b e = sym (if-true t a a b e refl)
+
+  pub if-is-false : (t : Bool) (a b : A) → t ≡ false → (if t then a else b) ≡ b
+  if-is-false t a b e = sym (if-false t b a b e refl)
 
   -- the code tests what a call answered, and the definition what that answer equals
   pub if-answer-true : (r t : Bool) (x a b : A) → r ≡ t → r ≡ true → x ≡ a → x ≡ (if t then a else b)
@@ -40,3 +51,22 @@ module _ {A : Type 0} where
   if-unequal m n x a b h p = if-false (m =? n) x a b (ne-eqb m n h) p
 
 pub ruleset choices = (refl, if-below, if-not-below, if-at-most, if-above, if-equal, if-unequal, if-true, if-false, if-answer-true, if-answer-false)
+
+-- the other way round: what a choice's value tells of its test
+module _ {A : Type 0} where
+  pub went-then : (t : Bool) (a b x : A) → (if t then a else b) ≡ x → (b ≡ x → ⊥) → (t ≡ true) × (a ≡ x)
+  unfolding if_then_else_
+  went-then true a b x e f = (refl, e)
+  went-then false a b x e f = absurd (f e)
+
+  pub went-else : (t : Bool) (a b x : A) → (if t then a else b) ≡ x → (a ≡ x → ⊥) → (t ≡ false) × (b ≡ x)
+  unfolding if_then_else_
+  went-else true a b x e f = absurd (f e)
+  went-else false a b x e f = (refl, e)
+
+-- what a range test tells
+pub inside-low : (n low high : ℕ) (r : Bool) → r ≡ (n outside low to high) → r ≡ false → low ≤ n
+inside-low n low high r q e = ltb-false n low (went-else (n <? low) true (high <? n) false (sym q ∙ e) true-false .0)
+
+pub inside-high : (n low high : ℕ) (r : Bool) → r ≡ (n outside low to high) → r ≡ false → n ≤ high
+inside-high n low high r q e = ltb-false high n (went-else (n <? low) true (high <? n) false (sym q ∙ e) true-false .1)

@@ -5,8 +5,8 @@ use native.Mathlib.Numerals.{add-one}
 use native.Mathlib.Omega.{arith}
 use mathlib.Core.Path.{_≡_, refl, sym, ap, _∙_}
 use mathlib.Core.List.{List, [], _∷_, _++_, append-nil}
-use lib.ListN.{length, take, drop, set, getD, length-set, length-drop, replicate, length-replicate}
-use lib.Seq.{sets, length-sets, sets-eq, take-suc, drop-nil, take-all, length-take-le}
+use lib.ListN.{length, take, drop, set, getD, length-set, length-drop}
+use lib.Seq.{sets, length-sets, sets-eq, take-suc, take-all, take-at, length-take-le}
 use borrow.Rule.Slice.PartMut.{putMid}
 use Rattle.base.specs.Store.{stored}
 
@@ -27,6 +27,10 @@ length-stored xs i vs = ap length (as-sets xs i vs) ∙ length-sets xs i vs
 pub stored-none : (xs : List ℕ) (i : ℕ) → xs ≡ stored xs i []
 unfolding stored
 stored-none xs i = refl
+
+-- equal bytes stored
+pub stored-same : (xs ys us vs : List ℕ) (i : ℕ) → us ≡ vs → ys ≡ stored xs i us → ys ≡ stored xs i vs
+stored-same xs ys us vs i e p = p ∙ ap (λ (l : List ℕ). stored xs i l) e
 
 -- two runs, one behind the other, are one
 join : (us vs xs : List ℕ) (i : ℕ) → stored (stored xs i us) (i + length us) vs ≡ stored xs i (us ++ vs)
@@ -82,7 +86,7 @@ stored-parts a k xs ys zs us vs p e q h = stored-part a k ys zs vs q h ∙ ap (�
 front : (us xs : List ℕ) → length us ≤ length xs → take (length us) (stored xs 0 us) ≡ us
 front us xs h =
     ap (λ (l : List ℕ). take (length us) l) (stored-between xs 0 us (omega arith))
-    ∙ lib.Seq.take-at us (drop (0 + length us) xs) (length us) refl
+    ∙ take-at us (drop (0 + length us) xs) (length us) refl
 
 pub stored-front : (n : ℕ) (xs ys us : List ℕ) → ys ≡ stored xs 0 us → n ≡ length us → n ≤ length xs → take n ys ≡ us
 stored-front n xs ys us p e h = ap (λ (l : List ℕ). take n l) p ∙ ap (λ (k : ℕ). take k (stored xs 0 us)) e ∙ front us xs (omega arith)
@@ -94,13 +98,32 @@ room-behind a n = omega arith
 pub take-length-is : (n : ℕ) (xs : List ℕ) → n ≤ length xs → n ≡ length (take n xs)
 take-length-is n xs h = sym (length-take-le n xs h)
 
--- runs that grow by one byte, for loops
-pub replicate-more : (n v : ℕ) → replicate n v ++ (v ∷ []) ≡ replicate (n + 1) v
-replicate-more n v = go n ∙ ap (λ (k : ℕ). replicate k v) (sym (add-one n))
-  where
-    go : (n : ℕ) → replicate n v ++ (v ∷ []) ≡ replicate (suc n) v
-    go zero = refl
-    go (suc n) = ap (λ (l : List ℕ). v ∷ l) (go n)
-
 pub take-more : (xs : List ℕ) (j : ℕ) → j < length xs → take j xs ++ (getD xs j 0 ∷ []) ≡ take (j + 1) xs
 take-more xs j h = sym (take-suc xs j 0 h) ∙ ap (λ (k : ℕ). take k xs) (sym (add-one j))
+
+-- a loop that stores the n bytes us at the front of xs, one a turn: ys is the buffer with the first i of them
+pub record Storing (xs us : List ℕ) (n : ℕ) (ys : List ℕ) (i : ℕ) : Type 0 where
+  pub count : n ≡ length us
+  pub within : i ≤ n
+  pub room : n ≤ length xs
+  pub same-length : length ys ≡ length xs
+  pub so-far : ys ≡ stored xs 0 (take i us)
+
+pub storing-none : (xs us : List ℕ) (n : ℕ) → n ≡ length us → n ≤ length xs → Storing xs us n xs 0
+storing-none xs us n e h = record { count = e; within = omega arith; room = h; same-length = refl; so-far = stored-none xs 0 }
+
+pub storing-more : (xs us : List ℕ) (n : ℕ) (ys : List ℕ) (i b : ℕ) → Storing xs us n ys i → i < n → b ≡ getD us i 0 → Storing xs us n (set ys i b) (i + 1)
+storing-more xs us n ys i b v h e =
+    let front : i ≡ length (take i us) = take-length-is i us (omega (arith, v .count)) in
+    record {
+      count = v .count;
+      within = omega arith;
+      room = v .room;
+      same-length = length-set ys i b ∙ v .same-length;
+      so-far = stored-more i b xs ys (take i us) (v .so-far) front ∙ ap (λ (c : ℕ). stored xs 0 (take i us ++ (c ∷ []))) e ∙ ap (λ (l : List ℕ). stored xs 0 l) (take-more us i (omega (arith, v .count)));
+    }
+
+pub storing-all : (xs us : List ℕ) (n : ℕ) (ys : List ℕ) (i : ℕ) → Storing xs us n ys i → n ≤ i → ys ≡ stored xs 0 us
+storing-all xs us n ys i v h = v .so-far ∙ ap (λ (l : List ℕ). stored xs 0 l) (take-all i us (omega (arith, v .count)))
+
+pub ruleset storing = (refl, storing-none, storing-more, storing-all)

@@ -6,10 +6,7 @@ use mathlib.Core.Path.{_≡_, refl, sym, ap}
 use mathlib.Core.Bool.{Bool, true, false}
 use mathlib.Core.List.{List, [], _∷_}
 use Rattle.base.specs.Choice.{if_then_else_, _=?_}
-use Rattle.base.proofs.Choices.{if-unequal}
-
-pub false-true : false ≡ true → ⊥
-false-true e = let k : _≡_ {A = ℕ} 0 1 = cc in omega arith
+use Rattle.base.proofs.Choices.{true-false, if-unequal}
 
 -- both tests of a chain hold where the chain does
 pub chain-first : (s t : Bool) → (if s then t else false) ≡ true → s ≡ true
@@ -20,7 +17,7 @@ chain-first false t e = e
 pub chain-second : (s t : Bool) → (if s then t else false) ≡ true → t ≡ true
 unfolding if_then_else_
 chain-second true t e = e
-chain-second false t e = absurd (false-true e)
+chain-second false t e = absurd (true-false (sym e))
 
 -- whether a test holds of every number below n
 unfoldable pub holds-below : ℕ → (ℕ → Bool) → Bool

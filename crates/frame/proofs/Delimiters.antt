@@ -5,6 +5,7 @@ use mathlib.Core.Path.{_≡_, refl, sym, ap, _∙_}
 use mathlib.Core.Bool.{Bool, true, false}
 use mathlib.Core.List.{List, [], _∷_}
 use Rattle.base.specs.Choice.{if_then_else_, _=?_}
+use Rattle.base.proofs.Choices.{true-false}
 use Rattle.base.proofs.Tables.{holds-below, holds-at, among, None, not-among}
 use Rattle.frame.specs.Delimiter.{isType, delimiterOf, delimiterByte}
 use Rattle.frame.specs.declared.Delimiter.{Delimiter}
@@ -24,7 +25,7 @@ isNot (Is frame long expansion) = false
 is-not : (d : Delimiter) → isNot d ≡ true → Not ≡ d
 unfolding isNot
 is-not Not e = refl
-is-not (Is frame long expansion) e = absurd (Rattle.base.proofs.Tables.false-true e)
+is-not (Is frame long expansion) e = absurd (true-false (sym e))
 
 listed : ℕ → Bool
 listed n = if among delimiters n then true else isNot (delimiterOf n)

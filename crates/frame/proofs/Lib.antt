@@ -1,3 +1,5 @@
 -- The laws and theorems of the frame's definitions.
-pub mod Delimiters
 pub mod Checks
+pub mod Delimiters
+pub mod Lengths
+pub mod Taken

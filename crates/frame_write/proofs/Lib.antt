@@ -1,0 +1,3 @@
+-- The laws by which the writer's functions are proved.
+pub mod Puts
+pub mod Answers

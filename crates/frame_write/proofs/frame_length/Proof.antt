@@ -1,0 +1,17 @@
+use borrow.Author.Needs.{needs}
+use Rattle.frame_write.proofs.Answers.{answers}
+use Rattle.frame_write.proofs.frame_length.Statement.{statement}
+use Rattle.frame_write.proofs.frame_length.Tie as tie
+
+pub frame-length-spec : {M : Type 1} → statement M
+frame-length-spec =
+    tie.close
+    (tie.spec
+    (λ c. search (needs, answers))
+    (λ c. search (needs, answers))
+    (λ c. search (needs, answers))
+    (λ c. search (needs, answers))
+    (λ c. search (needs, answers))
+    (λ c. search (needs, answers))
+    (λ c. search (needs, answers))
+    (λ c. search (needs, answers)))
