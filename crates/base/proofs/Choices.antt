@@ -1,6 +1,6 @@
 -- Laws of a choice by a test. Each says what a choice is where the test is known; `search choices` applies them to what the code's own tests showed.
 use Prim.Native.Nat.{ℕ, _<_, _≤_}
-use mathlib.Core.Path.{_≡_, refl, sym, _∙_}
+use mathlib.Core.Path.{_≡_, refl, sym, ap, _∙_}
 use mathlib.Core.Bool.{Bool, true, false}
 use native.Mathlib.Omega.{arith}
 use borrow.Author.Tests.{lt-ltb, le-ltb, le-leb, lt-leb, eq-eqb, ne-eqb, ltb-false}
@@ -57,6 +57,10 @@ module _ {A : Type 0} where
   if-answer-unequal r m n x a b q f p = if-unequal m n x a b (λ e. f (q ∙ e)) p
 
 pub ruleset choices = (refl, if-below, if-not-below, if-at-most, if-above, if-equal, if-unequal, if-true, if-false, if-answer-true, if-answer-false)
+
+-- a definition by cases: w is what a call answered, v the case it is, u what the definition gives for it
+pub by-case : {X A : Type 0} (f : X → A) (w v u : X) (r : A) → w ≡ v → w ≡ u → r ≡ f v → r ≡ f u
+by-case f w v u r e q p = p ∙ ap f (sym e ∙ q)
 
 -- the other way round: what a choice's value tells of its test
 module _ {A : Type 0} where
