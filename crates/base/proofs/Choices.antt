@@ -50,12 +50,6 @@ module _ {A : Type 0} where
   pub if-unequal : (m n : ℕ) (x a b : A) → (m ≡ n → ⊥) → x ≡ b → x ≡ (if m =? n then a else b)
   if-unequal m n x a b h p = if-false (m =? n) x a b (ne-eqb m n h) p
 
-  pub if-answer-equal : (r m n : ℕ) (x a b : A) → r ≡ m → r ≡ n → x ≡ a → x ≡ (if m =? n then a else b)
-  if-answer-equal r m n x a b q e p = if-equal m n x a b (sym q ∙ e) p
-
-  pub if-answer-unequal : (r m n : ℕ) (x a b : A) → r ≡ m → (r ≡ n → ⊥) → x ≡ b → x ≡ (if m =? n then a else b)
-  if-answer-unequal r m n x a b q f p = if-unequal m n x a b (λ e. f (q ∙ e)) p
-
 pub ruleset choices = (refl, if-below, if-not-below, if-at-most, if-above, if-equal, if-unequal, if-true, if-false, if-answer-true, if-answer-false)
 
 -- a definition by cases: w is what a call answered, v the case it is, u what the definition gives for it

@@ -2,7 +2,7 @@
 use base::Refusal;
 ghost use mathlib.Core.Path.{_≡_};
 ghost use Rattle.frame.specs.Delimiter.{delimiterOf, isType};
-ghost use Rattle.frame.specs.Check.{exclusiveOr};
+ghost use Rattle.frame.specs.Check.{xorFrom};
 ghost use Rattle.frame.specs.Frame.{tooFew};
 
 // The frame types, as the delimiter's bits 2 to 0 carry them.
@@ -114,15 +114,15 @@ pub fn too_few(frame: u8, count: usize) -> bool
     false
 }
 
-// The exclusive-or of all bytes.
-pub fn exclusive_or(bytes: &[u8]) -> u8
-    ensures { λ r. ⌜ r ≡ exclusiveOr (now (bytes .entry)) ⌝ }
+// The exclusive-or of x and some bytes.
+pub fn xor_from(x: u8, bytes: &[u8]) -> u8
+    ensures { λ r. ⌜ r ≡ xorFrom x (now (bytes .entry)) ⌝ }
 {
-    let mut x: u8 = 0;
+    let mut sum = x;
     let mut i = 0;
     while i < bytes.len() {
-        x = x ^ bytes[i];
+        sum = sum ^ bytes[i];
         i += 1;
     }
-    x
+    sum
 }

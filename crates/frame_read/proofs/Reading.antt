@@ -8,11 +8,13 @@ use mathlib.Core.List.{List, [], _∷_}
 use lib.ListN.{length, getD, take, drop, drop-of-length-le, length-drop}
 use lib.Seq.{drop-cons, take-all}
 use Rattle.base.specs.Choice.{if_then_else_, _≤?_, _=?_}
-use Rattle.base.proofs.Choices.{choices, if-is-true, if-is-false, if-equal, if-unequal, if-above, if-at-most, if-below, if-not-below, if-answer-equal, if-answer-unequal}
+use Rattle.base.proofs.Choices.{choices, if-is-true, if-is-false, if-equal, if-unequal, if-above, if-at-most, if-below, if-not-below}
 use Rattle.base.specs.declared.Refusal.the-variants.{FewPreambles, EndsEarly}
 use Rattle.frame.specs.Address.{addressOf, byteAt, masterBit, burstFlag}
+use Rattle.frame.specs.Check.{exclusiveOr}
 use Rattle.frame.specs.Delimiter.{delimiterOf}
 use Rattle.frame.specs.Read.{preambles, commandPlace, headerOf, foundAt, withCount, withCommand, withDelimiter, readBody, readFrame, partOf}
+use Rattle.frame.proofs.Checks.{check-right, check-from-zero}
 use Rattle.frame.specs.declared.Delimiter.{Delimiter}
 use Rattle.frame.specs.declared.Delimiter.the-variants.{Is}
 use Rattle.frame.specs.declared.Header.{Header}
@@ -78,6 +80,17 @@ pub found-is : (preamble : ℕ) (body : List ℕ) (frame : ℕ) (long : Bool) (e
     → Frame (record { preamble = preamble; header = h; expansion = expansion; start = preamble + (place + 2); count = count; end = preamble + (place + 3 + count) }) ≡ Frame (foundAt preamble body frame long expansion place count)
 found-is preamble body frame long expansion place count h e = ap (λ (x : Header). Frame (record { preamble = preamble; header = x; expansion = expansion; start = preamble + (place + 2); count = count; end = preamble + (place + 3 + count) })) e
 
+-- the code compares the exclusive-or of what stands before the check byte with the check byte; the definition takes the whole, and tests for zero
+module _ (body : List ℕ) (place count sum : ℕ) (inside : place + 2 + count < length body) (e : sum ≡ exclusiveOr (take (place + 2 + count) body)) (r a b : Read) where
+  one-more : place + 2 + count + 1 ≡ place + 3 + count
+  one-more = omega arith
+
+  pub check-taken : sum ≡ getD body (place + 2 + count) 0 → r ≡ a → r ≡ (if exclusiveOr (take (place + 3 + count) body) =? 0 then a else b)
+  check-taken q p = if-equal _ 0 r a b (ap (λ (n : ℕ). exclusiveOr (take n body)) (sym one-more) ∙ check-right body (place + 2 + count) inside (sym e ∙ q)) p
+
+  pub check-left : (sum ≡ getD body (place + 2 + count) 0 → ⊥) → r ≡ b → r ≡ (if exclusiveOr (take (place + 3 + count) body) =? 0 then a else b)
+  check-left f p = if-unequal _ 0 r a b (λ z. f (e ∙ check-from-zero body (place + 2 + count) inside (ap (λ (n : ℕ). exclusiveOr (take n body)) one-more ∙ z))) p
+
 -- behind the count, the delimiter and the preamble
 pub count-is : (preamble : ℕ) (body : List ℕ) (frame : ℕ) (long : Bool) (expansion place count : ℕ) (r : Read) → count ≡ byteAt body (place + 1) → place + 1 < length body
     → r ≡ withCount preamble body frame long expansion place count → r ≡ withCommand preamble body frame long expansion place
@@ -123,6 +136,6 @@ part-beyond bytes start count k = if-above (start + count) (length bytes) [] _ [
 
 pub ruleset parts = (part-inside, part-outside, part-beyond)
 
-pub ruleset bodies = (choices, if-answer-equal, if-answer-unequal, found-is)
+pub ruleset bodies = (choices, check-taken, check-left, found-is)
 
 pub ruleset frames = (refl, count-is, place-is, delimiter-is, no-body, frame-is, few-preambles, rest-is)

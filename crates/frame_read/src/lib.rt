@@ -99,7 +99,9 @@ fn with_count(
     if frame::too_few(frame, count) {
         return Read::Refused(Refusal::Unsound);
     }
-    if frame::exclusive_or(&body[..place + 3 + count]) == 0 {
+    let last = place + 2 + count;
+    let check = body[last];
+    if frame::xor_from(0, &body[..last]) == check {
         let header = header_of(frame, long, place, body);
         let found = Found {
             preamble: preamble,

@@ -4,12 +4,13 @@ use frame::Header;
 use frame::Written;
 ghost use mathlib.Core.Path.{_≡_};
 ghost use mathlib.Core.Bool.{true, false};
-ghost use Prim.Native.Nat.{_+_, _/_, _^_, _≤_, _<_};
+ghost use mathlib.Core.List.{[], _∷_, _++_};
+ghost use Prim.Native.Nat.{_+_, _^_, _≤_, _<_};
 ghost use lib.ListN.{length};
 ghost use Rattle.base.specs.Choice.{if_then_else_};
 ghost use Rattle.base.specs.Store.{stored};
 ghost use Rattle.frame.specs.Address.{addressTooLarge, largestAddress, firstByte};
-ghost use Rattle.frame.specs.Frame.{headerBytes, protectedBytes, bodyBytes, preambleBytes, frameBytes, headerLength, frameLength};
+ghost use Rattle.frame.specs.Frame.{headerBytes, bodyBytes, preambleBytes, frameBytes, headerLength, frameLength};
 ghost use Rattle.frame.specs.Write.{byRoom, writeAnswer, WriteIs};
 ghost use Rattle.frame.proofs.Taken.{Fits};
 
@@ -98,14 +99,13 @@ fn put_header(part: &mut [u8], h: Header, count: u8) -> usize
     4
 }
 
-// Delimiter to data, at the front of part; how many bytes they are.
-fn put_protected(part: &mut [u8], h: Header, bytes: &[u8]) -> usize
-    requires { ⌜ (headerLength h + length (now bytes) ≤ length (now part)) × (h .frame ≤ 6) × (h .address ≤ largestAddress (h .long)) × (length (now bytes) ≤ 255) ⌝ }
-    ensures { λ r. ⌜ (r ≡ headerLength h + length (now (bytes .entry))) × (now (part .exit) ≡ stored (now (part .entry)) 0 (protectedBytes h (now (bytes .entry)))) ⌝ }
+// Data and check byte, at the front of part.
+fn put_tail(part: &mut [u8], bytes: &[u8], check: u8)
+    requires { ⌜ length (now bytes) < length (now part) ⌝ }
+    ensures { λ _. ⌜ now (part .exit) ≡ stored (now (part .entry)) 0 (now (bytes .entry) ++ (check ∷ [])) ⌝ }
 {
-    let n = put_header(part, h, bytes.len() as u8);
-    put_bytes(&mut part[n..], bytes);
-    n + bytes.len()
+    put_bytes(part, bytes);
+    part[bytes.len()] = check;
 }
 
 // Delimiter to check byte, at the front of part.
@@ -113,9 +113,9 @@ fn put_body(part: &mut [u8], h: Header, bytes: &[u8])
     requires { ⌜ (headerLength h + length (now bytes) + 1 ≤ length (now part)) × (h .frame ≤ 6) × (h .address ≤ largestAddress (h .long)) × (length (now bytes) ≤ 255) ⌝ }
     ensures { λ _. ⌜ now (part .exit) ≡ stored (now (part .entry)) 0 (bodyBytes h (now (bytes .entry))) ⌝ }
 {
-    let n = put_protected(part, h, bytes);
-    let check = frame::exclusive_or(&part[..n]);
-    part[n] = check;
+    let n = put_header(part, h, bytes.len() as u8);
+    let check = frame::xor_from(frame::xor_from(0, &part[..n]), bytes);
+    put_tail(&mut part[n..], bytes, check);
 }
 
 // The whole frame, at the front of part.

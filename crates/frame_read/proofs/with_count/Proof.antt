@@ -16,6 +16,7 @@ with-count-spec =
     (λ c. search (needs, bodies))
     (λ c. search (needs, bodies))
     (λ c. search (needs, bodies))
+    (λ c. search (needs, bodies))
     (λ c. take-length-is _ _ (omega arith))
     (λ c κs. search (needs, bodies))
     (λ c κs. search (needs, bodies))
