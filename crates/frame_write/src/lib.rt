@@ -10,6 +10,7 @@ ghost use lib.ListN.{length};
 ghost use Rattle.base.specs.Choice.{if_then_else_};
 ghost use Rattle.base.specs.Store.{stored};
 ghost use Rattle.frame.specs.Address.{addressTooLarge, largestAddress, firstByte};
+ghost use Rattle.frame.specs.Check.{xorFrom};
 ghost use Rattle.frame.specs.Frame.{headerBytes, bodyBytes, preambleBytes, frameBytes, headerLength, frameLength};
 ghost use Rattle.frame.specs.Write.{byRoom, writeAnswer, WriteIs};
 ghost use Rattle.frame.proofs.Taken.{Fits};
@@ -99,13 +100,20 @@ fn put_header(part: &mut [u8], h: Header, count: u8) -> usize
     4
 }
 
-// Data and check byte, at the front of part.
-fn put_tail(part: &mut [u8], bytes: &[u8], check: u8)
+// Some bytes at the front of part, and behind them the exclusive-or of x and all of them.
+fn put_checked(part: &mut [u8], bytes: &[u8], x: u8)
     requires { ⌜ length (now bytes) < length (now part) ⌝ }
-    ensures { λ _. ⌜ now (part .exit) ≡ stored (now (part .entry)) 0 (now (bytes .entry) ++ (check ∷ [])) ⌝ }
+    ensures { λ _. ⌜ now (part .exit) ≡ stored (now (part .entry)) 0 (now (bytes .entry) ++ (xorFrom x (now (bytes .entry)) ∷ [])) ⌝ }
 {
-    put_bytes(part, bytes);
-    part[bytes.len()] = check;
+    let mut sum = x;
+    let mut i = 0;
+    while i < bytes.len() {
+        let byte = bytes[i];
+        part[i] = byte;
+        sum = sum ^ byte;
+        i += 1;
+    }
+    part[i] = sum;
 }
 
 // Delimiter to check byte, at the front of part.
@@ -114,8 +122,8 @@ fn put_body(part: &mut [u8], h: Header, bytes: &[u8])
     ensures { λ _. ⌜ now (part .exit) ≡ stored (now (part .entry)) 0 (bodyBytes h (now (bytes .entry))) ⌝ }
 {
     let n = put_header(part, h, bytes.len() as u8);
-    let check = frame::xor_from(frame::xor_from(0, &part[..n]), bytes);
-    put_tail(&mut part[n..], bytes, check);
+    let header = frame::xor_from(0, &part[..n]);
+    put_checked(&mut part[n..], bytes, header);
 }
 
 // The whole frame, at the front of part.

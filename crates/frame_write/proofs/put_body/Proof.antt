@@ -14,7 +14,6 @@ put-body-spec =
     (λ c. search (needs, room-behind, body-put))
     (λ c. take-length-is _ _ (omega arith))
     (λ c κs. search (needs, room-behind, body-put))
-    (λ c κs. search (needs, room-behind, body-put))
     (λ c. search (needs, room-behind, body-put))
     (λ c. search (needs, room-behind, body-put))
     (λ c. search (needs, room-behind, body-put))
