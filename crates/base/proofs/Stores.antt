@@ -4,7 +4,7 @@ use native.Mathlib.Nat.{add-zero, add-suc, suc-add, zero-add}
 use native.Mathlib.Numerals.{add-one}
 use native.Mathlib.Omega.{arith}
 use mathlib.Core.Path.{_≡_, refl, sym, ap, _∙_}
-use mathlib.Core.List.{List, [], _∷_, _++_, append-nil}
+use mathlib.Core.List.{List, [], _∷_, _++_, append-nil, append-assoc}
 use lib.ListN.{length, take, drop, set, getD, length-set, length-drop}
 use lib.Seq.{sets, length-sets, sets-eq, take-suc, take-all, take-at, length-take-le}
 use borrow.Rule.Slice.PartMut.{putMid}
@@ -17,8 +17,8 @@ as-sets xs i [] = refl
 as-sets xs i (v ∷ vs) = as-sets (set xs i v) (suc i) vs
 
 -- bytes that fit stand between what was in front of them and what was behind them
-pub stored-between : (xs : List ℕ) (i : ℕ) (vs : List ℕ) → i + length vs ≤ length xs → stored xs i vs ≡ take i xs ++ vs ++ drop (i + length vs) xs
-stored-between xs i vs h = as-sets xs i vs ∙ sets-eq vs xs i h
+pub stored-between : (xs : List ℕ) (i : ℕ) (vs : List ℕ) → i + length vs ≤ length xs → stored xs i vs ≡ take i xs ++ (vs ++ drop (i + length vs) xs)
+stored-between xs i vs h = as-sets xs i vs ∙ sets-eq vs xs i h ∙ append-assoc (take i xs) vs (drop (i + length vs) xs)
 
 pub length-stored : (xs : List ℕ) (i : ℕ) (vs : List ℕ) → length (stored xs i vs) ≡ length xs
 length-stored xs i vs = ap length (as-sets xs i vs) ∙ length-sets xs i vs

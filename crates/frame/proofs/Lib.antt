@@ -2,4 +2,5 @@
 pub mod Checks
 pub mod Delimiters
 pub mod Lengths
+pub mod Reread
 pub mod Taken
