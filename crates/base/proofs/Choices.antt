@@ -74,3 +74,6 @@ inside-low n low high r q e = ltb-false n low (went-else (n <? low) true (high <
 
 pub inside-high : (n low high : ℕ) (r : Bool) → r ≡ (n outside low to high) → r ≡ false → n ≤ high
 inside-high n low high r q e = ltb-false high n (went-else (n <? low) true (high <? n) false (sym q ∙ e) true-false .1)
+
+pub inside-is : (n low high : ℕ) → low ≤ n → n ≤ high → (n outside low to high) ≡ false
+inside-is n low high h k = sym (if-not-below n low false true (high <? n) h (sym (le-ltb high n k)))

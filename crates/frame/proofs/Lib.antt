@@ -2,5 +2,10 @@
 pub mod Checks
 pub mod Delimiters
 pub mod Lengths
+pub mod Longest
+pub mod Prefix
+pub mod Preambles
 pub mod Reread
+pub mod Rewritten
+pub mod Sound
 pub mod Taken

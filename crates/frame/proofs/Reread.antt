@@ -1,31 +1,31 @@
 -- Theorem: a written frame reads back as the same message, with its end where the writer stopped and its data equal, whatever stands behind it.
 use Prim.Native.Nat.{ℕ, zero, suc, _+_, _-_, _*_, _/_, _%_, _^_, _≤_, _<_}
 use native.Mathlib.Omega.{arith}
-use native.Mathlib.Nat.{zero-add, div-div-eq-div-mul}
+use native.Mathlib.Nat.{div-div-eq-div-mul}
 use native.Mathlib.Numerals.{add-one}
 use mathlib.Core.Path.{_≡_, refl, sym, ap, _∙_}
 use mathlib.Core.Bool.{Bool, true, false}
 use mathlib.Core.List.{List, [], _∷_, _++_, append-assoc}
-use lib.ListN.{length, take, drop, replicate, getD, length-append}
+use lib.ListN.{length, take, drop, length-append}
 use lib.Seq.{take-at, drop-at, length-take-le}
 use borrow.Author.Tests.{eq-eqb, ne-eqb}
-use Rattle.base.specs.Choice.{if_then_else_, _<?_, _≤?_, _=?_}
+use Rattle.base.specs.Choice.{if_then_else_, _=?_}
 use Rattle.base.proofs.Stores.{stored-between}
-use Rattle.base.proofs.Choices.{if-is-true, if-is-false, if-false, if-true, if-above, if-equal, if-unequal, if-not-below, if-at-most}
-use Rattle.frame.specs.Delimiter.{stx, ack, back, isType, delimiterOf, delimiterByte}
-use Rattle.frame.specs.Address.{addressLength, largestAddress, addressBytes, longAddress, shortAddress, firstByte, byteAt, masterBit, burstFlag, addressOf, uniqueAddress, pollingAddress}
+use Rattle.base.proofs.Choices.{if-is-true, if-is-false, if-unequal, if-at-most}
+use Rattle.frame.specs.Delimiter.{isType, delimiterOf, delimiterByte}
+use Rattle.frame.specs.Address.{addressLength, largestAddress, longAddress, shortAddress, firstByte, byteAt, masterBit, burstFlag, addressOf, uniqueAddress, pollingAddress}
 use Rattle.frame.specs.Check.{exclusiveOr}
-use Rattle.frame.specs.Frame.{tooFew, headerBytes, protectedBytes, bodyBytes, preambleBytes, frameBytes, headerLength, frameLength}
-use Rattle.frame.specs.Read.{preambles, commandPlace, headerOf, foundAt, withCount, withCommand, withDelimiter, readBody, readFrame, partOf}
+use Rattle.frame.specs.Frame.{headerBytes, protectedBytes, bodyBytes, preambleBytes, frameBytes, headerLength, frameLength}
+use Rattle.frame.specs.Read.{preambles, commandPlace, headerOf, readFrame, partOf}
 use Rattle.frame.specs.Write.{bufferBy, writeAnswer, writeBuffer}
 use Rattle.frame.proofs.Checks.{check-zero}
 use Rattle.frame.proofs.Lengths.{header-count, body-count, preamble-count, frame-count}
+use Rattle.frame.proofs.Preambles.{preambles-are, no-preamble}
+use Rattle.frame.proofs.Sound.{Sound, sound-frame}
 use Rattle.frame.proofs.Taken.{Fits, taken, Typed, is-stx, is-ack, is-back, typed-as, type-small}
-use Rattle.frame.specs.declared.Delimiter.{Delimiter}
-use Rattle.frame.specs.declared.Delimiter.the-variants.{Is, Not}
+use Rattle.frame.specs.declared.Delimiter.the-variants.{Is}
 use Rattle.frame.specs.declared.Header.{Header}
 use Rattle.frame.specs.declared.Found.{Found}
-use Rattle.frame.specs.declared.Read.{Read}
 use Rattle.frame.specs.declared.Read.the-variants.{Frame}
 use Rattle.frame.specs.declared.Written.{Written}
 use Rattle.frame.specs.declared.Written.the-variants.{To}
@@ -104,15 +104,15 @@ front-long h count u e small =
     let a : ℕ = h .address in
     let t : List ℕ = headerBytes h count ++ u in
     let shape : t ≡ (delimiterByte (h .frame) (h .long) ∷ (longAddress h ++ (h .command ∷ count ∷ []))) ++ u =
-          ap (λ (l : List ℕ). (delimiterByte (h .frame) (h .long) ∷ (l ++ (h .command ∷ count ∷ []))) ++ u) (if-is-true (h .long) (longAddress h) (shortAddress h) e) in
+    ap (λ (l : List ℕ). (delimiterByte (h .frame) (h .long) ∷ (l ++ (h .command ∷ count ∷ []))) ++ u) (if-is-true (h .long) (longAddress h) (shortAddress h) e) in
     let place : commandPlace (h .long) 0 ≡ 6 = place-is h 5 (if-is-true (h .long) 5 1 e) in
     let below : a / 2 ^ 32 < 64 = omega (arith, if-is-true {A = ℕ} (h .long) (2 ^ 38 - 1) 63 e) in
     let first-at : byteAt t 1 ≡ firstByte h (a / 2 ^ 32) = ap (λ (l : List ℕ). byteAt l 1) shape in
     let address : addressOf (h .long) t ≡ a =
-          if-is-true (h .long) (uniqueAddress t) (pollingAddress t) e
-          ∙ ap (λ (n : ℕ). n * 2 ^ 32 + byteAt t 2 * 2 ^ 24 + byteAt t 3 * 2 ^ 16 + byteAt t 4 * 2 ^ 8 + byteAt t 5) (six-bits h t (a / 2 ^ 32) below first-at)
-          ∙ ap (λ (l : List ℕ). a / 2 ^ 32 * 2 ^ 32 + byteAt l 2 * 2 ^ 24 + byteAt l 3 * 2 ^ 16 + byteAt l 4 * 2 ^ 8 + byteAt l 5) shape
-          ∙ bytes-back a in
+    if-is-true (h .long) (uniqueAddress t) (pollingAddress t) e
+    ∙ ap (λ (n : ℕ). n * 2 ^ 32 + byteAt t 2 * 2 ^ 24 + byteAt t 3 * 2 ^ 16 + byteAt t 4 * 2 ^ 8 + byteAt t 5) (six-bits h t (a / 2 ^ 32) below first-at)
+    ∙ ap (λ (l : List ℕ). a / 2 ^ 32 * 2 ^ 32 + byteAt l 2 * 2 ^ 24 + byteAt l 3 * 2 ^ 16 + byteAt l 4 * 2 ^ 8 + byteAt l 5) shape
+    ∙ bytes-back a in
     record {
       delimiter-at = ap (λ (l : List ℕ). byteAt l 0) shape;
       header-at = header-same h t (a / 2 ^ 32) below first-at (ap (byteAt t) place ∙ ap (λ (l : List ℕ). byteAt l 6) shape) address;
@@ -125,7 +125,7 @@ front-short h count u e small =
     let a : ℕ = h .address in
     let t : List ℕ = headerBytes h count ++ u in
     let shape : t ≡ (delimiterByte (h .frame) (h .long) ∷ (shortAddress h ++ (h .command ∷ count ∷ []))) ++ u =
-          ap (λ (l : List ℕ). (delimiterByte (h .frame) (h .long) ∷ (l ++ (h .command ∷ count ∷ []))) ++ u) (if-is-false (h .long) (longAddress h) (shortAddress h) e) in
+    ap (λ (l : List ℕ). (delimiterByte (h .frame) (h .long) ∷ (l ++ (h .command ∷ count ∷ []))) ++ u) (if-is-false (h .long) (longAddress h) (shortAddress h) e) in
     let place : commandPlace (h .long) 0 ≡ 2 = place-is h 1 (if-is-false (h .long) 5 1 e) in
     let below : a < 64 = omega (arith, if-is-false {A = ℕ} (h .long) (2 ^ 38 - 1) 63 e) in
     let first-at : byteAt t 1 ≡ firstByte h a = ap (λ (l : List ℕ). byteAt l 1) shape in
@@ -160,77 +160,49 @@ body-split h bytes rest =
     append-assoc (protectedBytes h bytes) (exclusiveOr (protectedBytes h bytes) ∷ []) rest
     ∙ append-assoc (headerBytes h (length bytes)) bytes (exclusiveOr (protectedBytes h bytes) ∷ rest)
 
-module _ (preamble : ℕ) (h : Header) (bytes rest : List ℕ) (fits : Fits preamble h (length bytes)) where
-  t : List ℕ
-  t = bodyBytes h bytes ++ rest
-
-  place : ℕ
-  place = commandPlace (h .long) 0
-
-  found : Front h (length bytes) t
-  unfolding t
-  found = rw body-split (front h (length bytes) (bytes ++ (exclusiveOr (protectedBytes h bytes) ∷ rest)) (fits .address-high))
-
-  long-enough : place + 3 + length bytes ≤ length t
-  unfolding t place
-  long-enough = omega (arith, body-count h bytes, length-append (bodyBytes h bytes) rest)
-
-  body-first : take (place + 3 + length bytes) t ≡ bodyBytes h bytes
-  unfolding t place
-  body-first = take-at (bodyBytes h bytes) rest (place + 3 + length bytes) (omega (arith, body-count h bytes))
-
-  checked : exclusiveOr (take (place + 3 + length bytes) t) ≡ 0
-  unfolding bodyBytes
-  checked = ap exclusiveOr body-first ∙ check-zero (protectedBytes h bytes)
-
-  same : Frame (message preamble h (length bytes)) ≡ Frame (foundAt preamble t (h .frame) (h .long) 0 place (length bytes))
-  unfolding message place
-  same =
-      let start : preamble + headerLength h ≡ preamble + (place + 2) = omega arith in
-      let end : frameLength preamble h (length bytes) ≡ preamble + (place + 3 + length bytes) = omega arith in
-      let header : h ≡ headerOf (h .frame) (h .long) place t = sym (found .header-at) in
-      λ i. Frame (record { preamble = preamble; header = header i; expansion = 0; start = start i; count = length bytes; end = end i })
-
-  counted : Frame (message preamble h (length bytes)) ≡ withCount preamble t (h .frame) (h .long) 0 place (length bytes)
-  counted =
-      if-above (length t) (place + 2 + length bytes) _ _ _ (omega (arith, long-enough))
-      (if-false (tooFew (h .frame) (length bytes)) _ _ _ (fits .enough) (if-equal (exclusiveOr (take (place + 3 + length bytes) t)) 0 _ _ _ checked same))
-
-  commanded : Frame (message preamble h (length bytes)) ≡ withCommand preamble t (h .frame) (h .long) 0 place
-  unfolding place
-  commanded =
-      if-above (length t) (place + 1) _ _ _ (omega (arith, long-enough))
-      (counted ∙ ap (λ (n : ℕ). withCount preamble t (h .frame) (h .long) 0 place n) (sym (found .count-at)))
-
-  pub body-back : Frame (message preamble h (length bytes)) ≡ readBody preamble (bodyBytes h bytes ++ rest)
-  unfolding readBody t place
-  body-back =
-      let delimiter : Is (h .frame) (h .long) 0 ≡ delimiterOf (byteAt t 0) = sym (ap delimiterOf (found .delimiter-at) ∙ delimiter-back (h .frame) (h .long) (fits .typed)) in
-      if-unequal (length t) 0 _ _ _ (omega (arith, long-enough)) (commanded ∙ ap (λ (d : Delimiter). withDelimiter preamble t d) delimiter)
-
--- so many 0xFF in front of another byte are so many preambles
-pub preambles-are : (n : ℕ) (bytes : List ℕ) → preambles bytes ≡ 0 → preambles (preambleBytes n ++ bytes) ≡ n
-unfolding preambles preambleBytes if_then_else_
-preambles-are zero bytes e = e
-preambles-are (suc n) bytes e = add-one _ ∙ ap suc (preambles-are n bytes e)
+-- a written body is a sound one
+body-sound : (preamble : ℕ) (h : Header) (bytes rest : List ℕ) → Fits preamble h (length bytes) → Sound preamble (bodyBytes h bytes ++ rest) (message preamble h (length bytes))
+unfolding bodyBytes message
+body-sound preamble h bytes rest fits =
+    let t : List ℕ = bodyBytes h bytes ++ rest in
+    let place : ℕ = commandPlace (h .long) 0 in
+    let head : Front h (length bytes) t = rw body-split (front h (length bytes) (bytes ++ (exclusiveOr (protectedBytes h bytes) ∷ rest)) (fits .address-high)) in
+    let body-first : take (place + 3 + length bytes) t ≡ bodyBytes h bytes = take-at (bodyBytes h bytes) rest (place + 3 + length bytes) (omega (arith, body-count h bytes)) in
+    let header : headerOf (h .frame) (h .long) place t ≡ h = head .header-at in
+    let start : preamble + (place + 2) ≡ preamble + headerLength h = omega arith in
+    let end : preamble + (place + 3 + length bytes) ≡ frameLength preamble h (length bytes) = omega arith in
+    record {
+      frame = h .frame;
+      long = h .long;
+      expansion = 0;
+      place = place;
+      count = length bytes;
+      delimited = ap delimiterOf (head .delimiter-at) ∙ delimiter-back (h .frame) (h .long) (fits .typed);
+      placed = refl;
+      counted = sym (head .count-at);
+      inside = omega (arith, body-count h bytes, length-append (bodyBytes h bytes) rest);
+      enough = fits .enough;
+      zero = ap exclusiveOr body-first ∙ check-zero (protectedBytes h bytes);
+      found = λ i. record { preamble = preamble; header = header i; expansion = 0; start = start i; count = length bytes; end = end i };
+    }
 
 no-more : (h : Header) (bytes rest : List ℕ) → isType (h .frame) ≡ true → preambles (bodyBytes h bytes ++ rest) ≡ 0
-unfolding preambles bodyBytes protectedBytes headerBytes
-no-more h bytes rest e = sym (if-unequal (delimiterByte (h .frame) (h .long)) 0xFF 0 _ 0 (delimiter-no-preamble (h .frame) (h .long) e) refl)
+unfolding bodyBytes protectedBytes headerBytes
+no-more h bytes rest e = no-preamble (bodyBytes h bytes ++ rest) (delimiter-no-preamble (h .frame) (h .long) e)
 
 -- the theorem
 pub reads-back : (preamble : ℕ) (h : Header) (bytes rest : List ℕ) → Fits preamble h (length bytes)
     → readFrame (frameBytes preamble h bytes ++ rest) ≡ Frame (message preamble h (length bytes))
-unfolding readFrame frameBytes
+unfolding frameBytes
 reads-back preamble h bytes rest fits =
     let body : List ℕ = bodyBytes h bytes ++ rest in
     let all : List ℕ = preambleBytes preamble ++ body in
-    let regroup : frameBytes preamble h bytes ++ rest ≡ all = append-assoc (preambleBytes preamble) (bodyBytes h bytes) rest in
-    let count : preambles all ≡ preamble = preambles-are preamble body (no-more h bytes rest (fits .typed)) in
-    let behind : drop preamble all ≡ body = drop-at (preambleBytes preamble) body preamble (sym (preamble-count preamble)) in
-    ap readFrame regroup
-    ∙ sym (if-not-below (preambles all) 2 _ _ _ (omega (arith, count, fits .preamble-low))
-      (body-back preamble h bytes rest fits ∙ ap (readBody preamble) (sym behind) ∙ ap (λ (n : ℕ). readBody n (drop n all)) (sym count)))
+    ap readFrame (append-assoc (preambleBytes preamble) (bodyBytes h bytes) rest)
+    ∙ sound-frame all preamble body (message preamble h (length bytes))
+    (preambles-are preamble body (no-more h bytes rest (fits .typed)))
+    (drop-at (preambleBytes preamble) body preamble (sym (preamble-count preamble)))
+    (omega (arith, fits .preamble-low))
+    (body-sound preamble h bytes rest fits)
 
 -- and the data that it names are the data that were written
 pub data-back : (preamble : ℕ) (h : Header) (bytes rest : List ℕ)
@@ -241,16 +213,16 @@ data-back preamble h bytes rest =
     let behind : List ℕ = bytes ++ (exclusiveOr (protectedBytes h bytes) ∷ rest) in
     let all : List ℕ = frameBytes preamble h bytes ++ rest in
     let split : all ≡ front ++ behind =
-          append-assoc (preambleBytes preamble) (bodyBytes h bytes) rest
-          ∙ ap (λ (l : List ℕ). preambleBytes preamble ++ l) (body-split h bytes rest)
-          ∙ sym (append-assoc (preambleBytes preamble) (headerBytes h (length bytes)) behind) in
+    append-assoc (preambleBytes preamble) (bodyBytes h bytes) rest
+    ∙ ap (λ (l : List ℕ). preambleBytes preamble ++ l) (body-split h bytes rest)
+    ∙ sym (append-assoc (preambleBytes preamble) (headerBytes h (length bytes)) behind) in
     let start : length front ≡ preamble + headerLength h = omega (arith, length-append (preambleBytes preamble) (headerBytes h (length bytes)), preamble-count preamble, header-count h (length bytes)) in
     let inside : preamble + headerLength h + length bytes ≤ length all =
-          omega (arith, ap length split, length-append front behind, length-append bytes (exclusiveOr (protectedBytes h bytes) ∷ rest)) in
+    omega (arith, ap length split, length-append front behind, length-append bytes (exclusiveOr (protectedBytes h bytes) ∷ rest)) in
     sym (if-at-most (preamble + headerLength h + length bytes) (length all) bytes _ _ inside
-      (sym (ap (λ (l : List ℕ). take (length bytes) (drop (preamble + headerLength h) l)) split
-        ∙ ap (take (length bytes)) (drop-at front behind (preamble + headerLength h) start)
-        ∙ take-at bytes (exclusiveOr (protectedBytes h bytes) ∷ rest) (length bytes) refl)))
+    (sym (ap (λ (l : List ℕ). take (length bytes) (drop (preamble + headerLength h) l)) split
+    ∙ ap (take (length bytes)) (drop-at front behind (preamble + headerLength h) start)
+    ∙ take-at bytes (exclusiveOr (protectedBytes h bytes) ∷ rest) (length bytes) refl)))
 
 -- Of a write that was taken: reading from the place named gives the message; its end is where the writer stopped; its data are the data.
 pub record ReadsBack (preamble : ℕ) (h : Header) (bytes buffer : List ℕ) (place end : ℕ) : Type 0 where
@@ -267,9 +239,9 @@ written-reads-back preamble h bytes buffer place end e =
     let rest : List ℕ = drop (place + length frame) buffer in
     let inside : place + length frame ≤ length buffer = omega (arith, room .end-is, room .inside, frame-count preamble h bytes) in
     let there : drop place (writeBuffer preamble h bytes buffer place) ≡ frame ++ rest =
-          ap (λ (w : Written). drop place (bufferBy w buffer place frame)) e
-          ∙ ap (drop place) (stored-between buffer place frame inside)
-          ∙ drop-at (take place buffer) (frame ++ rest) place (length-take-le place buffer (omega arith)) in
+    ap (λ (w : Written). drop place (bufferBy w buffer place frame)) e
+    ∙ ap (drop place) (stored-between buffer place frame inside)
+    ∙ drop-at (take place buffer) (frame ++ rest) place (length-take-le place buffer (omega arith)) in
     record {
       message-read = ap readFrame there ∙ reads-back preamble h bytes rest (room .fits);
       end-read = sym (room .end-is);

@@ -7,7 +7,7 @@ use borrow.Author.Tests.{ltb-false, leb-true, eqb-true}
 use Rattle.base.specs.Choice.{if_then_else_, _<?_, _≤?_, _=?_, _outside_to_}
 use Rattle.base.specs.declared.Refusal.{Refusal}
 use Rattle.base.specs.declared.Refusal.the-variants.{PreambleLength, Address, DataLong, DataLength, NoDelimiter, BufferShort}
-use Rattle.base.proofs.Choices.{went-then, went-else, inside-low, inside-high}
+use Rattle.base.proofs.Choices.{went-then, went-else, inside-low, inside-high, inside-is, if-true, if-false, if-not-below, if-at-most}
 use Rattle.frame.specs.Delimiter.{stx, ack, back, isType}
 use Rattle.frame.specs.Address.{largestAddress, addressTooLarge}
 use Rattle.frame.specs.Frame.{tooFew, frameLength}
@@ -82,3 +82,15 @@ type-small n e = go (typed-as n e)
     go (is-stx q) = omega arith
     go (is-ack q) = omega arith
     go (is-back q) = omega arith
+
+-- and the other way round: such fields with room for the frame are taken
+pub fits-taken : (preamble : ℕ) (h : Header) (count room place : ℕ) → Fits preamble h count → place + frameLength preamble h count ≤ room → To (place + frameLength preamble h count) ≡ writeAnswer preamble h count room place
+unfolding writeAnswer
+fits-taken preamble h count room place f r =
+    let answer : Written = To (place + frameLength preamble h count) in
+    if-false (preamble outside 5 to 20) answer _ _ (inside-is preamble 5 20 (f .preamble-low) (f .preamble-high))
+    (if-not-below (largestAddress (h .long)) (h .address) answer _ _ (f .address-high)
+    (if-not-below 255 count answer _ _ (f .count-high)
+    (if-false (tooFew (h .frame) count) answer _ _ (f .enough)
+    (if-true (isType (h .frame)) answer _ _ (f .typed)
+    (if-at-most (place + frameLength preamble h count) room answer _ _ r refl)))))
