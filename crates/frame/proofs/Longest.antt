@@ -35,9 +35,9 @@ written-length preamble h bytes room place end e =
       at-most = omega (arith, told .fits .preamble-high, told .fits .count-high, address-at-most (h .long));
     }
 
-longestHeader : Header
+abbrev pub longestHeader : Header
 longestHeader = record { frame = ack; long = true; primary = true; burst = false; address = 1; command = 0 }
 
 pub longest-is-written : writeAnswer 20 longestHeader 255 284 0 ≡ To 284
-unfolding writeAnswer longestHeader if_then_else_
+unfolding writeAnswer if_then_else_
 longest-is-written = refl
