@@ -7,7 +7,6 @@ use mathlib.Core.List.{List, [], _∷_, _++_}
 use lib.ListN.{length, length-append, length-replicate}
 use Rattle.base.specs.Choice.{if_then_else_}
 use Rattle.frame.specs.Address.{addressLength, addressBytes, longAddress, shortAddress}
-use Rattle.frame.specs.Check.{exclusiveOr}
 use Rattle.frame.specs.Frame.{headerBytes, protectedBytes, bodyBytes, preambleBytes, frameBytes, headerLength, frameLength}
 use Rattle.frame.specs.declared.Header.{Header}
 
@@ -31,7 +30,7 @@ protected-count h bytes = omega (arith, header-count h (length bytes), length-ap
 
 pub body-count : (h : Header) (bytes : List ℕ) → headerLength h + length bytes + 1 ≡ length (bodyBytes h bytes)
 unfolding bodyBytes
-body-count h bytes = omega (arith, protected-count h bytes, length-append (protectedBytes h bytes) (exclusiveOr (protectedBytes h bytes) ∷ []))
+body-count h bytes = simp length-append (omega (arith, protected-count h bytes))
 
 pub preamble-count : (n : ℕ) → n ≡ length (preambleBytes n)
 unfolding preambleBytes

@@ -15,8 +15,12 @@ ack = 6
 abbrev pub back : ℕ
 back = 1
 
+-- the two that a device sends
+abbrev pub fromDevice : ℕ → Bool
+fromDevice n = if n =? ack then true else n =? back
+
 abbrev pub isType : ℕ → Bool
-isType n = if n =? stx then true else if n =? ack then true else n =? back
+isType n = if n =? stx then true else fromDevice n
 
 -- "bit 7 long address; bits 6 and 5 the number of expansion bytes, 0 to 3; bits 4 and 3 zero; bits 2 to 0" the type. "Any other value is no delimiter."
 unfoldable pub delimiterOf : ℕ → Delimiter

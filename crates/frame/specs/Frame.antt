@@ -3,15 +3,15 @@ use Prim.Native.Nat.{ℕ, _+_}
 use mathlib.Core.Bool.{Bool, false}
 use mathlib.Core.List.{List, [], _∷_, _++_}
 use lib.ListN.{length, replicate}
-use Rattle.base.specs.Choice.{if_then_else_, _<?_, _=?_}
-use Rattle.frame.specs.Delimiter.{ack, back, delimiterByte}
+use Rattle.base.specs.Choice.{if_then_else_, _<?_}
+use Rattle.frame.specs.Delimiter.{fromDevice, delimiterByte}
 use Rattle.frame.specs.Address.{addressLength, addressBytes}
 use Rattle.frame.specs.Check.{exclusiveOr}
 use Rattle.frame.specs.declared.Header.{Header}
 
 -- "ACK and BACK carry at least 2 data bytes"
 abbrev pub tooFew : ℕ → ℕ → Bool
-tooFew frame count = if frame =? ack then count <? 2 else if frame =? back then count <? 2 else false
+tooFew frame count = if fromDevice frame then count <? 2 else false
 
 -- delimiter, address, command and byte count
 unfoldable pub headerBytes : Header → ℕ → List ℕ

@@ -1,7 +1,7 @@
 // The HART frame: what it says, the answers of its writer and its reader, and what both of them work out.
 use base::Refusal;
 ghost use mathlib.Core.Path.{_≡_};
-ghost use Rattle.frame.specs.Delimiter.{delimiterOf, isType};
+ghost use Rattle.frame.specs.Delimiter.{delimiterOf, fromDevice, isType};
 ghost use Rattle.frame.specs.Check.{xorFrom};
 ghost use Rattle.frame.specs.Frame.{tooFew};
 
@@ -88,6 +88,16 @@ pub fn delimiter_of(byte: u8) -> Delimiter
     }
 }
 
+// Whether a number is the type of a frame that a device sends.
+pub fn from_device(n: u8) -> bool
+    ensures { λ r. ⌜ r ≡ fromDevice n ⌝ }
+{
+    if n == ACK {
+        return true;
+    }
+    n == BACK
+}
+
 // Whether a number is a frame type.
 pub fn is_type(n: u8) -> bool
     ensures { λ r. ⌜ r ≡ isType n ⌝ }
@@ -95,20 +105,14 @@ pub fn is_type(n: u8) -> bool
     if n == STX {
         return true;
     }
-    if n == ACK {
-        return true;
-    }
-    n == BACK
+    from_device(n)
 }
 
 // Whether a frame of this type must carry more than so many data bytes.
 pub fn too_few(frame: u8, count: usize) -> bool
     ensures { λ r. ⌜ r ≡ tooFew frame count ⌝ }
 {
-    if frame == ACK {
-        return count < 2;
-    }
-    if frame == BACK {
+    if from_device(frame) {
         return count < 2;
     }
     false

@@ -8,5 +8,5 @@ is-type-spec =
     tie.close
     (tie.spec
     (λ c. search (needs, choices))
-    (λ c. search (needs, choices))
+    (λ c κs. search (needs, choices))
     (λ c. search (needs, choices)))

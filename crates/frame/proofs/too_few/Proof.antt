@@ -7,6 +7,6 @@ pub too-few-spec : {M : Type 1} → statement M
 too-few-spec =
     tie.close
     (tie.spec
-    (λ c. search (needs, choices))
+    (λ c κs. search (needs, choices))
     (λ c. search (needs, choices))
     (λ c. search (needs, choices)))
