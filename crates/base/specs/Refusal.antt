@@ -1,9 +1,11 @@
 -- Document 01, "Refusals, by where each is checked": the number of each.
 use Prim.Native.Nat.{ℕ}
 use Rattle.base.specs.declared.Refusal.{Refusal}
-use Rattle.base.specs.declared.Refusal.the-variants.{PreambleLength, Address, DataLong, DataLength, FewPreambles, NoDelimiter, EndsEarly, Unsound, BufferShort}
+use Rattle.base.specs.declared.Refusal.the-variants.{BadProfile, PreambleLength, Address, DataLong, DataLength, FewPreambles, NoDelimiter, EndsEarly, Unsound, BufferShort}
 
 abbrev pub number : Refusal → ℕ
+-- a value is 0 or above 1,000, HOLD not below RT2, RT2 or STO not below RT1 primary, or RT1 secondary not RT1 primary + RT2
+number BadProfile = 1
 -- preamble outside 5 to 20
 number PreambleLength = 3
 -- polling above 63 or unique above 38 bits

@@ -5,6 +5,7 @@ ghost use Rattle.base.specs.Refusal.{number};
 
 // Why a call is refused. Each is a number of document 01's table.
 pub enum Refusal {
+    BadProfile,
     PreambleLength,
     Address,
     DataLong,
@@ -22,6 +23,7 @@ impl Refusal {
         ensures { λ r. ⌜ r ≡ number self ⌝ }
     {
         match self {
+            Refusal::BadProfile => 1,
             Refusal::PreambleLength => 3,
             Refusal::Address => 4,
             Refusal::DataLong => 6,

@@ -1,0 +1,120 @@
+-- Laws of the tick reader's parts: equal parts give equal steps.
+use Prim.Native.Nat.{ℕ}
+use mathlib.Core.Bool.{Bool, true, false}
+use mathlib.Core.Path.{_≡_, refl, sym, ap, _∙_}
+use mathlib.Core.List.{List, [], _∷_}
+use lib.ListN.{set}
+use Rattle.base.specs.Choice.{if_then_else_, _=?_}
+use Rattle.base.specs.Store.{stored}
+use Rattle.frame.specs.declared.Delimiter.{Delimiter}
+use Rattle.frame.specs.declared.Header.{Header}
+use Rattle.line.specs.Reader.{noHeader, noHarm, blank, silence, tells, summed, next, begins, idle, ended, wholeOf, withCheck, atFirst, atAddress, atExpansion, atCommand, atData, atCheck, kindHarm, marked, character, damaged, kept, taken, takenData}
+use Rattle.line.specs.declared.Damage.{Damage}
+use Rattle.line.specs.declared.Event.{Event}
+use Rattle.line.specs.declared.Event.the-variants.{Nothing}
+use Rattle.line.specs.declared.Harm.{Harm}
+use Rattle.line.specs.declared.Heard.{Heard}
+use Rattle.line.specs.declared.Heard.the-variants.{Silence, Character, Damaged}
+use Rattle.line.specs.declared.Place.{Place}
+use Rattle.line.specs.declared.Receiver.{Receiver}
+use Rattle.line.specs.declared.Taken.{Taken}
+
+pub tells-same : (r s : Receiver) (e f : Event) → r ≡ s → e ≡ f → _≡_ {A = Taken} (record { receiver = r; event = e }) (tells s f)
+tells-same r s e f p q = λ i. record { receiver = p i; event = q i }
+
+pub goes-on-same : (t : Taken) (r s : Receiver) → r ≡ s → t ≡ tells r Nothing → t ≡ tells s Nothing
+goes-on-same t r s p q = q ∙ ap (λ (x : Receiver). tells x Nothing) p
+
+pub next-same : (t : Taken) (r : Receiver) (h g : Header) (p q : Place) (c : ℕ) → h ≡ g → p ≡ q → t ≡ next r h p c → t ≡ next r g q c
+next-same t r h g p q c a b e = e ∙ (λ i. next r (a i) (b i) c)
+
+pub begins-same : (t : Taken) (c : ℕ) (d g : Delimiter) → d ≡ g → t ≡ begins c d → t ≡ begins c g
+begins-same t c d g p e = e ∙ ap (begins c) p
+
+pub check-same : (r : Receiver) (c : ℕ) (s : Receiver) (wrong : Bool) (e : Event) → s ≡ idle → wrong ≡ (if summed r c =? 0 then false else true) → e ≡ ended (wholeOf r) (withCheck (r .harm) wrong)
+    → _≡_ {A = Taken} (record { receiver = s; event = e }) (atCheck r c)
+unfolding atCheck
+check-same r c s wrong e p q f = λ i. record { receiver = p i; event = (f ∙ ap (λ (w : Bool). ended (wholeOf r) (withCheck (r .harm) w)) q) i }
+
+pub blank-same : (place : Place) (m : Harm) → m ≡ noHarm → _≡_ {A = Receiver} (record { place = place; header = noHeader; expansion = 0; count = 0; sum = 0; harm = m }) (blank place)
+blank-same place m p = ap (λ (x : Harm). record { place = place; header = noHeader; expansion = 0; count = 0; sum = 0; harm = x }) p
+
+-- a definition by the reader's place, at a place that a `match` has told
+pub silence-at : (p q : Place) (t : Taken) → p ≡ q → t ≡ silence q → t ≡ silence p
+silence-at p q t e f = f ∙ ap silence (sym e)
+
+pub begins-at : (c : ℕ) (d g : Delimiter) (t : Taken) → d ≡ g → t ≡ begins c g → t ≡ begins c d
+begins-at c d g t e f = f ∙ ap (begins c) (sym e)
+
+pub kind-at : (k q : Damage) (m x : Harm) → k ≡ q → x ≡ kindHarm q m → x ≡ kindHarm k m
+kind-at k q m x e f = f ∙ ap (λ (d : Damage). kindHarm d m) (sym e)
+
+pub kept-at : (p q : Place) (c : ℕ) (bytes after : List ℕ) → p ≡ q → after ≡ kept q c bytes → after ≡ kept p c bytes
+kept-at p q c bytes after e f = f ∙ ap (λ (x : Place). kept x c bytes) (sym e)
+
+pub character-at : (p q : Place) (r : Receiver) (c : ℕ) (t : Taken) → p ≡ q → t ≡ character q r c → t ≡ character p r c
+character-at p q r c t e f = f ∙ ap (λ (x : Place). character x r c) (sym e)
+
+pub damaged-at : (p q : Place) (r : Receiver) (c : ℕ) (k : Damage) (t : Taken) → p ≡ q → t ≡ damaged q r c k → t ≡ damaged p r c k
+damaged-at p q r c k t e f = f ∙ ap (λ (x : Place). damaged x r c k) (sym e)
+
+pub marked-same : (r s : Receiver) (m n : Harm) → m ≡ n → s ≡ marked r m → s ≡ marked r n
+marked-same r s m n e f = f ∙ ap (marked r) e
+
+-- a step of a reader that a call answered
+module _ (r s : Receiver) (e : s ≡ r) (c : ℕ) (t : Taken) where
+  pub first-same : t ≡ atFirst s c → t ≡ atFirst r c
+  first-same f = f ∙ ap (λ (x : Receiver). atFirst x c) e
+
+  pub address-same : (n : ℕ) → t ≡ atAddress s n c → t ≡ atAddress r n c
+  address-same n f = f ∙ ap (λ (x : Receiver). atAddress x n c) e
+
+  pub expansion-same : (n : ℕ) → t ≡ atExpansion s n c → t ≡ atExpansion r n c
+  expansion-same n f = f ∙ ap (λ (x : Receiver). atExpansion x n c) e
+
+  pub command-same : t ≡ atCommand s c → t ≡ atCommand r c
+  command-same f = f ∙ ap (λ (x : Receiver). atCommand x c) e
+
+  pub data-same : (n : ℕ) → t ≡ atData s n c → t ≡ atData r n c
+  data-same n f = f ∙ ap (λ (x : Receiver). atData x n c) e
+
+  pub check-byte-same : t ≡ atCheck s c → t ≡ atCheck r c
+  check-byte-same f = f ∙ ap (λ (x : Receiver). atCheck x c) e
+
+pub stored-one : (bytes : List ℕ) (n c : ℕ) → set bytes n c ≡ stored bytes n (c ∷ [])
+unfolding stored
+stored-one bytes n c = refl
+
+-- a tick, by what was heard
+module _ (r : Receiver) (heard : Heard) (t : Taken) (bytes after : List ℕ) where
+  pub take-silence : heard ≡ Silence → t ≡ silence (r .place) → t ≡ taken r heard
+  unfolding taken
+  take-silence e f = f ∙ ap (taken r) (sym e)
+
+  pub take-character : (c : ℕ) → heard ≡ Character c → t ≡ character (r .place) r c → t ≡ taken r heard
+  unfolding taken
+  take-character c e f = f ∙ ap (taken r) (sym e)
+
+  pub take-damaged : (c : ℕ) (k : Damage) → heard ≡ Damaged c k → t ≡ damaged (r .place) r c k → t ≡ taken r heard
+  unfolding taken
+  take-damaged c k e f = f ∙ ap (taken r) (sym e)
+
+  pub keep-silence : heard ≡ Silence → bytes ≡ takenData r heard bytes
+  unfolding takenData
+  keep-silence e = ap (λ (h : Heard). takenData r h bytes) (sym e)
+
+  pub keep-character : (c : ℕ) → heard ≡ Character c → after ≡ kept (r .place) c bytes → after ≡ takenData r heard bytes
+  unfolding takenData
+  keep-character c e f = f ∙ ap (λ (h : Heard). takenData r h bytes) (sym e)
+
+  pub keep-damaged : (c : ℕ) (k : Damage) → heard ≡ Damaged c k → after ≡ kept (r .place) c bytes → after ≡ takenData r heard bytes
+  unfolding takenData
+  keep-damaged c k e f = f ∙ ap (λ (h : Heard). takenData r h bytes) (sym e)
+
+pub ruleset steps = (refl, tells-same, goes-on-same, next-same, begins-same, check-same, blank-same, silence-at, begins-at)
+
+pub ruleset places = (refl, kind-at, kept-at, character-at, damaged-at, marked-same)
+
+pub ruleset damages = (refl, damaged-at, first-same, address-same, expansion-same, command-same, data-same, check-byte-same)
+
+pub ruleset ticks = (refl, take-silence, take-character, take-damaged, keep-silence, keep-character, keep-damaged)
