@@ -50,25 +50,25 @@ delimiter-no-preamble frame true e q = omega (arith, type-small frame e)
 delimiter-no-preamble frame false e q = omega (arith, type-small frame e)
 
 -- the first address byte gives back the master bit, the burst flag and the six bits
-first : Bool → Bool → ℕ → ℕ
+abbrev pub first : Bool → Bool → ℕ → ℕ
 first primary burst bits = (if primary then 128 else 0) + (if burst then 64 else 0) + bits
 
-master-back : (primary burst : Bool) (bits : ℕ) → bits < 64 → (first primary burst bits / 128 =? 1) ≡ primary
-unfolding first if_then_else_
+pub master-back : (primary burst : Bool) (bits : ℕ) → bits < 64 → (first primary burst bits / 128 =? 1) ≡ primary
+unfolding if_then_else_
 master-back true true bits h = eq-eqb (first true true bits / 128) 1 (omega arith)
 master-back true false bits h = eq-eqb (first true false bits / 128) 1 (omega arith)
 master-back false true bits h = ne-eqb (first false true bits / 128) 1 (omega arith)
 master-back false false bits h = ne-eqb (first false false bits / 128) 1 (omega arith)
 
-burst-back : (primary burst : Bool) (bits : ℕ) → bits < 64 → (first primary burst bits / 64 % 2 =? 1) ≡ burst
-unfolding first if_then_else_
+pub burst-back : (primary burst : Bool) (bits : ℕ) → bits < 64 → (first primary burst bits / 64 % 2 =? 1) ≡ burst
+unfolding if_then_else_
 burst-back true true bits h = eq-eqb (first true true bits / 64 % 2) 1 (omega arith)
 burst-back false true bits h = eq-eqb (first false true bits / 64 % 2) 1 (omega arith)
 burst-back true false bits h = ne-eqb (first true false bits / 64 % 2) 1 (omega arith)
 burst-back false false bits h = ne-eqb (first false false bits / 64 % 2) 1 (omega arith)
 
-bits-back : (primary burst : Bool) (bits : ℕ) → bits < 64 → first primary burst bits % 64 ≡ bits
-unfolding first if_then_else_
+pub bits-back : (primary burst : Bool) (bits : ℕ) → bits < 64 → first primary burst bits % 64 ≡ bits
+unfolding if_then_else_
 bits-back true true bits h = omega arith
 bits-back false true bits h = omega arith
 bits-back true false bits h = omega arith
@@ -85,14 +85,12 @@ record Front (h : Header) (count : ℕ) (t : List ℕ) : Type 0 where
 
 module _ (h : Header) (t : List ℕ) (bits : ℕ) (small : bits < 64) (at : byteAt t 1 ≡ firstByte h bits) where
   header-same : (command : byteAt t (commandPlace (h .long) 0) ≡ h .command) (address : addressOf (h .long) t ≡ h .address) → headerOf (h .frame) (h .long) (commandPlace (h .long) 0) t ≡ h
-  unfolding first
   header-same command address =
       let primary : masterBit t ≡ h .primary = ap (λ (b : ℕ). b / 128 =? 1) at ∙ master-back (h .primary) (h .burst) bits small in
       let burst : burstFlag t ≡ h .burst = ap (λ (b : ℕ). b / 64 % 2 =? 1) at ∙ burst-back (h .primary) (h .burst) bits small in
       λ i. record { frame = h .frame; long = h .long; primary = primary i; burst = burst i; address = address i; command = command i }
 
   six-bits : byteAt t 1 % 64 ≡ bits
-  unfolding first
   six-bits = ap (λ (b : ℕ). b % 64) at ∙ bits-back (h .primary) (h .burst) bits small
 
 place-is : (h : Header) (n : ℕ) → addressLength (h .long) ≡ n → commandPlace (h .long) 0 ≡ n + 1

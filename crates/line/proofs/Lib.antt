@@ -1,0 +1,4 @@
+-- The laws and theorems of the line.
+pub mod Leads
+pub mod Hearing
+pub mod Ticks

@@ -1,0 +1,46 @@
+-- Theorems on single ticks: a silent tick leads to the idle reader from any state, and no byte inside a frame's data starts another frame.
+use Prim.Native.Nat.{ℕ, _+_}
+use mathlib.Core.Path.{_≡_, refl, sym, subst}
+use mathlib.Core.Bool.{Bool, true, false}
+use Rattle.base.specs.Choice.{if_then_else_, _<?_}
+use Rattle.line.specs.Reader.{idle, silence, next, character, atData, taken}
+use Rattle.line.specs.declared.Event.{Event}
+use Rattle.line.specs.declared.Event.the-variants.{Nothing}
+use Rattle.line.specs.declared.Heard.the-variants.{Silence, Character}
+use Rattle.line.specs.declared.Place.{Place}
+use Rattle.line.specs.declared.Place.the-variants.{Passing, Idle, Preamble, First, Address, Expansion, Command, Count, Data, Check}
+use Rattle.line.specs.declared.Receiver.{Receiver}
+use Rattle.line.specs.declared.Taken.{Taken}
+
+silence-idle : (place : Place) → silence place .receiver ≡ idle
+silence-idle Passing = refl
+silence-idle Idle = refl
+silence-idle (Preamble n) = refl
+silence-idle First = refl
+silence-idle (Address n) = refl
+silence-idle (Expansion n) = refl
+silence-idle Command = refl
+silence-idle Count = refl
+silence-idle (Data n) = refl
+silence-idle Check = refl
+
+pub silent-to-idle : (r : Receiver) → taken r Silence .receiver ≡ idle
+unfolding taken
+silent-to-idle r = silence-idle (r .place)
+
+-- behind a data byte, whatever it is, the reader stands at the next data byte or at the check byte, with the same header, and has told nothing
+pub data DataGoesOn (r : Receiver) (n : ℕ) (t : Taken) : Type 0 where
+  to-data : t .receiver .place ≡ Data (n + 1) → t .receiver .header ≡ r .header → t .event ≡ Nothing → DataGoesOn r n t
+  to-check : t .receiver .place ≡ Check → t .receiver .header ≡ r .header → t .event ≡ Nothing → DataGoesOn r n t
+
+data-goes-on : (r : Receiver) (n c : ℕ) → DataGoesOn r n (atData r n c)
+unfolding atData if_then_else_
+data-goes-on r n c = go (n + 1 <? r .count)
+  where
+    go : (t : Bool) → DataGoesOn r n (if t then next r (r .header) (Data (n + 1)) c else next r (r .header) Check c)
+    go true = to-data refl refl refl
+    go false = to-check refl refl refl
+
+pub data-starts-no-frame : (r : Receiver) (n c : ℕ) → r .place ≡ Data n → DataGoesOn r n (taken r (Character c))
+unfolding taken
+data-starts-no-frame r n c e = subst (λ (p : Place). DataGoesOn r n (character p r c)) (sym e) (data-goes-on r n c)
