@@ -1,19 +1,29 @@
 -- Document 01, "Refusals, by where each is checked": the number of each.
 use Prim.Native.Nat.{ℕ}
 use Rattle.base.specs.declared.Refusal.{Refusal}
-use Rattle.base.specs.declared.Refusal.the-variants.{BadProfile, PreambleLength, Address, DataLong, DataLength, FewPreambles, NoDelimiter, EndsEarly, Unsound, BufferShort}
+use Rattle.base.specs.declared.Refusal.the-variants.{BadProfile, BadRetries, PreambleLength, Address, Command, DataLong, MessageInHand, NoRequest, DataLength, BurstWish, FewPreambles, NoDelimiter, EndsEarly, Unsound, BufferShort}
 
 abbrev pub number : Refusal → ℕ
 -- a value is 0 or above 1,000, HOLD not below RT2, RT2 or STO not below RT1 primary, or RT1 secondary not RT1 primary + RT2
 number BadProfile = 1
+-- R outside 3 to 15
+number BadRetries = 2
 -- preamble outside 5 to 20
 number PreambleLength = 3
 -- polling above 63 or unique above 38 bits
 number Address = 4
+-- command 254, or a short address with a command but 0
+number Command = 5
 -- data above 255
 number DataLong = 6
+-- a message is in hand
+number MessageInHand = 7
+-- no request in hand, or past T+STO
+number NoRequest = 8
 -- data outside 2 to 255
 number DataLength = 9
+-- burst on without burst content, or on or off wished in answer to command 0
+number BurstWish = 10
 -- fewer than two preambles
 number FewPreambles = 11
 -- writer: type not 2, 6 or 1; reader: the byte behind the preamble is no delimiter

@@ -6,10 +6,15 @@ ghost use Rattle.base.specs.Refusal.{number};
 // Why a call is refused. Each is a number of document 01's table.
 pub enum Refusal {
     BadProfile,
+    BadRetries,
     PreambleLength,
     Address,
+    Command,
     DataLong,
+    MessageInHand,
+    NoRequest,
     DataLength,
+    BurstWish,
     FewPreambles,
     NoDelimiter,
     EndsEarly,
@@ -24,10 +29,15 @@ impl Refusal {
     {
         match self {
             Refusal::BadProfile => 1,
+            Refusal::BadRetries => 2,
             Refusal::PreambleLength => 3,
             Refusal::Address => 4,
+            Refusal::Command => 5,
             Refusal::DataLong => 6,
+            Refusal::MessageInHand => 7,
+            Refusal::NoRequest => 8,
             Refusal::DataLength => 9,
+            Refusal::BurstWish => 10,
             Refusal::FewPreambles => 11,
             Refusal::NoDelimiter => 12,
             Refusal::EndsEarly => 13,

@@ -1,0 +1,172 @@
+// What master and device hold from tick to tick, and what they tell their hosts. The rules by which they change are the definitions in specs/.
+use base::Refusal;
+use frame::Header;
+use line::Event;
+use line::Profile;
+use line::Receiver;
+use line::Whole;
+
+// What a party sends in a tick.
+pub enum Sent {
+    Silent,
+    Character(u8),
+}
+
+// A master's windows, in silent line ticks.
+pub struct Timer {
+    // until the next window opens; 0 where none will
+    pub next: u32,
+    // left of the open window; 0 where none is open
+    pub window: u32,
+    // left of the quiet time, while BURST is set
+    pub quiet: u32,
+}
+
+// What a master does for its message.
+pub enum Stage {
+    // no message in hand
+    Free,
+    // the message, or a retry of it, waits for a window
+    Waiting,
+    // its STX is being sent; this character is next
+    Sending(u16),
+    // its STX was sent; so many silent ticks are left for the ACK
+    Awaiting(u16),
+}
+
+// A master's message: its STX stands in the lent frame buffer.
+pub struct Message {
+    pub stage: Stage,
+    pub header: Header,
+    // how many characters its STX has
+    pub length: u16,
+    // how many STX frames were begun for it
+    pub attempts: u8,
+}
+
+// The address that BURST was set by.
+pub struct Noted {
+    pub long: bool,
+    pub address: u64,
+}
+
+pub struct Master {
+    pub primary: bool,
+    pub profile: Profile,
+    // retries after the first attempt
+    pub retries: u8,
+    pub receiver: Receiver,
+    // it sent in the tick before, or is fresh, and hears nothing in this one
+    pub deaf: bool,
+    // BURST
+    pub burst: bool,
+    pub noted: Noted,
+    pub timer: Timer,
+    pub message: Message,
+}
+
+// What a master tells its host of its message.
+pub enum Told {
+    Nothing,
+    // answered with this ACK, whose data are in the lent data buffer
+    Answered(Whole),
+    // given up after so many STX frames
+    GivenUp(u8),
+    // a broadcast, sent once
+    BroadcastSent,
+}
+
+// A master behind what it heard, and what it tells.
+pub struct MasterTaken {
+    pub master: Master,
+    pub told: Told,
+    pub event: Event,
+}
+
+// A party that answers its host's call.
+pub enum MasterCalled {
+    Taken(Master),
+    Refused(Refusal),
+}
+
+pub struct MasterSent {
+    pub master: Master,
+    pub sent: Sent,
+}
+
+// A host's wish for burst mode, with an answer.
+pub enum Wish {
+    Same,
+    On,
+    Off,
+}
+
+// What a device does.
+pub enum Turn {
+    Listens,
+    // a request is in hand, for so many ticks more, this one included
+    Asked(u16),
+    // an answer was taken in the tick that told the request, or is an error answer: it begins in the next tick
+    Accepted,
+    // an answer begins in this tick
+    Begins,
+    // its ACK is being sent; this character is next
+    Answers(u16),
+    // a BACK begins in this tick
+    Follows,
+    // its BACK is being sent; this character is next
+    Bursts(u16),
+}
+
+// What the host gave for BACKs; the data stand in the lent content buffer.
+pub struct Content {
+    pub given: bool,
+    pub command: u8,
+    pub count: u8,
+}
+
+pub struct Device {
+    pub profile: Profile,
+    pub preamble: usize,
+    pub polling: u8,
+    pub unique: u64,
+    pub receiver: Receiver,
+    // it sent in the tick before, or is fresh, and hears nothing in this one
+    pub deaf: bool,
+    pub turn: Turn,
+    // the request in hand, or the one that is being answered
+    pub request: Header,
+    pub wish: Wish,
+    // how many characters the frame in the lent frame buffer has
+    pub length: u16,
+    // burst mode is on
+    pub burst: bool,
+    // the next BACK is for the primary
+    pub primary: bool,
+    // silent line ticks until a bursting device's next BACK; 0 where none is due
+    pub due: u32,
+    pub content: Content,
+}
+
+// What a device tells its host.
+pub enum Asked {
+    Nothing,
+    Request(Whole),
+    Broadcast(Whole),
+}
+
+pub struct DeviceTaken {
+    pub device: Device,
+    pub asked: Asked,
+    pub event: Event,
+}
+
+pub enum DeviceCalled {
+    Taken(Device),
+    Refused(Refusal),
+}
+
+pub struct DeviceSent {
+    pub device: Device,
+    pub sent: Sent,
+}
