@@ -8,7 +8,7 @@ ghost use mathlib.Core.Path.{_≡_};
 ghost use Rattle.line_c.specs.Recording.{heardOf, eventNumber, step, RunIs};
 
 // What a tick of a recording says was heard: silence, a character, or a damaged one.
-fn heard_of(kind: u8, c: u8) -> Heard
+pub fn heard_of(kind: u8, c: u8) -> Heard
     ensures { λ r. ⌜ r ≡ heardOf kind c ⌝ }
 {
     if kind == 1 {
