@@ -98,11 +98,18 @@ impl Reader {
     }
 
     pub fn take(&mut self, heard: Heard) -> Event {
-        match heard {
-            Heard::Silence => self.silence(),
-            Heard::Character(character) => self.character(character),
-            Heard::Damaged(character, damage) => self.damaged(character, damage),
-        }
+        let character = match heard {
+            Heard::Silence => return self.silence(),
+            Heard::Character(character) => character,
+            Heard::Damaged(character, damage) => {
+                if matches!(self.next, Next::Preamble { .. } | Next::Count) {
+                    return self.broken();
+                }
+                self.damage(damage);
+                character
+            }
+        };
+        self.character(character)
     }
 
     fn silence(&mut self) -> Event {
@@ -113,18 +120,13 @@ impl Reader {
         }
     }
 
-    fn damaged(&mut self, character: u8, damage: Damage) -> Event {
-        match self.next {
-            Next::PassedOver => return Event::PassedOver,
-            Next::Preamble { .. } | Next::Count => return self.broken(),
-            Next::Address { .. } | Next::Expansion { .. } => self.harm.address = true,
-            Next::Command | Next::Data { .. } | Next::Check => match damage {
-                Damage::Parity => self.harm.parity = true,
-                Damage::Overrun => self.harm.overrun = true,
-                Damage::Framing => self.harm.framing = true,
-            },
+    fn damage(&mut self, damage: Damage) {
+        match (self.next, damage) {
+            (Next::Address { .. } | Next::Expansion { .. }, _) => self.harm.address = true,
+            (_, Damage::Parity) => self.harm.parity = true,
+            (_, Damage::Overrun) => self.harm.overrun = true,
+            (_, Damage::Framing) => self.harm.framing = true,
         }
-        self.character(character)
     }
 
     fn character(&mut self, character: u8) -> Event {
