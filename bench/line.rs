@@ -1,6 +1,6 @@
 //! Ticks per second of the tick reader over long recordings, through the archive and by the oracle
-//! in plain Rust. The events show neither fields nor data of a frame, so the compiler leaves most
-//! of their upkeep out on both sides.
+//! in plain Rust. The events show neither fields nor data of a frame, so the compiler need not keep
+//! them up on either side.
 
 #[path = "../tests/line_archive.rs"]
 mod line_archive;
