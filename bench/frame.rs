@@ -4,12 +4,12 @@
 mod archive;
 #[path = "../tests/frame_oracle.rs"]
 mod frame_oracle;
+mod rounds;
 
 use frame_oracle::{frame_length, ACK, LONGEST_FRAME, STX};
+use rounds::by_turns;
 use std::hint::black_box;
-use std::time::Instant;
 
-const ROUNDS: usize = 15;
 const CALLS: usize = 500_000;
 
 struct Frame {
@@ -87,40 +87,19 @@ macro_rules! read_by {
     }};
 }
 
-fn nanoseconds(mut call: impl FnMut()) -> f64 {
-    let start = Instant::now();
-    for _ in 0..CALLS {
-        call();
-    }
-    start.elapsed().as_nanos() as f64 / CALLS as f64
-}
-
-fn median(mut numbers: Vec<f64>) -> f64 {
-    numbers.sort_by(f64::total_cmp);
-    numbers[numbers.len() / 2]
-}
-
-/// Measures the two by turns and prints one row. A ratio above 1 says that the archive is faster.
-fn compare(
-    operation: &str,
-    frame: &Frame,
-    mut by_archive: impl FnMut(),
-    mut by_oracle: impl FnMut(),
-) {
-    let rounds: Vec<(f64, f64)> = (0..ROUNDS)
-        .map(|_| (nanoseconds(&mut by_archive), nanoseconds(&mut by_oracle)))
-        .collect();
-    let ratios = || rounds.iter().map(|(archive, oracle)| oracle / archive);
+/// Measures the two by turns and prints one row.
+fn compare(operation: &str, frame: &Frame, by_archive: impl FnMut(), by_oracle: impl FnMut()) {
+    let measured = by_turns(CALLS, by_archive, by_oracle);
     println!(
         "{:<6} {:<9} {:>5}  {:>7.1}  {:>6.1}  {:>6.2}  {:>8.2}  {:>7.2}",
         operation,
         frame.name,
         frame.length(),
-        median(rounds.iter().map(|round| round.0).collect()),
-        median(rounds.iter().map(|round| round.1).collect()),
-        median(ratios().collect()),
-        ratios().fold(f64::INFINITY, f64::min),
-        ratios().fold(0.0, f64::max),
+        measured.archive,
+        measured.oracle,
+        measured.median,
+        measured.smallest,
+        measured.largest,
     );
 }
 

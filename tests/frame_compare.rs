@@ -5,8 +5,11 @@
 mod archive;
 #[path = "frame_oracle.rs"]
 mod frame_oracle;
+#[path = "frames.rs"]
+mod frames;
 
 use frame_oracle::*;
+use frames::*;
 use std::process::ExitCode;
 
 const WRITE_ANSWERS: [u32; 7] = [
@@ -25,7 +28,6 @@ const READ_ANSWERS: [u32; 5] = [
     REFUSED_ENDS_EARLY,
     REFUSED_UNSOUND,
 ];
-const TYPES: [u8; 3] = [STX, ACK, BACK];
 const NO_TYPE: u8 = 3;
 
 /// Bytes on each side of the writer's buffer that belong to nobody.
@@ -45,37 +47,6 @@ const fn pattern<const SIZE: usize>() -> [u8; SIZE] {
         i += 1;
     }
     bytes
-}
-
-struct Xorshift(u64);
-
-impl Xorshift {
-    fn next(&mut self) -> u64 {
-        self.0 ^= self.0 << 13;
-        self.0 ^= self.0 >> 7;
-        self.0 ^= self.0 << 17;
-        self.0
-    }
-
-    fn below(&mut self, limit: usize) -> usize {
-        ((self.next() >> 32) as usize) % limit
-    }
-
-    fn byte(&mut self) -> u8 {
-        (self.next() >> 32) as u8
-    }
-
-    fn flag(&mut self) -> bool {
-        self.below(2) == 1
-    }
-
-    fn bytes(&mut self, count: usize) -> Vec<u8> {
-        (0..count).map(|_| self.byte()).collect()
-    }
-
-    fn pick<T: Copy>(&mut self, choices: &[T]) -> T {
-        choices[self.below(choices.len())]
-    }
 }
 
 /// What the writer is asked.
@@ -414,43 +385,6 @@ fn read_written(comparison: &mut Comparison) {
     for frame in frames {
         comparison.read_at_every_length(&frame);
     }
-}
-
-/// The bytes from delimiter to the last data byte: sound unless it is an ACK or BACK with fewer
-/// than 2 data bytes.
-fn body(random: &mut Xorshift, delimiter: u8, count: u8) -> Vec<u8> {
-    let address_length = if delimiter & LONG != 0 { 5 } else { 1 };
-    let expansion = usize::from(delimiter >> 5 & 3);
-    let mut bytes = vec![delimiter];
-    bytes.extend(random.bytes(address_length + expansion + 1));
-    bytes.push(count);
-    bytes.extend(random.bytes(count.into()));
-    bytes
-}
-
-fn delimiter(random: &mut Xorshift) -> u8 {
-    random.pick(&TYPES) | random.byte() & 0xE0
-}
-
-fn count(random: &mut Xorshift) -> u8 {
-    match random.below(3) {
-        0 => random.pick(&[0, 1, 2, 3, 254, 255]),
-        1 => random.byte() & 0x1F,
-        _ => random.byte(),
-    }
-}
-
-/// Preambles, the body and the check byte that belongs to it.
-fn sealed(preamble: usize, body: &[u8]) -> Vec<u8> {
-    let mut bytes = vec![PREAMBLE; preamble];
-    bytes.extend(body);
-    bytes.push(exclusive_or(body));
-    bytes
-}
-
-fn random_frame(random: &mut Xorshift) -> Vec<u8> {
-    let (delimiter, count) = (delimiter(random), count(random));
-    sealed(2 + random.below(20), &body(random, delimiter, count))
 }
 
 fn read_expansion(comparison: &mut Comparison, random: &mut Xorshift) {

@@ -1,0 +1,51 @@
+-- A recording of the line has two bytes for each tick: 32 times the kind of what was heard, and the character.
+use Prim.Native.Nat.{ℕ, _/_}
+use mathlib.Core.Path.{_≡_}
+use mathlib.Core.List.{List, [], _∷_}
+use lib.ListN.{length, take}
+use Rattle.base.specs.Choice.{if_then_else_, _=?_}
+use Rattle.base.specs.Store.{stored}
+use Rattle.line.specs.Reader.{passing, taken}
+use Rattle.line.specs.declared.Damage.the-variants.{Parity, Overrun, Framing}
+use Rattle.line.specs.declared.Event.{Event}
+use Rattle.line.specs.declared.Event.the-variants.{Nothing, PassedOver, Broken, Frame}
+use Rattle.line.specs.declared.Heard.{Heard}
+use Rattle.line.specs.declared.Heard.the-variants.{Silence, Character, Damaged}
+use Rattle.line.specs.declared.Receiver.{Receiver}
+use Rattle.line.specs.declared.Taken.{Taken}
+
+-- 1 is a character, 2 to 4 a damaged one of kind 1 to 3; any other kind is silence
+abbrev pub heardOf : ℕ → ℕ → Heard
+heardOf kind c =
+    if kind =? 1 then Character c else
+    if kind =? 2 then Damaged c Parity else
+    if kind =? 3 then Damaged c Overrun else
+    if kind =? 4 then Damaged c Framing else
+    Silence
+
+-- what the reader tells, as a number
+abbrev pub eventNumber : Event → ℕ
+eventNumber Nothing = 0
+eventNumber PassedOver = 1
+eventNumber Broken = 2
+eventNumber (Frame w) = 3
+eventNumber (Event.Damaged w m) = 4
+
+-- a tick of the reader, by the two bytes
+abbrev pub step : Receiver → ℕ → ℕ → Taken
+step r first c = taken r (heardOf (first / 32) c)
+
+-- what the reader tells in each tick of a recording; a last odd byte is no tick
+unfoldable pub trace : Receiver → List ℕ → List ℕ
+trace r [] = []
+trace r (first ∷ []) = []
+trace r (first ∷ c ∷ recording) = eventNumber (step r first c .event) ∷ trace (step r first c .receiver) recording
+
+-- as many of these numbers as there is room for, from the reader's start on
+abbrev pub told : ℕ → List ℕ → List ℕ
+told room recording = take room (trace passing recording)
+
+-- what a run promises: the numbers at the front of the lent events, and how many they are
+pub record RunIs (recording before : List ℕ) (r : ℕ) (after : List ℕ) : Type 0 where
+  pub events : after ≡ stored before 0 (told (length before) recording)
+  pub returned : r ≡ length (told (length before) recording)

@@ -1,0 +1,78 @@
+// The tick reader for programs in C and Rust: over a recording of the line, with a number for what it tells in each tick.
+use line::Damage;
+use line::Event;
+use line::Heard;
+use line::Receiver;
+use line::Taken;
+ghost use mathlib.Core.Path.{_≡_};
+ghost use Rattle.line_c.specs.Recording.{heardOf, eventNumber, step, RunIs};
+
+// What a tick of a recording says was heard: silence, a character, or a damaged one.
+pub fn heard_of(kind: u8, c: u8) -> Heard
+    ensures { λ r. ⌜ r ≡ heardOf kind c ⌝ }
+{
+    if kind == 1 {
+        return Heard::Character(c);
+    }
+    if kind == 2 {
+        return Heard::Damaged(c, Damage::Parity);
+    }
+    if kind == 3 {
+        return Heard::Damaged(c, Damage::Overrun);
+    }
+    if kind == 4 {
+        return Heard::Damaged(c, Damage::Framing);
+    }
+    Heard::Silence
+}
+
+// What the reader tells, as a number.
+fn event_number(event: Event) -> u8
+    ensures { λ r. ⌜ r ≡ eventNumber event ⌝ }
+{
+    match event {
+        Event::Nothing => 0,
+        Event::PassedOver => 1,
+        Event::Broken => 2,
+        Event::Frame(_) => 3,
+        Event::Damaged(_, _) => 4,
+    }
+}
+
+// A tick of the reader, by the two bytes of a recording.
+fn stepped(r: Receiver, first: u8, c: u8, bytes: &mut [u8; 255]) -> Taken
+    ensures { λ t. ⌜ t ≡ step r first c ⌝ }
+{
+    let heard = heard_of(first / 32, c);
+    tick_reader::take(r, heard, bytes)
+}
+
+// The reader over a recording, from its start on; bytes holds the data of the frame being heard.
+fn run(recording: &[u8], events: &mut [u8], bytes: &mut [u8; 255]) -> usize
+    ensures { λ r. ⌜ RunIs (now (recording .entry)) (now (events .entry)) r (now (events .exit)) ⌝ }
+{
+    let mut r = tick_reader::passing_reader();
+    let mut at = 0;
+    let mut i = 0;
+    while i < events.len() {
+        if recording.len() - at < 2 {
+            return i;
+        }
+        let taken = stepped(r, recording[at], recording[at + 1], bytes);
+        let event = taken.event;
+        events[i] = event_number(event);
+        r = taken.receiver;
+        at += 2;
+        i += 1;
+    }
+    i
+}
+
+// What the reader tells in each tick of a recording, from its start on: at the front of events, for as many ticks as both hold, and their number.
+#[no_mangle]
+pub extern "C" fn nengapiko_ticks(recording: &[u8], events: &mut [u8]) -> usize
+    ensures { λ r. ⌜ RunIs (now (recording .entry)) (now (events .entry)) r (now (events .exit)) ⌝ }
+{
+    let mut bytes = [0u8; 255];
+    run(recording, events, &mut bytes)
+}

@@ -1,0 +1,207 @@
+// Feeds recorded ticks to the tick reader, and prints each tick in which it tells something.
+use libc::STDOUT_FILENO;
+use line::Event;
+use line::Harm;
+use line::Whole;
+
+fn text(words: &[u8]) {
+    io::write_all(STDOUT_FILENO, words);
+}
+
+// A name and a number.
+fn field(name: &[u8], n: u64) {
+    text(name);
+    io::print_decimal(STDOUT_FILENO, n);
+}
+
+fn flag(name: &[u8], on: bool) {
+    if on {
+        field(name, 1);
+    } else {
+        field(name, 0);
+    }
+}
+
+// A byte in hexadecimal, with a space in front.
+fn digits(byte: u8) {
+    text(b" ");
+    io::print_hex(STDOUT_FILENO, byte as u64, 2);
+}
+
+// The first count bytes of the reader's buffer.
+fn hexadecimal(bytes: &[u8; 255], count: u8) {
+    let mut i: u8 = 0;
+    while i < count {
+        digits(bytes[i as usize]);
+        i += 1;
+    }
+}
+
+fn fields(w: Whole) {
+    let h = w.header;
+    field(b" type ", h.frame as u64);
+    flag(b" long ", h.long);
+    flag(b" primary ", h.primary);
+    flag(b" burst ", h.burst);
+    field(b" address ", h.address);
+    field(b" expansion ", w.expansion as u64);
+    field(b" command ", h.command as u64);
+    field(b" count ", w.count as u64);
+}
+
+fn frame_heard(w: Whole, bytes: &[u8; 255]) {
+    fields(w);
+    text(b" data");
+    hexadecimal(bytes, w.count);
+}
+
+fn harmed(m: Harm) {
+    flag(b" harm parity ", m.parity);
+    flag(b" overrun ", m.overrun);
+    flag(b" framing ", m.framing);
+    flag(b" check ", m.check);
+    flag(b" address ", m.address);
+}
+
+// A line for what the reader tells in a tick.
+fn show(tick: usize, what: &[u8]) {
+    field(b"  tick ", tick as u64);
+    text(b": ");
+    text(what);
+}
+
+fn show_event(tick: usize, event: Event, bytes: &[u8; 255]) {
+    match event {
+        Event::Nothing => {}
+        Event::PassedOver => show(tick, b"passed over\n"),
+        Event::Broken => show(tick, b"broken\n"),
+        Event::Frame(w) => {
+            show(tick, b"whole");
+            frame_heard(w, bytes);
+            text(b"\n");
+        }
+        Event::Damaged(w, m) => {
+            show(tick, b"damaged");
+            frame_heard(w, bytes);
+            harmed(m);
+            text(b"\n");
+        }
+    }
+}
+
+// The reader over a recording, from its start on.
+fn run(recording: &[u8], bytes: &mut [u8; 255]) {
+    let mut r = tick_reader::passing_reader();
+    let mut at = 0;
+    while 2 <= recording.len() - at {
+        let heard = line_c::heard_of(recording[at] / 32, recording[at + 1]);
+        let taken = tick_reader::take(r, heard, bytes);
+        let event = taken.event;
+        show_event(at / 2, event, bytes);
+        r = taken.receiver;
+        at += 2;
+    }
+}
+
+// A recording has two bytes for each tick. The first is \x00 for silence, a space for a character, and for a damaged one P for parity, o for overrun, \x80 for framing.
+fn show_run(name: &[u8], recording: &[u8]) {
+    let mut bytes = [0u8; 255];
+    text(name);
+    text(b"\n");
+    run(recording, &mut bytes);
+}
+
+fn whole_frames() {
+    show_run(
+        b"a frame after silence",
+        b"\x00\x00 \xFF \xFF \xFF \xFF \xFF \x02 \x80 \x00 \x00 \x82",
+    );
+    show_run(
+        b"STX, ACK and BACK directly behind each other",
+        b"\x00\x00 \xFF \xFF \x82 \x80 \x00 \x00 \x00 \x02 \x03 \x00 \x03 \xFF \xFF \x86 \xC0 \x00 \x00 \x00 \x02 \x03 \x02 \x00 \x40 \x05 \xFF \xFF \x81 \xC0 \x00 \x00 \x00 \x02 \x03 \x02 \x00 \x40 \x02",
+    );
+    show_run(
+        b"two frames with a gap",
+        b"\x00\x00 \xFF \xFF \x02 \x80 \x00 \x00 \x82\x00\x00\x00\x00 \xFF \xFF \x06 \x80 \x00 \x02 \x00 \x00 \x84",
+    );
+    show_run(
+        b"a frame with two expansion bytes",
+        b"\x00\x00 \xFF \xFF \x42 \x85 \xAA \xBB \x00 \x00 \xD6",
+    );
+    show_run(
+        b"ff ff 06 inside the data",
+        b"\x00\x00 \xFF \xFF \x06 \x80 \x00 \x05 \x00 \x40 \xFF \xFF \x06 \xC5",
+    );
+}
+
+fn broken_frames() {
+    show_run(
+        b"characters before the first silent tick",
+        b" \xFF \xFF \x02 \x80 \x00 \x00 \x82\x00\x00 \xFF \xFF \x02 \x80 \x00 \x00 \x82",
+    );
+    show_run(
+        b"a frame cut by a silent tick, a good one behind it",
+        b"\x00\x00 \xFF \xFF \x06 \x80 \x00 \x02 \x00\x00\x00 \xFF \xFF \x06 \x80 \x00 \x02 \x00 \x00 \x84",
+    );
+    show_run(
+        b"an ACK with count 1, a good frame behind the next silent tick",
+        b"\x00\x00 \xFF \xFF \x06 \x80 \x00 \x01 \x00 \x87\x00\x00 \xFF \xFF \x02 \x80 \x00 \x00 \x82",
+    );
+    show_run(
+        b"one preamble only",
+        b"\x00\x00 \xFF \x02 \x80 \x00 \x00 \x82",
+    );
+    show_run(
+        b"a wrong character in the preamble",
+        b"\x00\x00 \xFF \xFF \x55 \xFF \x02",
+    );
+    show_run(
+        b"noise directly behind a whole frame",
+        b"\x00\x00 \xFF \xFF \x02 \x80 \x00 \x00 \x82 \x55 \x55\x00\x00",
+    );
+}
+
+fn broken_by_damage() {
+    show_run(
+        b"parity damage in the preamble",
+        b"\x00\x00 \xFFP\xFF \xFF\x00\x00 \xFF \xFF \x02 \x80 \x00 \x00 \x82",
+    );
+    show_run(
+        b"parity damage in the delimiter",
+        b"\x00\x00 \xFF \xFFP\x02 \x80 \x00 \x00 \x82",
+    );
+    show_run(
+        b"parity damage in the byte count",
+        b"\x00\x00 \xFF \xFF \x02 \x80 \x00P\x00 \x82",
+    );
+}
+
+fn damaged_frames() {
+    show_run(
+        b"parity damage in the address",
+        b"\x00\x00 \xFF \xFF \x02P\x80 \x00 \x00 \x82",
+    );
+    show_run(
+        b"parity damage in the data",
+        b"\x00\x00 \xFF \xFF \x06 \x80 \x00 \x02 \x00P\x01 \x84",
+    );
+    show_run(
+        b"overrun in the command",
+        b"\x00\x00 \xFF \xFF \x02 \x80o\x00 \x00 \x82",
+    );
+    show_run(
+        b"framing damage in the check byte",
+        b"\x00\x00 \xFF \xFF \x02 \x80 \x00 \x00\x80\x82",
+    );
+    show_run(
+        b"a wrong check byte",
+        b"\x00\x00 \xFF \xFF \x02 \x80 \x00 \x00 \x83",
+    );
+}
+
+fn main() {
+    whole_frames();
+    broken_frames();
+    broken_by_damage();
+    damaged_frames();
+}

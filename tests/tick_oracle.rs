@@ -1,0 +1,266 @@
+//! The tick reader of document 01 in plain Rust, over recordings of two bytes for each tick. It
+//! shares nothing with the archive, takes the same arguments and gives the same answers.
+
+const PREAMBLE: u8 = 0xFF;
+
+const BACK: u8 = 1;
+const STX: u8 = 2;
+const ACK: u8 = 6;
+
+#[derive(Clone, Copy)]
+pub enum Damage {
+    Parity,
+    Overrun,
+    Framing,
+}
+
+#[derive(Clone, Copy)]
+pub enum Heard {
+    Silence,
+    Character(u8),
+    Damaged(u8, Damage),
+}
+
+/// The events' numbers do not show a frame's fields; the reader keeps them all the same.
+#[derive(Clone, Copy, Default)]
+#[allow(dead_code)]
+pub struct Frame {
+    pub frame_type: u8,
+    pub long_address: bool,
+    pub primary: bool,
+    pub burst: bool,
+    pub address: u64,
+    pub expansion: u8,
+    pub command: u8,
+    pub count: u8,
+}
+
+/// Damage in command, data or check byte by its kind, a wrong check byte, and damage in address
+/// or expansion bytes.
+#[derive(Clone, Copy, Default, PartialEq)]
+pub struct Harm {
+    pub parity: bool,
+    pub overrun: bool,
+    pub framing: bool,
+    pub check: bool,
+    pub address: bool,
+}
+
+#[allow(dead_code)]
+pub enum Event {
+    Nothing,
+    PassedOver,
+    Broken,
+    Whole(Frame),
+    Damaged(Frame, Harm),
+}
+
+/// What the next character is.
+#[derive(Clone, Copy)]
+enum Next {
+    PassedOver,
+    /// The first of a preamble, one of it, or a delimiter behind two.
+    Preamble {
+        heard: u8,
+    },
+    Address {
+        first: bool,
+        left: u8,
+    },
+    Expansion {
+        left: u8,
+    },
+    Command,
+    Count,
+    Data {
+        at: u8,
+    },
+    Check,
+}
+
+pub struct Reader {
+    next: Next,
+    frame: Frame,
+    harm: Harm,
+    exclusive_or: u8,
+    data: [u8; 255],
+}
+
+impl Reader {
+    pub fn start() -> Reader {
+        Reader {
+            next: Next::PassedOver,
+            frame: Frame::default(),
+            harm: Harm::default(),
+            exclusive_or: 0,
+            data: [0; 255],
+        }
+    }
+
+    pub fn take(&mut self, heard: Heard) -> Event {
+        let character = match heard {
+            Heard::Silence => return self.silence(),
+            Heard::Character(character) => character,
+            Heard::Damaged(character, damage) => {
+                if matches!(self.next, Next::Preamble { .. } | Next::Count) {
+                    return self.broken();
+                }
+                self.damage(damage);
+                character
+            }
+        };
+        self.character(character)
+    }
+
+    fn silence(&mut self) -> Event {
+        let before_frame = Next::Preamble { heard: 0 };
+        match std::mem::replace(&mut self.next, before_frame) {
+            Next::PassedOver | Next::Preamble { heard: 0 } => Event::Nothing,
+            _ => Event::Broken,
+        }
+    }
+
+    fn damage(&mut self, damage: Damage) {
+        match (self.next, damage) {
+            (Next::Address { .. } | Next::Expansion { .. }, _) => self.harm.address = true,
+            (_, Damage::Parity) => self.harm.parity = true,
+            (_, Damage::Overrun) => self.harm.overrun = true,
+            (_, Damage::Framing) => self.harm.framing = true,
+        }
+    }
+
+    fn character(&mut self, character: u8) -> Event {
+        self.exclusive_or ^= character;
+        self.next = match self.next {
+            Next::PassedOver => return Event::PassedOver,
+            Next::Preamble { heard } if character == PREAMBLE => Next::Preamble {
+                heard: (heard + 1).min(2),
+            },
+            Next::Preamble { heard: 2 } => match self.delimiter(character) {
+                Some(address) => address,
+                None => return self.broken(),
+            },
+            Next::Preamble { .. } => return self.broken(),
+            Next::Address { first, left } => {
+                self.address(character, first);
+                match left - 1 {
+                    0 => self.behind_address(),
+                    left => Next::Address { first: false, left },
+                }
+            }
+            Next::Expansion { left: 1 } => Next::Command,
+            Next::Expansion { left } => Next::Expansion { left: left - 1 },
+            Next::Command => {
+                self.frame.command = character;
+                Next::Count
+            }
+            Next::Count => {
+                self.frame.count = character;
+                match (self.frame.frame_type, character) {
+                    (ACK | BACK, 0 | 1) => return self.broken(),
+                    (_, 0) => Next::Check,
+                    _ => Next::Data { at: 0 },
+                }
+            }
+            Next::Data { at } => {
+                self.data[usize::from(at)] = character;
+                match at + 1 {
+                    end if end == self.frame.count => Next::Check,
+                    at => Next::Data { at },
+                }
+            }
+            Next::Check => return self.ended(),
+        };
+        Event::Nothing
+    }
+
+    /// Begins a frame, unless the character is no delimiter; gives what comes next.
+    fn delimiter(&mut self, character: u8) -> Option<Next> {
+        let frame_type = character & 0x07;
+        if character & 0x18 != 0 || !matches!(frame_type, STX | ACK | BACK) {
+            return None;
+        }
+        let long_address = character & 0x80 != 0;
+        self.frame = Frame {
+            frame_type,
+            long_address,
+            expansion: character >> 5 & 0x03,
+            ..Frame::default()
+        };
+        self.harm = Harm::default();
+        self.exclusive_or = character;
+        Some(Next::Address {
+            first: true,
+            left: if long_address { 5 } else { 1 },
+        })
+    }
+
+    fn address(&mut self, character: u8, first: bool) {
+        if first {
+            self.frame.primary = character & 0x80 != 0;
+            self.frame.burst = character & 0x40 != 0;
+            self.frame.address = u64::from(character & 0x3F);
+        } else {
+            self.frame.address = self.frame.address << 8 | u64::from(character);
+        }
+    }
+
+    fn behind_address(&self) -> Next {
+        match self.frame.expansion {
+            0 => Next::Command,
+            left => Next::Expansion { left },
+        }
+    }
+
+    fn ended(&mut self) -> Event {
+        self.next = Next::Preamble { heard: 0 };
+        self.harm.check = self.exclusive_or != 0;
+        if self.harm == Harm::default() {
+            Event::Whole(self.frame)
+        } else {
+            Event::Damaged(self.frame, self.harm)
+        }
+    }
+
+    fn broken(&mut self) -> Event {
+        self.next = Next::PassedOver;
+        Event::Broken
+    }
+}
+
+impl Heard {
+    fn recorded(kind: u8, character: u8) -> Heard {
+        match kind >> 5 {
+            1 => Heard::Character(character),
+            2 => Heard::Damaged(character, Damage::Parity),
+            3 => Heard::Damaged(character, Damage::Overrun),
+            4 => Heard::Damaged(character, Damage::Framing),
+            _ => Heard::Silence,
+        }
+    }
+}
+
+impl Event {
+    fn number(&self) -> u8 {
+        match self {
+            Event::Nothing => 0,
+            Event::PassedOver => 1,
+            Event::Broken => 2,
+            Event::Whole(_) => 3,
+            Event::Damaged(..) => 4,
+        }
+    }
+}
+
+/// The number of what a reader tells in each tick of a recording, for as many ticks as both
+/// slices hold; returns how many these are.
+#[inline(never)]
+pub fn ticks(recording: &[u8], events: &mut [u8]) -> usize {
+    let mut reader = Reader::start();
+    let ticks = recording.chunks_exact(2);
+    let taken = ticks.len().min(events.len());
+    for (tick, event) in ticks.zip(events) {
+        *event = reader.take(Heard::recorded(tick[0], tick[1])).number();
+    }
+    taken
+}
