@@ -1,2 +1,4 @@
 -- The rules of turns, from document 01: "Timers", "Master's turns", "Device's turns", "Runs of the link" and "Refusals".
 pub mod Master
+pub mod Device
+pub mod Link

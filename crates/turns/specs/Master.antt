@@ -28,8 +28,8 @@ use Rattle.turns.specs.declared.Stage.the-variants.{Free, Waiting, Sendi
 use Rattle.turns.specs.declared.Message.{Message}
 use Rattle.turns.specs.declared.Noted.{Noted}
 use Rattle.turns.specs.declared.Master.{Master}
-use Rattle.turns.specs.declared.Told.{Told}
-use Rattle.turns.specs.declared.Told.the-variants.{Answered, GivenUp, BroadcastSent}
+use Rattle.turns.specs.declared.MasterTold.{MasterTold}
+use Rattle.turns.specs.declared.MasterTold.the-variants.{Answered, GivenUp, BroadcastSent}
 use Rattle.turns.specs.declared.MasterTaken.{MasterTaken}
 use Rattle.turns.specs.declared.MasterSent.{MasterSent}
 
@@ -141,9 +141,9 @@ brokenTimer m = if m .burst then burstTimer m 0 else timer (ownRt1 m)
 -- what became of a message, and what the host is told
 pub record Ending : Type 0 where
   pub message : Message
-  pub told : Told
+  pub told : MasterTold
 
-abbrev pub ends : Message → Told → Ending
+abbrev pub ends : Message → MasterTold → Ending
 ends g told = record { message = staged g Free; told = told }
 
 -- "Unique address 0 is broadcast."
@@ -152,21 +152,19 @@ isBroadcast h = if h .long then h .address =? 0 else false
 
 -- "R failed retries after the first attempt end the message as given up, with the attempts, equal to the STX frames sent"
 abbrev pub fails : ℕ → Message → Ending
-fails retries g = if g .attempts ≤? retries then record { message = staged g Waiting; told = Told.Nothing } else ends g (GivenUp (g .attempts))
+fails retries g = if g .attempts ≤? retries then record { message = staged g Waiting; told = MasterTold.Nothing } else ends g (GivenUp (g .attempts))
 
--- "the ACK with its master bit, address and command"
+-- "the ACK with its master bit, address and command": the address is the long or short form and its bits
+abbrev pub sameBit : Bool → Bool → Bool
+sameBit a b = if a then b else (if b then false else true)
+
 abbrev pub isAnswer : Master → Header → Bool
 isAnswer m h =
     if h .frame =? ack then
     (if toItself m h then
-    (if sameForm (m .message .header .long) (h .long) then
-    (if m .message .header .address =? h .address then m .message .header .command =? h .command else false)
-    else false)
-    else false)
-    else false
-  where
-    sameForm : Bool → Bool → Bool
-    sameForm a b = if a then b else (if b then false else true)
+    (if sameBit (m .message .header .long) (h .long) then
+    (if m .message .header .address =? h .address then
+    m .message .header .command =? h .command else false) else false) else false) else false
 
 -- "Such an ACK ends the message as answered, unless bit 7 of its first data byte is set: then the attempt failed. Another frame .. also fails it." Broadcast is "reported as sent .. at the next frame".
 abbrev pub atFrame : Master → Whole → List ℕ → Ending
@@ -179,15 +177,186 @@ atFrame m w bytes =
 abbrev pub atBreak : Master → Ending
 atBreak m = if isBroadcast (m .message .header) then ends (m .message) BroadcastSent else fails (m .retries) (m .message)
 
--- only a master that awaits its ACK
-abbrev pub ifAwaiting : Message → Ending → Ending
-ifAwaiting g e = whileAwaiting (g .stage)
-  where
-    unchanged : Ending
-    unchanged = record { message = g; told = Told.Nothing }
+-- only a master that awaits its ACK has an attempt to fail
+abbrev pub ifAwaiting : Stage → Message → Ending → Ending
+ifAwaiting Free g e = record { message = g; told = MasterTold.Nothing }
+ifAwaiting Waiting g e = record { message = g; told = MasterTold.Nothing }
+ifAwaiting (Sending n) g e = record { message = g; told = MasterTold.Nothing }
+ifAwaiting (Awaiting n) g e = e
 
-    whileAwaiting : Stage → Ending
-    whileAwaiting Free = unchanged
-    whileAwaiting Waiting = unchanged
-    whileAwaiting (Sending n) = unchanged
-    whileAwaiting (Awaiting n) = e
+-- ---- take: what was heard
+
+abbrev pub tells : Master → MasterTold → Event → MasterTaken
+tells m told event = record { master = m; told = told; event = event }
+
+-- behind a frame: BURST, then the timer, and the message
+abbrev pub afterFrame : Master → Receiver → Whole → List ℕ → MasterTaken
+afterFrame m r w bytes =
+    tells (behind m r
+    (burstAfter (m .burst) (m .noted) (w .header))
+    (notedAfter (m .noted) (w .header))
+    (timerAfter m (burstAfter (m .burst) (m .noted) (w .header)) (w .header))
+    (ifAwaiting (m .message .stage) (m .message) (atFrame m w bytes) .message))
+    (ifAwaiting (m .message .stage) (m .message) (atFrame m w bytes) .told)
+    (Frame w)
+
+-- "For turns and BURST a damaged frame is neither STX, ACK nor BACK", "and characters passed over are a broken frame"
+abbrev pub afterBreak : Master → Receiver → Event → MasterTaken
+afterBreak m r event =
+    tells (behind m r (m .burst) (m .noted) (brokenTimer m) (ifAwaiting (m .message .stage) (m .message) (atBreak m) .message))
+    (ifAwaiting (m .message .stage) (m .message) (atBreak m) .told)
+    event
+
+-- behind a character, by what the reader tells: inside a frame the timer is stopped
+abbrev pub onCharacter : Master → Receiver → Event → List ℕ → MasterTaken
+onCharacter m r Nothing bytes = tells (behind m r (m .burst) (m .noted) (timer 0) (m .message)) MasterTold.Nothing Nothing
+onCharacter m r PassedOver bytes = afterBreak m r PassedOver
+onCharacter m r Broken bytes = afterBreak m r Broken
+onCharacter m r (Frame w) bytes = afterFrame m r w bytes
+onCharacter m r (Damaged w h) bytes = afterBreak m r (Damaged w h)
+
+-- the ticks left for the ACK
+abbrev pub waited : Stage → Stage
+waited Free = Free
+waited Waiting = Waiting
+waited (Sending n) = Sending n
+waited (Awaiting n) = Awaiting (n - 1)
+
+-- "RT1 without a character"
+abbrev pub rt1Ends : Stage → Bool
+rt1Ends Free = false
+rt1Ends Waiting = false
+rt1Ends (Sending n) = false
+rt1Ends (Awaiting n) = n ≤? 1
+
+-- "A master that gives up on RT1's end leaves that window unused", and so does one that reports a broadcast there: the whole window
+abbrev pub unlessEnded : Stage → Timer → Timer
+unlessEnded Free t = record { next = t .next; window = 0; quiet = t .quiet }
+unlessEnded Waiting t = t
+unlessEnded (Sending n) t = t
+unlessEnded (Awaiting n) t = t
+
+-- a silent tick: RT1's end, the quiet time's end, the window's end
+abbrev pub counts : Master → MasterTold → Event → MasterTaken
+counts m told event =
+    if rt1Ends (m .message .stage) then
+    tells (behind m (m .receiver) (burstCounted m) (m .noted) (unlessEnded (atBreak m .message .stage) (timerCounted m)) (atBreak m .message)) (atBreak m .told) event
+    else
+    tells (behind m (m .receiver) (burstCounted m) (m .noted) (timerCounted m) (staged (m .message) (waited (m .message .stage)))) told event
+
+-- behind a silent tick: a frame that it breaks, then the count. "The silent tick that breaks a frame is the first of the timer behind it."
+abbrev pub onSilence : Master → Receiver → Event → MasterTaken
+onSilence m r Nothing = counts (behind m r (m .burst) (m .noted) (m .timer) (m .message)) MasterTold.Nothing Nothing
+onSilence m r PassedOver = counts (afterBreak m r PassedOver .master) (afterBreak m r PassedOver .told) PassedOver
+onSilence m r Broken = counts (afterBreak m r Broken .master) (afterBreak m r Broken .told) Broken
+onSilence m r (Frame w) = counts (afterBreak m r (Frame w) .master) (afterBreak m r (Frame w) .told) (Frame w)
+onSilence m r (Damaged w h) = counts (afterBreak m r (Damaged w h) .master) (afterBreak m r (Damaged w h) .told) (Damaged w h)
+
+abbrev pub onHeard : Master → Heard → List ℕ → MasterTaken
+onHeard m Silence bytes = onSilence m (taken (m .receiver) Silence .receiver) (taken (m .receiver) Silence .event)
+onHeard m (Character c) bytes = onCharacter m (taken (m .receiver) (Character c) .receiver) (taken (m .receiver) (Character c) .event) bytes
+onHeard m (Heard.Damaged c kind) bytes = onCharacter m (taken (m .receiver) (Heard.Damaged c kind) .receiver) (taken (m .receiver) (Heard.Damaged c kind) .event) bytes
+
+-- "A sending party hears nothing", and neither does a fresh one in its first tick. `bytes` is the lent data buffer behind this tick.
+unfoldable pub masterTakes : Master → Heard → List ℕ → MasterTaken
+masterTakes m heard bytes = if m .deaf then tells m MasterTold.Nothing Nothing else onHeard m heard bytes
+
+-- ---- the host's request
+
+-- what a request says, its data aside
+pub record Request : Type 0 where
+  pub preamble : ℕ
+  pub long : Bool
+  pub address : ℕ
+  pub command : ℕ
+
+abbrev pub requestHeader : Master → Request → Header
+requestHeader m q = record { frame = stx; long = q .long; primary = m .primary; burst = false; address = q .address; command = q .command }
+
+abbrev pub hasMessage : Stage → Bool
+hasMessage Free = false
+hasMessage Waiting = true
+hasMessage (Sending n) = true
+hasMessage (Awaiting n) = true
+
+-- "5: command 254, or a short address with a command but 0"
+abbrev pub commandRefused : Request → Bool
+commandRefused q = if q .command =? 254 then true else if q .long then false else (if q .command =? 0 then false else true)
+
+-- what a call of a host comes to
+pub data Called (A : Type 0) : Type 0 where
+  accepted : A → Called A
+  refused : Refusal → Called A
+
+-- "3: preamble outside 5 to 20; 4: polling above 63 or unique above 38 bits; 5; 6: data above 255; 7: a message is in hand". `limit` is the longest data, 255.
+unfoldable pub requested : ℕ → Master → Request → ℕ → Called Master
+requested limit m q count =
+    if q .preamble outside 5 to 20 then refused PreambleLength else
+    if addressTooLarge (requestHeader m q) then refused Address else
+    if commandRefused q then refused Command else
+    if limit <? count then refused DataLong else
+    if hasMessage (m .message .stage) then refused MessageInHand else
+    accepted (behind m (m .receiver) (m .burst) (m .noted) (m .timer)
+    (record { stage = Waiting; header = requestHeader m q; length = frameLength (q .preamble) (requestHeader m q) count; attempts = 0 }))
+
+-- ---- send
+
+-- what a master sends, and the master behind it
+abbrev pub sends : Master → Bool → Timer → Message → Receiver → Sent → MasterSent
+sends m deaf t g r sent = record {
+  master = record {
+    primary = m .primary;
+    profile = m .profile;
+    retries = m .retries;
+    receiver = r;
+    deaf = deaf;
+    burst = m .burst;
+    noted = m .noted;
+    timer = t;
+    message = g;
+  };
+  sent = sent;
+}
+
+-- one character of the STX: behind its last one the master waits RT1 for the ACK
+abbrev pub attempted : Message → Stage → ℕ → Message
+attempted g stage attempts = record { stage = stage; header = g .header; length = g .length; attempts = attempts }
+
+abbrev pub sendsAt : Master → List ℕ → ℕ → ℕ → MasterSent
+sendsAt m frame n attempts =
+    if n + 1 <? m .message .length then
+    sends m true (timer 0) (attempted (m .message) (Sending (n + 1)) attempts) passing (Sent.Character (byteAt frame n))
+    else
+    sends m true (brokenTimer m) (attempted (m .message) (Awaiting (ownRt1 m)) attempts) passing (Sent.Character (byteAt frame n))
+
+-- "A waiting message, or a retry that is due, begins there."
+abbrev pub sendsBy : Master → List ℕ → Stage → MasterSent
+sendsBy m frame Free = sends m false (m .timer) (m .message) (m .receiver) Silent
+sendsBy m frame Waiting = if 0 <? m .timer .window then sendsAt m frame 0 (m .message .attempts + 1) else sends m false (m .timer) (m .message) (m .receiver) Silent
+sendsBy m frame (Sending n) = sendsAt m frame n (m .message .attempts)
+sendsBy m frame (Awaiting n) = sends m false (m .timer) (m .message) (m .receiver) Silent
+
+unfoldable pub masterSends : Master → List ℕ → MasterSent
+masterSends m frame = sendsBy m frame (m .message .stage)
+
+-- ---- start
+
+-- "2: R outside 3 to 15". A fresh master counts RT1, BURST clear, and has no message.
+abbrev pub noMessage : Message
+noMessage = record { stage = Free; header = noHeader; length = 0; attempts = 0 }
+
+abbrev pub freshMaster : Profile → Bool → ℕ → Master
+freshMaster p primary retries = record {
+  primary = primary;
+  profile = p;
+  retries = retries;
+  receiver = passing;
+  deaf = true;
+  burst = false;
+  noted = record { long = false; address = 0 };
+  timer = timer (if primary then p .rt1p else p .rt1s);
+  message = noMessage;
+}
+
+abbrev pub masterStarts : Profile → Bool → ℕ → Called Master
+masterStarts p primary retries = if retries outside 3 to 15 then refused BadRetries else accepted (freshMaster p primary retries)

@@ -1,5 +1,4 @@
 // What master and device hold from tick to tick, and what they tell their hosts. The rules by which they change are the definitions in specs/.
-use base::Refusal;
 use frame::Header;
 use line::Event;
 use line::Profile;
@@ -66,7 +65,7 @@ pub struct Master {
 }
 
 // What a master tells its host of its message.
-pub enum Told {
+pub enum MasterTold {
     Nothing,
     // answered with this ACK, whose data are in the lent data buffer
     Answered(Whole),
@@ -79,16 +78,11 @@ pub enum Told {
 // A master behind what it heard, and what it tells.
 pub struct MasterTaken {
     pub master: Master,
-    pub told: Told,
+    pub told: MasterTold,
     pub event: Event,
 }
 
-// A party that answers its host's call.
-pub enum MasterCalled {
-    Taken(Master),
-    Refused(Refusal),
-}
-
+// A master behind a tick, and what it sends.
 pub struct MasterSent {
     pub master: Master,
     pub sent: Sent,
@@ -149,7 +143,7 @@ pub struct Device {
 }
 
 // What a device tells its host.
-pub enum Asked {
+pub enum DeviceTold {
     Nothing,
     Request(Whole),
     Broadcast(Whole),
@@ -157,13 +151,8 @@ pub enum Asked {
 
 pub struct DeviceTaken {
     pub device: Device,
-    pub asked: Asked,
+    pub told: DeviceTold,
     pub event: Event,
-}
-
-pub enum DeviceCalled {
-    Taken(Device),
-    Refused(Refusal),
 }
 
 pub struct DeviceSent {

@@ -1,0 +1,2 @@
+-- The theorems on the rules of turns.
+pub mod Example
