@@ -116,7 +116,7 @@ enum nengapiko_heard {
 
 /* What the reader tells in a tick. */
 enum nengapiko_event {
-    NENGAPIKO_NOTHING = 0,     /* silence, or a character inside a frame */
+    NENGAPIKO_NOTHING = 0,     /* silence outside a frame, or a character of a frame that goes on */
     NENGAPIKO_PASSED_OVER = 1, /* a character that is passed over until a silent tick */
     NENGAPIKO_BROKEN = 2,      /* a frame broke in this tick */
     NENGAPIKO_WHOLE = 3,       /* this tick's character ends a frame, which is whole and undamaged */
