@@ -1,7 +1,9 @@
 /*
- * nengapiko.h - HART frames (HCF_SPEC-081 revision 9.0), written and read.
+ * nengapiko.h - HART frames (HCF_SPEC-081 revision 9.0), written and read, and
+ * recordings of the line, read tick by tick.
  *
- * Link with the archive of the crate frame_c. Both functions take every
+ * nengapiko_write and nengapiko_read are in the archive of the crate frame_c,
+ * nengapiko_ticks is in that of the crate line_c. The functions take every
  * argument that the rules below allow, stay inside the buffers that they are
  * lent, and return. They keep no state, allocate nothing and may be called
  * from several threads at once.
@@ -11,8 +13,9 @@
  * is 0, and points to as many elements as its length says. A buffer that is
  * written does not overlap another argument of the same call.
  *
- * Refusals. Both functions return 0, or the number of the lowest condition
- * below that applies. After a refusal every buffer is as it was.
+ * Refusals. nengapiko_write and nengapiko_read return 0, or the number of the
+ * lowest condition below that applies. After a refusal every buffer is as it
+ * was. nengapiko_ticks refuses nothing.
  */
 #ifndef NENGAPIKO_H
 #define NENGAPIKO_H
@@ -32,7 +35,7 @@ enum nengapiko_type {
     NENGAPIKO_ACK = 6   /* a device's answer */
 };
 
-/* What a function returns. */
+/* What a write or a read returns. */
 enum nengapiko_answer {
     NENGAPIKO_TAKEN = 0,                  /* written, or read */
     NENGAPIKO_REFUSED_PREAMBLE = 3,       /* write: preamble outside 5 to 20 */
@@ -101,6 +104,41 @@ uint32_t nengapiko_write(size_t preamble, uint8_t type, bool long_address,
  */
 uint32_t nengapiko_read(const uint8_t *bytes, size_t size,
                         uint64_t fields[NENGAPIKO_FIELDS]);
+
+/* What was heard in a tick of a recording: bits 7 to 5 of the tick's first byte. */
+enum nengapiko_heard {
+    NENGAPIKO_SILENCE = 0,
+    NENGAPIKO_CHARACTER = 1,
+    NENGAPIKO_PARITY = 2,  /* a character with parity damage */
+    NENGAPIKO_OVERRUN = 3, /* a character with overrun damage */
+    NENGAPIKO_FRAMING = 4  /* a character with framing damage */
+};
+
+/* What the reader tells in a tick. */
+enum nengapiko_event {
+    NENGAPIKO_NOTHING = 0,     /* silence outside a frame, or a character of a frame that goes on */
+    NENGAPIKO_PASSED_OVER = 1, /* a character that is passed over until a silent tick */
+    NENGAPIKO_BROKEN = 2,      /* a frame broke in this tick */
+    NENGAPIKO_WHOLE = 3,       /* this tick's character ends a frame, which is whole and undamaged */
+    NENGAPIKO_DAMAGED = 4      /* this tick's character ends a frame in which a character is damaged or the check byte is wrong */
+};
+
+/*
+ * Reads a recording of the line, one tick after the other, and tells of each
+ * what became of a frame in it. The reader begins at its start: it passes over
+ * characters until the first silent tick.
+ *
+ *   recording, size  two bytes for each tick: 32 times an enum nengapiko_heard, then the
+ *                    character. The kinds 5 to 7 are heard as silence; the first byte's bits
+ *                    4 to 0, the character of a silent tick and a last odd byte are not looked at
+ *   events, room     set to an enum nengapiko_event for each tick, from events[0] on, for as
+ *                    many ticks as both the recording and the room hold; the events behind
+ *                    them are left as they were
+ *
+ * Returns how many ticks these are: size / 2 or room, whichever is less.
+ */
+size_t nengapiko_ticks(const uint8_t *recording, size_t size,
+                       uint8_t *events, size_t room);
 
 #ifdef __cplusplus
 }
