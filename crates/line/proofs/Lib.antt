@@ -1,5 +1,6 @@
 -- The laws and theorems of the line.
 pub mod Agreement
-pub mod Leads
 pub mod Hearing
+pub mod Leads
+pub mod Profiles
 pub mod Ticks

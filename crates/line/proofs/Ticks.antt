@@ -5,7 +5,7 @@ use mathlib.Core.Bool.{Bool, true, false}
 use Rattle.base.specs.Choice.{if_then_else_, _<?_}
 use Rattle.line.specs.Reader.{idle, silence, next, character, atData, taken}
 use Rattle.line.specs.declared.Event.{Event}
-use Rattle.line.specs.declared.Event.the-variants.{Nothing}
+use Rattle.line.specs.declared.Event.the-variants.{Nothing, Broken}
 use Rattle.line.specs.declared.Heard.the-variants.{Silence, Character}
 use Rattle.line.specs.declared.Place.{Place}
 use Rattle.line.specs.declared.Place.the-variants.{Passing, Idle, Preamble, First, Address, Expansion, Command, Count, Data, Check}
@@ -44,3 +44,28 @@ data-goes-on r n c = go (n + 1 <? r .count)
 pub data-starts-no-frame : (r : Receiver) (n c : ℕ) → r .place ≡ Data n → DataGoesOn r n (taken r (Character c))
 unfolding taken
 data-starts-no-frame r n c e = subst (λ (p : Place). DataGoesOn r n (character p r c)) (sym e) (data-goes-on r n c)
+
+-- a silent tick inside a frame breaks it, and tells so
+pub data Inside : Place → Type 0 where
+  in-preamble : {n : ℕ} → Inside (Preamble n)
+  in-first : Inside First
+  in-address : {n : ℕ} → Inside (Address n)
+  in-expansion : {n : ℕ} → Inside (Expansion n)
+  in-command : Inside Command
+  in-count : Inside Count
+  in-data : {n : ℕ} → Inside (Data n)
+  in-check : Inside Check
+
+silence-breaks : {place : Place} → Inside place → silence place .event ≡ Broken
+silence-breaks in-preamble = refl
+silence-breaks in-first = refl
+silence-breaks in-address = refl
+silence-breaks in-expansion = refl
+silence-breaks in-command = refl
+silence-breaks in-count = refl
+silence-breaks in-data = refl
+silence-breaks in-check = refl
+
+pub silent-breaks : (r : Receiver) → Inside (r .place) → taken r Silence .event ≡ Broken
+unfolding taken
+silent-breaks r i = silence-breaks i
