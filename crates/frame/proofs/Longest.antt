@@ -16,7 +16,7 @@ use Rattle.frame.specs.declared.Header.{Header}
 use Rattle.frame.specs.declared.Written.{Written}
 use Rattle.frame.specs.declared.Written.the-variants.{To}
 
-address-at-most : (long : Bool) → addressLength long ≤ 5
+pub address-at-most : (long : Bool) → addressLength long ≤ 5
 unfolding if_then_else_
 address-at-most true = omega arith
 address-at-most false = omega arith

@@ -1,2 +1,4 @@
 -- The theorems on the rules of turns.
 pub mod Example
+pub mod Masters
+pub mod Spoken

@@ -1,0 +1,246 @@
+-- What a master does in a tick once it has taken what was heard: the host's request, and the character that it sends or not. Stated once for every state in which it is not sending, and for its frame being sent.
+use Prim.Native.Nat.{ℕ, zero, suc, _+_, _-_, _≤_, _<_}
+use native.Mathlib.Omega.{arith}
+use mathlib.Core.Path.{_≡_, refl, sym, ap, subst, _∙_}
+use mathlib.Core.Bool.{Bool, true, false}
+use mathlib.Core.List.{List, [], _∷_}
+use lib.ListN.{length, getD, take}
+use lib.Seq.{getD-take}
+use borrow.Author.Tests.{ltb-true, ltb-false, lt-ltb, le-ltb}
+use Rattle.base.specs.Choice.{if_then_else_, _<?_, _≤?_, _=?_, _outside_to_}
+use Rattle.base.specs.Store.{stored}
+use Rattle.base.specs.declared.Refusal.{Refusal}
+use Rattle.base.specs.declared.Refusal.the-variants.{PreambleLength, Address, Command, DataLong, MessageInHand}
+use Rattle.base.proofs.Choices.{true-false, inside-low, inside-high, if-is-true, if-is-false}
+use Rattle.base.proofs.Stores.{stored-front}
+use Rattle.frame.specs.Delimiter.{stx, isType}
+use Rattle.frame.specs.Address.{byteAt, largestAddress, addressTooLarge}
+use Rattle.frame.specs.Frame.{tooFew, frameBytes, frameLength}
+use Rattle.frame.specs.declared.Header.{Header}
+use Rattle.frame.proofs.Lengths.{frame-count}
+use Rattle.frame.proofs.Longest.{address-at-most}
+use Rattle.frame.proofs.Taken.{Fits}
+use Rattle.line.specs.Reader.{passing}
+use Rattle.line.specs.declared.Whole.{Whole}
+use Rattle.line.proofs.Hearing.{wholeMessage}
+use Rattle.turns.specs.Master.{Called, accepted, refused, Request, requested, requestHeader, hasMessage, commandRefused, behind, timer, brokenTimer, ownRt1, attempted, sends, sendsAt, sendsBy, masterSends}
+use Rattle.turns.specs.Link.{MasterCall, no-request, requests, Answer, none, was-taken, was-refused, MasterSide, MasterStep, masterCalls, masterCalled, masterSent}
+use Rattle.turns.specs.declared.Sent.{Sent}
+use Rattle.turns.specs.declared.Sent.the-variants.{Silent, Character}
+use Rattle.turns.specs.declared.Stage.{Stage}
+use Rattle.turns.specs.declared.Stage.the-variants.{Free, Waiting, Sending, Awaiting}
+use Rattle.turns.specs.declared.Message.{Message}
+use Rattle.turns.specs.declared.Master.{Master}
+use Rattle.turns.specs.declared.MasterTold.{MasterTold}
+use Rattle.turns.specs.declared.MasterSent.{MasterSent}
+use Rattle.turns.specs.declared.MasterTaken.{MasterTaken}
+use Rattle.turns.proofs.Spoken.{Spoken, spoken}
+
+-- ---- a frame in a lent buffer
+
+-- the first `size` bytes of the buffer are the frame w, which listeners hear as the message
+pub record Holds (frame : List ℕ) (size : ℕ) (w : List ℕ) (message : Whole) : Type 0 where
+  pub speaks : Spoken w message
+  pub sized : length w ≡ size
+  pub same : (i : ℕ) → i < length w → byteAt frame i ≡ getD w i 0
+
+-- a written frame that fits the buffer is held by it
+pub holds : (preamble : ℕ) (h : Header) (bytes frame : List ℕ) → Fits preamble h (length bytes) → 284 ≤ length frame
+    → Holds (stored frame 0 (frameBytes preamble h bytes)) (frameLength preamble h (length bytes)) (frameBytes preamble h bytes) (wholeMessage h bytes)
+holds preamble h bytes frame fits room =
+    let w : List ℕ = frameBytes preamble h bytes in
+    let count : frameLength preamble h (length bytes) ≡ length w = frame-count preamble h bytes in
+    let short : length w ≤ 284 = omega (arith, count, fits .preamble-high, fits .count-high, address-at-most (h .long)) in
+    let front : take (length w) (stored frame 0 w) ≡ w = stored-front (length w) frame (stored frame 0 w) w refl refl (omega arith) in
+    record {
+      speaks = spoken preamble h bytes fits;
+      sized = sym count;
+      same = λ i below. sym (getD-take (length w) (stored frame 0 w) i 0 below) ∙ ap (λ (l : List ℕ). getD l i 0) front;
+    }
+
+-- ---- the message in hand
+
+-- the master's message, if it has one, stands in its frame buffer as an STX
+pub data Formed (frame : List ℕ) (g : Message) : Type 0 where
+  no-message : g .stage ≡ Free → Formed frame g
+  stands : (w : List ℕ) (message : Whole) → Holds frame (g .length) w message → message .header ≡ g .header → message .expansion ≡ 0 → g .header .frame ≡ stx → Formed frame g
+
+-- not sending
+pub data Still : Stage → Type 0 where
+  is-free : Still Free
+  is-waiting : Still Waiting
+  is-awaiting : (n : ℕ) → Still (Awaiting n)
+
+-- ---- what comes of a tick behind what was heard
+
+-- the same master, which has sent nothing, with a message
+abbrev pub resting : Master → Message → Master
+resting m g = record { primary = m .primary; profile = m .profile; retries = m .retries; receiver = m .receiver; deaf = false; burst = m .burst; noted = m .noted; timer = m .timer; message = g }
+
+-- the same master, which has sent a character that is not the last of its STX
+abbrev pub speaking : Master → Message → Master
+speaking m g = record { primary = m .primary; profile = m .profile; retries = m .retries; receiver = passing; deaf = true; burst = m .burst; noted = m .noted; timer = timer 0; message = g }
+
+-- and the last one
+abbrev pub spokenOut : Master → Message → Master
+spokenOut m g = record { primary = m .primary; profile = m .profile; retries = m .retries; receiver = passing; deaf = true; burst = m .burst; noted = m .noted; timer = brokenTimer m; message = g }
+
+pub data Goes (m : Master) (step : MasterStep) : Type 0 where
+  -- it sends nothing: then no message waits in an open window
+  rests : (g : Message) → step .side .master ≡ resting m g → step .sent ≡ Silent → Still (g .stage) → Formed (step .side .frame) g
+      → (g .stage ≡ Waiting → m .timer .window ≡ 0) → Goes m step
+  -- it begins its STX in an open window
+  begins : (g : Message) (w : List ℕ) (message : Whole) → step .side .master ≡ speaking m g → g .stage ≡ Sending 1 → step .sent ≡ Character (getD w 0 0)
+      → Holds (step .side .frame) (g .length) w message → message .header ≡ g .header → message .expansion ≡ 0 → g .header .frame ≡ stx
+      → 0 < m .timer .window → Goes m step
+
+still-at : {s t : Stage} → s ≡ t → Still t → Still s
+still-at e v = subst Still (sym e) v
+
+free-waiting : Free ≡ Waiting → ⊥
+free-waiting e = let z : _≡_ {A = ℕ} 0 1 = cc in omega arith
+
+awaiting-waiting : (n : ℕ) → Awaiting n ≡ Waiting → ⊥
+awaiting-waiting n e = let z : _≡_ {A = ℕ} 0 1 = cc in omega arith
+
+waiting-free : Waiting ≡ Free → ⊥
+waiting-free e = free-waiting (sym e)
+
+module _ (m : Master) (frame bytes : List ℕ) (told : MasterTold) (answer : Answer) (formed : Formed frame (m .message)) where
+  Step : Stage → MasterStep
+  Step stage = masterSent (sendsBy m frame stage) frame bytes told answer
+
+  -- a waiting message begins where a window is open
+  waiting-goes : m .message .stage ≡ Waiting → Goes m (Step Waiting)
+  unfolding Step
+  waiting-goes e = open-or-not (0 <? m .timer .window) refl formed
+    where
+      by : Bool → MasterStep
+      by t = masterSent (if t then sendsAt m frame 0 (m .message .attempts + 1) else sends m false (m .timer) (m .message) (m .receiver) Silent) frame bytes told answer
+
+      open-or-not : (t : Bool) → (0 <? m .timer .window) ≡ t → Formed frame (m .message) → Goes m (by (0 <? m .timer .window))
+      open-or-not true q (no-message f) = absurd (waiting-free (sym e ∙ f))
+      open-or-not true q (stands w message h a x t) =
+          let g : Message = attempted (m .message) (Sending 1) (m .message .attempts + 1) in
+          let more : (0 + 1 <? m .message .length) ≡ true = lt-ltb (0 + 1) (m .message .length) (omega (arith, h .sized, h .speaks .long)) in
+          let first : sendsAt m frame 0 (m .message .attempts + 1) ≡ sends m true (timer 0) g passing (Character (byteAt frame 0)) = if-is-true (0 + 1 <? m .message .length) _ _ more in
+          let there : by (0 <? m .timer .window) ≡ masterSent (sends m true (timer 0) g passing (Character (byteAt frame 0))) frame bytes told answer =
+          ap (λ (s : MasterSent). masterSent s frame bytes told answer) (if-is-true (0 <? m .timer .window) _ _ q ∙ first) in
+          subst (Goes m) (sym there)
+          (begins g w message refl refl (ap Character (h .same 0 (omega (arith, h .speaks .long)))) (record { speaks = h .speaks; sized = h .sized; same = h .same }) a x t (ltb-true 0 (m .timer .window) q))
+      open-or-not false q f =
+          let shut : m .timer .window ≤ 0 = ltb-false 0 (m .timer .window) q in
+          subst (Goes m) (sym (ap (λ (s : MasterSent). masterSent s frame bytes told answer) (if-is-false (0 <? m .timer .window) _ _ q)))
+          (rests (m .message) refl refl (still-at e is-waiting) f (λ z. omega arith))
+
+  sends-still : Still (m .message .stage) → Goes m (masterSent (masterSends m frame) frame bytes told answer)
+  unfolding masterSends Step
+  sends-still v = go (m .message .stage) refl v
+    where
+      go : (s : Stage) → m .message .stage ≡ s → Still s → Goes m (Step (m .message .stage))
+      go Free e is-free = subst (λ (z : Stage). Goes m (Step z)) (sym e) (rests (m .message) refl refl (still-at e is-free) formed (λ z. absurd (free-waiting (sym e ∙ z))))
+      go Waiting e is-waiting = subst (λ (z : Stage). Goes m (Step z)) (sym e) (waiting-goes e)
+      go (Awaiting n) e (is-awaiting k) = subst (λ (z : Stage). Goes m (Step z)) (sym e) (rests (m .message) refl refl (still-at e (is-awaiting n)) formed (λ z. absurd (awaiting-waiting n (sym e ∙ z))))
+
+-- ---- the host's request
+
+-- the message of an accepted request
+abbrev pub newMessage : Master → Request → ℕ → Message
+newMessage m q count = record { stage = Waiting; header = requestHeader m q; length = frameLength (q .preamble) (requestHeader m q) count; attempts = 0 }
+
+abbrev pub withMessage : Master → Message → Master
+withMessage m g = behind m (m .receiver) (m .burst) (m .noted) (m .timer) g
+
+stx-enough : (count : ℕ) → tooFew stx count ≡ false
+unfolding if_then_else_
+stx-enough count = refl
+
+stx-typed : isType stx ≡ true
+unfolding if_then_else_
+stx-typed = refl
+
+-- a request is refused, or it can be written and the master had no message
+pub data Asks (limit : ℕ) (m : Master) (q : Request) (count : ℕ) : Type 0 where
+  is-refused : (why : Refusal) → requested limit m q count ≡ refused why → Asks limit m q count
+  is-taken : Fits (q .preamble) (requestHeader m q) count → m .message .stage ≡ Free → requested limit m q count ≡ accepted (withMessage m (newMessage m q count)) → Asks limit m q count
+
+pub asks : (limit : ℕ) (m : Master) (q : Request) (count : ℕ) → limit ≤ 255 → Asks limit m q count
+unfolding requested
+asks limit m q count small = first (q .preamble outside 5 to 20) refl
+  where
+    A : Bool
+    A = q .preamble outside 5 to 20
+
+    B : Bool
+    B = addressTooLarge (requestHeader m q)
+
+    C : Bool
+    C = commandRefused q
+
+    D : Bool
+    D = limit <? count
+
+    E : Bool
+    E = hasMessage (m .message .stage)
+
+    free : (s : Stage) → hasMessage s ≡ false → s ≡ Free
+    free Free e = refl
+    free Waiting e = absurd (true-false e)
+    free (Sending n) e = absurd (true-false e)
+    free (Awaiting n) e = absurd (true-false e)
+
+    fifth : (t : Bool) → E ≡ t → A ≡ false → B ≡ false → C ≡ false → D ≡ false → Asks limit m q count
+    fifth true e a b c d = is-refused MessageInHand (if-is-false A _ _ a ∙ if-is-false B _ _ b ∙ if-is-false C _ _ c ∙ if-is-false D _ _ d ∙ if-is-true E _ _ e)
+    fifth false e a b c d =
+        is-taken (record {
+          preamble-low = inside-low (q .preamble) 5 20 A refl a;
+          preamble-high = inside-high (q .preamble) 5 20 A refl a;
+          address-high = ltb-false (largestAddress (q .long)) (q .address) b;
+          count-high = omega (arith, ltb-false limit count d);
+          enough = stx-enough count;
+          typed = stx-typed;
+        }) (free (m .message .stage) e) (if-is-false A _ _ a ∙ if-is-false B _ _ b ∙ if-is-false C _ _ c ∙ if-is-false D _ _ d ∙ if-is-false E _ _ e)
+
+    fourth : (t : Bool) → D ≡ t → A ≡ false → B ≡ false → C ≡ false → Asks limit m q count
+    fourth true d a b c = is-refused DataLong (if-is-false A _ _ a ∙ if-is-false B _ _ b ∙ if-is-false C _ _ c ∙ if-is-true D _ _ d)
+    fourth false d a b c = fifth E refl a b c d
+
+    third : (t : Bool) → C ≡ t → A ≡ false → B ≡ false → Asks limit m q count
+    third true c a b = is-refused Command (if-is-false A _ _ a ∙ if-is-false B _ _ b ∙ if-is-true C _ _ c)
+    third false c a b = fourth D refl a b c
+
+    second : (t : Bool) → B ≡ t → A ≡ false → Asks limit m q count
+    second true b a = is-refused Address (if-is-false A _ _ a ∙ if-is-true B _ _ b)
+    second false b a = third C refl a b
+
+    first : (t : Bool) → A ≡ t → Asks limit m q count
+    first true a = is-refused PreambleLength (if-is-true A _ _ a)
+    first false a = second B refl a
+
+-- ---- the tick behind what was heard, for every call
+
+pub master-goes : (limit : ℕ) (t : MasterTaken) (call : MasterCall) (frame bytes : List ℕ) → limit ≤ 255 → 284 ≤ length frame → Still (t .master .message .stage) → Formed frame (t .master .message)
+    → Goes (t .master) (masterCalls limit t call frame bytes)
+master-goes limit t no-request frame bytes small room v f = sends-still (t .master) frame bytes (t .told) none f v
+master-goes limit t (requests q put) frame bytes small room v f = go (asks limit (t .master) q (length put) small)
+  where
+    m : Master
+    m = t .master
+
+    w : List ℕ
+    w = frameBytes (q .preamble) (requestHeader m q) put
+
+    by : Called Master → MasterStep
+    by c = masterCalled c m w frame bytes (t .told)
+
+    other : (m : Master) (g : Message) → {step : MasterStep} → Goes (withMessage m g) step → Goes m step
+    other m g (rests g′ a b c d e) = rests g′ a b c d e
+    other m g (begins g′ w′ x a b c d e f h i) = begins g′ w′ x a b c d e f h i
+
+    go : Asks limit m q (length put) → Goes m (by (requested limit m q (length put)))
+    go (is-refused why e) = subst (λ (c : Called Master). Goes m (by c)) (sym e) (sends-still m frame bytes (t .told) (was-refused why) f v)
+    go (is-taken fits e p) =
+        let g : Message = newMessage m q (length put) in
+        let h : Holds (stored frame 0 w) (g .length) w (wholeMessage (requestHeader m q) put) = holds (q .preamble) (requestHeader m q) put frame fits room in
+        subst (λ (c : Called Master). Goes m (by c)) (sym p)
+        (other m g (sends-still (withMessage m g) (stored frame 0 w) bytes (t .told) was-taken (stands w (wholeMessage (requestHeader m q) put) h refl refl refl) is-waiting))
