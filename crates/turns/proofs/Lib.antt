@@ -2,3 +2,4 @@
 pub mod Example
 pub mod Masters
 pub mod Spoken
+pub mod Taking

@@ -1,0 +1,278 @@
+-- What a master is behind what it heard: a silent tick, a character inside a frame, a frame's last character. And a master that is sending.
+use Prim.Native.Nat.{ℕ, zero, suc, _+_, _-_, _≤_, _<_}
+use native.Mathlib.Omega.{arith}
+use native.Mathlib.Numerals.{add-one}
+use mathlib.Core.Path.{_≡_, refl, sym, ap, subst, _∙_}
+use mathlib.Core.Bool.{Bool, true, false}
+use mathlib.Core.List.{List, [], _∷_}
+use lib.ListN.{length, getD}
+use borrow.Author.Tests.{ltb-true, ltb-false, lt-ltb, le-ltb}
+use Rattle.base.specs.Choice.{if_then_else_, _<?_, _≤?_, _=?_}
+use Rattle.base.specs.declared.Refusal.{Refusal}
+use Rattle.base.proofs.Choices.{true-false, if-is-true, if-is-false}
+use Rattle.frame.specs.Address.{byteAt}
+use Rattle.frame.specs.Frame.{frameBytes}
+use Rattle.line.specs.Reader.{idle, passing, taken}
+use Rattle.line.specs.declared.Event.{Event}
+use Rattle.line.specs.declared.Event.the-variants.{Nothing, Frame}
+use Rattle.line.specs.declared.Heard.{Heard}
+use Rattle.line.specs.declared.Heard.the-variants.{Silence}
+use Rattle.line.specs.declared.Receiver.{Receiver}
+use Rattle.line.specs.declared.Taken.{Taken}
+use Rattle.line.specs.declared.Whole.{Whole}
+use Rattle.turns.specs.Master.{Ending, behind, staged, fails, ends, atBreak, atFrame, ifAwaiting, isBroadcast, isAnswer, waited, rt1Ends, unlessEnded, counts, timerCounted, burstCounted, burstAfter, notedAfter, timerAfter, onSilence, onCharacter, onHeard, masterTakes, timer, ownRt1, brokenTimer, attempted, sendsAt, sendsBy, masterSends, requestHeader, requested, Called, accepted, refused}
+use Rattle.turns.specs.Link.{MasterCall, no-request, requests, Answer, none, was-refused, MasterSide, MasterStep, masterCalls, masterCalled, masterSent, masterTick, masterData}
+use Rattle.turns.specs.declared.Sent.{Sent}
+use Rattle.turns.specs.declared.Sent.the-variants.{Silent, Character}
+use Rattle.turns.specs.declared.Stage.{Stage}
+use Rattle.turns.specs.declared.Stage.the-variants.{Free, Waiting, Sending, Awaiting}
+use Rattle.turns.specs.declared.Timer.{Timer}
+use Rattle.turns.specs.declared.Message.{Message}
+use Rattle.turns.specs.declared.Noted.{Noted}
+use Rattle.turns.specs.declared.Master.{Master}
+use Rattle.turns.specs.declared.MasterTold.{MasterTold}
+use Rattle.turns.specs.declared.MasterTaken.{MasterTaken}
+use Rattle.turns.specs.declared.MasterSent.{MasterSent}
+use Rattle.turns.proofs.Masters.{Holds, Formed, no-message, stands, Still, is-free, is-waiting, is-awaiting, Goes, speaking, spokenOut, Asks, asks, is-refused, is-taken, master-goes}
+
+-- ---- the message behind what was heard: still not sending, and still in its buffer
+
+formed-staged : (frame : List ℕ) (g : Message) (s : Stage) → (g .stage ≡ Free → s ≡ Free) → Formed frame g → Formed frame (staged g s)
+formed-staged frame g s f (no-message e) = no-message (f e)
+formed-staged frame g s f (stands w x h a b c) = stands w x h a b c
+
+awaiting-free : (n : ℕ) → Awaiting n ≡ Free → ⊥
+awaiting-free n e = let z : _≡_ {A = ℕ} 0 1 = cc in omega arith
+
+-- an ending of a message that was awaited
+record Ended (frame : List ℕ) (e : Ending) : Type 0 where
+  still : Still (e .message .stage)
+  formed : Formed frame (e .message)
+
+ends-ended : (frame : List ℕ) (g : Message) (told : MasterTold) → Ended frame (ends g told)
+ends-ended frame g told = record { still = is-free; formed = no-message refl }
+
+fails-ended : (frame : List ℕ) (retries : ℕ) (g : Message) (n : ℕ) → g .stage ≡ Awaiting n → Formed frame g → Ended frame (fails retries g)
+unfolding if_then_else_
+fails-ended frame retries g n e f = go (g .attempts ≤? retries)
+  where
+    go : (t : Bool) → Ended frame (if t then record { message = staged g Waiting; told = MasterTold.Nothing } else ends g (MasterTold.GivenUp (g .attempts)))
+    go true = record { still = is-waiting; formed = formed-staged frame g Waiting (λ q. absurd (awaiting-free n (sym e ∙ q))) f }
+    go false = ends-ended frame g (MasterTold.GivenUp (g .attempts))
+
+either-ended : (frame : List ℕ) (t : Bool) (a b : Ending) → Ended frame a → Ended frame b → Ended frame (if t then a else b)
+unfolding if_then_else_
+either-ended frame true a b x y = x
+either-ended frame false a b x y = y
+
+break-ended : (frame : List ℕ) (m : Master) (n : ℕ) → m .message .stage ≡ Awaiting n → Formed frame (m .message) → Ended frame (atBreak m)
+break-ended frame m n e f =
+    either-ended frame (isBroadcast (m .message .header)) _ _ (ends-ended frame (m .message) MasterTold.BroadcastSent) (fails-ended frame (m .retries) (m .message) n e f)
+
+frame-ended : (frame : List ℕ) (m : Master) (w : Whole) (bytes : List ℕ) (n : ℕ) → m .message .stage ≡ Awaiting n → Formed frame (m .message) → Ended frame (atFrame m w bytes)
+frame-ended frame m w bytes n e f =
+    either-ended frame (isBroadcast (m .message .header)) _ _ (ends-ended frame (m .message) MasterTold.BroadcastSent)
+    (either-ended frame (isAnswer m (w .header)) _ _
+    (either-ended frame _ _ _ (fails-ended frame (m .retries) (m .message) n e f) (ends-ended frame (m .message) (MasterTold.Answered w)))
+    (fails-ended frame (m .retries) (m .message) n e f))
+
+if-awaiting-ended : (frame : List ℕ) (g : Message) (e : Ending) (s : Stage) → g .stage ≡ s → Still s → Formed frame g → ((n : ℕ) → s ≡ Awaiting n → Ended frame e) → Ended frame (ifAwaiting s g e)
+if-awaiting-ended frame g e Free q is-free f k = record { still = subst Still (sym q) is-free; formed = f }
+if-awaiting-ended frame g e Waiting q is-waiting f k = record { still = subst Still (sym q) is-waiting; formed = f }
+if-awaiting-ended frame g e (Awaiting n) q (is-awaiting j) f k = k n refl
+
+-- ---- what is common to every way of taking
+
+pub record Took (frame : List ℕ) (m t : Master) : Type 0 where
+  pub same-primary : t .primary ≡ m .primary
+  pub same-profile : t .profile ≡ m .profile
+  pub same-retries : t .retries ≡ m .retries
+  pub still : Still (t .message .stage)
+  pub formed : Formed frame (t .message)
+
+-- a character inside a frame: the timer is stopped
+pub record TookMid (frame : List ℕ) (m t : Master) (r : Receiver) : Type 0 where
+  pub took : Took frame m t
+  pub receiver-is : t .receiver ≡ r
+  pub burst-is : t .burst ≡ m .burst
+  pub noted-is : t .noted ≡ m .noted
+  pub timer-is : t .timer ≡ timer 0
+
+-- a frame's last character: BURST, and the timer behind the frame
+pub record TookFrame (frame : List ℕ) (m t : Master) (w : Whole) : Type 0 where
+  pub took : Took frame m t
+  pub receiver-is : t .receiver ≡ idle
+  pub burst-is : t .burst ≡ burstAfter (m .burst) (m .noted) (w .header)
+  pub noted-is : t .noted ≡ notedAfter (m .noted) (w .header)
+  pub timer-is : t .timer ≡ timerAfter m (burstAfter (m .burst) (m .noted) (w .header)) (w .header)
+
+-- a silent tick: the count; a window is left unused only by a master that has no message any more
+pub record TookSilence (frame : List ℕ) (m t : Master) : Type 0 where
+  pub took : Took frame m t
+  pub receiver-is : t .receiver ≡ idle
+  pub burst-is : t .burst ≡ burstCounted m
+  pub noted-is : t .noted ≡ m .noted
+  pub next-is : t .timer .next ≡ timerCounted m .next
+  pub quiet-is : t .timer .quiet ≡ timerCounted m .quiet
+  pub window-is : t .timer .window ≤ timerCounted m .window
+
+module _ (frame bytes : List ℕ) (m : Master) (hears : m .deaf ≡ false) (still : Still (m .message .stage)) (formed : Formed frame (m .message)) where
+  heard-is : (heard : Heard) → masterTakes m heard bytes ≡ onHeard m heard bytes
+  unfolding masterTakes
+  heard-is heard = if-is-false (m .deaf) _ _ hears
+
+  pub takes-mid : (c : ℕ) (r : Receiver) → taken (m .receiver) (Heard.Character c) ≡ Rattle.line.specs.Reader.tells r Nothing → TookMid frame m (masterTakes m (Heard.Character c) bytes .master) r
+  takes-mid c r e =
+      let same : masterTakes m (Heard.Character c) bytes ≡ onCharacter m r Nothing bytes =
+      heard-is (Heard.Character c) ∙ ap (λ (t : Taken). onCharacter m (t .receiver) (t .event) bytes) e in
+      subst (λ (t : MasterTaken). TookMid frame m (t .master) r) (sym same)
+      (record { took = record { same-primary = refl; same-profile = refl; same-retries = refl; still = still; formed = formed }; receiver-is = refl; burst-is = refl; noted-is = refl; timer-is = refl })
+
+  pub takes-frame : (c : ℕ) (w : Whole) → taken (m .receiver) (Heard.Character c) ≡ Rattle.line.specs.Reader.tells idle (Frame w) → TookFrame frame m (masterTakes m (Heard.Character c) bytes .master) w
+  takes-frame c w e =
+      let same : masterTakes m (Heard.Character c) bytes ≡ onCharacter m idle (Frame w) bytes =
+      heard-is (Heard.Character c) ∙ ap (λ (t : Taken). onCharacter m (t .receiver) (t .event) bytes) e in
+      let done : Ended frame (ifAwaiting (m .message .stage) (m .message) (atFrame m w bytes)) =
+      if-awaiting-ended frame (m .message) (atFrame m w bytes) (m .message .stage) refl still formed (λ n q. frame-ended frame m w bytes n q formed) in
+      subst (λ (t : MasterTaken). TookFrame frame m (t .master) w) (sym same)
+      (record { took = record { same-primary = refl; same-profile = refl; same-retries = refl; still = done .still; formed = done .formed }; receiver-is = refl; burst-is = refl; noted-is = refl; timer-is = refl })
+
+  pub takes-silence : taken (m .receiver) Silence ≡ Rattle.line.specs.Reader.tells idle Nothing → TookSilence frame m (masterTakes m Silence bytes .master)
+  takes-silence e =
+      let n : Master = behind m idle (m .burst) (m .noted) (m .timer) (m .message) in
+      let same : masterTakes m Silence bytes ≡ counts n MasterTold.Nothing Nothing =
+      heard-is Silence ∙ ap (λ (t : Taken). onSilence m (t .receiver) (t .event)) e in
+      subst (λ (t : MasterTaken). TookSilence frame m (t .master)) (sym same) (go (rt1Ends (m .message .stage)) refl)
+    where
+      n : Master
+      n = behind m idle (m .burst) (m .noted) (m .timer) (m .message)
+
+      keep : (s : Stage) → Still s → Still (waited s)
+      keep Free is-free = is-free
+      keep Waiting is-waiting = is-waiting
+      keep (Awaiting k) (is-awaiting j) = is-awaiting (k - 1)
+
+      free-waited : (s : Stage) → s ≡ Free → waited s ≡ Free
+      free-waited s q = ap waited q
+
+      not-ending : (s : Stage) → rt1Ends s ≡ true → Still s → (k : ℕ) × (s ≡ Awaiting k)
+      not-ending Free q is-free = absurd (true-false (sym q))
+      not-ending Waiting q is-waiting = absurd (true-false (sym q))
+      not-ending (Awaiting k) q (is-awaiting j) = (k, refl)
+
+      lost-next : (s : Stage) (t : Timer) → unlessEnded s t .next ≡ t .next
+      lost-next Free t = refl
+      lost-next Waiting t = refl
+      lost-next (Sending k) t = refl
+      lost-next (Awaiting k) t = refl
+
+      lost-quiet : (s : Stage) (t : Timer) → unlessEnded s t .quiet ≡ t .quiet
+      lost-quiet Free t = refl
+      lost-quiet Waiting t = refl
+      lost-quiet (Sending k) t = refl
+      lost-quiet (Awaiting k) t = refl
+
+      lost-window : (s : Stage) (t : Timer) → unlessEnded s t .window ≤ t .window
+      lost-window Free t = omega arith
+      lost-window Waiting t = omega arith
+      lost-window (Sending k) t = omega arith
+      lost-window (Awaiting k) t = omega arith
+
+      go : (b : Bool) → rt1Ends (m .message .stage) ≡ b → TookSilence frame m (counts n MasterTold.Nothing Nothing .master)
+      go true q =
+          let waits = not-ending (m .message .stage) q still in
+          let done : Ended frame (atBreak n) = break-ended frame n (waits .0) (waits .1) formed in
+          let over : counts n MasterTold.Nothing Nothing ≡ Rattle.turns.specs.Master.tells (behind n idle (burstCounted n) (n .noted) (unlessEnded (atBreak n .message .stage) (timerCounted n)) (atBreak n .message)) (atBreak n .told) Nothing =
+          if-is-true (rt1Ends (m .message .stage)) _ _ q in
+          subst (λ (t : MasterTaken). TookSilence frame m (t .master)) (sym over)
+          (record {
+            took = record { same-primary = refl; same-profile = refl; same-retries = refl; still = done .still; formed = done .formed };
+            receiver-is = refl;
+            burst-is = refl;
+            noted-is = refl;
+            next-is = lost-next (atBreak n .message .stage) (timerCounted n);
+            quiet-is = lost-quiet (atBreak n .message .stage) (timerCounted n);
+            window-is = lost-window (atBreak n .message .stage) (timerCounted n);
+          })
+      go false q =
+          let on : counts n MasterTold.Nothing Nothing ≡ Rattle.turns.specs.Master.tells (behind n idle (burstCounted n) (n .noted) (timerCounted n) (staged (n .message) (waited (n .message .stage)))) MasterTold.Nothing Nothing =
+          if-is-false (rt1Ends (m .message .stage)) _ _ q in
+          subst (λ (t : MasterTaken). TookSilence frame m (t .master)) (sym on)
+          (record {
+            took = record {
+              same-primary = refl;
+              same-profile = refl;
+              same-retries = refl;
+              still = keep (m .message .stage) still;
+              formed = formed-staged frame (m .message) (waited (m .message .stage)) (free-waited (m .message .stage)) formed;
+            };
+            receiver-is = refl;
+            burst-is = refl;
+            noted-is = refl;
+            next-is = refl;
+            quiet-is = refl;
+            window-is = omega arith;
+          })
+
+-- ---- a master that hears nothing: it is fresh, or sent in the tick before
+
+pub takes-nothing : (m : Master) (heard : Heard) (bytes : List ℕ) → m .deaf ≡ true → masterTakes m heard bytes ≡ Rattle.turns.specs.Master.tells m MasterTold.Nothing Nothing
+unfolding masterTakes
+takes-nothing m heard bytes e = if-is-true (m .deaf) _ _ e
+
+-- a master in the middle of its STX, behind n characters: it sends the next one, whatever its host asks
+pub data Speaks (m : Master) (n : ℕ) (w : List ℕ) (step : MasterStep) : Type 0 where
+  goes-on : (g : Message) → suc n < length w → step .side .master ≡ speaking m g → g .stage ≡ Sending (suc n) → g .header ≡ m .message .header → g .length ≡ m .message .length → Speaks m n w step
+  is-out : (g : Message) → suc n ≡ length w → step .side .master ≡ spokenOut m g → g .stage ≡ Awaiting (ownRt1 m) → g .header ≡ m .message .header → g .length ≡ m .message .length → Speaks m n w step
+
+pub record SpeaksAt (x : MasterSide) (n : ℕ) (w : List ℕ) (step : MasterStep) : Type 0 where
+  pub speaks : Speaks (x .master) n w step
+  pub character : step .sent ≡ Character (getD w n 0)
+  pub same-frame : step .side .frame ≡ x .frame
+
+pub master-speaks : (limit : ℕ) (x : MasterSide) (heard : Heard) (call : MasterCall) (n : ℕ) (w : List ℕ) (message : Whole) → limit ≤ 255 → x .master .deaf ≡ true
+    → x .master .message .stage ≡ Sending n → Holds (x .frame) (x .master .message .length) w message → n < length w → SpeaksAt x n w (masterTick limit x heard call)
+unfolding masterTick masterSends
+master-speaks limit x heard call n w message small deaf e h below =
+    subst (λ (t : MasterTaken). SpeaksAt x n w (masterCalls limit t call (x .frame) (masterData x heard))) (sym (takes-nothing (x .master) heard (masterData x heard) deaf)) (by-call call)
+  where
+    m : Master
+    m = x .master
+
+    sending-free : Sending n ≡ Free → ⊥
+    sending-free q = let z : _≡_ {A = ℕ} 0 1 = cc in omega arith
+
+    sent : (answer : Answer) (bytes : List ℕ) → SpeaksAt x n w (masterSent (masterSends m (x .frame)) (x .frame) bytes MasterTold.Nothing answer)
+    sent answer bytes = subst (λ (s : MasterSent). SpeaksAt x n w (masterSent s (x .frame) bytes MasterTold.Nothing answer)) (sym at) (go (n + 1 <? m .message .length) refl)
+      where
+        at : masterSends m (x .frame) ≡ sendsAt m (x .frame) n (m .message .attempts)
+        at = ap (sendsBy m (x .frame)) e
+
+        S : MasterSent → MasterStep
+        S s = masterSent s (x .frame) bytes MasterTold.Nothing answer
+
+        go : (t : Bool) → (n + 1 <? m .message .length) ≡ t → SpeaksAt x n w (S (sendsAt m (x .frame) n (m .message .attempts)))
+        go true q =
+            let inside : n + 1 < m .message .length = ltb-true (n + 1) (m .message .length) q in
+            subst (λ (s : MasterSent). SpeaksAt x n w (S s)) (sym (if-is-true (n + 1 <? m .message .length) _ _ q))
+            (record {
+              speaks = goes-on (attempted (m .message) (Sending (n + 1)) (m .message .attempts)) (omega (arith, h .sized)) refl (ap Sending (add-one n)) refl refl;
+              character = ap Character (h .same n below);
+              same-frame = refl;
+            })
+        go false q =
+            let last : m .message .length ≤ n + 1 = ltb-false (n + 1) (m .message .length) q in
+            subst (λ (s : MasterSent). SpeaksAt x n w (S s)) (sym (if-is-false (n + 1 <? m .message .length) _ _ q))
+            (record {
+              speaks = is-out (attempted (m .message) (Awaiting (ownRt1 m)) (m .message .attempts)) (omega (arith, h .sized)) refl refl refl refl;
+              character = ap Character (h .same n below);
+              same-frame = refl;
+            })
+
+    by-call : (call : MasterCall) → SpeaksAt x n w (masterCalls limit (Rattle.turns.specs.Master.tells m MasterTold.Nothing Nothing) call (x .frame) (masterData x heard))
+    by-call no-request = sent none (masterData x heard)
+    by-call (requests q put) = go (asks limit m q (length put) small)
+      where
+        go : Asks limit m q (length put) → SpeaksAt x n w (masterCalled (requested limit m q (length put)) m (frameBytes (q .preamble) (requestHeader m q) put) (x .frame) (masterData x heard) MasterTold.Nothing)
+        go (is-refused why p) = subst (λ (c : Called Master). SpeaksAt x n w (masterCalled c m (frameBytes (q .preamble) (requestHeader m q) put) (x .frame) (masterData x heard) MasterTold.Nothing)) (sym p) (sent (was-refused why) (masterData x heard))
+        go (is-taken fits f p) = absurd (sending-free (sym e ∙ f))
