@@ -1,4 +1,6 @@
 -- The theorems on the rules of turns.
+pub mod DeviceTaking
+pub mod Devices
 pub mod Example
 pub mod Masters
 pub mod Spoken

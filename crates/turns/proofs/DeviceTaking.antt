@@ -1,0 +1,167 @@
+-- What a device is behind what it heard: a silent tick, a character inside a frame, a frame's last character. And a device that is sending.
+use Prim.Native.Nat.{ℕ, zero, suc, _+_, _-_, _≤_, _<_}
+use native.Mathlib.Omega.{arith}
+use native.Mathlib.Numerals.{add-one}
+use mathlib.Core.Path.{_≡_, refl, sym, ap, subst, _∙_}
+use mathlib.Core.Bool.{Bool, true, false}
+use mathlib.Core.List.{List, [], _∷_}
+use lib.ListN.{length, getD}
+use borrow.Author.Tests.{ltb-true, ltb-false, leb-true, leb-false, eq-eqb, eqb-true, eqb-false}
+use Rattle.base.specs.Choice.{if_then_else_, _<?_, _≤?_, _=?_}
+use Rattle.base.proofs.Choices.{true-false, if-is-true, if-is-false}
+use Rattle.frame.specs.Delimiter.{stx, ack, back}
+use Rattle.frame.specs.Address.{byteAt}
+use Rattle.frame.specs.declared.Header.{Header}
+use Rattle.line.specs.Reader.{idle, passing, taken}
+use Rattle.line.specs.declared.Event.{Event}
+use Rattle.line.specs.declared.Event.the-variants.{Nothing, Frame}
+use Rattle.line.specs.declared.Heard.{Heard}
+use Rattle.line.specs.declared.Heard.the-variants.{Silence}
+use Rattle.line.specs.declared.Receiver.{Receiver}
+use Rattle.line.specs.declared.Taken.{Taken}
+use Rattle.line.specs.declared.Whole.{Whole}
+use Rattle.turns.specs.Master.{isBroadcast}
+use Rattle.turns.specs.Device.{behind, isOwn, dueAfter, afterRequest, afterFrame, waited, backDue, counts, onSilence, onCharacter, onHeard, deviceTakes}
+use Rattle.turns.specs.declared.Wish.the-variants.{Same}
+use Rattle.turns.specs.declared.Turn.{Turn}
+use Rattle.turns.specs.declared.Turn.the-variants.{Listens, Asked, Accepted, Begins, Answers, Follows, Bursts}
+use Rattle.turns.specs.declared.Device.{Device}
+use Rattle.turns.specs.declared.DeviceTold.{DeviceTold}
+use Rattle.turns.specs.declared.DeviceTold.the-variants.{Request, Broadcast}
+use Rattle.turns.specs.declared.DeviceTaken.{DeviceTaken}
+use Rattle.turns.proofs.Devices.{Sound, inHand, Prepared, Hand, nothing-in-hand, is-asked, is-accepted, Turned, in-hand, begins-now, follows-now, SameDevice}
+
+-- ---- what is common to every way of taking
+
+pub record Took (frame contents : List ℕ) (d : Device) (t : DeviceTaken) : Type 0 where
+  pub same : SameDevice d (t .device)
+  pub same-burst : t .device .burst ≡ d .burst
+  pub same-primary : t .device .primary ≡ d .primary
+  pub sound : Sound (t .device) frame contents
+  pub turned : Turned (t .device) frame
+
+-- a character inside a frame: the request is dropped, and no BACK is due
+pub record TookMid (frame contents : List ℕ) (d : Device) (t : DeviceTaken) (r : Receiver) : Type 0 where
+  pub took : Took frame contents d t
+  pub event-is : t .event ≡ Nothing
+  pub receiver-is : t .device .receiver ≡ r
+  pub listens : t .device .turn ≡ Listens
+
+-- a frame's last character: an STX for this device is in hand
+pub data FrameTurn (d : Device) (t : DeviceTaken) (w : Whole) : Type 0 where
+  asked-by : w .header .frame ≡ stx → isOwn d (w .header) ≡ true → t .device .turn ≡ Asked (d .profile .sto) → t .device .request ≡ w .header → t .device .due ≡ d .profile .rt1p → FrameTurn d t w
+  listens-on : t .device .turn ≡ Listens → t .device .due ≡ (if w .header .frame =? stx then d .profile .rt1p else dueAfter d (w .header)) → FrameTurn d t w
+
+pub record TookFrame (frame contents : List ℕ) (d : Device) (t : DeviceTaken) (w : Whole) : Type 0 where
+  pub took : Took frame contents d t
+  pub event-is : t .event ≡ Frame w
+  pub receiver-is : t .device .receiver ≡ idle
+  pub turn-is : FrameTurn d t w
+
+-- a silent tick: a bursting device's BACK is due, or the ticks are counted
+pub data SilentTurn (d : Device) (t : DeviceTaken) : Type 0 where
+  back-is-due : d .burst ≡ true → d .due ≡ 1 → t .device .turn ≡ Follows → SilentTurn d t
+  counts-on : (d .burst ≡ true → d .due ≡ 1 → ⊥) → t .device .due ≡ d .due - 1 → t .device .request ≡ d .request → (t .device .turn ≡ Follows → ⊥)
+      → inHand (t .device .turn) ≤ inHand (d .turn) - 1 → (d .turn ≡ Listens → t .device .turn ≡ Listens) → SilentTurn d t
+
+pub record TookSilence (frame contents : List ℕ) (d : Device) (t : DeviceTaken) : Type 0 where
+  pub took : Took frame contents d t
+  pub event-is : t .event ≡ Nothing
+  pub receiver-is : t .device .receiver ≡ idle
+  pub turn-is : SilentTurn d t
+
+module _ (frame contents : List ℕ) (d : Device) (hears : d .deaf ≡ false) (hand : Hand d frame) (sound : Sound d frame contents) where
+  heard-is : (heard : Heard) → deviceTakes d heard ≡ onHeard d heard
+  unfolding deviceTakes
+  heard-is heard = if-is-false (d .deaf) _ _ hears
+
+  -- the parts that taking never changes
+  keeps-sound : (r : Receiver) (turn : Turn) (request : Header) (wish : _) (n due : ℕ) → Sound (behind d r turn request wish n due) frame contents
+  keeps-sound r turn request wish n due = record {
+    preamble-low = sound .preamble-low;
+    preamble-high = sound .preamble-high;
+    polling-high = sound .polling-high;
+    unique-low = sound .unique-low;
+    unique-high = sound .unique-high;
+    frame-room = sound .frame-room;
+    contents-room = sound .contents-room;
+    content-low = sound .content-low;
+    content-high = sound .content-high;
+    bursts-given = sound .bursts-given;
+  }
+
+  pub takes-mid : (c : ℕ) (r : Receiver) → taken (d .receiver) (Heard.Character c) ≡ Rattle.line.specs.Reader.tells r Nothing → TookMid frame contents d (deviceTakes d (Heard.Character c)) r
+  takes-mid c r e =
+      let same : deviceTakes d (Heard.Character c) ≡ onCharacter d r Nothing = heard-is (Heard.Character c) ∙ ap (λ (t : Taken). onCharacter d (t .receiver) (t .event)) e in
+      subst (λ (t : DeviceTaken). TookMid frame contents d t r) (sym same)
+      (record {
+        took = record {
+          same = record { same-profile = refl; same-preamble = refl; same-polling = refl; same-unique = refl };
+          same-burst = refl;
+          same-primary = refl;
+          sound = keeps-sound r Listens (d .request) Same (d .length) 0;
+          turned = in-hand (nothing-in-hand refl);
+        };
+        event-is = refl;
+        receiver-is = refl;
+        listens = refl;
+      })
+
+  -- a device that listens on behind a frame
+  listening : (w : Whole) (told : DeviceTold) (due : ℕ) → due ≡ (if w .header .frame =? stx then d .profile .rt1p else dueAfter d (w .header))
+      → TookFrame frame contents d (Rattle.turns.specs.Device.tells (behind d idle Listens (d .request) Same (d .length) due) told (Frame w)) w
+  listening w told due e = record {
+    took = record {
+      same = record { same-profile = refl; same-preamble = refl; same-polling = refl; same-unique = refl };
+      same-burst = refl;
+      same-primary = refl;
+      sound = keeps-sound idle Listens (d .request) Same (d .length) due;
+      turned = in-hand (nothing-in-hand refl);
+    };
+    event-is = refl;
+    receiver-is = refl;
+    turn-is = listens-on refl e;
+  }
+
+  pub takes-frame : (c : ℕ) (w : Whole) → taken (d .receiver) (Heard.Character c) ≡ Rattle.line.specs.Reader.tells idle (Frame w) → w .expansion ≡ 0 → TookFrame frame contents d (deviceTakes d (Heard.Character c)) w
+  takes-frame c w e x =
+      let same : deviceTakes d (Heard.Character c) ≡ afterFrame d idle w = heard-is (Heard.Character c) ∙ ap (λ (t : Taken). onCharacter d (t .receiver) (t .event)) e in
+      subst (λ (t : DeviceTaken). TookFrame frame contents d t w) (sym same) (by-type (w .header .frame =? stx) refl)
+    where
+      S : Bool
+      S = w .header .frame =? stx
+
+      own : (t : Bool) → isOwn d (w .header) ≡ t → S ≡ true → TookFrame frame contents d (afterRequest d idle w) w
+      own true o q =
+          subst (λ (t : DeviceTaken). TookFrame frame contents d t w) (sym (if-is-true (isOwn d (w .header)) _ _ o))
+          (record {
+            took = record {
+              same = record { same-profile = refl; same-preamble = refl; same-polling = refl; same-unique = refl };
+              same-burst = refl;
+              same-primary = refl;
+              sound = keeps-sound idle (Asked (d .profile .sto)) (w .header) Same (d .length) (d .profile .rt1p);
+              turned = in-hand (is-asked (d .profile .sto) refl o);
+            };
+            event-is = refl;
+            receiver-is = refl;
+            turn-is = asked-by (eqb-true (w .header .frame) stx q) o refl refl refl;
+          })
+      own false o q = subst (λ (t : DeviceTaken). TookFrame frame contents d t w) (sym (if-is-false (isOwn d (w .header)) _ _ o)) (all (isBroadcast (w .header)) refl)
+        where
+          due-is : d .profile .rt1p ≡ (if w .header .frame =? stx then d .profile .rt1p else dueAfter d (w .header))
+          due-is = sym (if-is-true (w .header .frame =? stx) (d .profile .rt1p) (dueAfter d (w .header)) q)
+
+          listened : DeviceTold → DeviceTaken
+          listened told = Rattle.turns.specs.Device.tells (behind d idle Listens (d .request) Same (d .length) (d .profile .rt1p)) told (Frame w)
+
+          all : (t : Bool) → isBroadcast (w .header) ≡ t → TookFrame frame contents d (if isBroadcast (w .header) then listened (Broadcast w) else listened DeviceTold.Nothing) w
+          all true b = subst (λ (t : DeviceTaken). TookFrame frame contents d t w) (sym (if-is-true (isBroadcast (w .header)) _ _ b)) (listening w (Broadcast w) (d .profile .rt1p) due-is)
+          all false b = subst (λ (t : DeviceTaken). TookFrame frame contents d t w) (sym (if-is-false (isBroadcast (w .header)) _ _ b)) (listening w DeviceTold.Nothing (d .profile .rt1p) due-is)
+
+      by-type : (t : Bool) → S ≡ t → TookFrame frame contents d (afterFrame d idle w) w
+      by-type true q =
+          subst (λ (t : DeviceTaken). TookFrame frame contents d t w) (sym (if-is-true S _ _ q ∙ if-is-true (w .expansion =? 0) _ _ (eq-eqb (w .expansion) 0 x)))
+          (own (isOwn d (w .header)) refl q)
+      by-type false q =
+          subst (λ (t : DeviceTaken). TookFrame frame contents d t w) (sym (if-is-false S _ _ q))
+          (listening w DeviceTold.Nothing (dueAfter d (w .header)) (sym (if-is-false S (d .profile .rt1p) (dueAfter d (w .header)) q)))
