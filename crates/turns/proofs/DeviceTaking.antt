@@ -165,3 +165,101 @@ module _ (frame contents : List ℕ) (d : Device) (hears : d .deaf ≡ false) (h
       by-type false q =
           subst (λ (t : DeviceTaken). TookFrame frame contents d t w) (sym (if-is-false S _ _ q))
           (listening w DeviceTold.Nothing (dueAfter d (w .header)) (sym (if-is-false S (d .profile .rt1p) (dueAfter d (w .header)) q)))
+
+  pub takes-silence : taken (d .receiver) Silence ≡ Rattle.line.specs.Reader.tells idle Nothing → TookSilence frame contents d (deviceTakes d Silence)
+  takes-silence e =
+      let same : deviceTakes d Silence ≡ counts d idle (d .due) Nothing = heard-is Silence ∙ ap (λ (t : Taken). onSilence d (t .receiver) (t .event)) e in
+      subst (λ (t : DeviceTaken). TookSilence frame contents d t) (sym same) (by-burst (d .burst) refl)
+    where
+      After : DeviceTaken → Type 0
+      After t = TookSilence frame contents d t
+
+      on : Turn → ℕ → DeviceTaken
+      on turn due = Rattle.turns.specs.Device.tells (behind d idle turn (d .request) (d .wish) (d .length) due) DeviceTold.Nothing Nothing
+
+      silent-took : (turn : Turn) (due : ℕ) → Turned (behind d idle turn (d .request) (d .wish) (d .length) due) frame → Took frame contents d (on turn due)
+      silent-took turn due turned = record {
+        same = record { same-profile = refl; same-preamble = refl; same-polling = refl; same-unique = refl };
+        same-burst = refl;
+        same-primary = refl;
+        sound = keeps-sound idle turn (d .request) (d .wish) (d .length) due;
+        turned = turned;
+      }
+
+      listens-follows : Listens ≡ Follows → ⊥
+      listens-follows q = let z : _≡_ {A = ℕ} 0 1 = cc in omega arith
+
+      begins-follows : Begins ≡ Follows → ⊥
+      begins-follows q = let z : _≡_ {A = ℕ} 0 1 = cc in omega arith
+
+      asked-follows : (n : ℕ) → Asked n ≡ Follows → ⊥
+      asked-follows n q = let z : _≡_ {A = ℕ} 0 1 = cc in omega arith
+
+      asked-listens : (n : ℕ) → Asked n ≡ Listens → ⊥
+      asked-listens n q = let z : _≡_ {A = ℕ} 0 1 = cc in omega arith
+
+      accepted-listens : Accepted ≡ Listens → ⊥
+      accepted-listens q = let z : _≡_ {A = ℕ} 0 1 = cc in omega arith
+
+      -- the turn, counted
+      counted : (d .burst ≡ true → d .due ≡ 1 → ⊥) → Hand d frame → After (on (waited (d .turn)) (d .due - 1))
+      counted not-due (nothing-in-hand q) =
+          subst (λ (turn : Turn). After (on turn (d .due - 1))) (sym (ap waited q))
+          (record {
+            took = silent-took Listens (d .due - 1) (in-hand (nothing-in-hand refl));
+            event-is = refl;
+            receiver-is = refl;
+            turn-is = counts-on not-due refl refl listens-follows (omega arith) (λ z. refl);
+          })
+      counted not-due (is-accepted q p) =
+          subst (λ (turn : Turn). After (on turn (d .due - 1))) (sym (ap waited q))
+          (record {
+            took = silent-took Begins (d .due - 1) (begins-now refl (record { w = p .w; message = p .message; held = p .held; header-is = p .header-is; no-expansion = p .no-expansion; own = p .own; short-same = p .short-same; on-given = p .on-given }));
+            event-is = refl;
+            receiver-is = refl;
+            turn-is = counts-on not-due refl refl begins-follows (omega arith) (λ z. absurd (accepted-listens (sym q ∙ z)));
+          })
+      counted not-due (is-asked n q o) = subst (λ (turn : Turn). After (on turn (d .due - 1))) (sym (ap waited q)) (left (n ≤? 1) refl)
+        where
+          left : (t : Bool) → (n ≤? 1) ≡ t → After (on (if n ≤? 1 then Listens else Asked (n - 1)) (d .due - 1))
+          left true r =
+              subst (λ (turn : Turn). After (on turn (d .due - 1))) (sym (if-is-true (n ≤? 1) Listens (Asked (n - 1)) r))
+              (record {
+                took = silent-took Listens (d .due - 1) (in-hand (nothing-in-hand refl));
+                event-is = refl;
+                receiver-is = refl;
+                turn-is = counts-on not-due refl refl listens-follows (omega arith) (λ z. refl);
+              })
+          left false r =
+              subst (λ (turn : Turn). After (on turn (d .due - 1))) (sym (if-is-false (n ≤? 1) Listens (Asked (n - 1)) r))
+              (record {
+                took = silent-took (Asked (n - 1)) (d .due - 1) (in-hand (is-asked (n - 1) refl o));
+                event-is = refl;
+                receiver-is = refl;
+                turn-is = counts-on not-due refl refl (asked-follows (n - 1)) (omega (arith, ap inHand q)) (λ z. absurd (asked-listens n (sym q ∙ z)));
+              })
+
+      by-due : (t : Bool) → (d .due =? 1) ≡ t → d .burst ≡ true → After (counts d idle (d .due) Nothing)
+      by-due true r b =
+          subst After (sym (if-is-true (backDue d (d .due)) _ _ (if-is-true (d .burst) (d .due =? 1) false b ∙ r)))
+          (record {
+            took = silent-took Follows 0 (follows-now refl b);
+            event-is = refl;
+            receiver-is = refl;
+            turn-is = back-is-due b (eqb-true (d .due) 1 r) refl;
+          })
+      by-due false r b =
+          subst After (sym (if-is-false (backDue d (d .due)) _ _ (if-is-true (d .burst) (d .due =? 1) false b ∙ r)))
+          (counted (λ b′ one. eqb-false (d .due) 1 r one) hand)
+
+      by-burst : (t : Bool) → d .burst ≡ t → After (counts d idle (d .due) Nothing)
+      by-burst true b = by-due (d .due =? 1) refl b
+      by-burst false b =
+          subst After (sym (if-is-false (backDue d (d .due)) _ _ (if-is-false (d .burst) (d .due =? 1) false b)))
+          (counted (λ b′ one. true-false (sym b′ ∙ b)) hand)
+
+-- ---- a device that hears nothing: it is fresh, or sent in the tick before
+
+pub takes-nothing : (d : Device) (heard : Heard) → d .deaf ≡ true → deviceTakes d heard ≡ Rattle.turns.specs.Device.tells d DeviceTold.Nothing Nothing
+unfolding deviceTakes
+takes-nothing d heard e = if-is-true (d .deaf) _ _ e

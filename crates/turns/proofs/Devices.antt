@@ -454,7 +454,7 @@ same-sound d turn wish count frame put contents s = record {
   bursts-given = s .bursts-given;
 }
 
-content-sound : (d : Device) (command : ℕ) (frame contents put : List ℕ) → 2 ≤ length put → length put ≤ 255 → Sound d frame contents
+pub content-sound : (d : Device) (command : ℕ) (frame contents put : List ℕ) → 2 ≤ length put → length put ≤ 255 → Sound d frame contents
     → Sound (withContent d (record { given = true; command = command; count = length put })) frame (stored contents 0 put)
 content-sound d command frame contents put low high s = record {
   preamble-low = s .preamble-low;
