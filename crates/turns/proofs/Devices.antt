@@ -112,7 +112,7 @@ pub data Goes (d : Device) (step : DeviceStep) : Type 0 where
       → inHand (step .side .device .turn) ≤ inHand (d .turn) → Hand (step .side .device) (step .side .frame) → Sound (step .side .device) (step .side .frame) (step .side .contents) → Goes d step
   -- it begins its ACK: from a request that was in hand, with burst as the host wishes
   answers : (burst primary : Bool) (b : Begun d step Answers burst) → b .message .header ≡ answerHeader (d .request) burst → step .side .device .request ≡ d .request → isOwn d (d .request) ≡ true
-      → (d .request .long ≡ false → burst ≡ d .burst) → (d .turn ≡ Listens → ⊥) → Goes d step
+      → (d .request .long ≡ false → burst ≡ d .burst) → (d .turn ≡ Listens → ⊥) → (d .turn ≡ Asked (d .profile .sto) → ⊥) → Goes d step
   -- it begins its BACK
   bursts : (b : Begun d step Bursts (d .burst)) (command : ℕ) → d .turn ≡ Follows → b .message .header ≡ backFor d command
       → step .side .device .primary ≡ (if d .primary then false else true) → Goes d step
@@ -130,6 +130,17 @@ pub record AfterCall (d e : Device) : Type 0 where
   pub less-in-hand : inHand (e .turn) ≤ inHand (d .turn)
   pub follows-same : e .turn ≡ Follows → d .turn ≡ Follows
   pub listens-same : d .turn ≡ Listens → e .turn ≡ Listens
+  -- an answer in the tick that told the request does not begin in it
+  pub first-waits : d .turn ≡ Asked (d .profile .sto) → e .turn ≡ Begins → ⊥
+
+asked-begins : (n : ℕ) → Asked n ≡ Begins → ⊥
+asked-begins n e = let z : _≡_ {A = ℕ} 0 1 = cc in omega arith
+
+accepted-begins : Accepted ≡ Begins → ⊥
+accepted-begins e = let z : _≡_ {A = ℕ} 0 1 = cc in omega arith
+
+asked-same : {m n : ℕ} → Asked m ≡ Asked n → m ≡ n
+asked-same e = cc
 
 unchanged : (d : Device) → AfterCall d d
 unchanged d = record {
@@ -142,6 +153,7 @@ unchanged d = record {
   less-in-hand = omega arith;
   follows-same = λ e. e;
   listens-same = λ e. e;
+  first-waits = λ a b. asked-begins (d .profile .sto) (sym a ∙ b);
 }
 
 -- what the device needs for the turn that it is in, behind what was heard
@@ -294,7 +306,8 @@ module _ (d e : Device) (frame bytes contents : List ℕ) (told : DeviceTold) (a
           (after .same-request)
           (same-own (p .own))
           (λ l. p .short-same (ap (λ (h : Header). h .long) (after .same-request) ∙ l) ∙ after .same-burst)
-          (λ z. listens-begins (sym (after .listens-same z) ∙ q)))
+          (λ z. listens-begins (sym (after .listens-same z) ∙ q))
+          (λ z. after .first-waits z q))
       go false r = absurd (omega (arith, ltb-false (0 + 1) (e .length) r))
 
   -- a BACK begins, with the content that the host gave last
@@ -551,6 +564,7 @@ module _ (limit : ℕ) (low : 2 ≤ limit) (high : limit ≤ 255) (t : DeviceTak
         less-in-hand = hand-is (n =? d .profile .sto) refl;
         follows-same = λ z. absurd (answers-follows d n z);
         listens-same = λ z. absurd (listens-asked n (sym z ∙ q));
+        first-waits = λ a b. accepted-begins (sym (if-is-true (n =? d .profile .sto) Accepted Begins (eq-eqb n (d .profile .sto) (asked-same (sym q ∙ a)))) ∙ b);
       }
 
       by : (b : Bool) → (n =? d .profile .sto) ≡ b → Turned (next (answersAt d n)) put-in
@@ -599,6 +613,7 @@ module _ (limit : ℕ) (low : 2 ≤ limit) (high : limit ≤ 255) (t : DeviceTak
             less-in-hand = omega arith;
             follows-same = λ z. z;
             listens-same = λ z. z;
+            first-waits = λ a b. asked-begins (t .device .profile .sto) (sym a ∙ b);
           })
           (content-sound (t .device) command frame contents put least (omega arith) s)
           (content-turned (t .device) c frame refl turned))
