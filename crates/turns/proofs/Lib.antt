@@ -6,3 +6,4 @@ pub mod Example
 pub mod Masters
 pub mod Spoken
 pub mod Taking
+pub mod Windows
