@@ -123,8 +123,8 @@ module _ (frame contents : List ℕ) (d : Device) (hears : d .deaf ≡ false) (h
     turn-is = listens-on refl e;
   }
 
-  pub takes-frame : (c : ℕ) (w : Whole) → taken (d .receiver) (Heard.Character c) ≡ Rattle.line.specs.Reader.tells idle (Frame w) → w .expansion ≡ 0 → TookFrame frame contents d (deviceTakes d (Heard.Character c)) w
-  takes-frame c w e x =
+  pub takes-frame : (c : ℕ) (w : Whole) → taken (d .receiver) (Heard.Character c) ≡ Rattle.line.specs.Reader.tells idle (Frame w) → w .expansion ≡ 0 → 1 ≤ d .profile .sto → TookFrame frame contents d (deviceTakes d (Heard.Character c)) w
+  takes-frame c w e x some-sto =
       let same : deviceTakes d (Heard.Character c) ≡ afterFrame d idle w = heard-is (Heard.Character c) ∙ ap (λ (t : Taken). onCharacter d (t .receiver) (t .event)) e in
       subst (λ (t : DeviceTaken). TookFrame frame contents d t w) (sym same) (by-type (w .header .frame =? stx) refl)
     where
@@ -140,7 +140,7 @@ module _ (frame contents : List ℕ) (d : Device) (hears : d .deaf ≡ false) (h
               same-burst = refl;
               same-primary = refl;
               sound = keeps-sound idle (Asked (d .profile .sto)) (w .header) Same (d .length) (d .profile .rt1p);
-              turned = in-hand (is-asked (d .profile .sto) refl o);
+              turned = in-hand (is-asked (d .profile .sto) refl some-sto o);
             };
             event-is = refl;
             receiver-is = refl;
@@ -219,7 +219,7 @@ module _ (frame contents : List ℕ) (d : Device) (hears : d .deaf ≡ false) (h
             receiver-is = refl;
             turn-is = counts-on not-due refl refl begins-follows (omega arith) (λ z. absurd (accepted-listens (sym q ∙ z)));
           })
-      counted not-due (is-asked n q o) = subst (λ (turn : Turn). After (on turn (d .due - 1))) (sym (ap waited q)) (left (n ≤? 1) refl)
+      counted not-due (is-asked n q some o) = subst (λ (turn : Turn). After (on turn (d .due - 1))) (sym (ap waited q)) (left (n ≤? 1) refl)
         where
           left : (t : Bool) → (n ≤? 1) ≡ t → After (on (if n ≤? 1 then Listens else Asked (n - 1)) (d .due - 1))
           left true r =
@@ -233,7 +233,7 @@ module _ (frame contents : List ℕ) (d : Device) (hears : d .deaf ≡ false) (h
           left false r =
               subst (λ (turn : Turn). After (on turn (d .due - 1))) (sym (if-is-false (n ≤? 1) Listens (Asked (n - 1)) r))
               (record {
-                took = silent-took (Asked (n - 1)) (d .due - 1) (in-hand (is-asked (n - 1) refl o));
+                took = silent-took (Asked (n - 1)) (d .due - 1) (in-hand (is-asked (n - 1) refl (omega (arith, leb-false n 1 r)) o));
                 event-is = refl;
                 receiver-is = refl;
                 turn-is = counts-on not-due refl refl (asked-follows (n - 1)) (omega (arith, ap inHand q)) (λ z. absurd (asked-listens n (sym q ∙ z)));

@@ -77,7 +77,7 @@ pub record Prepared (d : Device) (frame : List ℕ) : Type 0 where
 -- what a turn in which the device does not send needs
 pub data Hand (d : Device) (frame : List ℕ) : Type 0 where
   nothing-in-hand : d .turn ≡ Listens → Hand d frame
-  is-asked : (n : ℕ) → d .turn ≡ Asked n → isOwn d (d .request) ≡ true → Hand d frame
+  is-asked : (n : ℕ) → d .turn ≡ Asked n → 1 ≤ n → isOwn d (d .request) ≡ true → Hand d frame
   is-accepted : d .turn ≡ Accepted → Prepared d frame → Hand d frame
 
 -- ---- what comes of a tick behind what was heard
@@ -246,10 +246,10 @@ module _ (d e : Device) (frame bytes contents : List ℕ) (told : DeviceTold) (a
   hand-goes (nothing-in-hand q) =
       subst (Goes d) (sym (step-is ∙ ap by q))
       (rests (same-still Listens) refl refl (after .same-receiver) (after .same-burst) (after .same-primary) (after .same-due) (after .same-request) (omega arith) (nothing-in-hand refl) (still-sound Listens))
-  hand-goes (is-asked n q own) =
+  hand-goes (is-asked n q some own) =
       let less : n ≤ inHand (d .turn) = omega (arith, after .less-in-hand, ap inHand q) in
       subst (Goes d) (sym (step-is ∙ ap by q))
-      (rests (same-still (Asked n)) refl refl (after .same-receiver) (after .same-burst) (after .same-primary) (after .same-due) (after .same-request) less (is-asked n refl own) (still-sound (Asked n)))
+      (rests (same-still (Asked n)) refl refl (after .same-receiver) (after .same-burst) (after .same-primary) (after .same-due) (after .same-request) less (is-asked n refl some own) (still-sound (Asked n)))
   hand-goes (is-accepted q p) =
       let less : 1 ≤ inHand (d .turn) = omega (arith, after .less-in-hand, ap inHand q) in
       subst (Goes d) (sym (step-is ∙ ap by q))
@@ -484,7 +484,7 @@ content-sound d command frame contents put low high s = record {
 
 content-turned : (d : Device) (c : Content) (frame : List ℕ) → c .given ≡ true → Turned d frame → Turned (withContent d c) frame
 content-turned d c frame given (in-hand (nothing-in-hand q)) = in-hand (nothing-in-hand q)
-content-turned d c frame given (in-hand (is-asked n q o)) = in-hand (is-asked n q o)
+content-turned d c frame given (in-hand (is-asked n q some o)) = in-hand (is-asked n q some o)
 content-turned d c frame given (in-hand (is-accepted q p)) =
     in-hand (is-accepted q (record { w = p .w; message = p .message; held = p .held; header-is = p .header-is; no-expansion = p .no-expansion; own = p .own; short-same = p .short-same; on-given = λ z. given }))
 content-turned d c frame given (begins-now q p) =
@@ -588,7 +588,7 @@ module _ (limit : ℕ) (low : 2 ≤ limit) (high : limit ≤ 255) (t : DeviceTak
 
       go : Turned (t .device) frame → Case (t .device .turn)
       go (in-hand (nothing-in-hand q)) = none-goes wish put (ap (answeredBy limit (t .device) wish (length put)) q)
-      go (in-hand (is-asked n q o)) = subst Case (sym q) (answer-goes wish put n q o (answer-view limit (t .device) wish (length put) n))
+      go (in-hand (is-asked n q some o)) = subst Case (sym q) (answer-goes wish put n q o (answer-view limit (t .device) wish (length put) n))
       go (in-hand (is-accepted q p)) = none-goes wish put (ap (answeredBy limit (t .device) wish (length put)) q)
       go (begins-now q p) = none-goes wish put (ap (answeredBy limit (t .device) wish (length put)) q)
       go (follows-now q on) = none-goes wish put (ap (answeredBy limit (t .device) wish (length put)) q)
