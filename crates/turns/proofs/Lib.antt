@@ -3,7 +3,9 @@ pub mod DeviceSpeaking
 pub mod DeviceTaking
 pub mod Devices
 pub mod Example
+pub mod Listening
 pub mod Masters
+pub mod Phases
 pub mod Spoken
 pub mod Taking
 pub mod Windows
