@@ -109,10 +109,10 @@ backFor d command = record { frame = back; long = true; primary = d .primary; bu
 pub data Goes (d : Device) (step : DeviceStep) : Type 0 where
   rests : SameDevice d (step .side .device) → step .sent ≡ Silent → step .side .device .deaf ≡ false → step .side .device .receiver ≡ d .receiver
       → step .side .device .burst ≡ d .burst → step .side .device .primary ≡ d .primary → step .side .device .due ≡ d .due → step .side .device .request ≡ d .request
-      → inHand (step .side .device .turn) ≤ inHand (d .turn) → Hand (step .side .device) (step .side .frame) → Sound (step .side .device) (step .side .frame) (step .side .contents) → Goes d step
+      → inHand (step .side .device .turn) ≤ inHand (d .turn) → Hand (step .side .device) (step .side .frame) → Sound (step .side .device) (step .side .frame) (step .side .contents) → (d .turn ≡ Follows → ⊥) → Goes d step
   -- it begins its ACK: from a request that was in hand, with burst as the host wishes
   answers : (burst primary : Bool) (b : Begun d step Answers burst) → b .message .header ≡ answerHeader (d .request) burst → step .side .device .request ≡ d .request → isOwn d (d .request) ≡ true
-      → (d .request .long ≡ false → burst ≡ d .burst) → (d .turn ≡ Listens → ⊥) → (d .turn ≡ Asked (d .profile .sto) → ⊥) → Goes d step
+      → (d .request .long ≡ false → burst ≡ d .burst) → (d .turn ≡ Listens → ⊥) → (d .turn ≡ Asked (d .profile .sto) → ⊥) → (d .turn ≡ Follows → ⊥) → Goes d step
   -- it begins its BACK
   bursts : (b : Begun d step Bursts (d .burst)) (command : ℕ) → d .turn ≡ Follows → b .message .header ≡ backFor d command
       → step .side .device .primary ≡ (if d .primary then false else true) → Goes d step
@@ -129,9 +129,22 @@ pub record AfterCall (d e : Device) : Type 0 where
   pub same-request : e .request ≡ d .request
   pub less-in-hand : inHand (e .turn) ≤ inHand (d .turn)
   pub follows-same : e .turn ≡ Follows → d .turn ≡ Follows
+  pub follows-kept : d .turn ≡ Follows → e .turn ≡ Follows
   pub listens-same : d .turn ≡ Listens → e .turn ≡ Listens
   -- an answer in the tick that told the request does not begin in it
   pub first-waits : d .turn ≡ Asked (d .profile .sto) → e .turn ≡ Begins → ⊥
+
+asked-follows : (n : ℕ) → Asked n ≡ Follows → ⊥
+asked-follows n e = let z : _≡_ {A = ℕ} 0 1 = cc in omega arith
+
+listens-follows : Listens ≡ Follows → ⊥
+listens-follows e = let z : _≡_ {A = ℕ} 0 1 = cc in omega arith
+
+accepted-follows : Accepted ≡ Follows → ⊥
+accepted-follows e = let z : _≡_ {A = ℕ} 0 1 = cc in omega arith
+
+begins-follows : Begins ≡ Follows → ⊥
+begins-follows e = let z : _≡_ {A = ℕ} 0 1 = cc in omega arith
 
 asked-begins : (n : ℕ) → Asked n ≡ Begins → ⊥
 asked-begins n e = let z : _≡_ {A = ℕ} 0 1 = cc in omega arith
@@ -152,6 +165,7 @@ unchanged d = record {
   same-request = refl;
   less-in-hand = omega arith;
   follows-same = λ e. e;
+  follows-kept = λ e. e;
   listens-same = λ e. e;
   first-waits = λ a b. asked-begins (d .profile .sto) (sym a ∙ b);
 }
@@ -197,7 +211,7 @@ listens-asked : (n : ℕ) → Listens ≡ Asked n → ⊥
 listens-asked n e = let z : _≡_ {A = ℕ} 0 1 = cc in omega arith
 
 -- whose request it is depends on the addresses alone
-own-same : {d e : Device} → SameDevice d e → e .request ≡ d .request → isOwn e (e .request) ≡ true → isOwn d (d .request) ≡ true
+pub own-same : {d e : Device} → SameDevice d e → e .request ≡ d .request → isOwn e (e .request) ≡ true → isOwn d (d .request) ≡ true
 own-same {d} {e} same r o =
     (λ i. if sym r i .long then sym (same .same-unique) i =? sym r i .address else (if sym (same .same-polling) i =? sym r i .address then sym r i .command =? 0 else false)) ∙ o
 
@@ -245,17 +259,17 @@ module _ (d e : Device) (frame bytes contents : List ℕ) (told : DeviceTold) (a
   unfolding still-device by
   hand-goes (nothing-in-hand q) =
       subst (Goes d) (sym (step-is ∙ ap by q))
-      (rests (same-still Listens) refl refl (after .same-receiver) (after .same-burst) (after .same-primary) (after .same-due) (after .same-request) (omega arith) (nothing-in-hand refl) (still-sound Listens))
+      (rests (same-still Listens) refl refl (after .same-receiver) (after .same-burst) (after .same-primary) (after .same-due) (after .same-request) (omega arith) (nothing-in-hand refl) (still-sound Listens) (λ z. listens-follows (sym q ∙ after .follows-kept z)))
   hand-goes (is-asked n q some own) =
       let less : n ≤ inHand (d .turn) = omega (arith, after .less-in-hand, ap inHand q) in
       subst (Goes d) (sym (step-is ∙ ap by q))
-      (rests (same-still (Asked n)) refl refl (after .same-receiver) (after .same-burst) (after .same-primary) (after .same-due) (after .same-request) less (is-asked n refl some own) (still-sound (Asked n)))
+      (rests (same-still (Asked n)) refl refl (after .same-receiver) (after .same-burst) (after .same-primary) (after .same-due) (after .same-request) less (is-asked n refl some own) (still-sound (Asked n)) (λ z. asked-follows n (sym q ∙ after .follows-kept z)))
   hand-goes (is-accepted q p) =
       let less : 1 ≤ inHand (d .turn) = omega (arith, after .less-in-hand, ap inHand q) in
       subst (Goes d) (sym (step-is ∙ ap by q))
       (rests (same-still Accepted) refl refl (after .same-receiver) (after .same-burst) (after .same-primary) (after .same-due) (after .same-request) less
       (is-accepted refl (record { w = p .w; message = p .message; held = p .held; header-is = p .header-is; no-expansion = p .no-expansion; own = p .own; short-same = p .short-same; on-given = p .on-given }))
-      (still-sound Accepted))
+      (still-sound Accepted) (λ z. accepted-follows (sym q ∙ after .follows-kept z)))
 
   -- an answer begins
   begins-goes : e .turn ≡ Begins → Prepared e frame → Goes d Step
@@ -307,7 +321,8 @@ module _ (d e : Device) (frame bytes contents : List ℕ) (told : DeviceTold) (a
           (same-own (p .own))
           (λ l. p .short-same (ap (λ (h : Header). h .long) (after .same-request) ∙ l) ∙ after .same-burst)
           (λ z. listens-begins (sym (after .listens-same z) ∙ q))
-          (λ z. after .first-waits z q))
+          (λ z. after .first-waits z q)
+          (λ z. begins-follows (sym q ∙ after .follows-kept z)))
       go false r = absurd (omega (arith, ltb-false (0 + 1) (e .length) r))
 
   -- a BACK begins, with the content that the host gave last
@@ -563,6 +578,7 @@ module _ (limit : ℕ) (low : 2 ≤ limit) (high : limit ≤ 255) (t : DeviceTak
         same-request = refl;
         less-in-hand = hand-is (n =? d .profile .sto) refl;
         follows-same = λ z. absurd (answers-follows d n z);
+        follows-kept = λ z. absurd (asked-follows n (sym q ∙ z));
         listens-same = λ z. absurd (listens-asked n (sym z ∙ q));
         first-waits = λ a b. accepted-begins (sym (if-is-true (n =? d .profile .sto) Accepted Begins (eq-eqb n (d .profile .sto) (asked-same (sym q ∙ a)))) ∙ b);
       }
@@ -612,6 +628,7 @@ module _ (limit : ℕ) (low : 2 ≤ limit) (high : limit ≤ 255) (t : DeviceTak
             same-request = refl;
             less-in-hand = omega arith;
             follows-same = λ z. z;
+            follows-kept = λ z. z;
             listens-same = λ z. z;
             first-waits = λ a b. asked-begins (t .device .profile .sto) (sym a ∙ b);
           })

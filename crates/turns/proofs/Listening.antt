@@ -7,7 +7,9 @@ use mathlib.Core.List.{List, [], _∷_}
 use lib.ListN.{length, getD, take}
 use Rattle.base.specs.Choice.{if_then_else_, _=?_}
 use Rattle.base.specs.Store.{stored}
+use Rattle.base.proofs.Choices.{if-is-true, if-is-false}
 use Rattle.base.proofs.Stores.{length-stored}
+use borrow.Author.Tests.{eq-eqb}
 use Rattle.frame.specs.Delimiter.{stx, ack, back}
 use Rattle.frame.specs.Frame.{frameBytes}
 use Rattle.frame.specs.declared.Header.{Header}
@@ -144,3 +146,341 @@ master-does limit p primary x heard call small is took = go (master-goes limit t
           same-noted = ap (λ (m : Master). m .noted) e;
           in-window = z;
         })
+
+-- a timer that has just been set has no open window
+shut-timer : (m : Master) (burst : Bool) (h : Header) → timerAfter m burst h .window ≡ 0
+unfolding if_then_else_
+shut-timer m true h = go (h .frame =? back) (toItself m h)
+  where
+    go : (s t : Bool) → (if s then (if t then burstTimer m 0 else burstTimer m 1) else burstTimer m 0) .window ≡ 0
+    go true true = refl
+    go true false = refl
+    go false t = refl
+shut-timer m false h = go (h .frame =? ack) (toItself m h)
+  where
+    go : (s t : Bool) → (if s then (if t then timer (m .profile .rt2) else timer 1) else timer (ownRt1 m)) .window ≡ 0
+    go true true = refl
+    go true false = refl
+    go false t = refl
+
+-- with no open window it rests
+rests-shut : {p : Profile} {primary : Bool} {t : Master} {step : MasterStep} → t .timer .window ≡ 0 → Does p primary t step → Rests p primary t step
+rests-shut e (does-rest r) = r
+rests-shut e (does-start s) = absurd (omega (arith, e, s .in-window))
+
+module _ (limit : ℕ) (small : limit ≤ 255) (p : Profile) (primary : Bool) (x : MasterSide) (call : MasterCall) (l : MasterListens p primary x) where
+  -- inside a frame
+  pub record HeardMid (r : Receiver) (step : MasterStep) : Type 0 where
+    pub listens : MasterListens p primary (step .side)
+    pub silent : step .sent ≡ Silent
+    pub receiver-is : step .side .master .receiver ≡ r
+    pub same-burst : step .side .master .burst ≡ x .master .burst
+    pub same-noted : step .side .master .noted ≡ x .master .noted
+
+  pub master-mid : (w : List ℕ) (message : Whole) (k : ℕ) → Spoken w message → suc k < length w → x .master .receiver ≡ readerAfter idle (take k w)
+      → HeardMid (readerAfter idle (take (suc k) w)) (masterTick limit x (Character (getD w k 0)) call)
+  master-mid w message k s below r =
+      let e = subst (λ (z : Receiver). taken z (Character (getD w k 0)) ≡ Rattle.line.specs.Reader.tells (readerAfter idle (take (suc k) w)) Nothing) (sym r) (s .mid k below) in
+      let took = T.takes-mid (x .frame) (masterData x (Character (getD w k 0))) (x .master) (l .hears) (l .still) (l .formed) (getD w k 0) (readerAfter idle (take (suc k) w)) e in
+      let rest = rests-shut (ap (λ (t : Timer). t .window) (took .timer-is)) (master-does limit p primary x (Character (getD w k 0)) call small (l .is-it) (took .took)) in
+      record {
+        listens = rest .listens;
+        silent = rest .silent;
+        receiver-is = rest .same-receiver ∙ took .receiver-is;
+        same-burst = rest .same-burst ∙ took .burst-is;
+        same-noted = rest .same-noted ∙ took .noted-is;
+      }
+
+  -- at a frame's end
+  pub record HeardFrame (message : Whole) (step : MasterStep) : Type 0 where
+    pub listens : MasterListens p primary (step .side)
+    pub silent : step .sent ≡ Silent
+    pub receiver-is : step .side .master .receiver ≡ idle
+    pub burst-is : step .side .master .burst ≡ burstAfter (x .master .burst) (x .master .noted) (message .header)
+    pub noted-is : step .side .master .noted ≡ notedAfter (x .master .noted) (message .header)
+    pub timer-is : step .side .master .timer ≡ timerAfter (x .master) (burstAfter (x .master .burst) (x .master .noted) (message .header)) (message .header)
+
+  pub master-frame : (w : List ℕ) (message : Whole) (k : ℕ) → Spoken w message → suc k ≡ length w → x .master .receiver ≡ readerAfter idle (take k w)
+      → HeardFrame message (masterTick limit x (Character (getD w k 0)) call)
+  master-frame w message k s last r =
+      let e = subst (λ (z : Receiver). taken z (Character (getD w k 0)) ≡ Rattle.line.specs.Reader.tells idle (Frame message)) (sym r) (s .end k last) in
+      let took = T.takes-frame (x .frame) (masterData x (Character (getD w k 0))) (x .master) (l .hears) (l .still) (l .formed) (getD w k 0) message e in
+      let shut = ap (λ (t : Timer). t .window) (took .timer-is) ∙ shut-timer (x .master) (burstAfter (x .master .burst) (x .master .noted) (message .header)) (message .header) in
+      let rest = rests-shut shut (master-does limit p primary x (Character (getD w k 0)) call small (l .is-it) (took .took)) in
+      record {
+        listens = rest .listens;
+        silent = rest .silent;
+        receiver-is = rest .same-receiver ∙ took .receiver-is;
+        burst-is = rest .same-burst ∙ took .burst-is;
+        noted-is = rest .same-noted ∙ took .noted-is;
+        timer-is = rest .same-timer ∙ took .timer-is;
+      }
+
+  -- on the silent line
+  pub record SilentIs (t : Master) : Type 0 where
+    pub receiver-is : t .receiver ≡ idle
+    pub burst-is : t .burst ≡ burstCounted (x .master)
+    pub noted-is : t .noted ≡ x .master .noted
+    pub next-is : t .timer .next ≡ timerCounted (x .master) .next
+    pub quiet-is : t .timer .quiet ≡ timerCounted (x .master) .quiet
+    pub window-is : t .timer .window ≤ timerCounted (x .master) .window
+
+  pub master-silence : Ready (x .master .receiver)
+      → SilentIs (masterTakes (x .master) Silence (masterData x Silence) .master) × Does p primary (masterTakes (x .master) Silence (masterData x Silence) .master) (masterTick limit x Silence call)
+  unfolding Ready
+  master-silence ready =
+      let took = T.takes-silence (x .frame) (masterData x Silence) (x .master) (l .hears) (l .still) (l .formed) ready in (
+        record {
+          receiver-is = took .receiver-is;
+          burst-is = took .burst-is;
+          noted-is = took .noted-is;
+          next-is = took .next-is;
+          quiet-is = took .quiet-is;
+          window-is = took .window-is;
+        },
+        master-does limit p primary x Silence call small (l .is-it) (took .took),
+      )
+
+-- a master behind its own STX: it hears nothing in this tick, and rests
+pub record Finished (p : Profile) (primary : Bool) (x : MasterSide) (step : MasterStep) : Type 0 where
+  pub listens : MasterListens p primary (step .side)
+  pub silent : step .sent ≡ Silent
+  pub same-receiver : step .side .master .receiver ≡ x .master .receiver
+  pub same-burst : step .side .master .burst ≡ x .master .burst
+  pub same-noted : step .side .master .noted ≡ x .master .noted
+  pub same-timer : step .side .master .timer ≡ x .master .timer
+
+pub master-finished : (limit : ℕ) (p : Profile) (primary : Bool) (x : MasterSide) (heard : Heard) (call : MasterCall) → limit ≤ 255 → MasterIs p primary x → x .master .deaf ≡ true
+    → Still (x .master .message .stage) → Formed (x .frame) (x .master .message) → x .master .timer .window ≡ 0 → Finished p primary x (masterTick limit x heard call)
+master-finished limit p primary x heard call small is deaf still formed shut =
+    let e : masterTakes (x .master) heard (masterData x heard) .master ≡ x .master = ap (λ (t : MasterTaken). t .master) (T.takes-nothing (x .master) heard (masterData x heard) deaf) in
+    let took : T.Took (x .frame) (x .master) (masterTakes (x .master) heard (masterData x heard) .master) =
+    subst (T.Took (x .frame) (x .master)) (sym e) (record { same-primary = refl; same-profile = refl; same-retries = refl; still = still; formed = formed }) in
+    let rest = rests-shut (ap (λ (m : Master). m .timer .window) e ∙ shut) (master-does limit p primary x heard call small is took) in
+    record {
+      listens = rest .listens;
+      silent = rest .silent;
+      same-receiver = rest .same-receiver ∙ ap (λ (m : Master). m .receiver) e;
+      same-burst = rest .same-burst ∙ ap (λ (m : Master). m .burst) e;
+      same-noted = rest .same-noted ∙ ap (λ (m : Master). m .noted) e;
+      same-timer = rest .same-timer ∙ ap (λ (m : Master). m .timer) e;
+    }
+
+-- ---- devices
+
+-- without a damaged frame the frame buffer stays behind what was heard
+plain : (d : Device) (frame : List ℕ) (e : Event) → (e ≡ Nothing) → errorFrame d e frame ≡ frame
+plain d frame e q = ap (λ (z : Event). errorFrame d z frame) q
+
+plain-frame : (d : Device) (frame : List ℕ) (e : Event) (w : Whole) → (e ≡ Frame w) → errorFrame d e frame ≡ frame
+plain-frame d frame e w q = ap (λ (z : Event). errorFrame d z frame) q
+
+-- every tick of a device, from what it is behind what it heard
+device-does : (limit : ℕ) (x : DeviceSide) (heard : Heard) (call : DeviceCall) → 2 ≤ limit → limit ≤ 255 → 1 ≤ x .device .profile .sto
+    → heardFrame x heard ≡ x .frame → DT.Took (x .frame) (x .contents) (x .device) (deviceTakes (x .device) heard)
+    → D.Goes (deviceTakes (x .device) heard .device) (deviceTick limit x heard call)
+unfolding deviceTick
+device-does limit x heard call low high some same took =
+    subst (λ (f : List ℕ). D.Goes (deviceTakes (x .device) heard .device) (deviceCalls limit (deviceTakes (x .device) heard) call f (deviceData x heard) (x .contents))) (sym same)
+    (device-goes limit low high (deviceTakes (x .device) heard) (x .frame) (deviceData x heard) (x .contents) (subst (λ (p : Profile). 1 ≤ p .sto) (sym (took .same .same-profile)) some) (took .sound) (took .turned) call)
+
+-- the addresses stay
+pub record SameAddress (x y : DeviceSide) : Type 0 where
+  pub same-polling : y .device .polling ≡ x .device .polling
+  pub same-unique : y .device .unique ≡ x .device .unique
+
+joined : {c d e : Device} → SameDevice c d → SameDevice d e → SameDevice c e
+joined a b = record {
+  same-profile = b .same-profile ∙ a .same-profile;
+  same-preamble = b .same-preamble ∙ a .same-preamble;
+  same-polling = b .same-polling ∙ a .same-polling;
+  same-unique = b .same-unique ∙ a .same-unique;
+}
+
+listens-asked : (n : ℕ) → Listens ≡ Asked n → ⊥
+listens-asked n e = let z : _≡_ {A = ℕ} 0 1 = cc in omega arith
+
+listens-follows : Listens ≡ Follows → ⊥
+listens-follows e = let z : _≡_ {A = ℕ} 0 1 = cc in omega arith
+
+asked-follows : (n : ℕ) → Asked n ≡ Follows → ⊥
+asked-follows n e = let z : _≡_ {A = ℕ} 0 1 = cc in omega arith
+
+-- with nothing in hand it listens
+pub hand-listens : (d : Device) (frame : List ℕ) → Hand d frame → inHand (d .turn) ≤ 0 → d .turn ≡ Listens
+hand-listens d frame (D.nothing-in-hand q) z = q
+hand-listens d frame (D.is-asked n q some o) z = absurd (omega (arith, ap inHand q))
+hand-listens d frame (D.is-accepted q p) z = absurd (omega (arith, ap inHand q))
+
+-- a device that rests in a tick
+pub record DeviceRests (p : Profile) (x : DeviceSide) (t : Device) (step : DeviceStep) : Type 0 where
+  pub listens : DeviceListens p (step .side)
+  pub silent : step .sent ≡ Silent
+  pub same : SameDevice (x .device) (step .side .device)
+  pub same-receiver : step .side .device .receiver ≡ t .receiver
+  pub same-burst : step .side .device .burst ≡ t .burst
+  pub same-due : step .side .device .due ≡ t .due
+  pub same-request : step .side .device .request ≡ t .request
+  pub less-in-hand : inHand (step .side .device .turn) ≤ inHand (t .turn)
+
+-- it rests, if it is not about to send
+rests-from : (p : Profile) (x : DeviceSide) (t : Device) (step : DeviceStep) → x .device .profile ≡ p → SameDevice (x .device) t → D.Goes t step
+    → ((t .turn ≡ Listens → ⊥) → (t .turn ≡ Asked (t .profile .sto) → ⊥) → ⊥) → (t .turn ≡ Follows → ⊥) → DeviceRests p x t step
+rests-from p x t step q same (D.rests sd sil deaf rec bur pri due req less hand sound nb) no-answer no-back = record {
+  listens = record { profile-is = sd .same-profile ∙ same .same-profile ∙ q; hears = deaf; hand = hand; sound = sound };
+  silent = sil;
+  same = joined same sd;
+  same-receiver = rec;
+  same-burst = bur;
+  same-due = due;
+  same-request = req;
+  less-in-hand = less;
+}
+rests-from p x t step q same (D.answers burst primary b hd req own short nl nf nb) no-answer no-back = absurd (no-answer nl nf)
+rests-from p x t step q same (D.bursts b command f hd pr) no-answer no-back = absurd (no-back f)
+
+module _ (limit : ℕ) (low : 2 ≤ limit) (high : limit ≤ 255) (p : Profile) (some : 1 ≤ p .sto) (x : DeviceSide) (call : DeviceCall) (l : DeviceListens p x) where
+  some-own : 1 ≤ x .device .profile .sto
+  some-own = subst (λ (q : Profile). 1 ≤ q .sto) (sym (l .profile-is)) some
+
+  -- inside a frame
+  pub record DeviceMid (r : Receiver) (step : DeviceStep) : Type 0 where
+    pub listens : DeviceListens p (step .side)
+    pub silent : step .sent ≡ Silent
+    pub same : SameDevice (x .device) (step .side .device)
+    pub receiver-is : step .side .device .receiver ≡ r
+    pub same-burst : step .side .device .burst ≡ x .device .burst
+
+  pub device-mid : (w : List ℕ) (message : Whole) (k : ℕ) → Spoken w message → suc k < length w → x .device .receiver ≡ readerAfter idle (take k w)
+      → DeviceMid (readerAfter idle (take (suc k) w)) (deviceTick limit x (Character (getD w k 0)) call)
+  device-mid w message k s below r =
+      let e = subst (λ (z : Receiver). taken z (Character (getD w k 0)) ≡ Rattle.line.specs.Reader.tells (readerAfter idle (take (suc k) w)) Nothing) (sym r) (s .mid k below) in
+      let took = DT.takes-mid (x .frame) (x .contents) (x .device) (l .hears) (l .hand) (l .sound) (getD w k 0) (readerAfter idle (take (suc k) w)) e in
+      let goes = device-does limit x (Character (getD w k 0)) call low high some-own (plain (x .device) (x .frame) _ (took .event-is)) (took .took) in
+      let rest = rests-from p x _ _ (l .profile-is) (took .took .same) goes (λ a b. a (took .listens)) (λ f. listens-follows (sym (took .listens) ∙ f)) in
+      record {
+        listens = rest .listens;
+        silent = rest .silent;
+        same = rest .same;
+        receiver-is = rest .same-receiver ∙ took .receiver-is;
+        same-burst = rest .same-burst ∙ took .took .same-burst;
+      }
+
+  -- at a frame's end
+  pub record DeviceFrame (message : Whole) (step : DeviceStep) : Type 0 where
+    pub listens : DeviceListens p (step .side)
+    pub silent : step .sent ≡ Silent
+    pub same : SameDevice (x .device) (step .side .device)
+    pub receiver-is : step .side .device .receiver ≡ idle
+    pub same-burst : step .side .device .burst ≡ x .device .burst
+    pub due-is : step .side .device .due ≡ (if message .header .frame =? stx then p .rt1p else dueAfter (x .device) (message .header))
+    pub in-time : inHand (step .side .device .turn) ≤ p .sto
+    pub asked-own : (step .side .device .turn ≡ Listens → ⊥) → isOwn (x .device) (message .header) ≡ true
+    pub only-stx : (step .side .device .turn ≡ Listens → ⊥) → message .header .frame ≡ stx
+
+  pub device-frame : (w : List ℕ) (message : Whole) (k : ℕ) → Spoken w message → suc k ≡ length w → x .device .receiver ≡ readerAfter idle (take k w) → message .expansion ≡ 0
+      → DeviceFrame message (deviceTick limit x (Character (getD w k 0)) call)
+  device-frame w message k s last r no-expansion = by-turn (took .turn-is)
+    where
+      heard : Heard
+      heard = Character (getD w k 0)
+
+      e : taken (x .device .receiver) heard ≡ Rattle.line.specs.Reader.tells idle (Frame message)
+      e = subst (λ (z : Receiver). taken z heard ≡ Rattle.line.specs.Reader.tells idle (Frame message)) (sym r) (s .end k last)
+
+      took : DT.TookFrame (x .frame) (x .contents) (x .device) (deviceTakes (x .device) heard) message
+      took = DT.takes-frame (x .frame) (x .contents) (x .device) (l .hears) (l .hand) (l .sound) (getD w k 0) message e no-expansion some-own
+
+      t : Device
+      t = deviceTakes (x .device) heard .device
+
+      step : DeviceStep
+      step = deviceTick limit x heard call
+
+      goes : D.Goes t step
+      goes = device-does limit x heard call low high some-own (plain-frame (x .device) (x .frame) _ message (took .event-is)) (took .took)
+
+      rt1p-is : x .device .profile .rt1p ≡ p .rt1p
+      rt1p-is = ap (λ (q : Profile). q .rt1p) (l .profile-is)
+
+      by-turn : DT.FrameTurn (x .device) (deviceTakes (x .device) heard) message → DeviceFrame message step
+      by-turn (DT.asked-by type own turn req due) =
+          let rest = rests-from p x t step (l .profile-is) (took .took .same) goes (λ a b. b (turn ∙ ap (λ (q : Profile). Asked (q .sto)) (sym (took .took .same .same-profile)))) (λ f. asked-follows _ (sym turn ∙ f)) in
+          record {
+            listens = rest .listens;
+            silent = rest .silent;
+            same = rest .same;
+            receiver-is = rest .same-receiver ∙ took .receiver-is;
+            same-burst = rest .same-burst ∙ took .took .same-burst;
+            due-is = rest .same-due ∙ due ∙ rt1p-is ∙ sym (if-is-true (message .header .frame =? stx) (p .rt1p) (dueAfter (x .device) (message .header)) (eq-eqb (message .header .frame) stx type));
+            in-time = omega (arith, rest .less-in-hand, ap inHand turn, ap (λ (q : Profile). q .sto) (l .profile-is));
+            asked-own = λ z. own;
+            only-stx = λ z. type;
+          }
+      by-turn (DT.listens-on turn due) =
+          let rest = rests-from p x t step (l .profile-is) (took .took .same) goes (λ a b. a turn) (λ f. listens-follows (sym turn ∙ f)) in
+          let still : step .side .device .turn ≡ Listens = hand-listens (step .side .device) (step .side .frame) (rest .listens .hand) (omega (arith, rest .less-in-hand, ap inHand turn)) in
+          record {
+            listens = rest .listens;
+            silent = rest .silent;
+            same = rest .same;
+            receiver-is = rest .same-receiver ∙ took .receiver-is;
+            same-burst = rest .same-burst ∙ took .took .same-burst;
+            due-is = rest .same-due ∙ due ∙ ap (λ (n : ℕ). if message .header .frame =? stx then n else dueAfter (x .device) (message .header)) rt1p-is;
+            in-time = omega (arith, rest .less-in-hand, ap inHand turn);
+            asked-own = λ z. absurd (z still);
+            only-stx = λ z. absurd (z still);
+          }
+
+  -- on the silent line
+  pub data DeviceSilent (step : DeviceStep) : Type 0 where
+    stays-quiet : DeviceListens p (step .side) → step .sent ≡ Silent → SameDevice (x .device) (step .side .device) → step .side .device .receiver ≡ idle → step .side .device .burst ≡ x .device .burst
+        → step .side .device .due ≡ x .device .due - 1 → (x .device .burst ≡ true → x .device .due ≡ 1 → ⊥) → inHand (step .side .device .turn) ≤ inHand (x .device .turn) - 1
+        → ((step .side .device .turn ≡ Listens → ⊥) → x .device .turn ≡ Listens → ⊥) → DeviceSilent step
+    begins-answer : (t : Device) (burst : Bool) (b : D.Begun t step Answers burst) → SameDevice (x .device) t → t .burst ≡ x .device .burst → b .message .header ≡ answerHeader (x .device .request) burst
+        → isOwn (x .device) (x .device .request) ≡ true → (x .device .request .long ≡ false → burst ≡ x .device .burst) → (x .device .turn ≡ Listens → ⊥) → step .side .device .request ≡ x .device .request → DeviceSilent step
+    begins-back : (t : Device) (b : D.Begun t step Bursts (t .burst)) (command : ℕ) → SameDevice (x .device) t → t .burst ≡ x .device .burst → t .primary ≡ x .device .primary
+        → x .device .burst ≡ true → x .device .due ≡ 1 → b .message .header ≡ D.backFor t command → DeviceSilent step
+
+  pub device-silence : Ready (x .device .receiver) → DeviceSilent (deviceTick limit x Silence call)
+  unfolding Ready
+  device-silence ready = by-turn (took .turn-is) goes
+    where
+      took : DT.TookSilence (x .frame) (x .contents) (x .device) (deviceTakes (x .device) Silence)
+      took = DT.takes-silence (x .frame) (x .contents) (x .device) (l .hears) (l .hand) (l .sound) ready
+
+      t : Device
+      t = deviceTakes (x .device) Silence .device
+
+      step : DeviceStep
+      step = deviceTick limit x Silence call
+
+      goes : D.Goes t step
+      goes = device-does limit x Silence call low high some-own (plain (x .device) (x .frame) _ (took .event-is)) (took .took)
+
+      same : SameDevice (x .device) t
+      same = took .took .same
+
+      by-turn : DT.SilentTurn (x .device) (deviceTakes (x .device) Silence) → D.Goes t step → DeviceSilent step
+      by-turn (DT.back-is-due on one f) (D.rests sd sil deaf rec bur pri due req less hand sound nb) = absurd (nb f)
+      by-turn (DT.back-is-due on one f) (D.answers burst primary b hd req own short nl nf nb) = absurd (nb f)
+      by-turn (DT.back-is-due on one f) (D.bursts b command g hd pr) = begins-back t b command same (took .took .same-burst) (took .took .same-primary) on one hd
+      by-turn (DT.counts-on nd due req nf less ll) (D.rests sd sil deaf rec bur pri due′ req′ less′ hand sound nb) =
+          stays-quiet
+          (record { profile-is = sd .same-profile ∙ same .same-profile ∙ l .profile-is; hears = deaf; hand = hand; sound = sound })
+          sil
+          (joined same sd)
+          (rec ∙ took .receiver-is)
+          (bur ∙ took .took .same-burst)
+          (due′ ∙ due)
+          nd
+          (omega arith)
+          (λ z q. z (hand-listens (step .side .device) (step .side .frame) hand (omega (arith, ap inHand (ll q)))))
+      by-turn (DT.counts-on nd due req nf less ll) (D.answers burst primary b hd req′ own short nl nq nb) =
+          begins-answer t burst b same (took .took .same-burst)
+          (hd ∙ ap (λ (h : Header). answerHeader h burst) req)
+          (D.own-same same req own)
+          (λ q. short (ap (λ (h : Header). h .long) req ∙ q) ∙ took .took .same-burst)
+          (λ q. nl (ll q))
+          (req′ ∙ req)
+      by-turn (DT.counts-on nd due req nf less ll) (D.bursts b command g hd pr) = absurd (nf g)

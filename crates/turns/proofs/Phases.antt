@@ -58,7 +58,7 @@ pub data Distinct : List DeviceSide → Type 0 where
 -- ---- a party that does not send
 
 -- a silent tick leads its reader to idle, and tells nothing
-pub Ready : Receiver → Type 0
+unfoldable pub Ready : Receiver → Type 0
 Ready r = taken r Silence ≡ tells idle Nothing
 
 pub idle-ready : Ready idle
