@@ -4,6 +4,7 @@ pub mod DeviceTaking
 pub mod Devices
 pub mod Example
 pub mod Listening
+pub mod Lists
 pub mod Masters
 pub mod Phases
 pub mod Spoken
