@@ -1,4 +1,5 @@
 -- The theorems on the rules of turns.
+pub mod Beginning
 pub mod DeviceSpeaking
 pub mod DeviceTaking
 pub mod Devices

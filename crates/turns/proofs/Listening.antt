@@ -289,7 +289,7 @@ pub record SameAddress (x y : DeviceSide) : Type 0 where
   pub same-polling : y .device .polling ≡ x .device .polling
   pub same-unique : y .device .unique ≡ x .device .unique
 
-joined : {c d e : Device} → SameDevice c d → SameDevice d e → SameDevice c e
+pub joined : {c d e : Device} → SameDevice c d → SameDevice d e → SameDevice c e
 joined a b = record {
   same-profile = b .same-profile ∙ a .same-profile;
   same-preamble = b .same-preamble ∙ a .same-preamble;
