@@ -1,5 +1,6 @@
 -- The theorems on the rules of turns.
 pub mod Beginning
+pub mod Begun
 pub mod DeviceSpeaking
 pub mod DeviceTaking
 pub mod Devices
