@@ -26,10 +26,10 @@ use Rattle.turns.proofs.Phases.{All, none, and, Some, this, later, Diff
 use Rattle.turns.proofs.Beginning.{DeviceSpeaks, DeviceHears, Sole, no-one, sole-and, StillQuiet, BeginsAck, BeginsBack, AllStill, nothing-still, still-and, OneBegins, begins-here, begins-further}
 
 -- the one that begins
-record Picked (B : DeviceSide → DeviceStep → Type 0) : Type 0 where
-  x : DeviceSide
-  s : DeviceStep
-  it : B x s
+pub record Picked (B : DeviceSide → DeviceStep → Type 0) : Type 0 where
+  pub x : DeviceSide
+  pub s : DeviceStep
+  pub it : B x s
 
 module _ {p : Profile} {g : ℕ} {h : Header} {n : ℕ} where
   -- the others, by what sets them apart from it
@@ -51,22 +51,22 @@ module _ {p : Profile} {g : ℕ} {h : Header} {n : ℕ} where
   still-some (still-and q a) (later m) = later (still-some a m)
 
 module _ {p : Profile} {g : ℕ} {h : Header} {n : ℕ} {B : DeviceSide → DeviceStep → Type 0} where
-  picked : {xs : List DeviceSide} {ss : List DeviceStep} → OneBegins p g h n B xs ss → Picked B
+  pub picked : {xs : List DeviceSide} {ss : List DeviceStep} → OneBegins p g h n B xs ss → Picked B
   picked (begins-here {x = x} {s = s} b a) = record { x = x; s = s; it = b }
   picked (begins-further q o) = picked o
 
   -- what is said of all is said of it
-  before : {P : DeviceSide → Type 0} {xs : List DeviceSide} {ss : List DeviceStep} (o : OneBegins p g h n B xs ss) → All P xs → P (picked o .x)
+  pub before : {P : DeviceSide → Type 0} {xs : List DeviceSide} {ss : List DeviceStep} (o : OneBegins p g h n B xs ss) → All P xs → P (picked o .x)
   unfolding picked
   before (begins-here b a) (and r rs) = r
   before (begins-further q o) (and r rs) = before o rs
 
-  after : {P : DeviceSide → Type 0} {xs : List DeviceSide} {ss : List DeviceStep} (o : OneBegins p g h n B xs ss) → All P (sides ss) → P (picked o .s .side)
+  pub after : {P : DeviceSide → Type 0} {xs : List DeviceSide} {ss : List DeviceStep} (o : OneBegins p g h n B xs ss) → All P (sides ss) → P (picked o .s .side)
   unfolding picked sides
   after (begins-here b a) (and r rs) = r
   after (begins-further q o) (and r rs) = after o rs
 
-  one-from : {R L : DeviceSide → Type 0} {c : ℕ} {xs : List DeviceSide} {ss : List DeviceStep} (o : OneBegins p g h n B xs ss) → Loudly L c (picked o .x) (picked o .s)
+  pub one-from : {R L : DeviceSide → Type 0} {c : ℕ} {xs : List DeviceSide} {ss : List DeviceStep} (o : OneBegins p g h n B xs ss) → Loudly L c (picked o .x) (picked o .s)
       → ((z : DeviceSide) (t : DeviceStep) → StillQuiet p g h n z t → (z .device .unique ≡ picked o .x .device .unique → ⊥) → Quietly R z t) → Distinct xs → OneLoud L R c xs ss
   unfolding picked
   one-from (begins-here b a) l f (Distinct.and d ds) = loud-here l (still-quiet f a d)
@@ -90,3 +90,90 @@ module _ {p : Profile} {g : ℕ} {h : Header} {n : ℕ} {B : DeviceSide → Devi
   unfolding picked sides
   some-of (begins-here b a) e = this e
   some-of (begins-further q o) e = later (some-of o e)
+
+-- ---- BURST behind the frame that begins
+
+module _ {p : Profile} {g : ℕ} {h : Header} {n : ℕ} {B : DeviceSide → DeviceStep → Type 0} {burst : Bool} {noted : Noted} {xs : List DeviceSide} {ss : List DeviceStep} (o : OneBegins p g h n B xs ss) (apart : Distinct xs) (sole : Sole (sides ss)) (a : Agreed burst noted xs) where
+  abbrev pub x : DeviceSide
+  x = picked o .x
+
+  abbrev pub y : DeviceSide
+  y = picked o .s .side
+
+  -- a device that rests is as it was noted
+  kept : (z : DeviceSide) (t : DeviceStep) → StillQuiet p g h n z t → BurstIs burst noted z → BurstIs burst noted (t .side)
+  kept z t q b = record {
+    burst-set = λ e. b .burst-set (sym (q .quietly .same-burst) ∙ e);
+    long-noted = λ e. b .long-noted (sym (q .quietly .same-burst) ∙ e);
+    unique-noted = λ e. b .unique-noted (sym (q .quietly .same-burst) ∙ e) ∙ sym (q .quietly .same .same-unique);
+  }
+
+  -- it bursts, and is noted anew: no other does
+  noted-anew : (new : Noted) → y .device .burst ≡ true → new .long ≡ true → new .address ≡ y .device .unique → Agreed true new (sides ss)
+  noted-anew new on l e = record {
+    each = each-from o (record { burst-set = λ z. refl; long-noted = λ z. l; unique-noted = λ z. e })
+        (λ z t q apart no b. record { burst-set = λ k. absurd (no k on); long-noted = λ k. absurd (no k on); unique-noted = λ k. absurd (no k on) }) apart sole (a .each);
+    one-bursts = λ z. some-of o on;
+  }
+
+  -- its burst is as it was
+  kept-burst : y .device .burst ≡ x .device .burst → y .device .unique ≡ x .device .unique → Agreed burst noted (sides ss)
+  kept-burst same same-unique = record {
+    each = each-from o (record { burst-set = λ z. b .burst-set (sym same ∙ z); long-noted = λ z. b .long-noted (sym same ∙ z); unique-noted = λ z. b .unique-noted (sym same ∙ z) ∙ sym same-unique })
+        (λ z t q apart no b. kept z t q b) apart sole (a .each);
+    one-bursts = λ z. ⊎-elim (λ e. some-of o (same ∙ e)) (λ m. m) (some-from o (a .one-bursts z));
+  }
+    where
+      b : BurstIs burst noted (picked o .x)
+      b = before o (a .each)
+
+  -- it does not burst, and was noted: no other did
+  noted-off : y .device .burst ≡ false → noted .address ≡ x .device .unique → Agreed false noted (sides ss)
+  noted-off off e = record {
+    each = each-from o (record { burst-set = λ z. absurd (true-false (sym z ∙ off)); long-noted = λ z. absurd (true-false (sym z ∙ off)); unique-noted = λ z. absurd (true-false (sym z ∙ off)) })
+        (λ z t q apart no b. none-else z t q apart b) apart sole (a .each);
+    one-bursts = λ z. absurd (true-false (sym z));
+  }
+    where
+      none-else : (z : DeviceSide) (t : DeviceStep) → StillQuiet p g h n z t → (z .device .unique ≡ picked o .x .device .unique → ⊥) → BurstIs burst noted z → BurstIs false noted (t .side)
+      none-else z t q apart b =
+          let no : t .side .device .burst ≡ true → ⊥ = λ k. apart (sym (b .unique-noted (sym (q .quietly .same-burst) ∙ k)) ∙ e) in
+          record { burst-set = λ k. absurd (no k); long-noted = λ k. absurd (no k); unique-noted = λ k. absurd (no k) }
+
+  -- it does not burst, and was not noted
+  others-stay : y .device .burst ≡ false → (noted .long ≡ true → noted .address ≡ x .device .unique → ⊥) → Agreed burst noted (sides ss)
+  others-stay off not = record {
+    each = each-from o (record { burst-set = λ z. absurd (true-false (sym z ∙ off)); long-noted = λ z. absurd (true-false (sym z ∙ off)); unique-noted = λ z. absurd (true-false (sym z ∙ off)) })
+        (λ z t q apart no b. kept z t q b) apart sole (a .each);
+    one-bursts = λ z. ⊎-elim (λ e. absurd (not (before o (a .each) .long-noted e) (before o (a .each) .unique-noted e))) (λ m. m) (some-from o (a .one-bursts z));
+  }
+
+  -- behind a BACK
+  pub back-agreed : (header : Header) → header .frame ≡ back → header .long ≡ true → header .address ≡ y .device .unique → y .device .burst ≡ true → Agreed (burstAfter burst noted header) (notedAfter noted header) (sides ss)
+  back-agreed header f l e on =
+      subst (λ (c : Bool). Agreed c (notedAfter noted header) (sides ss)) (sym (if-is-true (header .frame =? back) _ _ (eq-eqb (header .frame) back f)))
+      (subst (λ (c : Noted). Agreed true c (sides ss)) (sym (if-is-true (header .frame =? back) _ _ (eq-eqb (header .frame) back f)))
+      (noted-anew (record { long = header .long; address = header .address }) on l e))
+
+  -- behind an ACK
+  pub ack-agreed : (request : Header) (c : Bool) → y .device .burst ≡ c → y .device .unique ≡ x .device .unique → (request .long ≡ true → request .address ≡ x .device .unique) → (request .long ≡ false → c ≡ x .device .burst)
+      → Agreed (burstAfter burst noted (answerHeader request c)) (notedAfter noted (answerHeader request c)) (sides ss)
+  unfolding if_then_else_
+  ack-agreed request c is same address short = go c refl (request .long) refl (noted .long) refl (noted .address =? request .address) refl
+    where
+      was : Bool → Bool → Bool → Bool → Bool
+      was c l m e = if c then true else (if l then (if (if m then e else false) then false else burst) else burst)
+
+      new : Bool → Bool → Noted
+      new c l = if c then (if l then record { long = l; address = request .address } else noted) else noted
+
+      on-is : (l : Bool) → c ≡ true → request .long ≡ l → l ≡ false → burst ≡ true
+      on-is l q r f = before o (a .each) .burst-set (sym (short (r ∙ f)) ∙ q)
+
+      go : (c′ : Bool) → c ≡ c′ → (l : Bool) → request .long ≡ l → (m : Bool) → noted .long ≡ m → (e : Bool) → (noted .address =? request .address) ≡ e → Agreed (was c′ l m e) (new c′ l) (sides ss)
+      go true q true r m u e v = noted-anew (record { long = true; address = request .address }) (is ∙ q) refl (address r ∙ sym same)
+      go true q false r m u e v = subst (λ (z : Bool). Agreed z noted (sides ss)) (on-is false q r refl) (kept-burst (is ∙ short r) same)
+      go false q false r m u e v = kept-burst (is ∙ short r) same
+      go false q true r true u true v = noted-off (is ∙ q) (eqb-true (noted .address) (request .address) v ∙ address r)
+      go false q true r true u false v = others-stay (is ∙ q) (λ k z. eqb-false (noted .address) (request .address) v (z ∙ sym (address r)))
+      go false q true r false u e v = others-stay (is ∙ q) (λ k z. true-false (sym k ∙ u))
