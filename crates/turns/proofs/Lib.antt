@@ -9,6 +9,8 @@ pub mod Listening
 pub mod Lists
 pub mod Masters
 pub mod Phases
+pub mod Quiet
+pub mod Sending
 pub mod Spoken
 pub mod Taking
 pub mod Windows
