@@ -12,5 +12,6 @@ pub mod Phases
 pub mod Quiet
 pub mod Sending
 pub mod Spoken
+pub mod Stx
 pub mod Taking
 pub mod Windows
