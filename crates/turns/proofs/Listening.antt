@@ -78,6 +78,7 @@ pub record Starts (p : Profile) (primary : Bool) (t : Master) (step : MasterStep
   pub is-it : MasterIs p primary (step .side)
   pub held : Holds (step .side .frame) (step .side .master .message .length) w message
   pub deaf-is : step .side .master .deaf ≡ true
+  pub receiver-is : step .side .master .receiver ≡ passing
   pub stage-is : step .side .master .message .stage ≡ Sending 1
   pub character : step .sent ≡ Sent.Character (getD w 0 0)
   pub header-is : message .header ≡ step .side .master .message .header
@@ -137,6 +138,7 @@ master-does limit p primary x heard call small is took = go (master-goes limit t
           };
           held = subst (λ (m : Master). Holds (step .side .frame) (m .message .length) w message) (sym e) h;
           deaf-is = ap (λ (m : Master). m .deaf) e;
+          receiver-is = ap (λ (m : Master). m .receiver) e;
           stage-is = ap (λ (m : Master). m .message .stage) e ∙ s;
           character = c;
           header-is = a ∙ ap (λ (m : Master). m .message .header) (sym e);
