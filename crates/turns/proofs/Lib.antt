@@ -11,6 +11,7 @@ pub mod Masters
 pub mod Phases
 pub mod Quiet
 pub mod Sending
+pub mod Silences
 pub mod SilentTick
 pub mod Spoken
 pub mod Stx

@@ -126,7 +126,7 @@ rest-hears w q r = record { listens = q .listens; receiver-is = r ∙ nothing-re
 -- ---- the devices
 
 module _ {p : Profile} {g : ℕ} {h : Header} {n : ℕ} where
-  still-all : {xs : List DeviceSide} {ss : List DeviceStep} → AllStill p g h n xs ss → AllQuiet (DeviceQuiet p (g - 1) h (n - 1)) xs ss
+  pub still-all : {xs : List DeviceSide} {ss : List DeviceStep} → AllStill p g h n xs ss → AllQuiet (DeviceQuiet p (g - 1) h (n - 1)) xs ss
   still-all nothing-still = no-more
   still-all (still-and q a) = quiet-and (q .quietly) (still-all a)
 

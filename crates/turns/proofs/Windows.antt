@@ -136,7 +136,7 @@ slot-next p n t u (goes a b c) (shut e f) = shut (omega arith) (omega arith)
 slot-next p n t u (goes a b c) (coming e f h) = absurd (a e)
 slot-next p n t u (goes a b c) (open-slot e f) = open-slot (omega arith) (omega arith)
 
-shut-next : (p : Profile) (t u : Timer) → CountedBurst p t u → t .next ≡ 0 → t .window ≡ 0 → (u .next ≡ 0) × (u .window ≡ 0)
+pub shut-next : (p : Profile) (t u : Timer) → CountedBurst p t u → t .next ≡ 0 → t .window ≡ 0 → (u .next ≡ 0) × (u .window ≡ 0)
 shut-next p t u (opens a b c) e f = absurd (omega arith)
 shut-next p t u (goes a b c) e f = (omega arith, omega arith)
 
@@ -149,7 +149,7 @@ one-slot-window p n a b (first-shut e f s) x y = omega arith
 one-slot-window p n a b (second-shut e f s) x y = omega arith
 
 -- where the BACK begins no window is open
-slot-last : (p : Profile) (t u : Timer) → 1 ≤ p .hold → CountedBurst p t u → Slot p 1 t → u .window ≡ 0
+pub slot-last : (p : Profile) (t u : Timer) → 1 ≤ p .hold → CountedBurst p t u → Slot p 1 t → u .window ≡ 0
 slot-last p t u h (opens a b c) (shut e f) = absurd (omega arith)
 slot-last p t u h (opens a b c) (coming e f k) = absurd (omega arith)
 slot-last p t u h (opens a b c) (open-slot e f) = absurd (omega arith)
