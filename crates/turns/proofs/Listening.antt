@@ -38,6 +38,7 @@ use Rattle.turns.specs.declared.Master.{Master}
 use Rattle.turns.specs.declared.MasterTaken.{MasterTaken}
 use Rattle.turns.specs.declared.Device.{Device}
 use Rattle.turns.specs.declared.DeviceTaken.{DeviceTaken}
+use Rattle.turns.specs.declared.DeviceTold.{DeviceTold}
 use Rattle.turns.proofs.Spoken.{Spoken}
 use Rattle.turns.proofs.Masters as M
 use Rattle.turns.proofs.Masters.{Holds, Formed, Still, resting, speaking, master-goes}
@@ -340,6 +341,38 @@ rests-from p x t step q same (D.rests sd sil deaf rec bur pri due req less hand 
 }
 rests-from p x t step q same (D.answers burst primary b hd req own short nl nf nb) no-answer no-back = absurd (no-answer nl nf)
 rests-from p x t step q same (D.bursts b command f hd pr) no-answer no-back = absurd (no-back f)
+
+-- a device behind its own frame: it hears nothing in this tick
+deaf-does : (limit : ℕ) (x : DeviceSide) (heard : Heard) (call : DeviceCall) → 2 ≤ limit → limit ≤ 255 → 1 ≤ x .device .profile .sto → x .device .deaf ≡ true → Sound (x .device) (x .frame) (x .contents)
+    → D.Turned (x .device) (x .frame) → D.Goes (x .device) (deviceTick limit x heard call)
+deaf-does limit x heard call low high some deaf sound turned =
+    let e : deviceTakes (x .device) heard ≡ Rattle.turns.specs.Device.tells (x .device) DeviceTold.Nothing Nothing = DT.takes-nothing (x .device) heard deaf in
+    let took : DT.Took (x .frame) (x .contents) (x .device) (deviceTakes (x .device) heard) =
+    subst (DT.Took (x .frame) (x .contents) (x .device)) (sym e)
+    (record { same = record { same-profile = refl; same-preamble = refl; same-polling = refl; same-unique = refl }; same-burst = refl; same-primary = refl; sound = sound; turned = turned }) in
+    subst (λ (d : Device). D.Goes d (deviceTick limit x heard call)) (ap (λ (t : DeviceTaken). t .device) e)
+    (device-does limit x heard call low high some (plain (x .device) (x .frame) _ (ap (λ (t : DeviceTaken). t .event) e)) took)
+
+pub device-finished : (limit : ℕ) (p : Profile) (x : DeviceSide) (heard : Heard) (call : DeviceCall) → 2 ≤ limit → limit ≤ 255 → 1 ≤ x .device .profile .sto → x .device .profile ≡ p → x .device .deaf ≡ true
+    → Sound (x .device) (x .frame) (x .contents) → x .device .turn ≡ Listens → DeviceRests p x (x .device) (deviceTick limit x heard call)
+device-finished limit p x heard call low high some q deaf sound turn =
+    rests-from p x (x .device) _ q (record { same-profile = refl; same-preamble = refl; same-polling = refl; same-unique = refl })
+    (deaf-does limit x heard call low high some deaf sound (D.in-hand (D.nothing-in-hand turn))) (λ a b. a turn) (λ f. listens-follows (sym turn ∙ f))
+
+-- a bursting device behind its own ACK: its BACK begins
+pub record FollowsOn (x : DeviceSide) (step : DeviceStep) : Type 0 where
+  pub begun : D.Begun (x .device) step Bursts (x .device .burst)
+  pub command : ℕ
+  pub header-is : begun .message .header ≡ D.backFor (x .device) command
+
+pub device-follows : (limit : ℕ) (x : DeviceSide) (heard : Heard) (call : DeviceCall) → 2 ≤ limit → limit ≤ 255 → 1 ≤ x .device .profile .sto → x .device .deaf ≡ true
+    → Sound (x .device) (x .frame) (x .contents) → x .device .turn ≡ Follows → x .device .burst ≡ true → FollowsOn x (deviceTick limit x heard call)
+device-follows limit x heard call low high some deaf sound turn on = go (deaf-does limit x heard call low high some deaf sound (D.follows-now turn on))
+  where
+    go : D.Goes (x .device) (deviceTick limit x heard call) → FollowsOn x (deviceTick limit x heard call)
+    go (D.rests sd sil deaf′ rec bur pri due req less hand sound′ nb) = absurd (nb turn)
+    go (D.answers burst primary b hd req own short nl nf nb) = absurd (nb turn)
+    go (D.bursts b command f hd pr) = record { begun = b; command = command; header-is = hd }
 
 module _ (limit : ℕ) (low : 2 ≤ limit) (high : limit ≤ 255) (p : Profile) (some : 1 ≤ p .sto) (x : DeviceSide) (call : DeviceCall) (l : DeviceListens p x) where
   some-own : 1 ≤ x .device .profile .sto

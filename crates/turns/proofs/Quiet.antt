@@ -15,8 +15,8 @@ use Rattle.turns.specs.Link.{MasterSide, DeviceSide}
 use Rattle.turns.specs.declared.Timer.{Timer}
 use Rattle.turns.specs.declared.Noted.{Noted}
 use Rattle.turns.specs.declared.Master.{Master}
-use Rattle.turns.proofs.Windows.{Valid, Apart, waiting, Gap, Slot, shut, OneSlot}
-use Rattle.turns.proofs.Phases.{All, none, and, Distinct, BurstIs, Agreed, MasterIs, MasterQuiet, DeviceQuiet, ClearWindows, primary-first, ShutFor}
+use Rattle.turns.proofs.Windows.{Valid, Apart, waiting, Gap, Slot, shut, coming, OneSlot}
+use Rattle.turns.proofs.Phases.{All, none, and, Distinct, BurstIs, Agreed, MasterIs, MasterQuiet, DeviceQuiet, ClearWindows, primary-first, secondary-first, ShutFor}
 
 -- a timer that opens no window with BURST set
 pub record NoSlot (t : Timer) : Type 0 where
@@ -98,3 +98,79 @@ behind-break p v false noted h a b xs qa qb ta tb qs d g =
     (record { shut = λ z. wa; later = λ z. omega (arith, v .sto-short) })
     (record { shut = λ z. wb; later = λ z. omega (arith, v .sto-short, v .secondary) })
     (none-due (g .each) qs) d g
+
+-- ---- behind an ACK and behind a BACK
+
+-- a frame's master bit is this master's
+abbrev pub itself : Bool → Header → Bool
+itself primary h = if primary then h .primary else (if h .primary then false else true)
+
+itself-is : (primary : Bool) (m : Master) (h : Header) → m .primary ≡ primary → toItself m h ≡ itself primary h
+itself-is primary m h e = λ i. if e i then h .primary else (if h .primary then false else true)
+
+-- with BURST set: a timer n, or none, and the quiet time
+abbrev pub slotTimer : Profile → Bool → ℕ → Timer
+slotTimer p primary n = record { next = n; window = 0; quiet = if primary then 2 * p .rt1p else 2 * p .rt1p + p .rt2 }
+
+slot-is : (p : Profile) (primary : Bool) (m : Master) (n : ℕ) → m .profile ≡ p → m .primary ≡ primary → burstTimer m n ≡ slotTimer p primary n
+slot-is p primary m n a b = λ i. record { next = n; window = 0; quiet = if b i then 2 * a i .rt1p else 2 * a i .rt1p + a i .rt2 }
+
+pub ack-clear-timer : (p : Profile) (primary : Bool) (m : Master) (h : Header) → m .profile ≡ p → m .primary ≡ primary → h .frame ≡ ack → timerAfter m false h ≡ (if itself primary h then timer (p .rt2) else timer 1)
+unfolding if_then_else_
+ack-clear-timer p primary m h a b e =
+    if-is-true (h .frame =? ack) _ _ (eq-eqb (h .frame) ack e) ∙ (λ i. if itself-is primary m h b i then timer (a i .rt2) else timer 1)
+
+pub ack-set-timer : (p : Profile) (primary : Bool) (m : Master) (h : Header) → m .profile ≡ p → m .primary ≡ primary → h .frame ≡ ack → timerAfter m true h ≡ slotTimer p primary 0
+unfolding if_then_else_
+ack-set-timer p primary m h a b e = if-is-false (h .frame =? back) _ _ (ap (λ (n : ℕ). n =? back) e) ∙ slot-is p primary m 0 a b
+
+pub back-timer : (p : Profile) (primary : Bool) (m : Master) (h : Header) → m .profile ≡ p → m .primary ≡ primary → h .frame ≡ back → timerAfter m true h ≡ (if itself primary h then slotTimer p primary 0 else slotTimer p primary 1)
+unfolding if_then_else_
+back-timer p primary m h a b e =
+    if-is-true (h .frame =? back) _ _ (eq-eqb (h .frame) back e)
+    ∙ (λ i. if itself-is primary m h b i then slot-is p primary m 0 a b i else slot-is p primary m 1 a b i)
+
+pub behind-ack : (p : Profile) → Valid p → (burst : Bool) (noted : Noted) (h k : Header) (a b : MasterSide) (xs : List DeviceSide) → MasterQuiet p true burst noted a → MasterQuiet p false burst noted b
+    → a .master .timer ≡ (if burst then slotTimer p true 0 else (if itself true h then timer (p .rt2) else timer 1)) → b .master .timer ≡ (if burst then slotTimer p false 0 else (if itself false h then timer (p .rt2) else timer 1))
+    → All (DeviceQuiet p 0 k 1) xs → Distinct xs → Agreed burst noted xs → SilentLine p a b xs
+unfolding if_then_else_
+behind-ack p v true noted h k a b xs qa qb ta tb qs d g =
+    set 0 k 1 noted qa qb
+    (OneSlot.first-shut (ap (λ (t : Timer). t .next) ta) (ap (λ (t : Timer). t .window) ta) (shut (ap (λ (t : Timer). t .next) tb) (ap (λ (t : Timer). t .window) tb)))
+    (omega arith)
+    (omega (arith, v .rt2-short, v .hold-short, ap (λ (t : Timer). t .quiet) ta))
+    (omega (arith, v .rt2-short, v .hold-short, ap (λ (t : Timer). t .quiet) tb))
+    (omega arith) (λ z. absurd (omega arith)) (λ z. absurd (omega arith)) qs d g
+behind-ack p v false noted h k a b xs qa qb ta tb qs d g = clear 0 k noted qa qb (go (h .primary) ta tb) none-shut none-shut (none-due (g .each) qs) d g
+  where
+    none-shut : {t : Timer} → ShutFor 0 t
+    none-shut = record { shut = λ z. absurd (omega arith); later = λ z. absurd (omega arith) }
+
+    gap : Gap p (p .rt2 - 1)
+    gap = record { least = omega arith; most = omega arith }
+
+    go : (bit : Bool) → a .master .timer ≡ (if bit then timer (p .rt2) else timer 1) → b .master .timer ≡ (if (if bit then false else true) then timer (p .rt2) else timer 1) → ClearWindows p (a .master .timer) (b .master .timer)
+    go true ta tb =
+        secondary-first (p .rt2 - 1) gap
+        (waiting (omega (arith, ap (λ (t : Timer). t .next) tb)) (omega (arith, v .hold-short, ap (λ (t : Timer). t .next) ta, ap (λ (t : Timer). t .next) tb)) (ap (λ (t : Timer). t .window) tb) (ap (λ (t : Timer). t .window) ta))
+    go false ta tb =
+        primary-first (p .rt2 - 1) gap
+        (waiting (omega (arith, ap (λ (t : Timer). t .next) ta)) (omega (arith, v .hold-short, ap (λ (t : Timer). t .next) ta, ap (λ (t : Timer). t .next) tb)) (ap (λ (t : Timer). t .window) ta) (ap (λ (t : Timer). t .window) tb))
+
+pub behind-back : (p : Profile) → Valid p → (noted : Noted) (h k : Header) (a b : MasterSide) (xs : List DeviceSide) → MasterQuiet p true true noted a → MasterQuiet p false true noted b
+    → a .master .timer ≡ (if itself true h then slotTimer p true 0 else slotTimer p true 1) → b .master .timer ≡ (if itself false h then slotTimer p false 0 else slotTimer p false 1)
+    → All (DeviceQuiet p 0 k (p .rt2)) xs → Distinct xs → Agreed true noted xs → SilentLine p a b xs
+unfolding if_then_else_
+behind-back p v noted h k a b xs qa qb ta tb qs d g = go (h .primary) ta tb
+  where
+    by : OneSlot p (p .rt2) (a .master .timer) (b .master .timer) → a .master .timer .quiet ≡ 2 * p .rt1p → b .master .timer .quiet ≡ 2 * p .rt1p + p .rt2 → SilentLine p a b xs
+    by o ya yb =
+        set 0 k (p .rt2) noted qa qb o (omega (arith, v .hold-short)) (omega (arith, v .rt2-short)) (omega (arith, v .rt2-short)) (omega (arith, v .hold-short)) (λ z. absurd (omega arith)) (λ z. absurd (omega arith)) qs d g
+
+    go : (bit : Bool) → a .master .timer ≡ (if bit then slotTimer p true 0 else slotTimer p true 1) → b .master .timer ≡ (if (if bit then false else true) then slotTimer p false 0 else slotTimer p false 1) → SilentLine p a b xs
+    go true ta tb =
+        by (OneSlot.first-shut (ap (λ (t : Timer). t .next) ta) (ap (λ (t : Timer). t .window) ta) (coming (ap (λ (t : Timer). t .next) tb) (ap (λ (t : Timer). t .window) tb) (v .hold-short)))
+        (ap (λ (t : Timer). t .quiet) ta) (ap (λ (t : Timer). t .quiet) tb)
+    go false ta tb =
+        by (OneSlot.second-shut (ap (λ (t : Timer). t .next) tb) (ap (λ (t : Timer). t .window) tb) (coming (ap (λ (t : Timer). t .next) ta) (ap (λ (t : Timer). t .window) ta) (v .hold-short)))
+        (ap (λ (t : Timer). t .quiet) ta) (ap (λ (t : Timer). t .quiet) tb)
