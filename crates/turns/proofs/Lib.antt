@@ -1,4 +1,5 @@
 -- The theorems on the rules of turns.
+pub mod AckBack
 pub mod Beginning
 pub mod Begun
 pub mod DeviceSpeaking

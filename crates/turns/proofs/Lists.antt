@@ -89,26 +89,44 @@ module _ {R : DeviceSide → Type 0} where
   all-distinct no-more Distinct.none = Distinct.none
   all-distinct (quiet-and q qs) (Distinct.and f d) = Distinct.and (all-differ (q .same) qs f) (all-distinct qs d)
 
-  -- BURST and the devices
-  burst-same : {burst : Bool} {noted : Noted} {x : DeviceSide} {s : DeviceStep} → Quietly R x s → BurstIs burst noted x → BurstIs burst noted (s .side)
-  burst-same q b = record {
-    burst-set = λ z. b .burst-set (sym (q .same-burst) ∙ z);
-    long-noted = λ z. b .long-noted (sym (q .same-burst) ∙ z);
-    unique-noted = λ z. b .unique-noted (sym (q .same-burst) ∙ z) ∙ sym (q .same .same-unique);
-  }
+-- ---- BURST and the devices
 
-  each-same : {burst : Bool} {noted : Noted} {xs : List DeviceSide} {ss : List DeviceStep} → AllQuiet R xs ss → All (BurstIs burst noted) xs → All (BurstIs burst noted) (sides ss)
-  unfolding sides
-  each-same no-more none = none
-  each-same (quiet-and q qs) (and b bs) = and (burst-same q b) (each-same qs bs)
+-- every device bursts behind the tick just if it did before
+pub data AllKept : List DeviceSide → List DeviceStep → Type 0 where
+  none-kept : AllKept [] []
+  kept-and : {x : DeviceSide} {s : DeviceStep} {xs : List DeviceSide} {ss : List DeviceStep} → SameDevice (x .device) (s .side .device) → s .side .device .burst ≡ x .device .burst → AllKept xs ss → AllKept (x ∷ xs) (s ∷ ss)
 
-  some-same : {xs : List DeviceSide} {ss : List DeviceStep} → AllQuiet R xs ss → Some Bursting xs → Some Bursting (sides ss)
-  unfolding sides
-  some-same (quiet-and q qs) (this b) = this (q .same-burst ∙ b)
-  some-same (quiet-and q qs) (later b) = later (some-same qs b)
+pub quiet-kept : {R : DeviceSide → Type 0} {xs : List DeviceSide} {ss : List DeviceStep} → AllQuiet R xs ss → AllKept xs ss
+quiet-kept no-more = none-kept
+quiet-kept (quiet-and q a) = kept-and (q .same) (q .same-burst) (quiet-kept a)
 
-  pub agreed-same : {burst : Bool} {noted : Noted} {xs : List DeviceSide} {ss : List DeviceStep} → AllQuiet R xs ss → Agreed burst noted xs → Agreed burst noted (sides ss)
-  agreed-same a g = record { each = each-same a (g .each); one-bursts = λ z. some-same a (g .one-bursts z) }
+pub one-kept : (limit : ℕ) (heard : Heard) {P Q R : DeviceSide → Type 0} {xs : List DeviceSide} (calls : List DeviceCall)
+    → ((x : DeviceSide) (c : DeviceCall) → P x → SameDevice (x .device) (deviceTick limit x heard c .side .device) × (deviceTick limit x heard c .side .device .burst ≡ x .device .burst))
+    → ((x : DeviceSide) (c : DeviceCall) → Q x → Quietly R x (deviceTick limit x heard c)) → OneOf P Q xs → AllKept xs (deviceTicks limit heard xs calls)
+unfolding deviceTicks
+one-kept limit heard [] f g (here {x = x} p qs) = kept-and (f x no-call p .0) (f x no-call p .1) (quiet-kept (all-quiet limit heard [] g qs))
+one-kept limit heard (c ∷ cs) f g (here {x = x} p qs) = kept-and (f x c p .0) (f x c p .1) (quiet-kept (all-quiet limit heard cs g qs))
+one-kept limit heard [] f g (further {x = x} q o) = kept-and (g x no-call q .same) (g x no-call q .same-burst) (one-kept limit heard [] f g o)
+one-kept limit heard (c ∷ cs) f g (further {x = x} q o) = kept-and (g x c q .same) (g x c q .same-burst) (one-kept limit heard cs f g o)
+
+each-kept : {burst : Bool} {noted : Noted} {xs : List DeviceSide} {ss : List DeviceStep} → AllKept xs ss → All (BurstIs burst noted) xs → All (BurstIs burst noted) (sides ss)
+unfolding sides
+each-kept none-kept none = none
+each-kept (kept-and same e qs) (and b bs) =
+    and
+    (record { burst-set = λ z. b .burst-set (sym e ∙ z); long-noted = λ z. b .long-noted (sym e ∙ z); unique-noted = λ z. b .unique-noted (sym e ∙ z) ∙ sym (same .same-unique) })
+    (each-kept qs bs)
+
+some-kept : {xs : List DeviceSide} {ss : List DeviceStep} → AllKept xs ss → Some Bursting xs → Some Bursting (sides ss)
+unfolding sides
+some-kept (kept-and same e qs) (this b) = this (e ∙ b)
+some-kept (kept-and same e qs) (later b) = later (some-kept qs b)
+
+pub agreed-kept : {burst : Bool} {noted : Noted} {xs : List DeviceSide} {ss : List DeviceStep} → AllKept xs ss → Agreed burst noted xs → Agreed burst noted (sides ss)
+agreed-kept a g = record { each = each-kept a (g .each); one-bursts = λ z. some-kept a (g .one-bursts z) }
+
+pub agreed-same : {R : DeviceSide → Type 0} {burst : Bool} {noted : Noted} {xs : List DeviceSide} {ss : List DeviceStep} → AllQuiet R xs ss → Agreed burst noted xs → Agreed burst noted (sides ss)
+agreed-same a g = agreed-kept (quiet-kept a) g
 
 module _ {L R : DeviceSide → Type 0} {c : ℕ} where
   pub one-carried : {xs : List DeviceSide} {ss : List DeviceStep} → OneLoud L R c xs ss → carried ss ≡ Character c
