@@ -21,6 +21,7 @@ use Rattle.line.proofs.Leads.{readerAfter}
 use Rattle.turns.specs.Master.{burstAfter, notedAfter, timerAfter, timer}
 use Rattle.turns.specs.Device.{isOwn, dueAfter}
 use Rattle.turns.specs.Link.{MasterCall, DeviceCall, no-call, MasterSide, MasterStep, DeviceSide, DeviceStep, masterTick, deviceTick, deviceTicks, sides, carried}
+use Rattle.turns.specs.Run.{All, none, and, Distinct}
 use Rattle.turns.specs.declared.Sent.{Sent}
 use Rattle.turns.specs.declared.Sent.the-variants.{Silent}
 use Rattle.turns.specs.declared.Noted.{Noted}
@@ -38,7 +39,7 @@ use Rattle.turns.proofs.Windows.{Valid}
 use Rattle.turns.proofs.Listening as L
 use Rattle.turns.proofs.Listening.{master-frame, device-frame, device-finished, device-follows, hand-listens}
 use Rattle.turns.proofs.Lists.{Quietly, Loudly, AllQuiet, all-quiet, OneLoud, loud-here, loud-further, one-loud, one-rests, all-carried, all-sides, all-distinct, agreed-same, one-carried, one-sides, one-distinct, AllKept, kept-and, quiet-kept, one-kept, agreed-kept}
-use Rattle.turns.proofs.Phases.{All, none, and, OneOf, here, further, Distinct, BurstIs, Agreed, MasterQuiet, DeviceQuiet, Ready, idle-ready, passing-ready}
+use Rattle.turns.proofs.Phases.{OneOf, here, further, BurstIs, Agreed, MasterQuiet, DeviceQuiet, Ready, idle-ready, passing-ready}
 use Rattle.turns.proofs.Beginning.{DevicePlace, inside, finished, DeviceSpeaks, DeviceHears}
 use Rattle.turns.proofs.Sending.{MasterHears, hears-on}
 use Rattle.turns.proofs.Quiet.{SilentLine, itself, slotTimer, ack-clear-timer, ack-set-timer, back-timer, behind-ack, behind-back}

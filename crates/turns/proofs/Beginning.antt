@@ -18,6 +18,7 @@ use Rattle.line.specs.declared.Receiver.{Receiver}
 use Rattle.line.specs.declared.Whole.{Whole}
 use Rattle.turns.specs.Device.{isOwn, answerHeader}
 use Rattle.turns.specs.Link.{DeviceCall, no-call, DeviceSide, DeviceStep, deviceTick, deviceTicks, sides}
+use Rattle.turns.specs.Run.{All, none, and, Differ, Distinct}
 use Rattle.turns.specs.declared.Sent.{Sent}
 use Rattle.turns.specs.declared.Turn.{Turn}
 use Rattle.turns.specs.declared.Turn.the-variants.{Listens, Answers, Bursts}
@@ -30,7 +31,7 @@ use Rattle.turns.proofs.DeviceSpeaking.{Frames, an-ack, a-back, sending
 use Rattle.turns.proofs.Listening as L
 use Rattle.turns.proofs.Listening.{device-silence}
 use Rattle.turns.proofs.Lists.{Quietly, Loudly, AllQuiet, no-more, quiet-and, OneLoud, loud-here, loud-further}
-use Rattle.turns.proofs.Phases.{All, none, and, Differ, Distinct, DeviceListens, DeviceQuiet, BurstIs, Ready, idle-ready}
+use Rattle.turns.proofs.Phases.{DeviceListens, DeviceQuiet, BurstIs, Ready, idle-ready}
 
 -- ---- the device that sends, and those that hear it
 
@@ -54,13 +55,6 @@ pub record DeviceHears (p : Profile) (r : Receiver) (u : ℕ) (x : DeviceSide) :
   pub listens : DeviceListens p x
   pub receiver-is : x .device .receiver ≡ r
   pub another : x .device .unique ≡ u → ⊥
-
--- ---- at most one device bursts
-
--- no two of them burst
-pub data Sole : List DeviceSide → Type 0 where
-  no-one : Sole []
-  sole-and : {x : DeviceSide} {xs : List DeviceSide} → All (λ (y : DeviceSide). x .device .burst ≡ true → y .device .burst ≡ true → ⊥) xs → Sole xs → Sole (x ∷ xs)
 
 -- ---- whose turn it is
 

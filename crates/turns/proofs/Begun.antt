@@ -17,13 +17,14 @@ use Rattle.line.specs.declared.Whole.{Whole}
 use Rattle.turns.specs.Master.{burstAfter, notedAfter, isNoted}
 use Rattle.turns.specs.Device.{isOwn, answerHeader}
 use Rattle.turns.specs.Link.{DeviceSide, DeviceStep, sides}
+use Rattle.turns.specs.Run.{All, none, and, Differ, Distinct, Sole, no-one, sole-and}
 use Rattle.turns.specs.declared.Noted.{Noted}
 use Rattle.turns.specs.declared.Device.{Device}
 use Rattle.turns.proofs.Devices.{SameDevice}
 use Rattle.turns.proofs.DeviceSpeaking.{an-ack, a-back}
 use Rattle.turns.proofs.Lists.{Quietly, Loudly, AllQuiet, no-more, quiet-and, OneLoud, loud-here, loud-further}
-use Rattle.turns.proofs.Phases.{All, none, and, Some, this, later, Differ, Distinct, DeviceListens, BurstIs, Bursting, Agreed}
-use Rattle.turns.proofs.Beginning.{DeviceSpeaks, DeviceHears, Sole, no-one, sole-and, StillQuiet, BeginsAck, BeginsBack, AllStill, nothing-still, still-and, OneBegins, begins-here, begins-further}
+use Rattle.turns.proofs.Phases.{Some, this, later, DeviceListens, BurstIs, Bursting, Agreed}
+use Rattle.turns.proofs.Beginning.{DeviceSpeaks, DeviceHears, StillQuiet, BeginsAck, BeginsBack, AllStill, nothing-still, still-and, OneBegins, begins-here, begins-further}
 
 -- the one that begins
 pub record Picked (B : DeviceSide → DeviceStep → Type 0) : Type 0 where

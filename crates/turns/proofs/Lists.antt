@@ -6,11 +6,12 @@ use mathlib.Core.List.{List, [], _∷_}
 use Rattle.line.specs.declared.Heard.{Heard}
 use Rattle.line.specs.declared.Heard.the-variants.{Silence, Character}
 use Rattle.turns.specs.Link.{DeviceCall, no-call, DeviceSide, DeviceStep, deviceTick, deviceTicks, sides, carried, joins}
+use Rattle.turns.specs.Run.{All, none, and, Differ, Distinct}
 use Rattle.turns.specs.declared.Noted.{Noted}
 use Rattle.turns.specs.declared.Sent.{Sent}
 use Rattle.turns.specs.declared.Sent.the-variants.{Silent}
 use Rattle.turns.proofs.Devices.{SameDevice}
-use Rattle.turns.proofs.Phases.{All, none, and, OneOf, here, further, Some, this, later, Differ, Distinct, BurstIs, Bursting, Agreed}
+use Rattle.turns.proofs.Phases.{OneOf, here, further, Some, this, later, BurstIs, Bursting, Agreed}
 
 -- a device that sends nothing in a tick, and of which R holds behind it
 pub record Quietly (R : DeviceSide → Type 0) (x : DeviceSide) (s : DeviceStep) : Type 0 where

@@ -18,6 +18,7 @@ use Rattle.line.proofs.Leads.{readerAfter}
 use Rattle.turns.specs.Master.{burstAfter, notedAfter, brokenTimer}
 use Rattle.turns.specs.Device.{isOwn}
 use Rattle.turns.specs.Link.{MasterSide, DeviceSide, Link}
+use Rattle.turns.specs.Run.{All, none, and}
 use Rattle.turns.specs.declared.Stage.{Stage}
 use Rattle.turns.specs.declared.Stage.the-variants.{Sending}
 use Rattle.turns.specs.declared.Turn.{Turn}
@@ -33,10 +34,6 @@ use Rattle.turns.proofs.Windows.{Apart, Gap, OneSlot}
 
 -- ---- lists of devices
 
-pub data All (P : DeviceSide → Type 0) : List DeviceSide → Type 0 where
-  none : All P []
-  and : {x : DeviceSide} {xs : List DeviceSide} → P x → All P xs → All P (x ∷ xs)
-
 -- one of them is of the kind P, and all others of the kind Q
 pub data OneOf (P Q : DeviceSide → Type 0) : List DeviceSide → Type 0 where
   here : {x : DeviceSide} {xs : List DeviceSide} → P x → All Q xs → OneOf P Q (x ∷ xs)
@@ -45,15 +42,6 @@ pub data OneOf (P Q : DeviceSide → Type 0) : List DeviceSide → Type 0 where
 pub data Some (P : DeviceSide → Type 0) : List DeviceSide → Type 0 where
   this : {x : DeviceSide} {xs : List DeviceSide} → P x → Some P (x ∷ xs)
   later : {x : DeviceSide} {xs : List DeviceSide} → Some P xs → Some P (x ∷ xs)
-
--- "no two devices have a polling address or a unique address in common"
-pub record Differ (x y : DeviceSide) : Type 0 where
-  pub polling-differs : x .device .polling ≡ y .device .polling → ⊥
-  pub unique-differs : x .device .unique ≡ y .device .unique → ⊥
-
-pub data Distinct : List DeviceSide → Type 0 where
-  none : Distinct []
-  and : {x : DeviceSide} {xs : List DeviceSide} → All (Differ x) xs → Distinct xs → Distinct (x ∷ xs)
 
 -- ---- a party that does not send
 

@@ -12,11 +12,12 @@ use Rattle.frame.specs.declared.Header.{Header}
 use Rattle.line.specs.declared.Profile.{Profile}
 use Rattle.turns.specs.Master.{burstAfter, notedAfter, timerAfter, setTimer, clearTimer, brokenTimer, burstTimer, timer, toItself, ownRt1, quietTime}
 use Rattle.turns.specs.Link.{MasterSide, DeviceSide}
+use Rattle.turns.specs.Run.{All, none, and, Distinct}
 use Rattle.turns.specs.declared.Timer.{Timer}
 use Rattle.turns.specs.declared.Noted.{Noted}
 use Rattle.turns.specs.declared.Master.{Master}
 use Rattle.turns.proofs.Windows.{Valid, Apart, waiting, Gap, Slot, shut, coming, OneSlot}
-use Rattle.turns.proofs.Phases.{All, none, and, Distinct, BurstIs, Agreed, MasterIs, MasterQuiet, DeviceQuiet, ClearWindows, primary-first, secondary-first, ShutFor}
+use Rattle.turns.proofs.Phases.{BurstIs, Agreed, MasterIs, MasterQuiet, DeviceQuiet, ClearWindows, primary-first, secondary-first, ShutFor}
 
 -- a timer that opens no window with BURST set
 pub record NoSlot (t : Timer) : Type 0 where

@@ -13,13 +13,14 @@ use Rattle.line.specs.declared.Heard.the-variants.{Silence}
 use Rattle.line.specs.declared.Profile.{Profile}
 use Rattle.turns.specs.Master.{countClear, countBurst, timerCounted, burstCounted}
 use Rattle.turns.specs.Link.{MasterCall, DeviceCall, MasterSide, DeviceSide, DeviceStep, masterTick, deviceTicks, sides}
+use Rattle.turns.specs.Run.{All, Distinct, Sole}
 use Rattle.turns.specs.declared.Noted.{Noted}
 use Rattle.turns.specs.declared.Timer.{Timer}
 use Rattle.turns.proofs.Windows as W
 use Rattle.turns.proofs.Windows.{Valid, Counted, CountedBurst, counted, counted-burst, apart-next, one-window, Slot, OneSlot, one-slot-next, one-slot-window, slot-last, shut-next}
 use Rattle.turns.proofs.Lists.{all-sides, all-distinct, agreed-same}
-use Rattle.turns.proofs.Phases.{All, Distinct, Agreed, MasterQuiet, DeviceQuiet, ClearWindows, primary-first, secondary-first, ShutFor}
-use Rattle.turns.proofs.Beginning.{Sole, AllStill, silent-devices}
+use Rattle.turns.proofs.Phases.{Agreed, MasterQuiet, DeviceQuiet, ClearWindows, primary-first, secondary-first, ShutFor}
+use Rattle.turns.proofs.Beginning.{AllStill, silent-devices}
 use Rattle.turns.proofs.Quiet.{SilentLine, clear, set, none-due, NoSlot}
 use Rattle.turns.proofs.SilentTick.{SilentTick, master-tick, silent-tick, still-all}
 

@@ -21,6 +21,7 @@ use Rattle.line.proofs.Leads.{readerAfter}
 use Rattle.turns.specs.Master.{burstAfter, notedAfter, timerCounted, burstCounted, masterTakes}
 use Rattle.turns.specs.Device.{isOwn, answerHeader}
 use Rattle.turns.specs.Link.{MasterCall, DeviceCall, MasterSide, MasterStep, DeviceSide, DeviceStep, masterTick, masterData, deviceTick, deviceTicks, sides, carried}
+use Rattle.turns.specs.Run.{All, Distinct, Sole}
 use Rattle.turns.specs.declared.Sent.{Sent}
 use Rattle.turns.specs.declared.Sent.the-variants.{Silent}
 use Rattle.turns.specs.declared.Noted.{Noted}
@@ -32,8 +33,8 @@ use Rattle.turns.proofs.DeviceSpeaking.{Frames, an-ack, a-back}
 use Rattle.turns.proofs.Listening as L
 use Rattle.turns.proofs.Listening.{master-silence}
 use Rattle.turns.proofs.Lists.{Quietly, Loudly, AllQuiet, no-more, quiet-and, OneLoud, all-carried, all-sides, all-distinct, agreed-same, one-carried, one-sides, one-distinct}
-use Rattle.turns.proofs.Phases.{All, OneOf, Distinct, Agreed, MasterQuiet, DeviceQuiet, Ready, idle-ready}
-use Rattle.turns.proofs.Beginning.{DeviceSpeaks, DeviceHears, Sole, StillQuiet, BeginsAck, BeginsBack, AllStill, nothing-still, still-and, OneBegins, SilentDevices, all-still, one-answers, one-bursts}
+use Rattle.turns.proofs.Phases.{OneOf, Agreed, MasterQuiet, DeviceQuiet, Ready, idle-ready}
+use Rattle.turns.proofs.Beginning.{DeviceSpeaks, DeviceHears, StillQuiet, BeginsAck, BeginsBack, AllStill, nothing-still, still-and, OneBegins, SilentDevices, all-still, one-answers, one-bursts}
 use Rattle.turns.proofs.Begun.{picked, one-from, ack-agreed, back-agreed}
 use Rattle.turns.proofs.Sending.{MasterSpeaks, MasterHears}
 use Rattle.turns.proofs.Sending as S

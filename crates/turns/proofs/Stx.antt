@@ -20,6 +20,7 @@ use Rattle.line.proofs.Leads.{readerAfter}
 use Rattle.turns.specs.Master.{burstAfter, notedAfter, brokenTimer}
 use Rattle.turns.specs.Device.{isOwn, dueAfter}
 use Rattle.turns.specs.Link.{MasterCall, DeviceCall, MasterSide, MasterStep, DeviceSide, DeviceStep, masterTick, deviceTick, deviceTicks, sides, carried}
+use Rattle.turns.specs.Run.{All, Distinct}
 use Rattle.turns.specs.declared.Sent.{Sent}
 use Rattle.turns.specs.declared.Sent.the-variants.{Silent}
 use Rattle.turns.specs.declared.Noted.{Noted}
@@ -33,7 +34,7 @@ use Rattle.turns.proofs.Devices.{SameDevice}
 use Rattle.turns.proofs.Windows.{Valid}
 use Rattle.turns.proofs.Listening.{master-frame, device-mid, device-frame}
 use Rattle.turns.proofs.Lists.{Quietly, AllQuiet, all-quiet, all-carried, all-sides, all-distinct, agreed-same}
-use Rattle.turns.proofs.Phases.{All, Distinct, Agreed, MasterQuiet, DeviceQuiet, Ready, idle-ready}
+use Rattle.turns.proofs.Phases.{Agreed, MasterQuiet, DeviceQuiet, Ready, idle-ready}
 use Rattle.turns.proofs.Beginning.{DeviceHears}
 use Rattle.turns.proofs.Sending.{MasterPlace, inside, finished, MasterSpeaks, MasterHears, speaks-on, speaks-out, hears-on}
 use Rattle.turns.proofs.Quiet.{SilentLine, breakTimer, broken-is, stx-burst, stx-noted, stx-timer, behind-break}

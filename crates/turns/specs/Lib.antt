@@ -2,3 +2,4 @@
 pub mod Master
 pub mod Device
 pub mod Link
+pub mod Run
