@@ -6,9 +6,11 @@ pub mod DeviceSpeaking
 pub mod DeviceTaking
 pub mod Devices
 pub mod Example
+pub mod Fresh
 pub mod Listening
 pub mod Lists
 pub mod Masters
+pub mod NoTwoSend
 pub mod Phases
 pub mod Quiet
 pub mod Sending
