@@ -20,7 +20,7 @@ use Rattle.turns.specs.declared.Sent.{Sent}
 use Rattle.turns.specs.declared.Sent.the-variants.{Silent, Character}
 use Rattle.turns.specs.declared.Wish.the-variants.{Same}
 
-pub fresh : Link
+unfoldable pub fresh : Link
 fresh = record {
   primary = record { master = freshMaster fskProfile true 3; frame = replicate 284 0; bytes = replicate 255 0 };
   secondary = record { master = freshMaster fskProfile false 3; frame = replicate 284 0; bytes = replicate 255 0 };
@@ -28,16 +28,16 @@ fresh = record {
   line = Silence;
 }
 
-pub quiet : Calls
+unfoldable pub quiet : Calls
 quiet = record { for-primary = no-request; for-secondary = no-request; for-devices = [] }
 
-pub asks : Calls
+unfoldable pub asks : Calls
 asks = record { for-primary = requests (record { preamble = 5; long = false; address = 0; command = 0 }) []; for-secondary = no-request; for-devices = [] }
 
 pub replies : Calls
 replies = record { for-primary = no-request; for-secondary = no-request; for-devices = gives-answer Same (0 ∷ 0 ∷ []) ∷ [] }
 
-pub ticks : List Calls
+unfoldable pub ticks : List Calls
 ticks = asks ∷ (replicate 43 quiet ++ (replies ∷ replicate 15 quiet))
 
 pub one : Sent → ℕ → ℕ

@@ -12,6 +12,7 @@ pub mod Lists
 pub mod Masters
 pub mod NoTwoSend
 pub mod Phases
+pub mod Premises
 pub mod Quiet
 pub mod Sending
 pub mod Silences
