@@ -40,15 +40,15 @@ replies = record { for-primary = no-request; for-secondary = no-request; for-dev
 unfoldable pub ticks : List Calls
 ticks = asks ∷ (replicate 43 quiet ++ (replies ∷ replicate 15 quiet))
 
-pub one : Sent → ℕ → ℕ
+unfoldable pub one : Sent → ℕ → ℕ
 one Silent n = 0
 one (Character c) n = n
 
-pub devices-sent : List DeviceStep → ℕ
+unfoldable pub devices-sent : List DeviceStep → ℕ
 devices-sent [] = 0
 devices-sent (s ∷ ss) = one (s .sent) 4 + devices-sent ss
 
-pub senders : List LinkStep → List ℕ
+unfoldable pub senders : List LinkStep → List ℕ
 senders [] = []
 senders (s ∷ ss) = (one (s .for-primary .sent) 1 + one (s .for-secondary .sent) 2 + devices-sent (s .for-devices)) ∷ senders ss
 

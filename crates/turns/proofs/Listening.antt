@@ -151,20 +151,13 @@ master-does limit p primary x heard call small is took = go (master-goes limit t
         })
 
 -- a timer that has just been set has no open window
-shut-timer : (m : Master) (burst : Bool) (h : Header) → timerAfter m burst h .window ≡ 0
+if-shut : (t : Bool) (a b : Timer) → a .window ≡ 0 → b .window ≡ 0 → (if t then a else b) .window ≡ 0
 unfolding if_then_else_
-shut-timer m true h = go (h .frame =? back) (toItself m h)
-  where
-    go : (s t : Bool) → (if s then (if t then burstTimer m 0 else burstTimer m 1) else burstTimer m 0) .window ≡ 0
-    go true true = refl
-    go true false = refl
-    go false t = refl
-shut-timer m false h = go (h .frame =? ack) (toItself m h)
-  where
-    go : (s t : Bool) → (if s then (if t then timer (m .profile .rt2) else timer 1) else timer (ownRt1 m)) .window ≡ 0
-    go true true = refl
-    go true false = refl
-    go false t = refl
+if-shut true a b p q = p
+if-shut false a b p q = q
+
+shut-timer : (m : Master) (burst : Bool) (h : Header) → timerAfter m burst h .window ≡ 0
+shut-timer m burst h = if-shut burst _ _ (if-shut (h .frame =? back) _ _ (if-shut (toItself m h) _ _ refl refl) refl) (if-shut (h .frame =? ack) _ _ (if-shut (toItself m h) _ _ refl refl) refl)
 
 -- with no open window it rests
 rests-shut : {p : Profile} {primary : Bool} {t : Master} {step : MasterStep} → t .timer .window ≡ 0 → Does p primary t step → Rests p primary t step

@@ -1,4 +1,4 @@
--- The premises of the theorem: a run that meets them, and a run that shows what one of them is for.
+-- The premises of the theorem: runs that meet them, one with a bursting device, and for two of them a run that breaks the claim without it.
 use Prim.Native.Nat.{ℕ, zero, suc, _+_, _-_, _*_, _≤_}
 use native.Mathlib.Omega.{arith}
 use mathlib.Core.Path.{_≡_, refl, sym, subst}
@@ -11,19 +11,21 @@ use Rattle.base.specs.Store.{stored}
 use Rattle.frame.specs.Check.{xorFrom}
 use Rattle.frame.specs.Delimiter.{delimiterOf}
 use Rattle.frame.specs.Frame.{frameBytes, preambleBytes, bodyBytes, protectedBytes, headerBytes}
-use Rattle.line.specs.Profile.{fskProfile}
+use Rattle.line.specs.Profile.{fskProfile, profileMade}
+use Rattle.line.specs.declared.MadeProfile.the-variants.{Made}
 use Rattle.line.specs.Reader.{taken, takenData, atIdle, atPreamble, atFirst, atAddress, atExpansion, atCommand, atCount, atData, atCheck}
 use Rattle.line.specs.declared.Heard.{Heard}
 use Rattle.line.specs.declared.Heard.the-variants.{Silence}
 use Rattle.line.specs.declared.Profile.{Profile}
 use Rattle.turns.specs.Master.{freshMaster, requested, masterTakes, masterSends}
 use Rattle.turns.specs.Device.{freshDevice, deviceTakes, deviceSends, answered, contentGiven}
-use Rattle.turns.specs.Link.{MasterCall, no-request, requests, DeviceCall, no-call, gives-answer, Link, LinkStep, Calls, MasterSide, DeviceSide, DeviceStep, masterTick, deviceTick, deviceTicks, sides, carried, linkTick, linkAfter, run}
+use Rattle.turns.specs.Link.{MasterCall, no-request, requests, DeviceCall, no-call, gives-answer, gives-content, Link, LinkStep, Calls, MasterSide, DeviceSide, DeviceStep, masterTick, deviceTick, deviceTicks, sides, carried, linkTick, linkAfter, run}
 use Rattle.turns.specs.Run.{All, none, and, Distinct, Sole, no-one, sole-and, MasterStarts, DeviceStarts, Starts, count, deviceSenders, senders, EachTick, no-tick, tick-and, OneBursts, NoTwoSend}
 use Rattle.turns.specs.declared.Sent.{Sent}
 use Rattle.turns.specs.declared.Sent.the-variants.{Silent, Character}
-use Rattle.turns.specs.declared.Wish.the-variants.{Same}
+use Rattle.turns.specs.declared.Wish.the-variants.{Same, On}
 use Rattle.line.proofs.Profiles.{fsk-taken}
+use Rattle.turns.proofs.Example as E
 use Rattle.turns.proofs.Example.{fresh, quiet, asks, ticks}
 use Rattle.turns.proofs.NoTwoSend.{no-two-send}
 
@@ -67,6 +69,66 @@ pub worked-alone : EachTick NoTwoSend (run 255 fresh ticks)
 unfolding fresh
 worked-alone = no-two-send fskProfile 3 fresh ticks fsk-taken fresh-starts (lone 255 fresh _ ticks refl)
 
+-- ---- both masters' messages go out while the device bursts
+
+-- a profile with short timers, so that the run is short
+pub short : Profile
+short = record { sto = 3; hold = 1; rt2 = 2; rt1p = 4; rt1s = 6 }
+
+-- the primary asks the device with this unique address
+pub ask : ℕ → List DeviceCall → Calls
+ask unique devices = record { for-primary = requests (record { preamble = 5; long = true; address = unique; command = 3 }) []; for-secondary = no-request; for-devices = devices }
+
+pub turn-on : DeviceCall
+turn-on = gives-answer On (0 ∷ 0 ∷ [])
+
+pub content : DeviceCall
+content = gives-content 3 (0 ∷ 0 ∷ [])
+
+pub one-device : Link
+one-device = record {
+  primary = record { master = freshMaster short true 3; frame = replicate 284 0; bytes = replicate 255 0 };
+  secondary = record { master = freshMaster short false 3; frame = replicate 284 0; bytes = replicate 255 0 };
+  devices = record { device = freshDevice short 5 0 2; frame = replicate 284 0; bytes = replicate 255 0; contents = replicate 255 0 } ∷ [];
+  line = Silence;
+}
+
+-- both masters ask the device, which turns burst on with its first answer
+pub both-ask : List Calls
+both-ask =
+    record {
+      for-primary = requests (record { preamble = 5; long = true; address = 2; command = 3 }) [];
+      for-secondary = requests (record { preamble = 5; long = true; address = 2; command = 3 }) [];
+      for-devices = content ∷ [];
+    }
+    ∷ (replicate 18 quiet ++ (record { for-primary = no-request; for-secondary = no-request; for-devices = turn-on ∷ [] } ∷ replicate 46 quiet))
+
+-- the primary sends in ticks 4 to 17, the device its ACK and a BACK from tick 19 to 50, the secondary from tick 52 on
+pub both-go-out : E.senders (run 255 one-device both-ask) ≡ replicate 4 0 ++ (replicate 14 1 ++ (0 ∷ (replicate 32 4 ++ (0 ∷ replicate 14 2))))
+unfolding E.senders E.devices-sent E.one short one-device both-ask turn-on content quiet run linkTick deviceTicks sides carried masterTick deviceTick requested masterTakes masterSends deviceTakes deviceSends answered contentGiven taken takenData atIdle atPreamble atFirst atAddress atExpansion atCommand atCount atData atCheck frameBytes preambleBytes bodyBytes protectedBytes headerBytes xorFrom delimiterOf stored if_then_else_
+both-go-out = refl
+
+short-starts : DeviceStarts short (record { device = freshDevice short 5 0 2; frame = replicate 284 0; bytes = replicate 255 0; contents = replicate 255 0 })
+unfolding if_then_else_ replicate length
+short-starts = record { preamble = 5; polling = 0; unique = 2; starts = refl; room = omega arith; content-room = omega arith }
+
+pub one-device-starts : Starts short 3 one-device
+unfolding one-device if_then_else_ replicate length
+one-device-starts = record {
+  primary = record { starts = refl; room = omega arith };
+  secondary = record { starts = refl; room = omega arith };
+  devices = and short-starts none;
+  distinct = Distinct.and none Distinct.none;
+}
+
+pub short-taken : profileMade short ≡ Made short
+unfolding short if_then_else_
+short-taken = refl
+
+pub one-device-alone : EachTick NoTwoSend (run 255 one-device both-ask)
+unfolding one-device
+one-device-alone = no-two-send short 3 one-device both-ask short-taken one-device-starts (lone 255 one-device _ both-ask refl)
+
 -- ---- two devices with one polling address: both answer the same STX
 
 pub alike : Link
@@ -89,3 +151,33 @@ counts (s ∷ ss) = senders s ∷ counts ss
 pub two-answer : counts (run 255 alike (asks ∷ (replicate 43 quiet ++ (both-reply ∷ [])))) ≡ replicate 33 0 ++ (replicate 10 1 ++ (0 ∷ 2 ∷ []))
 unfolding counts deviceSenders alike both-reply asks quiet run linkTick deviceTicks sides carried masterTick deviceTick requested masterTakes masterSends deviceTakes deviceSends answered contentGiven taken takenData atIdle atPreamble atFirst atAddress atExpansion atCommand atCount atData atCheck frameBytes preambleBytes bodyBytes protectedBytes headerBytes xorFrom delimiterOf stored if_then_else_
 two-answer = refl
+
+-- ---- two devices burst: behind an STX that nobody answers both begin a BACK
+
+pub two-devices : Link
+two-devices = record {
+  primary = record { master = freshMaster short true 3; frame = replicate 284 0; bytes = replicate 255 0 };
+  secondary = record { master = freshMaster short false 3; frame = replicate 284 0; bytes = replicate 255 0 };
+  devices = record { device = freshDevice short 5 0 2; frame = replicate 284 0; bytes = replicate 255 0; contents = replicate 255 0 }
+      ∷ (record { device = freshDevice short 5 1 3; frame = replicate 284 0; bytes = replicate 255 0; contents = replicate 255 0 } ∷ []);
+  line = Silence;
+}
+
+-- both hosts give content; each device is asked once and turns burst on; a third STX is not answered
+pub both-burst : List Calls
+both-burst =
+    ask 2 (content ∷ (content ∷ []))
+    ∷ (replicate 18 quiet
+    ++ (record { for-primary = no-request; for-secondary = no-request; for-devices = turn-on ∷ [] }
+    ∷ (replicate 16 quiet
+    ++ (ask 3 []
+    ∷ (replicate 48 quiet
+    ++ (record { for-primary = no-request; for-secondary = no-request; for-devices = no-call ∷ (turn-on ∷ []) }
+    ∷ (replicate 16 quiet
+    ++ (ask 2 []
+    ∷ replicate 52 quiet))))))))
+
+-- in tick 154 two send
+pub two-burst : drop 150 (counts (run 255 two-devices both-burst)) ≡ 0 ∷ 0 ∷ 0 ∷ 0 ∷ 2 ∷ []
+unfolding counts deviceSenders short two-devices ask turn-on content both-burst quiet run linkTick deviceTicks sides carried masterTick deviceTick requested masterTakes masterSends deviceTakes deviceSends answered contentGiven taken takenData atIdle atPreamble atFirst atAddress atExpansion atCommand atCount atData atCheck frameBytes preambleBytes bodyBytes protectedBytes headerBytes xorFrom delimiterOf stored if_then_else_
+two-burst = refl
