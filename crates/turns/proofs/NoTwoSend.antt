@@ -5,14 +5,12 @@ use mathlib.Core.Path.{_≡_, refl, sym, ap, subst, _∙_}
 use mathlib.Core.Bool.{Bool, true, false}
 use mathlib.Core.List.{List, [], _∷_}
 use lib.ListN.{length, getD, take}
-use Rattle.line.specs.Profile.{profileMade}
 use Rattle.line.specs.declared.Heard.{Heard}
 use Rattle.line.specs.declared.Heard.the-variants.{Silence, Character, Damaged}
-use Rattle.line.specs.declared.MadeProfile.the-variants.{Made}
 use Rattle.line.specs.declared.Profile.{Profile}
 use Rattle.line.specs.declared.Whole.{Whole}
 use Rattle.turns.specs.Link.{MasterSide, MasterStep, DeviceSide, DeviceStep, Link, LinkStep, Calls, masterTick, deviceTicks, linkTick, linkAfter, run, sides, carried, joins}
-use Rattle.turns.specs.Run.{Sole, Starts, count, deviceSenders, senders, EachTick, no-tick, tick-and, OneBursts, NoTwoSend}
+use Rattle.turns.specs.Run.{Sole, Starts, count, deviceSenders, senders, EachTick, no-tick, tick-and, OneBursts, NoTwoSend, NoTwoSendInARun}
 use Rattle.turns.specs.declared.Noted.{Noted}
 use Rattle.turns.specs.declared.Sent.{Sent}
 use Rattle.turns.specs.declared.Sent.the-variants.{Silent}
@@ -151,11 +149,11 @@ phases-run limit low high p v l (c ∷ cs) q (tick-and b bs) =
     let next = phase-tick limit low high p v l c q b in
     tick-and (one-sender (linkTick limit l c) (phase-plain next)) (phases-run limit low high p v (linkAfter (linkTick limit l c)) cs next bs)
 
--- The parties start in one tick, with a profile that the check takes and one retry limit, and at most one device bursts at a time: then no two send in one tick.
-pub no-two-send : (p : Profile) (retries : ℕ) (l : Link) (ticks : List Calls) → profileMade p ≡ Made p → Starts p retries l → EachTick OneBursts (run 255 l ticks) → EachTick NoTwoSend (run 255 l ticks)
+-- the data limit may be any that leaves room for an answer's two bytes and fits a byte count
+pub no-two-send : (limit : ℕ) → 2 ≤ limit → limit ≤ 255 → NoTwoSendInARun limit
 unfolding run
-no-two-send p retries l [] e s b = no-tick
-no-two-send p retries l (c ∷ cs) e s (tick-and b bs) =
+no-two-send limit low high p retries l [] e s b = no-tick
+no-two-send limit low high p retries l (c ∷ cs) e s (tick-and b bs) =
     let v = valid p e in
-    let next = phase-first 255 (omega arith) (omega arith) p v retries l c s in
-    tick-and (one-sender (linkTick 255 l c) (phase-plain next)) (phases-run 255 (omega arith) (omega arith) p v (linkAfter (linkTick 255 l c)) cs next bs)
+    let next = phase-first limit low high p v retries l c s in
+    tick-and (one-sender (linkTick limit l c) (phase-plain next)) (phases-run limit low high p v (linkAfter (linkTick limit l c)) cs next bs)
