@@ -29,6 +29,7 @@ use Rattle.turns.specs.declared.Timer.{Timer}
 use Rattle.turns.specs.declared.Turn.{Turn}
 use Rattle.turns.specs.declared.Turn.the-variants.{Listens, Follows}
 use Rattle.turns.specs.declared.Device.{Device}
+use Rattle.turns.proofs.Turns.{asked-listens, accepted-listens}
 use Rattle.turns.proofs.Spoken.{Spoken}
 use Rattle.turns.proofs.Masters.{Holds}
 use Rattle.turns.proofs.Devices as D
@@ -188,16 +189,10 @@ module _ (limit : ℕ) (low : 2 ≤ limit) (high : limit ≤ 255) (p : Profile) 
       e : L.DeviceFrame limit low high p some x c (h .listens) message step
       e = device-frame limit low high p some x c (h .listens) w message k sp last (h .receiver-is) ne
 
-      asked-listens : {t : Turn} (n : ℕ) → t ≡ Rattle.turns.specs.declared.Turn.the-variants.Asked n → t ≡ Listens → ⊥
-      asked-listens n a b = let z : _≡_ {A = ℕ} 0 1 = cc in omega arith
-
-      accepted-listens : {t : Turn} → t ≡ Rattle.turns.specs.declared.Turn.the-variants.Accepted → t ≡ Listens → ⊥
-      accepted-listens a b = let z : _≡_ {A = ℕ} 0 1 = cc in omega arith
-
       go : D.Hand (step .side .device) (step .side .frame) → step .side .device .turn ≡ Listens
       go (D.nothing-in-hand q) = q
-      go (D.is-asked n q z o) = absurd (no-stx (e .only-stx (asked-listens n q)))
-      go (D.is-accepted q z) = absurd (no-stx (e .only-stx (accepted-listens q)))
+      go (D.is-asked n q z o) = absurd (no-stx (e .only-stx (λ a. asked-listens n (sym q ∙ a))))
+      go (D.is-accepted q z) = absurd (no-stx (e .only-stx (λ a. accepted-listens (sym q ∙ a))))
 
       off : (b : Bool) → (message .header .frame =? stx) ≡ b → (message .header .frame =? stx) ≡ false
       off true q = absurd (no-stx (borrow.Author.Tests.eqb-true (message .header .frame) stx q))

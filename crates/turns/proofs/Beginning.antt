@@ -26,7 +26,7 @@ use Rattle.turns.specs.declared.Noted.{Noted}
 use Rattle.turns.specs.declared.Device.{Device}
 use Rattle.turns.proofs.Masters.{Holds}
 use Rattle.turns.proofs.Devices as D
-use Rattle.turns.proofs.Devices.{Sound, SameDevice, inHand}
+use Rattle.turns.proofs.Devices.{Sound, SameDevice, inHand, own-kept}
 use Rattle.turns.proofs.DeviceSpeaking.{Frames, an-ack, a-back, sending, turnBehind, dueBehind}
 use Rattle.turns.proofs.Listening as L
 use Rattle.turns.proofs.Listening.{device-silence}
@@ -139,16 +139,13 @@ device-does limit low high p some g h n x call q = go (device-silence limit low 
               listens = listens;
               ready = subst Ready (sym rec) idle-ready;
               in-time = omega (arith, q .in-time);
-              asked-own = λ z. own-kept same (q .asked-own (kept z));
+              asked-own = λ z. own-kept h same (q .asked-own (kept z));
               back-due = λ z. due ∙ ap (λ (m : ℕ). m - 1) (q .back-due (sym bur ∙ z));
             };
           };
           idle-is = rec;
           not-due = λ b e. nd b (q .back-due b ∙ e);
         })
-      where
-        own-kept : SameDevice (x .device) (s .side .device) → isOwn (x .device) h ≡ true → isOwn (s .side .device) h ≡ true
-        own-kept sd o = (λ i. if h .long then sd .same-unique i =? h .address else (if sd .same-polling i =? h .address then h .command =? 0 else false)) ∙ o
     go (L.begins-answer t burst b same tb hd own short nl req) =
         does-answer (omega (arith, q .in-time, one-in-hand (x .device) (x .frame) (q .listens .hand) nl))
         (record {

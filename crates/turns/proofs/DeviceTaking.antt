@@ -29,6 +29,7 @@ use Rattle.turns.specs.declared.Device.{Device}
 use Rattle.turns.specs.declared.DeviceTold.{DeviceTold}
 use Rattle.turns.specs.declared.DeviceTold.the-variants.{Request, Broadcast}
 use Rattle.turns.specs.declared.DeviceTaken.{DeviceTaken}
+use Rattle.turns.proofs.Turns.{listens-follows, asked-follows, asked-listens, accepted-listens, begins-follows}
 use Rattle.turns.proofs.Devices.{Sound, inHand, Prepared, Hand, nothing-in-hand, is-asked, is-accepted, Turned, in-hand, begins-now, follows-now, SameDevice}
 
 -- ---- what is common to every way of taking
@@ -185,21 +186,6 @@ module _ (frame contents : List ℕ) (d : Device) (hears : d .deaf ≡ false) (h
         sound = keeps-sound idle turn (d .request) (d .wish) (d .length) due;
         turned = turned;
       }
-
-      listens-follows : Listens ≡ Follows → ⊥
-      listens-follows q = let z : _≡_ {A = ℕ} 0 1 = cc in omega arith
-
-      begins-follows : Begins ≡ Follows → ⊥
-      begins-follows q = let z : _≡_ {A = ℕ} 0 1 = cc in omega arith
-
-      asked-follows : (n : ℕ) → Asked n ≡ Follows → ⊥
-      asked-follows n q = let z : _≡_ {A = ℕ} 0 1 = cc in omega arith
-
-      asked-listens : (n : ℕ) → Asked n ≡ Listens → ⊥
-      asked-listens n q = let z : _≡_ {A = ℕ} 0 1 = cc in omega arith
-
-      accepted-listens : Accepted ≡ Listens → ⊥
-      accepted-listens q = let z : _≡_ {A = ℕ} 0 1 = cc in omega arith
 
       -- the turn, counted
       counted : (d .burst ≡ true → d .due ≡ 1 → ⊥) → Hand d frame → After (on (waited (d .turn)) (d .due - 1))

@@ -36,6 +36,7 @@ use Rattle.turns.specs.declared.Device.{Device}
 use Rattle.turns.specs.declared.DeviceTold.{DeviceTold}
 use Rattle.turns.specs.declared.DeviceTaken.{DeviceTaken}
 use Rattle.turns.specs.declared.DeviceSent.{DeviceSent}
+use Rattle.turns.proofs.Turns.{listens-follows, listens-begins, listens-asked, asked-follows, asked-begins, accepted-follows, accepted-begins, begins-follows}
 use Rattle.turns.proofs.Masters.{Holds, holds}
 
 -- ---- what holds of a device at any time
@@ -134,24 +135,6 @@ pub record AfterCall (d e : Device) : Type 0 where
   -- an answer in the tick that told the request does not begin in it
   pub first-waits : d .turn ≡ Asked (d .profile .sto) → e .turn ≡ Begins → ⊥
 
-asked-follows : (n : ℕ) → Asked n ≡ Follows → ⊥
-asked-follows n e = let z : _≡_ {A = ℕ} 0 1 = cc in omega arith
-
-listens-follows : Listens ≡ Follows → ⊥
-listens-follows e = let z : _≡_ {A = ℕ} 0 1 = cc in omega arith
-
-accepted-follows : Accepted ≡ Follows → ⊥
-accepted-follows e = let z : _≡_ {A = ℕ} 0 1 = cc in omega arith
-
-begins-follows : Begins ≡ Follows → ⊥
-begins-follows e = let z : _≡_ {A = ℕ} 0 1 = cc in omega arith
-
-asked-begins : (n : ℕ) → Asked n ≡ Begins → ⊥
-asked-begins n e = let z : _≡_ {A = ℕ} 0 1 = cc in omega arith
-
-accepted-begins : Accepted ≡ Begins → ⊥
-accepted-begins e = let z : _≡_ {A = ℕ} 0 1 = cc in omega arith
-
 asked-same : {m n : ℕ} → Asked m ≡ Asked n → m ≡ n
 asked-same e = cc
 
@@ -204,13 +187,11 @@ back-fits d frame contents s given =
       typed = refl;
     }
 
-listens-begins : Listens ≡ Begins → ⊥
-listens-begins e = let z : _≡_ {A = ℕ} 0 1 = cc in omega arith
-
-listens-asked : (n : ℕ) → Listens ≡ Asked n → ⊥
-listens-asked n e = let z : _≡_ {A = ℕ} 0 1 = cc in omega arith
-
 -- whose request it is depends on the addresses alone
+pub own-kept : {d e : Device} (h : Header) → SameDevice d e → isOwn d h ≡ true → isOwn e h ≡ true
+own-kept h sd o = (λ i. if h .long then sd .same-unique i =? h .address else (if sd .same-polling i =? h .address then h .command =? 0 else false)) ∙ o
+
+-- and so of the request in hand
 pub own-same : {d e : Device} → SameDevice d e → e .request ≡ d .request → isOwn e (e .request) ≡ true → isOwn d (d .request) ≡ true
 own-same {d} {e} same r o =
     (λ i. if sym r i .long then sym (same .same-unique) i =? sym r i .address else (if sym (same .same-polling) i =? sym r i .address then sym r i .command =? 0 else false)) ∙ o

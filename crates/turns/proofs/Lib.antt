@@ -20,4 +20,5 @@ pub mod SilentTick
 pub mod Spoken
 pub mod Stx
 pub mod Taking
+pub mod Turns
 pub mod Windows

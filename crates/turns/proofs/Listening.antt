@@ -39,6 +39,7 @@ use Rattle.turns.specs.declared.MasterTaken.{MasterTaken}
 use Rattle.turns.specs.declared.Device.{Device}
 use Rattle.turns.specs.declared.DeviceTaken.{DeviceTaken}
 use Rattle.turns.specs.declared.DeviceTold.{DeviceTold}
+use Rattle.turns.proofs.Turns.{listens-follows, asked-follows}
 use Rattle.turns.proofs.Spoken.{Spoken}
 use Rattle.turns.proofs.Masters as M
 use Rattle.turns.proofs.Masters.{Holds, Formed, Still, resting, speaking, master-goes}
@@ -292,15 +293,6 @@ joined a b = record {
   same-polling = b .same-polling ∙ a .same-polling;
   same-unique = b .same-unique ∙ a .same-unique;
 }
-
-listens-asked : (n : ℕ) → Listens ≡ Asked n → ⊥
-listens-asked n e = let z : _≡_ {A = ℕ} 0 1 = cc in omega arith
-
-listens-follows : Listens ≡ Follows → ⊥
-listens-follows e = let z : _≡_ {A = ℕ} 0 1 = cc in omega arith
-
-asked-follows : (n : ℕ) → Asked n ≡ Follows → ⊥
-asked-follows n e = let z : _≡_ {A = ℕ} 0 1 = cc in omega arith
 
 -- with nothing in hand it listens
 pub hand-listens : (d : Device) (frame : List ℕ) → Hand d frame → inHand (d .turn) ≤ 0 → d .turn ≡ Listens

@@ -30,7 +30,7 @@ use Rattle.turns.specs.declared.Turn.the-variants.{Listens}
 use Rattle.turns.specs.declared.Device.{Device}
 use Rattle.turns.proofs.Spoken.{Spoken}
 use Rattle.turns.proofs.Masters.{Holds}
-use Rattle.turns.proofs.Devices.{SameDevice}
+use Rattle.turns.proofs.Devices.{SameDevice, own-kept}
 use Rattle.turns.proofs.Windows.{Valid}
 use Rattle.turns.proofs.Listening.{master-frame, device-mid, device-frame}
 use Rattle.turns.proofs.Lists.{Quietly, AllQuiet, all-quiet, all-carried, all-sides, all-distinct, agreed-same}
@@ -38,10 +38,6 @@ use Rattle.turns.proofs.Phases.{Agreed, MasterQuiet, DeviceQuiet, Ready
 use Rattle.turns.proofs.Beginning.{DeviceHears}
 use Rattle.turns.proofs.Sending.{MasterPlace, inside, finished, MasterSpeaks, MasterHears, speaks-on, speaks-out, hears-on}
 use Rattle.turns.proofs.Quiet.{SilentLine, breakTimer, broken-is, stx-burst, stx-noted, stx-timer, behind-break}
-
--- whose request it is depends on the addresses alone
-pub own-kept : {d e : Device} (h : Header) → SameDevice d e → isOwn d h ≡ true → isOwn e h ≡ true
-own-kept h sd o = (λ i. if h .long then sd .same-unique i =? h .address else (if sd .same-polling i =? h .address then h .command =? 0 else false)) ∙ o
 
 module _ (limit : ℕ) (low : 2 ≤ limit) (high : limit ≤ 255) (p : Profile) (some : 1 ≤ p .sto) (w : List ℕ) (message : Whole) (sp : Spoken w message) (k : ℕ) where
   -- a device hears one more character of the frame w
