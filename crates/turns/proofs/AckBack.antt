@@ -1,7 +1,7 @@
 -- A tick of the whole link while a device sends its ACK or BACK.
-use Prim.Native.Nat.{ℕ, zero, suc, _+_, _-_, _*_, _≤_, _<_}
+use Prim.Native.Nat.{ℕ, suc, _-_, _≤_, _<_}
 use native.Mathlib.Omega.{arith}
-use mathlib.Core.Path.{_≡_, refl, sym, ap, ap₂, subst, _∙_}
+use mathlib.Core.Path.{_≡_, refl, sym, ap, subst, _∙_}
 use mathlib.Core.Bool.{Bool, true, false}
 use mathlib.Core.List.{List, [], _∷_}
 use mathlib.Core.Logic.{_⊎_, inl, inr}
@@ -11,7 +11,7 @@ use Rattle.base.specs.Choice.{if_then_else_, _=?_}
 use Rattle.base.proofs.Choices.{true-false, if-is-true, if-is-false}
 use Rattle.frame.specs.Delimiter.{stx, ack, back}
 use Rattle.frame.specs.declared.Header.{Header}
-use Rattle.line.specs.Reader.{idle, passing}
+use Rattle.line.specs.Reader.{idle}
 use Rattle.line.specs.declared.Heard.{Heard}
 use Rattle.line.specs.declared.Heard.the-variants.{Silence, Character}
 use Rattle.line.specs.declared.Profile.{Profile}
@@ -19,14 +19,11 @@ use Rattle.line.specs.declared.Receiver.{Receiver}
 use Rattle.line.specs.declared.Whole.{Whole}
 use Rattle.line.proofs.Leads.{readerAfter}
 use Rattle.turns.specs.Master.{burstAfter, notedAfter, timerAfter, timer}
-use Rattle.turns.specs.Device.{isOwn, dueAfter}
+use Rattle.turns.specs.Device.{dueAfter}
 use Rattle.turns.specs.Link.{MasterCall, DeviceCall, no-call, MasterSide, MasterStep, DeviceSide, DeviceStep, masterTick, deviceTick, deviceTicks, sides, carried}
-use Rattle.turns.specs.Run.{All, none, and, Distinct}
-use Rattle.turns.specs.declared.Sent.{Sent}
+use Rattle.turns.specs.Run.{All, none, and}
 use Rattle.turns.specs.declared.Sent.the-variants.{Silent}
 use Rattle.turns.specs.declared.Noted.{Noted}
-use Rattle.turns.specs.declared.Timer.{Timer}
-use Rattle.turns.specs.declared.Turn.{Turn}
 use Rattle.turns.specs.declared.Turn.the-variants.{Listens, Follows}
 use Rattle.turns.specs.declared.Device.{Device}
 use Rattle.turns.proofs.Turns.{asked-listens, accepted-listens}
@@ -35,7 +32,7 @@ use Rattle.turns.proofs.Masters.{Holds}
 use Rattle.turns.proofs.Devices as D
 use Rattle.turns.proofs.Devices.{SameDevice, inHand}
 use Rattle.turns.proofs.DeviceSpeaking as DS
-use Rattle.turns.proofs.DeviceSpeaking.{Frames, an-ack, a-back, sending, turnBehind, dueBehind, device-speaks}
+use Rattle.turns.proofs.DeviceSpeaking.{Frames, an-ack, a-back, turnBehind, dueBehind, device-speaks}
 use Rattle.turns.proofs.Windows.{Valid}
 use Rattle.turns.proofs.Listening as L
 use Rattle.turns.proofs.Listening.{master-frame, device-frame, device-finished, device-follows, hand-listens}

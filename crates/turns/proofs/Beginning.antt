@@ -1,27 +1,25 @@
 -- The devices on the silent line: all rest, or one begins its ACK, or one begins its BACK. Two never begin together.
-use Prim.Native.Nat.{ℕ, zero, suc, _+_, _-_, _≤_, _<_}
+use Prim.Native.Nat.{ℕ, suc, _-_, _≤_, _<_}
 use native.Mathlib.Omega.{arith}
-use mathlib.Core.Path.{_≡_, refl, sym, ap, subst, _∙_}
+use mathlib.Core.Path.{_≡_, sym, ap, subst, _∙_}
 use mathlib.Core.Bool.{Bool, true, false}
 use mathlib.Core.List.{List, [], _∷_}
-use lib.ListN.{length, getD, take}
+use lib.ListN.{length, getD}
 use borrow.Author.Tests.{eqb-true}
 use Rattle.base.specs.Choice.{if_then_else_, _=?_}
-use Rattle.base.proofs.Choices.{true-false, went-then, if-is-true, if-is-false}
-use Rattle.frame.specs.Delimiter.{stx, ack, back}
+use Rattle.base.proofs.Choices.{true-false, went-then}
+use Rattle.frame.specs.Delimiter.{back}
 use Rattle.frame.specs.declared.Header.{Header}
 use Rattle.line.specs.Reader.{idle, passing}
-use Rattle.line.specs.declared.Heard.{Heard}
 use Rattle.line.specs.declared.Heard.the-variants.{Silence}
 use Rattle.line.specs.declared.Profile.{Profile}
 use Rattle.line.specs.declared.Receiver.{Receiver}
 use Rattle.line.specs.declared.Whole.{Whole}
 use Rattle.turns.specs.Device.{isOwn, answerHeader}
-use Rattle.turns.specs.Link.{DeviceCall, no-call, DeviceSide, DeviceStep, deviceTick, deviceTicks, sides}
+use Rattle.turns.specs.Link.{DeviceCall, no-call, DeviceSide, DeviceStep, deviceTick, deviceTicks}
 use Rattle.turns.specs.Run.{All, none, and, Differ, Distinct}
 use Rattle.turns.specs.declared.Sent.{Sent}
-use Rattle.turns.specs.declared.Turn.{Turn}
-use Rattle.turns.specs.declared.Turn.the-variants.{Listens, Answers, Bursts}
+use Rattle.turns.specs.declared.Turn.the-variants.{Listens}
 use Rattle.turns.specs.declared.Noted.{Noted}
 use Rattle.turns.specs.declared.Device.{Device}
 use Rattle.turns.proofs.Masters.{Holds}
@@ -30,7 +28,7 @@ use Rattle.turns.proofs.Devices.{Sound, SameDevice, inHand, own-kept}
 use Rattle.turns.proofs.DeviceSpeaking.{Frames, an-ack, a-back, sending, turnBehind, dueBehind}
 use Rattle.turns.proofs.Listening as L
 use Rattle.turns.proofs.Listening.{device-silence}
-use Rattle.turns.proofs.Lists.{Quietly, Loudly, AllQuiet, no-more, quiet-and, OneLoud, loud-here, loud-further}
+use Rattle.turns.proofs.Lists.{Quietly}
 use Rattle.turns.proofs.Phases.{DeviceListens, DeviceQuiet, BurstIs, Ready, idle-ready}
 
 -- ---- the device that sends, and those that hear it

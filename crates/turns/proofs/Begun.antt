@@ -1,30 +1,24 @@
 -- One device begins its ACK or BACK: who hears it, and that BURST will agree with the devices behind that frame.
-use Prim.Native.Nat.{ℕ, zero, suc, _+_, _-_, _≤_, _<_}
+use Prim.Native.Nat.{ℕ, _-_}
 use native.Mathlib.Omega.{arith}
-use mathlib.Core.Path.{_≡_, refl, sym, ap, subst, _∙_}
+use mathlib.Core.Path.{_≡_, refl, sym, subst, _∙_}
 use mathlib.Core.Bool.{Bool, true, false}
-use mathlib.Core.List.{List, [], _∷_}
+use mathlib.Core.List.{List}
 use mathlib.Core.Logic.{_⊎_, inl, inr, ⊎-elim}
-use lib.ListN.{length, getD, take}
 use borrow.Author.Tests.{eq-eqb, eqb-true, eqb-false}
 use Rattle.base.specs.Choice.{if_then_else_, _=?_}
-use Rattle.base.proofs.Choices.{true-false, if-is-true, if-is-false}
-use Rattle.frame.specs.Delimiter.{stx, ack, back}
+use Rattle.base.proofs.Choices.{true-false, if-is-true}
+use Rattle.frame.specs.Delimiter.{back}
 use Rattle.frame.specs.declared.Header.{Header}
-use Rattle.line.specs.Reader.{idle}
 use Rattle.line.specs.declared.Profile.{Profile}
-use Rattle.line.specs.declared.Whole.{Whole}
-use Rattle.turns.specs.Master.{burstAfter, notedAfter, isNoted}
-use Rattle.turns.specs.Device.{isOwn, answerHeader}
+use Rattle.turns.specs.Master.{burstAfter, notedAfter}
+use Rattle.turns.specs.Device.{answerHeader}
 use Rattle.turns.specs.Link.{DeviceSide, DeviceStep, sides}
-use Rattle.turns.specs.Run.{All, none, and, Differ, Distinct, Sole, no-one, sole-and}
+use Rattle.turns.specs.Run.{All, none, and, Differ, Distinct, Sole, sole-and}
 use Rattle.turns.specs.declared.Noted.{Noted}
-use Rattle.turns.specs.declared.Device.{Device}
-use Rattle.turns.proofs.Devices.{SameDevice}
-use Rattle.turns.proofs.DeviceSpeaking.{an-ack, a-back}
 use Rattle.turns.proofs.Lists.{Quietly, Loudly, AllQuiet, no-more, quiet-and, OneLoud, loud-here, loud-further}
-use Rattle.turns.proofs.Phases.{Some, this, later, DeviceListens, BurstIs, Bursting, Agreed}
-use Rattle.turns.proofs.Beginning.{DeviceSpeaks, DeviceHears, StillQuiet, BeginsAck, BeginsBack, AllStill, nothing-still, still-and, OneBegins, begins-here, begins-further}
+use Rattle.turns.proofs.Phases.{Some, this, later, BurstIs, Bursting, Agreed}
+use Rattle.turns.proofs.Beginning.{StillQuiet, AllStill, nothing-still, still-and, OneBegins, begins-here, begins-further}
 
 -- the one that begins
 pub record Picked (B : DeviceSide → DeviceStep → Type 0) : Type 0 where

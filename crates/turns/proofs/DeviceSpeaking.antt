@@ -1,31 +1,27 @@
 -- A device in the middle of its ACK or BACK: it sends the next character, whatever its host gives.
-use Prim.Native.Nat.{ℕ, zero, suc, _+_, _-_, _≤_, _<_}
+use Prim.Native.Nat.{ℕ, suc, _+_, _-_, _≤_, _<_}
 use native.Mathlib.Omega.{arith}
 use native.Mathlib.Numerals.{add-one}
 use mathlib.Core.Path.{_≡_, refl, sym, ap, subst, _∙_}
 use mathlib.Core.Bool.{Bool, true, false}
-use mathlib.Core.List.{List, [], _∷_}
+use mathlib.Core.List.{List}
 use lib.ListN.{length, getD}
 use borrow.Author.Tests.{ltb-true, ltb-false}
-use Rattle.base.specs.Choice.{if_then_else_, _<?_}
+use Rattle.base.specs.Choice.{_<?_}
 use Rattle.base.specs.Store.{stored}
-use Rattle.base.specs.declared.Refusal.{Refusal}
 use Rattle.base.specs.declared.Refusal.the-variants.{NoRequest}
 use Rattle.base.proofs.Choices.{if-is-true, if-is-false}
-use Rattle.base.proofs.Stores.{length-stored}
 use Rattle.frame.specs.Address.{byteAt}
 use Rattle.line.specs.Reader.{passing}
-use Rattle.line.specs.declared.Event.{Event}
 use Rattle.line.specs.declared.Event.the-variants.{Nothing}
 use Rattle.line.specs.declared.Heard.{Heard}
 use Rattle.line.specs.declared.Whole.{Whole}
-use Rattle.turns.specs.Master.{Called, accepted, refused}
-use Rattle.turns.specs.Device.{behindAck, answersFrom, burstsFrom, sends, sendsBy, deviceSends, begunFrame, errorFrame, answered, answeredBy, answerFrame, withContent, contentGiven, deviceTakes}
-use Rattle.turns.specs.Link.{DeviceCall, no-call, gives-answer, gives-content, Answer, none, was-taken, was-refused, DeviceSide, DeviceStep, deviceSent, answerCalled, contentCalled, deviceCalls, deviceTick, deviceData, heardFrame}
-use Rattle.turns.specs.declared.Sent.{Sent}
-use Rattle.turns.specs.declared.Sent.the-variants.{Silent, Character}
+use Rattle.turns.specs.Master.{Called, refused}
+use Rattle.turns.specs.Device.{behindAck, sends, sendsBy, deviceSends, begunFrame, errorFrame, answered, answeredBy, answerFrame, withContent, contentGiven}
+use Rattle.turns.specs.Link.{DeviceCall, no-call, gives-answer, gives-content, Answer, none, was-taken, was-refused, DeviceSide, DeviceStep, deviceSent, answerCalled, contentCalled, deviceCalls, deviceTick, deviceData}
+use Rattle.turns.specs.declared.Sent.the-variants.{Character}
 use Rattle.turns.specs.declared.Turn.{Turn}
-use Rattle.turns.specs.declared.Turn.the-variants.{Listens, Asked, Accepted, Begins, Answers, Follows, Bursts}
+use Rattle.turns.specs.declared.Turn.the-variants.{Listens, Answers, Bursts}
 use Rattle.turns.specs.declared.Content.{Content}
 use Rattle.turns.specs.declared.Device.{Device}
 use Rattle.turns.specs.declared.DeviceTold.{DeviceTold}

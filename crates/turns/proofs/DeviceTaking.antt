@@ -1,19 +1,16 @@
 -- What a device is behind what it heard: a silent tick, a character inside a frame, a frame's last character. And a device that is sending.
-use Prim.Native.Nat.{ℕ, zero, suc, _+_, _-_, _≤_, _<_}
+use Prim.Native.Nat.{ℕ, _-_, _≤_}
 use native.Mathlib.Omega.{arith}
-use native.Mathlib.Numerals.{add-one}
 use mathlib.Core.Path.{_≡_, refl, sym, ap, subst, _∙_}
 use mathlib.Core.Bool.{Bool, true, false}
-use mathlib.Core.List.{List, [], _∷_}
-use lib.ListN.{length, getD}
-use borrow.Author.Tests.{ltb-true, ltb-false, leb-true, leb-false, eq-eqb, eqb-true, eqb-false}
-use Rattle.base.specs.Choice.{if_then_else_, _<?_, _≤?_, _=?_}
+use mathlib.Core.List.{List}
+use lib.ListN.{length}
+use borrow.Author.Tests.{leb-false, eq-eqb, eqb-true, eqb-false}
+use Rattle.base.specs.Choice.{if_then_else_, _≤?_, _=?_}
 use Rattle.base.proofs.Choices.{true-false, if-is-true, if-is-false}
-use Rattle.frame.specs.Delimiter.{stx, ack, back}
-use Rattle.frame.specs.Address.{byteAt}
+use Rattle.frame.specs.Delimiter.{stx}
 use Rattle.frame.specs.declared.Header.{Header}
-use Rattle.line.specs.Reader.{idle, passing, taken}
-use Rattle.line.specs.declared.Event.{Event}
+use Rattle.line.specs.Reader.{idle, taken}
 use Rattle.line.specs.declared.Event.the-variants.{Nothing, Frame}
 use Rattle.line.specs.declared.Heard.{Heard}
 use Rattle.line.specs.declared.Heard.the-variants.{Silence}
@@ -24,13 +21,13 @@ use Rattle.turns.specs.Master.{isBroadcast}
 use Rattle.turns.specs.Device.{behind, isOwn, dueAfter, afterRequest, afterFrame, waited, backDue, counts, onSilence, onCharacter, onHeard, deviceTakes}
 use Rattle.turns.specs.declared.Wish.the-variants.{Same}
 use Rattle.turns.specs.declared.Turn.{Turn}
-use Rattle.turns.specs.declared.Turn.the-variants.{Listens, Asked, Accepted, Begins, Answers, Follows, Bursts}
+use Rattle.turns.specs.declared.Turn.the-variants.{Listens, Asked, Begins, Follows}
 use Rattle.turns.specs.declared.Device.{Device}
 use Rattle.turns.specs.declared.DeviceTold.{DeviceTold}
-use Rattle.turns.specs.declared.DeviceTold.the-variants.{Request, Broadcast}
+use Rattle.turns.specs.declared.DeviceTold.the-variants.{Broadcast}
 use Rattle.turns.specs.declared.DeviceTaken.{DeviceTaken}
 use Rattle.turns.proofs.Turns.{listens-follows, asked-follows, asked-listens, accepted-listens, begins-follows}
-use Rattle.turns.proofs.Devices.{Sound, inHand, Prepared, Hand, nothing-in-hand, is-asked, is-accepted, Turned, in-hand, begins-now, follows-now, SameDevice}
+use Rattle.turns.proofs.Devices.{Sound, inHand, Hand, nothing-in-hand, is-asked, is-accepted, Turned, in-hand, begins-now, follows-now, SameDevice}
 
 -- ---- what is common to every way of taking
 

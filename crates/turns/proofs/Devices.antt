@@ -1,31 +1,29 @@
 -- What a device does in a tick once it has taken what was heard: the host's answer or burst content, and the character that it sends or not.
-use Prim.Native.Nat.{ℕ, zero, suc, _+_, _-_, _^_, _≤_, _<_}
+use Prim.Native.Nat.{ℕ, _+_, _-_, _^_, _≤_, _<_}
 use native.Mathlib.Omega.{arith}
-use native.Mathlib.Numerals.{add-one}
-use mathlib.Core.Path.{_≡_, refl, sym, ap, ap₂, subst, _∙_}
+use mathlib.Core.Path.{_≡_, refl, sym, ap, subst, _∙_}
 use mathlib.Core.Bool.{Bool, true, false}
-use mathlib.Core.List.{List, [], _∷_}
+use mathlib.Core.List.{List}
 use lib.ListN.{length, getD, take}
 use lib.Seq.{length-take-le}
-use borrow.Author.Tests.{ltb-true, ltb-false, lt-ltb, le-ltb, eq-eqb, eqb-true, eqb-false}
-use Rattle.base.specs.Choice.{if_then_else_, _<?_, _≤?_, _=?_, _outside_to_}
+use borrow.Author.Tests.{ltb-false, le-ltb, eq-eqb, eqb-true}
+use Rattle.base.specs.Choice.{if_then_else_, _<?_, _=?_, _outside_to_}
 use Rattle.base.specs.Store.{stored}
 use Rattle.base.specs.declared.Refusal.{Refusal}
 use Rattle.base.specs.declared.Refusal.the-variants.{Command, NoRequest, DataLength, BurstWish}
-use Rattle.base.proofs.Choices.{true-false, went-then, went-else, inside-low, inside-high, if-is-true, if-is-false}
+use Rattle.base.proofs.Choices.{true-false, went-then, inside-low, inside-high, if-is-true, if-is-false}
 use Rattle.base.proofs.Stores.{length-stored}
 use Rattle.frame.specs.Delimiter.{ack, back, isType}
 use Rattle.frame.specs.Address.{byteAt, largestAddress}
-use Rattle.frame.specs.Frame.{tooFew, frameBytes, frameLength}
+use Rattle.frame.specs.Frame.{tooFew, frameLength}
 use Rattle.frame.specs.declared.Header.{Header}
 use Rattle.frame.proofs.Taken.{Fits}
 use Rattle.line.specs.Reader.{passing}
 use Rattle.line.specs.declared.Whole.{Whole}
 use Rattle.line.proofs.Hearing.{wholeMessage}
 use Rattle.turns.specs.Master.{Called, accepted, refused}
-use Rattle.turns.specs.Device.{behind, isOwn, answerHeader, wished, wishRefused, answersAt, answeredBy, answered, answerFrame, withContent, contentGiven, backHeader, backFrame, backLength, firstFor, behindAck, answersFrom, burstsFrom, sends, sendsBy, deviceSends, begunFrame}
-use Rattle.turns.specs.Link.{DeviceCall, no-call, gives-answer, gives-content, Answer, none, was-taken, was-refused, DeviceSide, DeviceStep, deviceSent, answerCalled, contentCalled, deviceCalls}
-use Rattle.turns.specs.declared.Sent.{Sent}
+use Rattle.turns.specs.Device.{behind, isOwn, answerHeader, wished, wishRefused, answersAt, answeredBy, answered, answerFrame, withContent, contentGiven, backHeader, backFrame, backLength, firstFor, answersFrom, burstsFrom, sends, sendsBy, deviceSends, begunFrame}
+use Rattle.turns.specs.Link.{DeviceCall, no-call, gives-answer, gives-content, Answer, none, was-taken, was-refused, DeviceStep, deviceSent, answerCalled, contentCalled, deviceCalls}
 use Rattle.turns.specs.declared.Sent.the-variants.{Silent, Character}
 use Rattle.turns.specs.declared.Wish.{Wish}
 use Rattle.turns.specs.declared.Wish.the-variants.{Same, On, Off}

@@ -1,11 +1,10 @@
 -- Document 01's worked run, computed: the primary's STX goes out in ticks 33 to 42, and the device's ACK in ticks 44 to 55.
-use Prim.Native.Nat.{ℕ, zero, suc, _+_, _-_, _*_}
+use Prim.Native.Nat.{ℕ, _+_, _-_}
 use mathlib.Core.Path.{_≡_, refl}
-use mathlib.Core.Bool.{Bool, true, false}
+use mathlib.Core.Bool.{true, false}
 use mathlib.Core.List.{List, [], _∷_, _++_}
-use lib.ListN.{length, replicate, take, drop, getD}
-use lib.Bits.{bitXor}
-use Rattle.base.specs.Choice.{if_then_else_, _=?_}
+use lib.ListN.{replicate}
+use Rattle.base.specs.Choice.{if_then_else_}
 use Rattle.base.specs.Store.{stored}
 use Rattle.frame.specs.Check.{xorFrom}
 use Rattle.frame.specs.Delimiter.{delimiterOf}
@@ -15,7 +14,7 @@ use Rattle.line.specs.Reader.{taken, takenData, atIdle, atPreamble, atFirst, at
 use Rattle.line.specs.declared.Heard.the-variants.{Silence}
 use Rattle.turns.specs.Master.{freshMaster, requested, masterTakes, masterSends}
 use Rattle.turns.specs.Device.{freshDevice, deviceTakes, deviceSends, answered, contentGiven}
-use Rattle.turns.specs.Link.{MasterCall, no-request, requests, DeviceCall, no-call, gives-answer, Link, LinkStep, Calls, MasterSide, DeviceSide, DeviceStep, masterTick, deviceTick, deviceTicks, sides, carried, linkTick, linkAfter, run}
+use Rattle.turns.specs.Link.{no-request, requests, gives-answer, Link, LinkStep, Calls, DeviceStep, masterTick, deviceTick, deviceTicks, sides, carried, linkTick, run}
 use Rattle.turns.specs.declared.Sent.{Sent}
 use Rattle.turns.specs.declared.Sent.the-variants.{Silent, Character}
 use Rattle.turns.specs.declared.Wish.the-variants.{Same}

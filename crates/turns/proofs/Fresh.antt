@@ -1,10 +1,9 @@
 -- The first tick: nobody hears, nobody sends, and behind it the line is silent as it is behind a break.
-use Prim.Native.Nat.{ℕ, zero, suc, _+_, _-_, _*_, _^_, _≤_, _<_}
+use Prim.Native.Nat.{ℕ, _+_, _-_, _≤_, _<_}
 use native.Mathlib.Omega.{arith}
 use mathlib.Core.Path.{_≡_, refl, sym, ap, subst, _∙_}
 use mathlib.Core.Bool.{Bool, true, false}
-use mathlib.Core.List.{List, [], _∷_}
-use lib.ListN.{length}
+use mathlib.Core.List.{List}
 use borrow.Author.Tests.{leb-false, ltb-false, eqb-true}
 use Rattle.base.specs.Choice.{if_then_else_, _<?_, _≤?_, _=?_, _outside_to_}
 use Rattle.base.specs.declared.Refusal.{Refusal}
@@ -12,10 +11,9 @@ use Rattle.base.specs.declared.Refusal.the-variants.{BadProfile, BadRetries, Pr
 use Rattle.base.proofs.Choices.{true-false, went-then, went-else, inside-low, inside-high}
 use Rattle.frame.specs.Address.{largestAddress}
 use Rattle.line.specs.Profile.{valueRefused, orderRefused, profileMade}
-use Rattle.line.specs.Reader.{passing, noHeader}
+use Rattle.line.specs.Reader.{noHeader}
 use Rattle.line.specs.declared.Heard.{Heard}
 use Rattle.line.specs.declared.Heard.the-variants.{Silence}
-use Rattle.line.specs.declared.MadeProfile.{MadeProfile}
 use Rattle.line.specs.declared.MadeProfile.the-variants.{Made, Refused}
 use Rattle.line.specs.declared.Profile.{Profile}
 use Rattle.turns.specs.Master.{Called, accepted, refused, freshMaster, masterStarts}
@@ -24,8 +22,6 @@ use Rattle.turns.specs.Link.{MasterCall, DeviceCall, MasterSide, MasterS
 use Rattle.turns.specs.Run.{All, none, and, Distinct, MasterStarts, DeviceStarts}
 use Rattle.turns.specs.declared.Sent.the-variants.{Silent}
 use Rattle.turns.specs.declared.Noted.{Noted}
-use Rattle.turns.specs.declared.Timer.{Timer}
-use Rattle.turns.specs.declared.Stage.{Stage}
 use Rattle.turns.specs.declared.Turn.the-variants.{Listens}
 use Rattle.turns.specs.declared.Master.{Master}
 use Rattle.turns.specs.declared.Device.{Device}
@@ -33,8 +29,8 @@ use Rattle.turns.proofs.Masters.{Still, is-free, no-message}
 use Rattle.turns.proofs.Devices.{Sound, inHand}
 use Rattle.turns.proofs.Windows.{Valid}
 use Rattle.turns.proofs.Listening.{master-finished, device-finished, hand-listens}
-use Rattle.turns.proofs.Lists.{Quietly, AllQuiet, all-quiet, all-carried, all-sides, all-distinct, agreed-same}
-use Rattle.turns.proofs.Phases.{Some, BurstIs, Agreed, MasterQuiet, DeviceQuiet, Ready, passing-ready}
+use Rattle.turns.proofs.Lists.{Quietly, all-quiet, all-carried, all-sides, all-distinct, agreed-same}
+use Rattle.turns.proofs.Phases.{BurstIs, MasterQuiet, DeviceQuiet, Ready, passing-ready}
 use Rattle.turns.proofs.Quiet.{SilentLine, breakTimer, behind-break}
 
 -- ---- what a start that was accepted tells

@@ -1,13 +1,12 @@
 -- A whole tick of a listening party, for every call: inside another's frame, at its end, and on the silent line.
-use Prim.Native.Nat.{ℕ, zero, suc, _+_, _-_, _*_, _≤_, _<_}
+use Prim.Native.Nat.{ℕ, suc, _-_, _≤_, _<_}
 use native.Mathlib.Omega.{arith}
-use mathlib.Core.Path.{_≡_, refl, sym, ap, ap₂, subst, _∙_}
+use mathlib.Core.Path.{_≡_, refl, sym, ap, subst, _∙_}
 use mathlib.Core.Bool.{Bool, true, false}
-use mathlib.Core.List.{List, [], _∷_}
+use mathlib.Core.List.{List}
 use lib.ListN.{length, getD, take}
 use Rattle.base.specs.Choice.{if_then_else_, _=?_}
-use Rattle.base.specs.Store.{stored}
-use Rattle.base.proofs.Choices.{if-is-true, if-is-false}
+use Rattle.base.proofs.Choices.{if-is-true}
 use Rattle.base.proofs.Stores.{length-stored}
 use borrow.Author.Tests.{eq-eqb}
 use Rattle.frame.specs.Delimiter.{stx, ack, back}
@@ -22,18 +21,14 @@ use Rattle.line.specs.declared.Profile.{Profile}
 use Rattle.line.specs.declared.Receiver.{Receiver}
 use Rattle.line.specs.declared.Whole.{Whole}
 use Rattle.line.proofs.Leads.{readerAfter}
-use Rattle.turns.specs.Master.{Called, accepted, refused, burstAfter, notedAfter, timerAfter, clearTimer, setTimer, timer, burstTimer, timerCounted, burstCounted, masterTakes, toItself, ownRt1, quietTime, requested, requestHeader}
-use Rattle.turns.specs.Device.{isOwn, dueAfter, errorFrame, deviceTakes, answerHeader, backHeader}
-use Rattle.turns.specs.Link.{MasterCall, no-request, requests, DeviceCall, MasterSide, MasterStep, masterCalls, masterCalled, masterTick, masterData, DeviceSide, DeviceStep, deviceCalls, deviceTick, deviceData, heardFrame}
+use Rattle.turns.specs.Master.{Called, accepted, refused, burstAfter, notedAfter, timerAfter, timer, timerCounted, burstCounted, masterTakes, toItself, requested, requestHeader}
+use Rattle.turns.specs.Device.{isOwn, dueAfter, errorFrame, deviceTakes, answerHeader}
+use Rattle.turns.specs.Link.{MasterCall, no-request, requests, DeviceCall, MasterSide, MasterStep, masterCalled, masterTick, masterData, DeviceSide, DeviceStep, deviceCalls, deviceTick, deviceData, heardFrame}
 use Rattle.turns.specs.declared.Sent.{Sent}
 use Rattle.turns.specs.declared.Sent.the-variants.{Silent}
-use Rattle.turns.specs.declared.Stage.{Stage}
-use Rattle.turns.specs.declared.Stage.the-variants.{Waiting, Sending}
-use Rattle.turns.specs.declared.Turn.{Turn}
-use Rattle.turns.specs.declared.Turn.the-variants.{Listens, Asked, Accepted, Begins, Answers, Follows, Bursts}
+use Rattle.turns.specs.declared.Stage.the-variants.{Sending}
+use Rattle.turns.specs.declared.Turn.the-variants.{Listens, Asked, Answers, Follows, Bursts}
 use Rattle.turns.specs.declared.Timer.{Timer}
-use Rattle.turns.specs.declared.Message.{Message}
-use Rattle.turns.specs.declared.Noted.{Noted}
 use Rattle.turns.specs.declared.Master.{Master}
 use Rattle.turns.specs.declared.MasterTaken.{MasterTaken}
 use Rattle.turns.specs.declared.Device.{Device}
@@ -42,12 +37,12 @@ use Rattle.turns.specs.declared.DeviceTold.{DeviceTold}
 use Rattle.turns.proofs.Turns.{listens-follows, asked-follows}
 use Rattle.turns.proofs.Spoken.{Spoken}
 use Rattle.turns.proofs.Masters as M
-use Rattle.turns.proofs.Masters.{Holds, Formed, Still, resting, speaking, master-goes}
+use Rattle.turns.proofs.Masters.{Holds, Formed, Still, master-goes}
 use Rattle.turns.proofs.Taking as T
 use Rattle.turns.proofs.Devices as D
 use Rattle.turns.proofs.Devices.{Sound, Hand, SameDevice, inHand, device-goes}
 use Rattle.turns.proofs.DeviceTaking as DT
-use Rattle.turns.proofs.Phases.{Ready, idle-ready, MasterIs, MasterListens, DeviceListens}
+use Rattle.turns.proofs.Phases.{Ready, MasterIs, MasterListens, DeviceListens}
 
 -- ---- masters
 

@@ -1,13 +1,13 @@
 -- What a master does in a tick once it has taken what was heard: the host's request, and the character that it sends or not. Stated once for every state in which it is not sending, and for its frame being sent.
-use Prim.Native.Nat.{ℕ, zero, suc, _+_, _-_, _≤_, _<_}
+use Prim.Native.Nat.{ℕ, _+_, _-_, _≤_, _<_}
 use native.Mathlib.Omega.{arith}
 use mathlib.Core.Path.{_≡_, refl, sym, ap, subst, _∙_}
 use mathlib.Core.Bool.{Bool, true, false}
-use mathlib.Core.List.{List, [], _∷_}
+use mathlib.Core.List.{List}
 use lib.ListN.{length, getD, take}
 use lib.Seq.{getD-take}
-use borrow.Author.Tests.{ltb-true, ltb-false, lt-ltb, le-ltb}
-use Rattle.base.specs.Choice.{if_then_else_, _<?_, _≤?_, _=?_, _outside_to_}
+use borrow.Author.Tests.{ltb-true, ltb-false, lt-ltb}
+use Rattle.base.specs.Choice.{if_then_else_, _<?_, _outside_to_}
 use Rattle.base.specs.Store.{stored}
 use Rattle.base.specs.declared.Refusal.{Refusal}
 use Rattle.base.specs.declared.Refusal.the-variants.{PreambleLength, Address, Command, DataLong, MessageInHand}
@@ -23,9 +23,8 @@ use Rattle.frame.proofs.Taken.{Fits}
 use Rattle.line.specs.Reader.{passing}
 use Rattle.line.specs.declared.Whole.{Whole}
 use Rattle.line.proofs.Hearing.{wholeMessage}
-use Rattle.turns.specs.Master.{Called, accepted, refused, Request, requested, requestHeader, hasMessage, commandRefused, behind, timer, brokenTimer, ownRt1, attempted, sends, sendsAt, sendsBy, masterSends}
-use Rattle.turns.specs.Link.{MasterCall, no-request, requests, Answer, none, was-taken, was-refused, MasterSide, MasterStep, masterCalls, masterCalled, masterSent}
-use Rattle.turns.specs.declared.Sent.{Sent}
+use Rattle.turns.specs.Master.{Called, accepted, refused, Request, requested, requestHeader, hasMessage, commandRefused, behind, timer, brokenTimer, attempted, sends, sendsAt, sendsBy, masterSends}
+use Rattle.turns.specs.Link.{MasterCall, no-request, requests, Answer, none, was-taken, was-refused, MasterStep, masterCalls, masterCalled, masterSent}
 use Rattle.turns.specs.declared.Sent.the-variants.{Silent, Character}
 use Rattle.turns.specs.declared.Stage.{Stage}
 use Rattle.turns.specs.declared.Stage.the-variants.{Free, Waiting, Sending, Awaiting}

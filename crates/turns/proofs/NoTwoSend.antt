@@ -1,16 +1,16 @@
 -- Demand 3, its first half: "no two send in one tick", for every list of ticks, whatever the hosts give in them.
-use Prim.Native.Nat.{ℕ, zero, suc, _+_, _≤_, _<_}
+use Prim.Native.Nat.{ℕ, suc, _+_, _≤_}
 use native.Mathlib.Omega.{arith}
-use mathlib.Core.Path.{_≡_, refl, sym, ap, subst, _∙_}
+use mathlib.Core.Path.{_≡_, sym, ap, subst}
 use mathlib.Core.Bool.{Bool, true, false}
 use mathlib.Core.List.{List, [], _∷_}
-use lib.ListN.{length, getD, take}
+use lib.ListN.{getD}
 use Rattle.line.specs.declared.Heard.{Heard}
 use Rattle.line.specs.declared.Heard.the-variants.{Silence, Character, Damaged}
 use Rattle.line.specs.declared.Profile.{Profile}
 use Rattle.line.specs.declared.Whole.{Whole}
-use Rattle.turns.specs.Link.{MasterSide, MasterStep, DeviceSide, DeviceStep, Link, LinkStep, Calls, masterTick, deviceTicks, linkTick, linkAfter, run, sides, carried, joins}
-use Rattle.turns.specs.Run.{Sole, Starts, count, deviceSenders, senders, EachTick, no-tick, tick-and, OneBursts, NoTwoSend, NoTwoSendInARun}
+use Rattle.turns.specs.Link.{DeviceStep, Link, LinkStep, Calls, masterTick, deviceTicks, linkTick, linkAfter, run, carried, joins}
+use Rattle.turns.specs.Run.{Starts, count, deviceSenders, EachTick, no-tick, tick-and, OneBursts, NoTwoSend, NoTwoSendInARun}
 use Rattle.turns.specs.declared.Noted.{Noted}
 use Rattle.turns.specs.declared.Sent.{Sent}
 use Rattle.turns.specs.declared.Sent.the-variants.{Silent}
@@ -18,13 +18,13 @@ use Rattle.turns.proofs.DeviceSpeaking.{Frames}
 use Rattle.turns.proofs.Windows.{Valid}
 use Rattle.turns.proofs.Quiet.{SilentLine, behind-break}
 use Rattle.turns.proofs.Stx as X
-use Rattle.turns.proofs.Stx.{OneMasterSends, StxEnded, StxTick, stx-tick}
+use Rattle.turns.proofs.Stx.{OneMasterSends, StxTick, stx-tick}
 use Rattle.turns.proofs.SilentTick as T
 use Rattle.turns.proofs.SilentTick.{OneDeviceSends, SilentTick}
 use Rattle.turns.proofs.Silences.{silence-tick}
 use Rattle.turns.proofs.AckBack as A
 use Rattle.turns.proofs.AckBack.{AckBackTick, ack-back-tick}
-use Rattle.turns.proofs.Fresh.{FirstTick, first-tick, valid}
+use Rattle.turns.proofs.Fresh.{first-tick, valid}
 
 -- ---- the invariant: the line is silent, or carries a frame of one party
 

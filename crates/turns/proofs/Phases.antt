@@ -1,36 +1,25 @@
 -- The phases of the link: what holds of every party while the line is silent, and while one party sends.
-use Prim.Native.Nat.{ℕ, zero, suc, _+_, _-_, _≤_, _<_}
+use Prim.Native.Nat.{ℕ, _-_, _≤_, _<_}
 use native.Mathlib.Omega.{arith}
-use mathlib.Core.Path.{_≡_, refl, sym, ap, subst, _∙_}
+use mathlib.Core.Path.{_≡_, refl}
 use mathlib.Core.Bool.{Bool, true, false}
-use mathlib.Core.List.{List, [], _∷_}
-use lib.ListN.{length, getD, take}
-use Rattle.frame.specs.Delimiter.{stx, ack, back}
+use mathlib.Core.List.{List, _∷_}
+use lib.ListN.{length}
 use Rattle.frame.specs.declared.Header.{Header}
 use Rattle.line.specs.Reader.{idle, passing, tells, taken}
 use Rattle.line.specs.declared.Event.the-variants.{Nothing}
-use Rattle.line.specs.declared.Heard.{Heard}
-use Rattle.line.specs.declared.Heard.the-variants.{Silence, Character}
+use Rattle.line.specs.declared.Heard.the-variants.{Silence}
 use Rattle.line.specs.declared.Profile.{Profile}
 use Rattle.line.specs.declared.Receiver.{Receiver}
-use Rattle.line.specs.declared.Whole.{Whole}
-use Rattle.line.proofs.Leads.{readerAfter}
-use Rattle.turns.specs.Master.{burstAfter, notedAfter, brokenTimer}
 use Rattle.turns.specs.Device.{isOwn}
-use Rattle.turns.specs.Link.{MasterSide, DeviceSide, Link}
-use Rattle.turns.specs.Run.{All, none, and}
-use Rattle.turns.specs.declared.Stage.{Stage}
-use Rattle.turns.specs.declared.Stage.the-variants.{Sending}
-use Rattle.turns.specs.declared.Turn.{Turn}
+use Rattle.turns.specs.Link.{MasterSide, DeviceSide}
+use Rattle.turns.specs.Run.{All}
 use Rattle.turns.specs.declared.Turn.the-variants.{Listens}
 use Rattle.turns.specs.declared.Noted.{Noted}
 use Rattle.turns.specs.declared.Timer.{Timer}
-use Rattle.turns.specs.declared.Master.{Master}
-use Rattle.turns.specs.declared.Device.{Device}
-use Rattle.turns.proofs.Masters.{Holds, Formed, Still}
+use Rattle.turns.proofs.Masters.{Formed, Still}
 use Rattle.turns.proofs.Devices.{Sound, Hand, inHand}
-use Rattle.turns.proofs.DeviceSpeaking.{Frames, an-ack, a-back, sending, turnBehind, dueBehind}
-use Rattle.turns.proofs.Windows.{Apart, Gap, OneSlot}
+use Rattle.turns.proofs.Windows.{Apart, Gap}
 
 -- ---- lists of devices
 

@@ -1,12 +1,11 @@
 -- The premises of the theorem: runs that meet them, one with a bursting device, and for two of them a run that breaks the claim without it.
-use Prim.Native.Nat.{ℕ, zero, suc, _+_, _-_, _*_, _≤_}
+use Prim.Native.Nat.{ℕ, _+_, _-_}
 use native.Mathlib.Omega.{arith}
 use mathlib.Core.Path.{_≡_, refl, sym, subst}
-use mathlib.Core.Bool.{Bool, true, false}
+use mathlib.Core.Bool.{true, false}
 use mathlib.Core.List.{List, [], _∷_, _++_}
-use lib.ListN.{length, replicate, take, drop, getD}
-use lib.Bits.{bitXor}
-use Rattle.base.specs.Choice.{if_then_else_, _=?_}
+use lib.ListN.{length, replicate, drop}
+use Rattle.base.specs.Choice.{if_then_else_}
 use Rattle.base.specs.Store.{stored}
 use Rattle.frame.specs.Check.{xorFrom}
 use Rattle.frame.specs.Delimiter.{delimiterOf}
@@ -19,10 +18,8 @@ use Rattle.line.specs.declared.Heard.the-variants.{Silence}
 use Rattle.line.specs.declared.Profile.{Profile}
 use Rattle.turns.specs.Master.{freshMaster, requested, masterTakes, masterSends}
 use Rattle.turns.specs.Device.{freshDevice, deviceTakes, deviceSends, answered, contentGiven}
-use Rattle.turns.specs.Link.{MasterCall, no-request, requests, DeviceCall, no-call, gives-answer, gives-content, Link, LinkStep, Calls, MasterSide, DeviceSide, DeviceStep, masterTick, deviceTick, deviceTicks, sides, carried, linkTick, linkAfter, run}
-use Rattle.turns.specs.Run.{All, none, and, Distinct, Sole, no-one, sole-and, MasterStarts, DeviceStarts, Starts, count, deviceSenders, senders, EachTick, no-tick, tick-and, OneBursts, NoTwoSend}
-use Rattle.turns.specs.declared.Sent.{Sent}
-use Rattle.turns.specs.declared.Sent.the-variants.{Silent, Character}
+use Rattle.turns.specs.Link.{no-request, requests, DeviceCall, no-call, gives-answer, gives-content, Link, LinkStep, Calls, DeviceSide, DeviceStep, masterTick, deviceTick, deviceTicks, sides, carried, linkTick, linkAfter, run}
+use Rattle.turns.specs.Run.{none, and, Distinct, Sole, no-one, sole-and, DeviceStarts, Starts, deviceSenders, senders, EachTick, no-tick, tick-and, OneBursts, NoTwoSend}
 use Rattle.turns.specs.declared.Wish.the-variants.{Same, On}
 use Rattle.line.proofs.Profiles.{fsk-taken}
 use Rattle.turns.proofs.Example as E

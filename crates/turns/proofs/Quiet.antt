@@ -1,23 +1,23 @@
 -- The silent line: what holds of everyone while nobody sends, with BURST clear and with BURST set, and that it holds behind an STX and at the start.
-use Prim.Native.Nat.{ℕ, zero, suc, _+_, _-_, _*_, _≤_, _<_}
+use Prim.Native.Nat.{ℕ, _+_, _-_, _*_, _≤_, _<_}
 use native.Mathlib.Omega.{arith}
-use mathlib.Core.Path.{_≡_, refl, sym, ap, ap₂, subst, _∙_}
+use mathlib.Core.Path.{_≡_, sym, ap, _∙_}
 use mathlib.Core.Bool.{Bool, true, false}
-use mathlib.Core.List.{List, [], _∷_}
+use mathlib.Core.List.{List}
 use borrow.Author.Tests.{eq-eqb}
 use Rattle.base.specs.Choice.{if_then_else_, _=?_}
 use Rattle.base.proofs.Choices.{true-false, if-is-true, if-is-false}
 use Rattle.frame.specs.Delimiter.{stx, ack, back}
 use Rattle.frame.specs.declared.Header.{Header}
 use Rattle.line.specs.declared.Profile.{Profile}
-use Rattle.turns.specs.Master.{burstAfter, notedAfter, timerAfter, setTimer, clearTimer, brokenTimer, burstTimer, timer, toItself, ownRt1, quietTime}
+use Rattle.turns.specs.Master.{burstAfter, notedAfter, timerAfter, brokenTimer, burstTimer, timer, toItself}
 use Rattle.turns.specs.Link.{MasterSide, DeviceSide}
 use Rattle.turns.specs.Run.{All, none, and, Distinct}
 use Rattle.turns.specs.declared.Timer.{Timer}
 use Rattle.turns.specs.declared.Noted.{Noted}
 use Rattle.turns.specs.declared.Master.{Master}
-use Rattle.turns.proofs.Windows.{Valid, Apart, waiting, Gap, Slot, shut, coming, OneSlot}
-use Rattle.turns.proofs.Phases.{BurstIs, Agreed, MasterIs, MasterQuiet, DeviceQuiet, ClearWindows, primary-first, secondary-first, ShutFor}
+use Rattle.turns.proofs.Windows.{Valid, waiting, Gap, shut, coming, OneSlot}
+use Rattle.turns.proofs.Phases.{BurstIs, Agreed, MasterQuiet, DeviceQuiet, ClearWindows, primary-first, secondary-first, ShutFor}
 
 -- a timer that opens no window with BURST set
 pub record NoSlot (t : Timer) : Type 0 where

@@ -1,41 +1,34 @@
 -- A master sends its STX, and everyone else hears it: each tick of that, to the silent line behind it.
-use Prim.Native.Nat.{ℕ, zero, suc, _+_, _-_, _*_, _≤_, _<_}
+use Prim.Native.Nat.{ℕ, suc, _-_, _≤_, _<_}
 use native.Mathlib.Omega.{arith}
 use mathlib.Core.Path.{_≡_, refl, sym, ap, subst, _∙_}
 use mathlib.Core.Bool.{Bool, true, false}
-use mathlib.Core.List.{List, [], _∷_}
+use mathlib.Core.List.{List}
 use lib.ListN.{length, getD, take}
-use borrow.Author.Tests.{eq-eqb}
-use Rattle.base.specs.Choice.{if_then_else_, _=?_}
-use Rattle.base.proofs.Choices.{true-false, if-is-true, if-is-false}
-use Rattle.frame.specs.Delimiter.{stx, ack, back}
+use Rattle.base.specs.Choice.{if_then_else_}
+use Rattle.frame.specs.Delimiter.{stx}
 use Rattle.frame.specs.declared.Header.{Header}
 use Rattle.line.specs.Reader.{idle, passing}
 use Rattle.line.specs.declared.Heard.{Heard}
-use Rattle.line.specs.declared.Heard.the-variants.{Silence, Character}
+use Rattle.line.specs.declared.Heard.the-variants.{Character}
 use Rattle.line.specs.declared.Profile.{Profile}
 use Rattle.line.specs.declared.Receiver.{Receiver}
 use Rattle.line.specs.declared.Whole.{Whole}
 use Rattle.line.proofs.Leads.{readerAfter}
-use Rattle.turns.specs.Master.{burstAfter, notedAfter, timerAfter, brokenTimer, burstTimer, timer, ownRt1, quietTime}
-use Rattle.turns.specs.Device.{dueAfter}
-use Rattle.turns.specs.Link.{MasterCall, DeviceCall, MasterSide, MasterStep, DeviceSide, DeviceStep, masterTick, deviceTick}
+use Rattle.turns.specs.Master.{brokenTimer, burstTimer, timer, ownRt1}
+use Rattle.turns.specs.Link.{MasterCall, MasterSide, MasterStep, masterTick}
 use Rattle.turns.specs.declared.Sent.{Sent}
 use Rattle.turns.specs.declared.Sent.the-variants.{Silent}
-use Rattle.turns.specs.declared.Stage.{Stage}
-use Rattle.turns.specs.declared.Stage.the-variants.{Sending, Awaiting}
+use Rattle.turns.specs.declared.Stage.the-variants.{Sending}
 use Rattle.turns.specs.declared.Timer.{Timer}
 use Rattle.turns.specs.declared.Noted.{Noted}
 use Rattle.turns.specs.declared.Message.{Message}
 use Rattle.turns.specs.declared.Master.{Master}
-use Rattle.turns.specs.declared.Device.{Device}
 use Rattle.turns.proofs.Masters.{Holds, Formed, stands, Still, is-awaiting}
 use Rattle.turns.proofs.Taking as T
 use Rattle.turns.proofs.Taking.{master-speaks}
-use Rattle.turns.proofs.Listening.{master-mid, master-frame, master-finished, device-mid, device-frame}
-use Rattle.turns.proofs.Lists.{Quietly}
-use Rattle.turns.proofs.Phases.{MasterIs, MasterListens, MasterQuiet, DeviceQuiet, Ready, idle-ready, passing-ready}
-use Rattle.turns.proofs.Beginning.{DeviceHears}
+use Rattle.turns.proofs.Listening.{master-mid, master-finished}
+use Rattle.turns.proofs.Phases.{MasterIs, MasterListens, MasterQuiet, Ready, passing-ready}
 
 -- ---- the master that sends
 

@@ -1,26 +1,24 @@
 -- The silent line goes on: a silent tick with BURST clear, and one with BURST set.
-use Prim.Native.Nat.{ℕ, zero, suc, _+_, _-_, _*_, _≤_, _<_}
+use Prim.Native.Nat.{ℕ, _-_, _≤_, _<_}
 use native.Mathlib.Omega.{arith}
-use mathlib.Core.Path.{_≡_, refl, sym, ap, ap₂, subst, _∙_}
+use mathlib.Core.Path.{_≡_, refl, ap, subst, _∙_}
 use mathlib.Core.Bool.{Bool, true, false}
-use mathlib.Core.List.{List, [], _∷_}
+use mathlib.Core.List.{List}
 use mathlib.Core.Logic.{_⊎_, inl, inr}
 use borrow.Author.Tests.{lt-leb}
 use Rattle.base.specs.Choice.{if_then_else_, _≤?_, _=?_}
-use Rattle.base.proofs.Choices.{true-false, if-is-true, if-is-false}
-use Rattle.frame.specs.declared.Header.{Header}
+use Rattle.base.proofs.Choices.{if-is-true, if-is-false}
 use Rattle.line.specs.declared.Heard.the-variants.{Silence}
 use Rattle.line.specs.declared.Profile.{Profile}
 use Rattle.turns.specs.Master.{countClear, countBurst, timerCounted, burstCounted}
-use Rattle.turns.specs.Link.{MasterCall, DeviceCall, MasterSide, DeviceSide, DeviceStep, masterTick, deviceTicks, sides}
-use Rattle.turns.specs.Run.{All, Distinct, Sole}
-use Rattle.turns.specs.declared.Noted.{Noted}
+use Rattle.turns.specs.Link.{MasterCall, DeviceCall, MasterSide, DeviceSide, masterTick, deviceTicks, sides}
+use Rattle.turns.specs.Run.{Sole}
 use Rattle.turns.specs.declared.Timer.{Timer}
 use Rattle.turns.proofs.Windows as W
 use Rattle.turns.proofs.Windows.{Valid, Counted, CountedBurst, counted, counted-burst, apart-next, one-window, Slot, OneSlot, one-slot-next, one-slot-window, slot-last, shut-next}
 use Rattle.turns.proofs.Lists.{all-sides, all-distinct, agreed-same}
-use Rattle.turns.proofs.Phases.{Agreed, MasterQuiet, DeviceQuiet, ClearWindows, primary-first, secondary-first, ShutFor}
-use Rattle.turns.proofs.Beginning.{AllStill, silent-devices}
+use Rattle.turns.proofs.Phases.{ClearWindows, primary-first, secondary-first, ShutFor}
+use Rattle.turns.proofs.Beginning.{silent-devices}
 use Rattle.turns.proofs.Quiet.{SilentLine, clear, set, none-due, NoSlot}
 use Rattle.turns.proofs.SilentTick.{SilentTick, master-tick, silent-tick, still-all}
 

@@ -1,38 +1,34 @@
 -- A tick of the whole link while nobody sends: the line stays silent, or one party begins. Two never begin together.
-use Prim.Native.Nat.{ℕ, zero, suc, _+_, _-_, _*_, _≤_, _<_}
+use Prim.Native.Nat.{ℕ, _-_, _≤_, _<_}
 use native.Mathlib.Omega.{arith}
-use mathlib.Core.Path.{_≡_, refl, sym, ap, ap₂, subst, _∙_}
+use mathlib.Core.Path.{_≡_, refl, sym, ap, subst, _∙_}
 use mathlib.Core.Bool.{Bool, true, false}
-use mathlib.Core.List.{List, [], _∷_}
+use mathlib.Core.List.{List}
 use mathlib.Core.Logic.{_⊎_, inl, inr}
-use lib.ListN.{length, getD, take}
+use lib.ListN.{getD, take}
 use borrow.Author.Tests.{eqb-true}
-use Rattle.base.specs.Choice.{if_then_else_, _=?_}
-use Rattle.base.proofs.Choices.{true-false, if-is-true, if-is-false}
-use Rattle.frame.specs.Delimiter.{stx, ack, back}
+use Rattle.base.proofs.Choices.{if-is-true}
+use Rattle.frame.specs.Delimiter.{ack, back}
 use Rattle.frame.specs.declared.Header.{Header}
-use Rattle.line.specs.Reader.{idle, passing}
-use Rattle.line.specs.declared.Heard.{Heard}
+use Rattle.line.specs.Reader.{idle}
 use Rattle.line.specs.declared.Heard.the-variants.{Silence, Character}
 use Rattle.line.specs.declared.Profile.{Profile}
-use Rattle.line.specs.declared.Receiver.{Receiver}
 use Rattle.line.specs.declared.Whole.{Whole}
 use Rattle.line.proofs.Leads.{readerAfter}
 use Rattle.turns.specs.Master.{burstAfter, notedAfter, timerCounted, burstCounted, masterTakes}
-use Rattle.turns.specs.Device.{isOwn, answerHeader}
-use Rattle.turns.specs.Link.{MasterCall, DeviceCall, MasterSide, MasterStep, DeviceSide, DeviceStep, masterTick, masterData, deviceTick, deviceTicks, sides, carried}
-use Rattle.turns.specs.Run.{All, Distinct, Sole}
+use Rattle.turns.specs.Device.{isOwn}
+use Rattle.turns.specs.Link.{MasterCall, MasterSide, MasterStep, DeviceSide, DeviceStep, masterTick, masterData, sides, carried}
+use Rattle.turns.specs.Run.{Distinct, Sole}
 use Rattle.turns.specs.declared.Sent.{Sent}
 use Rattle.turns.specs.declared.Sent.the-variants.{Silent}
 use Rattle.turns.specs.declared.Noted.{Noted}
 use Rattle.turns.specs.declared.Timer.{Timer}
 use Rattle.turns.specs.declared.Master.{Master}
 use Rattle.turns.specs.declared.Device.{Device}
-use Rattle.turns.proofs.Devices.{SameDevice}
 use Rattle.turns.proofs.DeviceSpeaking.{Frames, an-ack, a-back}
 use Rattle.turns.proofs.Listening as L
 use Rattle.turns.proofs.Listening.{master-silence}
-use Rattle.turns.proofs.Lists.{Quietly, Loudly, AllQuiet, no-more, quiet-and, OneLoud, all-carried, all-sides, all-distinct, agreed-same, one-carried, one-sides, one-distinct}
+use Rattle.turns.proofs.Lists.{Quietly, AllQuiet, no-more, quiet-and, OneLoud, all-carried, all-sides, all-distinct, agreed-same, one-carried, one-sides, one-distinct}
 use Rattle.turns.proofs.Phases.{OneOf, Agreed, MasterQuiet, DeviceQuiet, Ready, idle-ready}
 use Rattle.turns.proofs.Beginning.{DeviceSpeaks, DeviceHears, StillQuiet, BeginsAck, BeginsBack, AllStill, nothing-still, still-and, OneBegins, SilentDevices, all-still, one-answers, one-bursts}
 use Rattle.turns.proofs.Begun.{picked, one-from, ack-agreed, back-agreed}

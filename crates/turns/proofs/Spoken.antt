@@ -1,13 +1,12 @@
 -- The reader's law of the line, lifted to a listening party: what it hears of a frame that another party sends.
-use Prim.Native.Nat.{ℕ, zero, suc, _+_, _≤_, _<_}
+use Prim.Native.Nat.{ℕ, suc, _+_, _≤_, _<_}
 use native.Mathlib.Omega.{arith}
-use native.Mathlib.Decide.{decLt}
-use mathlib.Core.Path.{_≡_, refl, sym, ap, subst, _∙_}
+use mathlib.Core.Path.{_≡_, sym, ap, subst, _∙_}
 use mathlib.Core.List.{List, [], _∷_, _++_, append-assoc}
 use lib.ListN.{length, take, getD, length-append, List·getD-append}
 use lib.Seq.{take-at, take-append-le, getD-at}
 use Rattle.frame.specs.Check.{exclusiveOr}
-use Rattle.frame.specs.Frame.{protectedBytes, bodyBytes, preambleBytes, frameBytes, frameLength}
+use Rattle.frame.specs.Frame.{protectedBytes, bodyBytes, preambleBytes, frameBytes}
 use Rattle.frame.specs.declared.Header.{Header}
 use Rattle.frame.proofs.Lengths.{frame-count}
 use Rattle.frame.proofs.Taken.{Fits}
@@ -16,7 +15,7 @@ use Rattle.line.specs.declared.Event.the-variants.{Nothing, Frame}
 use Rattle.line.specs.declared.Heard.the-variants.{Character}
 use Rattle.line.specs.declared.Receiver.{Receiver}
 use Rattle.line.specs.declared.Whole.{Whole}
-use Rattle.line.proofs.Hearing.{Heard, wholeMessage, beforeCheck, frame-leads, frame-told}
+use Rattle.line.proofs.Hearing.{Heard, wholeMessage, frame-leads, frame-told}
 use Rattle.line.proofs.Leads.{readerAfter, leads-at, leads-to}
 
 -- w is a frame that every idle listener hears as the message: behind its first k characters the reader takes the next one, and tells nothing before the last

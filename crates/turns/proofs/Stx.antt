@@ -1,43 +1,37 @@
 -- A tick of the whole link while a master sends its STX.
-use Prim.Native.Nat.{ℕ, zero, suc, _+_, _-_, _*_, _≤_, _<_}
+use Prim.Native.Nat.{ℕ, suc, _-_, _≤_, _<_}
 use native.Mathlib.Omega.{arith}
-use mathlib.Core.Path.{_≡_, refl, sym, ap, ap₂, subst, _∙_}
-use mathlib.Core.Bool.{Bool, true, false}
-use mathlib.Core.List.{List, [], _∷_}
+use mathlib.Core.Path.{_≡_, refl, sym, ap, subst, _∙_}
+use mathlib.Core.Bool.{Bool}
+use mathlib.Core.List.{List}
 use lib.ListN.{length, getD, take}
 use borrow.Author.Tests.{eq-eqb}
-use Rattle.base.specs.Choice.{if_then_else_, _=?_}
-use Rattle.base.proofs.Choices.{true-false, if-is-true, if-is-false}
-use Rattle.frame.specs.Delimiter.{stx, ack, back}
+use Rattle.base.specs.Choice.{_=?_}
+use Rattle.base.proofs.Choices.{if-is-true}
+use Rattle.frame.specs.Delimiter.{stx}
 use Rattle.frame.specs.declared.Header.{Header}
-use Rattle.line.specs.Reader.{idle, passing}
+use Rattle.line.specs.Reader.{idle}
 use Rattle.line.specs.declared.Heard.{Heard}
 use Rattle.line.specs.declared.Heard.the-variants.{Silence, Character}
 use Rattle.line.specs.declared.Profile.{Profile}
-use Rattle.line.specs.declared.Receiver.{Receiver}
 use Rattle.line.specs.declared.Whole.{Whole}
 use Rattle.line.proofs.Leads.{readerAfter}
-use Rattle.turns.specs.Master.{burstAfter, notedAfter, brokenTimer}
-use Rattle.turns.specs.Device.{isOwn, dueAfter}
+use Rattle.turns.specs.Master.{burstAfter}
+use Rattle.turns.specs.Device.{dueAfter}
 use Rattle.turns.specs.Link.{MasterCall, DeviceCall, MasterSide, MasterStep, DeviceSide, DeviceStep, masterTick, deviceTick, deviceTicks, sides, carried}
 use Rattle.turns.specs.Run.{All, Distinct}
 use Rattle.turns.specs.declared.Sent.{Sent}
 use Rattle.turns.specs.declared.Sent.the-variants.{Silent}
 use Rattle.turns.specs.declared.Noted.{Noted}
-use Rattle.turns.specs.declared.Timer.{Timer}
-use Rattle.turns.specs.declared.Turn.{Turn}
-use Rattle.turns.specs.declared.Turn.the-variants.{Listens}
-use Rattle.turns.specs.declared.Device.{Device}
 use Rattle.turns.proofs.Spoken.{Spoken}
-use Rattle.turns.proofs.Masters.{Holds}
-use Rattle.turns.proofs.Devices.{SameDevice, own-kept}
+use Rattle.turns.proofs.Devices.{own-kept}
 use Rattle.turns.proofs.Windows.{Valid}
 use Rattle.turns.proofs.Listening.{master-frame, device-mid, device-frame}
-use Rattle.turns.proofs.Lists.{Quietly, AllQuiet, all-quiet, all-carried, all-sides, all-distinct, agreed-same}
+use Rattle.turns.proofs.Lists.{Quietly, all-quiet, all-carried, all-sides, all-distinct, agreed-same}
 use Rattle.turns.proofs.Phases.{Agreed, MasterQuiet, DeviceQuiet, Ready, idle-ready}
 use Rattle.turns.proofs.Beginning.{DeviceHears}
 use Rattle.turns.proofs.Sending.{MasterPlace, inside, finished, MasterSpeaks, MasterHears, speaks-on, speaks-out, hears-on}
-use Rattle.turns.proofs.Quiet.{SilentLine, breakTimer, broken-is, stx-burst, stx-noted, stx-timer, behind-break}
+use Rattle.turns.proofs.Quiet.{breakTimer, broken-is, stx-burst, stx-noted, stx-timer}
 
 module _ (limit : ℕ) (low : 2 ≤ limit) (high : limit ≤ 255) (p : Profile) (some : 1 ≤ p .sto) (w : List ℕ) (message : Whole) (sp : Spoken w message) (k : ℕ) where
   -- a device hears one more character of the frame w

@@ -1,39 +1,34 @@
 -- What a master is behind what it heard: a silent tick, a character inside a frame, a frame's last character. And a master that is sending.
-use Prim.Native.Nat.{ℕ, zero, suc, _+_, _-_, _≤_, _<_}
+use Prim.Native.Nat.{ℕ, suc, _+_, _-_, _≤_, _<_}
 use native.Mathlib.Omega.{arith}
 use native.Mathlib.Numerals.{add-one}
 use mathlib.Core.Path.{_≡_, refl, sym, ap, subst, _∙_}
 use mathlib.Core.Bool.{Bool, true, false}
-use mathlib.Core.List.{List, [], _∷_}
+use mathlib.Core.List.{List}
 use lib.ListN.{length, getD}
-use borrow.Author.Tests.{ltb-true, ltb-false, lt-ltb, le-ltb}
-use Rattle.base.specs.Choice.{if_then_else_, _<?_, _≤?_, _=?_}
-use Rattle.base.specs.declared.Refusal.{Refusal}
+use borrow.Author.Tests.{ltb-true, ltb-false}
+use Rattle.base.specs.Choice.{if_then_else_, _<?_, _≤?_}
 use Rattle.base.proofs.Choices.{true-false, if-is-true, if-is-false}
-use Rattle.frame.specs.Address.{byteAt}
 use Rattle.frame.specs.Frame.{frameBytes}
-use Rattle.line.specs.Reader.{idle, passing, taken}
-use Rattle.line.specs.declared.Event.{Event}
+use Rattle.line.specs.Reader.{idle, taken}
 use Rattle.line.specs.declared.Event.the-variants.{Nothing, Frame}
 use Rattle.line.specs.declared.Heard.{Heard}
 use Rattle.line.specs.declared.Heard.the-variants.{Silence}
 use Rattle.line.specs.declared.Receiver.{Receiver}
 use Rattle.line.specs.declared.Taken.{Taken}
 use Rattle.line.specs.declared.Whole.{Whole}
-use Rattle.turns.specs.Master.{Ending, behind, staged, fails, ends, atBreak, atFrame, ifAwaiting, isBroadcast, isAnswer, waited, rt1Ends, unlessEnded, counts, timerCounted, burstCounted, burstAfter, notedAfter, timerAfter, onSilence, onCharacter, onHeard, masterTakes, timer, ownRt1, brokenTimer, attempted, sendsAt, sendsBy, masterSends, requestHeader, requested, Called, accepted, refused}
+use Rattle.turns.specs.Master.{Ending, behind, staged, fails, ends, atBreak, atFrame, ifAwaiting, isBroadcast, isAnswer, waited, rt1Ends, unlessEnded, counts, timerCounted, burstCounted, burstAfter, notedAfter, timerAfter, onSilence, onCharacter, onHeard, masterTakes, timer, ownRt1, attempted, sendsAt, sendsBy, masterSends, requestHeader, requested, Called}
 use Rattle.turns.specs.Link.{MasterCall, no-request, requests, Answer, none, was-refused, MasterSide, MasterStep, masterCalls, masterCalled, masterSent, masterTick, masterData}
-use Rattle.turns.specs.declared.Sent.{Sent}
-use Rattle.turns.specs.declared.Sent.the-variants.{Silent, Character}
+use Rattle.turns.specs.declared.Sent.the-variants.{Character}
 use Rattle.turns.specs.declared.Stage.{Stage}
 use Rattle.turns.specs.declared.Stage.the-variants.{Free, Waiting, Sending, Awaiting}
 use Rattle.turns.specs.declared.Timer.{Timer}
 use Rattle.turns.specs.declared.Message.{Message}
-use Rattle.turns.specs.declared.Noted.{Noted}
 use Rattle.turns.specs.declared.Master.{Master}
 use Rattle.turns.specs.declared.MasterTold.{MasterTold}
 use Rattle.turns.specs.declared.MasterTaken.{MasterTaken}
 use Rattle.turns.specs.declared.MasterSent.{MasterSent}
-use Rattle.turns.proofs.Masters.{Holds, Formed, no-message, stands, Still, is-free, is-waiting, is-awaiting, Goes, speaking, spokenOut, Asks, asks, is-refused, is-taken, master-goes}
+use Rattle.turns.proofs.Masters.{Holds, Formed, no-message, stands, Still, is-free, is-waiting, is-awaiting, speaking, spokenOut, Asks, asks, is-refused, is-taken}
 
 -- ---- the message behind what was heard: still not sending, and still in its buffer
 

@@ -5,7 +5,6 @@ use mathlib.Core.List.{List, [], _∷_}
 use lib.ListN.{length, take}
 use Rattle.base.specs.Choice.{if_then_else_, _<?_, _≤?_, _=?_, _outside_to_}
 use Rattle.base.specs.Store.{stored}
-use Rattle.base.specs.declared.Refusal.{Refusal}
 use Rattle.base.specs.declared.Refusal.the-variants.{PreambleLength, Address, Command, NoRequest, DataLength, BurstWish}
 use Rattle.frame.specs.Delimiter.{stx, ack, back}
 use Rattle.frame.specs.Address.{byteAt, largestAddress}

@@ -1,8 +1,7 @@
 -- Document 01, "Line and ticks" and "Runs of the link": one primary, one secondary and devices on one line; a tick of them all, and a run over a list of ticks.
 use Prim.Native.Nat.{ℕ}
-use mathlib.Core.Bool.{Bool, true, false}
 use mathlib.Core.List.{List, [], _∷_}
-use lib.ListN.{length, replicate}
+use lib.ListN.{length}
 use Rattle.base.specs.Choice.{if_then_else_}
 use Rattle.base.specs.Store.{stored}
 use Rattle.base.specs.declared.Refusal.{Refusal}
@@ -11,8 +10,7 @@ use Rattle.line.specs.Reader.{takenData}
 use Rattle.line.specs.declared.Damage.the-variants.{Framing}
 use Rattle.line.specs.declared.Heard.{Heard}
 use Rattle.line.specs.declared.Heard.the-variants.{Silence, Character, Damaged}
-use Rattle.line.specs.declared.Profile.{Profile}
-use Rattle.turns.specs.Master.{Called, accepted, refused, Request, requested, requestHeader, masterTakes, masterSends, freshMaster}
+use Rattle.turns.specs.Master.{Called, accepted, refused, Request, requested, requestHeader, masterTakes, masterSends}
 use Rattle.turns.specs.Device.{answered, answerFrame, contentGiven, deviceTakes, deviceSends, errorFrame, begunFrame}
 use Rattle.turns.specs.declared.Sent.{Sent}
 use Rattle.turns.specs.declared.Sent.the-variants.{Silent}
@@ -23,7 +21,6 @@ use Rattle.turns.specs.declared.MasterSent.{MasterSent}
 use Rattle.turns.specs.declared.MasterTaken.{MasterTaken}
 use Rattle.turns.specs.declared.Device.{Device}
 use Rattle.turns.specs.declared.DeviceTold.{DeviceTold}
-use Rattle.turns.specs.declared.DeviceSent.{DeviceSent}
 use Rattle.turns.specs.declared.DeviceTaken.{DeviceTaken}
 
 -- ---- calls: "A tick has at most one call for each party: a master's request, a device's answer or its burst content"

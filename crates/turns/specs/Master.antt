@@ -1,15 +1,14 @@
 -- Document 01, "Master's turns", with "Timers" and the refusals of master start and master request. A tick of a master is: take what was heard, then the host's request, then send.
 use Prim.Native.Nat.{ℕ, _+_, _-_, _*_, _/_}
 use mathlib.Core.Bool.{Bool, true, false}
-use mathlib.Core.List.{List, []}
+use mathlib.Core.List.{List}
 use lib.ListN.{length}
 use Rattle.base.specs.Choice.{if_then_else_, _<?_, _≤?_, _=?_, _outside_to_}
-use Rattle.base.specs.Store.{stored}
 use Rattle.base.specs.declared.Refusal.{Refusal}
 use Rattle.base.specs.declared.Refusal.the-variants.{BadRetries, PreambleLength, Address, Command, DataLong, MessageInHand}
 use Rattle.frame.specs.Delimiter.{stx, ack, back}
 use Rattle.frame.specs.Address.{byteAt, addressTooLarge}
-use Rattle.frame.specs.Frame.{frameBytes, frameLength}
+use Rattle.frame.specs.Frame.{frameLength}
 use Rattle.frame.specs.declared.Header.{Header}
 use Rattle.line.specs.Reader.{passing, taken, noHeader}
 use Rattle.line.specs.declared.Event.{Event}
@@ -18,7 +17,6 @@ use Rattle.line.specs.declared.Heard.{Heard}
 use Rattle.line.specs.declared.Heard.the-variants.{Silence, Character}
 use Rattle.line.specs.declared.Profile.{Profile}
 use Rattle.line.specs.declared.Receiver.{Receiver}
-use Rattle.line.specs.declared.Taken.{Taken}
 use Rattle.line.specs.declared.Whole.{Whole}
 use Rattle.turns.specs.declared.Sent.{Sent}
 use Rattle.turns.specs.declared.Sent.the-variants.{Silent}

@@ -7,7 +7,7 @@ use lib.ListN.{length}
 use Rattle.line.specs.Profile.{profileMade}
 use Rattle.line.specs.declared.MadeProfile.the-variants.{Made}
 use Rattle.line.specs.declared.Profile.{Profile}
-use Rattle.turns.specs.Master.{Called, accepted, masterStarts}
+use Rattle.turns.specs.Master.{accepted, masterStarts}
 use Rattle.turns.specs.Device.{deviceStarts}
 use Rattle.turns.specs.Link.{MasterSide, DeviceSide, DeviceStep, Link, LinkStep, Calls, sides, run}
 use Rattle.turns.specs.declared.Sent.{Sent}
