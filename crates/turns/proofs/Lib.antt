@@ -2,6 +2,7 @@
 pub mod AckBack
 pub mod Beginning
 pub mod Begun
+pub mod Bursting
 pub mod DeviceSpeaking
 pub mod DeviceTaking
 pub mod Devices
@@ -14,6 +15,7 @@ pub mod NoTwoSend
 pub mod Phases
 pub mod Premises
 pub mod Quiet
+pub mod Rules
 pub mod Sending
 pub mod Silences
 pub mod SilentTick

@@ -1,0 +1,117 @@
+-- "A device bursts from the first character of an ACK whose answer turned burst on until the first character of one whose answer turned it off": the field `burst` changes there and nowhere else, in any state, whatever is heard and called.
+use Prim.Native.Nat.{ℕ, _+_, _-_}
+use mathlib.Core.Path.{_≡_, refl, sym, ap, subst, _∙_}
+use mathlib.Core.Bool.{Bool, true, false}
+use mathlib.Core.List.{List}
+use lib.ListN.{length}
+use Rattle.base.specs.Choice.{if_then_else_, _<?_, _=?_, _outside_to_}
+use Rattle.base.specs.Store.{stored}
+use Rattle.frame.specs.Address.{byteAt}
+use Rattle.frame.specs.Delimiter.{stx}
+use Rattle.line.specs.Reader.{taken}
+use Rattle.line.specs.declared.Event.{Event}
+use Rattle.line.specs.declared.Event.the-variants.{Nothing, PassedOver, Broken, Frame, Damaged}
+use Rattle.line.specs.declared.Heard.{Heard}
+use Rattle.line.specs.declared.Heard.the-variants.{Silence, Character}
+use Rattle.line.specs.declared.Receiver.{Receiver}
+use Rattle.turns.specs.Master.{Called, accepted, refused, isBroadcast}
+use Rattle.turns.specs.Device.{isOwn, hasError, backDue, counts, onSilence, onCharacter, onHeard, deviceTakes, wished, wishRefused, answeredBy, answered, answerFrame, contentGiven, backLength, sendsBy, deviceSends, begunFrame}
+use Rattle.turns.specs.Link.{DeviceCall, no-call, gives-answer, gives-content, Answer, none, was-taken, was-refused, DeviceSide, DeviceStep, deviceSent, answerCalled, contentCalled, deviceCalls, deviceTick, deviceData, heardFrame}
+use Rattle.turns.specs.declared.Sent.{Sent}
+use Rattle.turns.specs.declared.Turn.{Turn}
+use Rattle.turns.specs.declared.Turn.the-variants.{Listens, Asked, Accepted, Begins, Answers, Follows, Bursts}
+use Rattle.turns.specs.declared.Device.{Device}
+use Rattle.turns.specs.declared.DeviceTaken.{DeviceTaken}
+use Rattle.turns.specs.declared.DeviceTold.{DeviceTold}
+use Rattle.turns.specs.declared.DeviceSent.{DeviceSent}
+use Rattle.turns.specs.declared.Wish.{Wish}
+
+-- ---- what was heard leaves it
+
+pub if-both : {A : Type 0} (P : A → Type 0) (t : Bool) (a b : A) → P a → P b → P (if t then a else b)
+unfolding if_then_else_
+if-both P true a b p q = p
+if-both P false a b p q = q
+
+if-taken : {v : Bool} (t : Bool) (a b : DeviceTaken) → a .device .burst ≡ v → b .device .burst ≡ v → (if t then a else b) .device .burst ≡ v
+if-taken {v} t a b p q = if-both (λ (x : DeviceTaken). x .device .burst ≡ v) t a b p q
+
+silence-burst : (d : Device) (r : Receiver) (e : Event) → onSilence d r e .device .burst ≡ d .burst
+silence-burst d r Nothing = if-taken (backDue d (d .due)) _ _ refl refl
+silence-burst d r PassedOver = if-taken (backDue d (d .profile .rt1p)) _ _ refl refl
+silence-burst d r Broken = if-taken (backDue d (d .profile .rt1p)) _ _ refl refl
+silence-burst d r (Frame w) = if-taken (backDue d (d .profile .rt1p)) _ _ refl refl
+silence-burst d r (Damaged w m) = if-taken (backDue d (d .profile .rt1p)) _ _ refl refl
+
+character-burst : (d : Device) (r : Receiver) (e : Event) → onCharacter d r e .device .burst ≡ d .burst
+character-burst d r Nothing = refl
+character-burst d r PassedOver = refl
+character-burst d r Broken = refl
+character-burst d r (Frame w) =
+    if-taken (w .header .frame =? stx) _ _ (if-taken (w .expansion =? 0) _ _ (if-taken (isOwn d (w .header)) _ _ refl (if-taken (isBroadcast (w .header)) _ _ refl refl)) refl) refl
+character-burst d r (Damaged w m) = if-taken (hasError d w m) _ _ refl refl
+
+heard-burst : (d : Device) (heard : Heard) → onHeard d heard .device .burst ≡ d .burst
+heard-burst d Silence = silence-burst d _ (taken (d .receiver) Silence .event)
+heard-burst d (Character c) = character-burst d _ (taken (d .receiver) (Character c) .event)
+heard-burst d (Heard.Damaged c kind) = character-burst d _ (taken (d .receiver) (Heard.Damaged c kind) .event)
+
+pub takes-burst : (d : Device) (heard : Heard) → deviceTakes d heard .device .burst ≡ d .burst
+unfolding deviceTakes
+takes-burst d heard = if-taken (d .deaf) _ _ refl (heard-burst d heard)
+
+-- ---- sending changes it with the first character of an ACK
+
+pub data BurstTick (v : Bool) (step : DeviceStep) : Type 0 where
+  -- it is as it was
+  same : step .side .device .burst ≡ v → BurstTick v step
+  -- the first character of the ACK in its frame buffer goes out, and the answer's wish takes effect
+  with-ack : (wish : Wish) → step .side .device .burst ≡ wished v wish → step .sent ≡ Sent.Character (byteAt (step .side .frame) 0) → BurstTick v step
+
+module _ (v : Bool) (d : Device) (was : d .burst ≡ v) (frame bytes contents : List ℕ) (told : DeviceTold) (answer : Answer) where
+  step : List ℕ → DeviceSent → DeviceStep
+  step f s = record { side = record { device = s .device; frame = f; bytes = bytes; contents = contents }; sent = s .sent; told = told; answer = answer }
+
+  by-turn : (turn : Turn) → BurstTick v (step (begunFrame d turn contents frame) (sendsBy d (begunFrame d turn contents frame) turn))
+  unfolding step
+  by-turn Listens = same was
+  by-turn (Asked n) = same was
+  by-turn Accepted = same was
+  by-turn Begins = if-both (λ (s : DeviceSent). BurstTick v (step frame s)) (0 + 1 <? d .length) _ _ (with-ack (d .wish) (ap (λ (b : Bool). wished b (d .wish)) was) refl) (with-ack (d .wish) (ap (λ (b : Bool). wished b (d .wish)) was) refl)
+  by-turn (Answers n) = if-both (λ (s : DeviceSent). BurstTick v (step frame s)) (n + 1 <? d .length) _ _ (same was) (same was)
+  by-turn Follows = if-both (λ (s : DeviceSent). BurstTick v (step (begunFrame d Follows contents frame) s)) (0 + 1 <? backLength d) _ _ (same was) (same was)
+  by-turn (Bursts n) = if-both (λ (s : DeviceSent). BurstTick v (step frame s)) (n + 1 <? d .length) _ _ (same was) (same was)
+
+  sent-burst : BurstTick v (deviceSent d frame bytes contents told answer)
+  unfolding deviceSends step
+  sent-burst = by-turn (d .turn)
+
+-- ---- the host's call leaves it
+
+module _ (limit : ℕ) (v : Bool) (d : Device) (was : d .burst ≡ v) (frame bytes contents : List ℕ) (told : DeviceTold) where
+  answer-burst : (wish : Wish) (put : List ℕ) (turn : Turn) → BurstTick v (answerCalled (answeredBy limit d wish (length put) turn) d (answerFrame d wish put) frame bytes contents told)
+  answer-burst wish put Listens = sent-burst v d was frame bytes contents told _
+  answer-burst wish put (Asked n) =
+      if-both (λ (c : Called Device). BurstTick v (answerCalled c d (answerFrame d wish put) frame bytes contents told)) (length put outside 2 to limit) _ _ (sent-burst v d was frame bytes contents told _)
+      (if-both (λ (c : Called Device). BurstTick v (answerCalled c d (answerFrame d wish put) frame bytes contents told)) (wishRefused d wish) _ _ (sent-burst v d was frame bytes contents told _)
+      (sent-burst v _ was (stored frame 0 (answerFrame d wish put)) bytes contents told was-taken))
+  answer-burst wish put Accepted = sent-burst v d was frame bytes contents told _
+  answer-burst wish put Begins = sent-burst v d was frame bytes contents told _
+  answer-burst wish put (Answers n) = sent-burst v d was frame bytes contents told _
+  answer-burst wish put Follows = sent-burst v d was frame bytes contents told _
+  answer-burst wish put (Bursts n) = sent-burst v d was frame bytes contents told _
+
+  content-burst : (command : ℕ) (put : List ℕ) → BurstTick v (contentCalled (contentGiven limit d command (length put)) d put frame bytes contents told)
+  unfolding contentGiven
+  content-burst command put =
+      if-both (λ (c : Called Device). BurstTick v (contentCalled c d put frame bytes contents told)) (command =? 254) _ _ (sent-burst v d was frame bytes contents told _)
+      (if-both (λ (c : Called Device). BurstTick v (contentCalled c d put frame bytes contents told)) (length put outside 2 to limit) _ _ (sent-burst v d was frame bytes contents told _)
+      (sent-burst v _ was frame bytes (stored contents 0 put) told was-taken))
+
+-- ---- the tick
+
+pub burst-tick : (limit : ℕ) (x : DeviceSide) (heard : Heard) (call : DeviceCall) → BurstTick (x .device .burst) (deviceTick limit x heard call)
+unfolding deviceTick answered
+burst-tick limit x heard no-call = sent-burst (x .device .burst) _ (takes-burst (x .device) heard) _ _ _ _ none
+burst-tick limit x heard (gives-answer wish put) = answer-burst limit (x .device .burst) (deviceTakes (x .device) heard .device) (takes-burst (x .device) heard) _ _ _ _ wish put (deviceTakes (x .device) heard .device .turn)
+burst-tick limit x heard (gives-content command put) = content-burst limit (x .device .burst) (deviceTakes (x .device) heard .device) (takes-burst (x .device) heard) _ _ _ _ command put
