@@ -1,6 +1,6 @@
--- "A device bursts from the first character of an ACK whose answer turned burst on until the first character of one whose answer turned it off": the field `burst` changes there and nowhere else, in any state, whatever is heard and called.
+-- Of "A device bursts from the first character of an ACK whose answer turned burst on until the first character of one whose answer turned it off": the field `burst` changes only in a tick in which the device sends the first character of the frame in its buffer, in any state, whatever is heard and called. That this frame is an ACK with the wished flag is said, for the states of a run, in Devices.antt (`Goes`, `answers`).
 use Prim.Native.Nat.{ℕ, _+_, _-_}
-use mathlib.Core.Path.{_≡_, refl, sym, ap, subst, _∙_}
+use mathlib.Core.Path.{_≡_, refl}
 use mathlib.Core.Bool.{Bool, true, false}
 use mathlib.Core.List.{List}
 use lib.ListN.{length}
@@ -14,9 +14,9 @@ use Rattle.line.specs.declared.Event.the-variants.{Nothing, PassedOver, Broken,
 use Rattle.line.specs.declared.Heard.{Heard}
 use Rattle.line.specs.declared.Heard.the-variants.{Silence, Character}
 use Rattle.line.specs.declared.Receiver.{Receiver}
-use Rattle.turns.specs.Master.{Called, accepted, refused, isBroadcast}
-use Rattle.turns.specs.Device.{isOwn, hasError, backDue, counts, onSilence, onCharacter, onHeard, deviceTakes, wished, wishRefused, answeredBy, answered, answerFrame, contentGiven, backLength, sendsBy, deviceSends, begunFrame}
-use Rattle.turns.specs.Link.{DeviceCall, no-call, gives-answer, gives-content, Answer, none, was-taken, was-refused, DeviceSide, DeviceStep, deviceSent, answerCalled, contentCalled, deviceCalls, deviceTick, deviceData, heardFrame}
+use Rattle.turns.specs.Master.{Called, isBroadcast}
+use Rattle.turns.specs.Device.{isOwn, hasError, backDue, onSilence, onCharacter, onHeard, deviceTakes, wishRefused, answeredBy, answered, answerFrame, contentGiven, backLength, sendsBy, deviceSends, begunFrame}
+use Rattle.turns.specs.Link.{DeviceCall, no-call, gives-answer, gives-content, Answer, none, was-taken, DeviceSide, DeviceStep, deviceSent, answerCalled, contentCalled, deviceTick}
 use Rattle.turns.specs.declared.Sent.{Sent}
 use Rattle.turns.specs.declared.Turn.{Turn}
 use Rattle.turns.specs.declared.Turn.the-variants.{Listens, Asked, Accepted, Begins, Answers, Follows, Bursts}
@@ -65,8 +65,8 @@ takes-burst d heard = if-taken (d .deaf) _ _ refl (heard-burst d heard)
 pub data BurstTick (v : Bool) (step : DeviceStep) : Type 0 where
   -- it is as it was
   same : step .side .device .burst ≡ v → BurstTick v step
-  -- the first character of the ACK in its frame buffer goes out, and the answer's wish takes effect
-  with-ack : (wish : Wish) → step .side .device .burst ≡ wished v wish → step .sent ≡ Sent.Character (byteAt (step .side .frame) 0) → BurstTick v step
+  -- the first character of the frame in its buffer goes out
+  first-character : step .sent ≡ Sent.Character (byteAt (step .side .frame) 0) → BurstTick v step
 
 module _ (v : Bool) (d : Device) (was : d .burst ≡ v) (frame bytes contents : List ℕ) (told : DeviceTold) (answer : Answer) where
   step : List ℕ → DeviceSent → DeviceStep
@@ -77,7 +77,7 @@ module _ (v : Bool) (d : Device) (was : d .burst ≡ v) (frame bytes contents : 
   by-turn Listens = same was
   by-turn (Asked n) = same was
   by-turn Accepted = same was
-  by-turn Begins = if-both (λ (s : DeviceSent). BurstTick v (step frame s)) (0 + 1 <? d .length) _ _ (with-ack (d .wish) (ap (λ (b : Bool). wished b (d .wish)) was) refl) (with-ack (d .wish) (ap (λ (b : Bool). wished b (d .wish)) was) refl)
+  by-turn Begins = if-both (λ (s : DeviceSent). BurstTick v (step frame s)) (0 + 1 <? d .length) _ _ (first-character refl) (first-character refl)
   by-turn (Answers n) = if-both (λ (s : DeviceSent). BurstTick v (step frame s)) (n + 1 <? d .length) _ _ (same was) (same was)
   by-turn Follows = if-both (λ (s : DeviceSent). BurstTick v (step (begunFrame d Follows contents frame) s)) (0 + 1 <? backLength d) _ _ (same was) (same was)
   by-turn (Bursts n) = if-both (λ (s : DeviceSent). BurstTick v (step frame s)) (n + 1 <? d .length) _ _ (same was) (same was)

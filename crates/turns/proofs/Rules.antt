@@ -1,9 +1,9 @@
 -- Laws beside the definitions, for rules that only the wait rests on: the window of a master that gives up, and the alternation of BACKs.
 use Prim.Native.Nat.{ℕ, _+_}
-use mathlib.Core.Path.{_≡_, refl, sym, ap, _∙_}
-use mathlib.Core.Bool.{Bool, true, false}
+use mathlib.Core.Path.{_≡_, refl, ap, _∙_}
+use mathlib.Core.Bool.{true, false}
 use mathlib.Core.List.{List}
-use Rattle.base.specs.Choice.{if_then_else_, _<?_}
+use Rattle.base.specs.Choice.{_<?_}
 use Rattle.base.proofs.Choices.{if-is-true, if-is-false}
 use Rattle.line.specs.declared.Event.{Event}
 use Rattle.turns.specs.Master.{atBreak, rt1Ends, unlessEnded, timerCounted, counts}
