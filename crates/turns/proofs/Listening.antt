@@ -26,9 +26,10 @@ use Rattle.turns.specs.Device.{isOwn, dueAfter, errorFrame, deviceTakes,
 use Rattle.turns.specs.Link.{MasterCall, no-request, requests, DeviceCall, MasterSide, MasterStep, masterCalled, masterTick, masterData, DeviceSide, DeviceStep, deviceCalls, deviceTick, deviceData, heardFrame}
 use Rattle.turns.specs.declared.Sent.{Sent}
 use Rattle.turns.specs.declared.Sent.the-variants.{Silent}
-use Rattle.turns.specs.declared.Stage.the-variants.{Sending}
+use Rattle.turns.specs.declared.Stage.the-variants.{Free, Waiting, Sending}
 use Rattle.turns.specs.declared.Turn.the-variants.{Listens, Asked, Answers, Follows, Bursts}
 use Rattle.turns.specs.declared.Timer.{Timer}
+use Rattle.turns.specs.declared.Message.{Message}
 use Rattle.turns.specs.declared.Master.{Master}
 use Rattle.turns.specs.declared.MasterTaken.{MasterTaken}
 use Rattle.turns.specs.declared.Device.{Device}
@@ -37,7 +38,7 @@ use Rattle.turns.specs.declared.DeviceTold.{DeviceTold}
 use Rattle.turns.proofs.Turns.{listens-follows, asked-follows}
 use Rattle.turns.proofs.Spoken.{Spoken}
 use Rattle.turns.proofs.Masters as M
-use Rattle.turns.proofs.Masters.{Holds, Formed, Still, master-goes}
+use Rattle.turns.proofs.Masters.{Holds, Formed, left, Still, master-goes}
 use Rattle.turns.proofs.Taking as T
 use Rattle.turns.proofs.Devices as D
 use Rattle.turns.proofs.Devices.{Sound, Hand, SameDevice, inHand, device-goes}
@@ -67,6 +68,8 @@ pub record Rests (p : Profile) (primary : Bool) (t : Master) (step : MasterStep)
   pub same-burst : step .side .master .burst ≡ t .burst
   pub same-noted : step .side .master .noted ≡ t .noted
   pub same-timer : step .side .master .timer ≡ t .timer
+  pub rested : M.Rested t (step .side .master .message)
+  pub shut : step .side .master .message .stage ≡ Waiting → t .timer .window ≡ 0
 
 -- a master that begins its STX behind what it heard
 pub record Starts (p : Profile) (primary : Bool) (t : Master) (step : MasterStep) : Type 0 where
@@ -81,9 +84,11 @@ pub record Starts (p : Profile) (primary : Bool) (t : Master) (step : MasterStep
   pub header-is : message .header ≡ step .side .master .message .header
   pub no-expansion : message .expansion ≡ 0
   pub type-is : message .header .frame ≡ stx
+  pub bit-is : message .header .primary ≡ primary
   pub same-burst : step .side .master .burst ≡ t .burst
   pub same-noted : step .side .master .noted ≡ t .noted
   pub in-window : 0 < t .timer .window
+  pub counts : M.Counts t (step .side .master .message)
 
 pub data Does (p : Profile) (primary : Bool) (t : Master) (step : MasterStep) : Type 0 where
   does-rest : Rests p primary t step → Does p primary t step
@@ -106,7 +111,7 @@ master-does limit p primary x heard call small is took = go (master-goes limit t
     room = omega (arith, is .room, frame-room limit x heard call)
 
     go : M.Goes (t .master) step → Does p primary (t .master) step
-    go (M.rests g e s v f z) =
+    go (M.rests g e s v f z y) =
         does-rest (record {
           listens = record {
             is-it = record {
@@ -116,15 +121,17 @@ master-does limit p primary x heard call small is took = go (master-goes limit t
             };
             hears = ap (λ (m : Master). m .deaf) e;
             still = subst (λ (m : Master). Still (m .message .stage)) (sym e) v;
-            formed = subst (λ (m : Master). Formed (step .side .frame) (m .message)) (sym e) f;
+            formed = subst (λ (m : Master). Formed (m .primary) (step .side .frame) (m .message)) (sym e) f;
           };
           silent = s;
           same-receiver = ap (λ (m : Master). m .receiver) e;
           same-burst = ap (λ (m : Master). m .burst) e;
           same-noted = ap (λ (m : Master). m .noted) e;
           same-timer = ap (λ (m : Master). m .timer) e;
+          rested = subst (λ (m : Master). M.Rested (t .master) (m .message)) (sym e) y;
+          shut = λ q. z (ap (λ (m : Master). m .message .stage) (sym e) ∙ q);
         })
-    go (M.begins g w message e s c h a y k z) =
+    go (M.begins g w message e s c h a y k u z n) =
         does-start (record {
           w = w;
           message = message;
@@ -141,9 +148,11 @@ master-does limit p primary x heard call small is took = go (master-goes limit t
           header-is = a ∙ ap (λ (m : Master). m .message .header) (sym e);
           no-expansion = y;
           type-is = ap (λ (h : Header). h .frame) a ∙ k;
+          bit-is = ap (λ (h : Header). h .primary) a ∙ u ∙ took .same-primary ∙ is .primary-is;
           same-burst = ap (λ (m : Master). m .burst) e;
           same-noted = ap (λ (m : Master). m .noted) e;
           in-window = z;
+          counts = subst (λ (m : Master). M.Counts (t .master) (m .message)) (sym e) n;
         })
 
 -- a timer that has just been set has no open window
@@ -154,6 +163,14 @@ if-shut false a b p q = q
 
 shut-timer : (m : Master) (burst : Bool) (h : Header) → timerAfter m burst h .window ≡ 0
 shut-timer m burst h = if-shut burst _ _ (if-shut (h .frame =? back) _ _ (if-shut (toItself m h) _ _ refl refl) refl) (if-shut (h .frame =? ack) _ _ (if-shut (toItself m h) _ _ refl refl) refl)
+
+-- the message is as it was before what was heard
+rested-as : {m t : Master} {g : Message} → t .message ≡ m .message → M.Rested t g → M.Rested m g
+rested-as e r = record {
+  same-left = r .same-left ∙ ap (λ (g : Message). left (g .stage)) e;
+  same-attempts = λ z. r .same-attempts z ∙ ap (λ (g : Message). g .attempts) e;
+  waits-on = λ z. let q = r .waits-on (ap (λ (g : Message). g .stage) e ∙ z) in (q .0, q .1 ∙ ap (λ (g : Message). g .attempts) e);
+}
 
 -- with no open window it rests
 rests-shut : {p : Profile} {primary : Bool} {t : Master} {step : MasterStep} → t .timer .window ≡ 0 → Does p primary t step → Rests p primary t step
@@ -168,6 +185,7 @@ module _ (limit : ℕ) (small : limit ≤ 255) (p : Profile) (primary : Bool) (x
     pub receiver-is : step .side .master .receiver ≡ r
     pub same-burst : step .side .master .burst ≡ x .master .burst
     pub same-noted : step .side .master .noted ≡ x .master .noted
+    pub rested : M.Rested (x .master) (step .side .master .message)
 
   pub master-mid : (w : List ℕ) (message : Whole) (k : ℕ) → Spoken w message → suc k < length w → x .master .receiver ≡ readerAfter idle (take k w)
       → HeardMid (readerAfter idle (take (suc k) w)) (masterTick limit x (Character (getD w k 0)) call)
@@ -181,6 +199,7 @@ module _ (limit : ℕ) (small : limit ≤ 255) (p : Profile) (primary : Bool) (x
         receiver-is = rest .same-receiver ∙ took .receiver-is;
         same-burst = rest .same-burst ∙ took .burst-is;
         same-noted = rest .same-noted ∙ took .noted-is;
+        rested = rested-as (took .same-message) (rest .rested);
       }
 
   -- at a frame's end
@@ -191,6 +210,8 @@ module _ (limit : ℕ) (small : limit ≤ 255) (p : Profile) (primary : Bool) (x
     pub burst-is : step .side .master .burst ≡ burstAfter (x .master .burst) (x .master .noted) (message .header)
     pub noted-is : step .side .master .noted ≡ notedAfter (x .master .noted) (message .header)
     pub timer-is : step .side .master .timer ≡ timerAfter (x .master) (burstAfter (x .master .burst) (x .master .noted) (message .header)) (message .header)
+    pub gone : left (step .side .master .message .stage) ≡ 0
+    pub waits-on : x .master .message .stage ≡ Waiting → (step .side .master .message .stage ≡ Waiting) × (step .side .master .message .attempts ≡ x .master .message .attempts)
 
   pub master-frame : (w : List ℕ) (message : Whole) (k : ℕ) → Spoken w message → suc k ≡ length w → x .master .receiver ≡ readerAfter idle (take k w)
       → HeardFrame message (masterTick limit x (Character (getD w k 0)) call)
@@ -206,6 +227,8 @@ module _ (limit : ℕ) (small : limit ≤ 255) (p : Profile) (primary : Bool) (x
         burst-is = rest .same-burst ∙ took .burst-is;
         noted-is = rest .same-noted ∙ took .noted-is;
         timer-is = rest .same-timer ∙ took .timer-is;
+        gone = rest .rested .same-left ∙ took .gone;
+        waits-on = λ z. let q = took .waits-on z in let r = rest .rested .waits-on (q .0) in (r .0, r .1 ∙ q .1);
       }
 
   -- on the silent line
@@ -216,6 +239,11 @@ module _ (limit : ℕ) (small : limit ≤ 255) (p : Profile) (primary : Bool) (x
     pub next-is : t .timer .next ≡ timerCounted (x .master) .next
     pub quiet-is : t .timer .quiet ≡ timerCounted (x .master) .quiet
     pub window-is : t .timer .window ≤ timerCounted (x .master) .window
+    pub one-less : left (t .message .stage) ≡ left (x .master .message .stage) - 1
+    pub same-attempts : t .message .attempts ≡ x .master .message .attempts
+    pub retried : 1 ≤ left (x .master .message .stage) → t .message .stage ≡ Waiting → x .master .message .attempts ≤ x .master .retries
+    pub free-shut : 1 ≤ left (x .master .message .stage) → t .message .stage ≡ Free → t .timer .window ≡ 0
+    pub waits-on : x .master .message .stage ≡ Waiting → (t .message .stage ≡ Waiting) × (t .timer ≡ timerCounted (x .master))
 
   pub master-silence : Ready (x .master .receiver)
       → SilentIs (masterTakes (x .master) Silence (masterData x Silence) .master) × Does p primary (masterTakes (x .master) Silence (masterData x Silence) .master) (masterTick limit x Silence call)
@@ -229,6 +257,11 @@ module _ (limit : ℕ) (small : limit ≤ 255) (p : Profile) (primary : Bool) (x
           next-is = took .next-is;
           quiet-is = took .quiet-is;
           window-is = took .window-is;
+          one-less = took .one-less;
+          same-attempts = took .same-attempts;
+          retried = took .retried;
+          free-shut = took .free-shut;
+          waits-on = took .waits-on;
         },
         master-does limit p primary x Silence call small (l .is-it) (took .took),
       )
@@ -241,9 +274,10 @@ pub record Finished (p : Profile) (primary : Bool) (x : MasterSide) (step : Mast
   pub same-burst : step .side .master .burst ≡ x .master .burst
   pub same-noted : step .side .master .noted ≡ x .master .noted
   pub same-timer : step .side .master .timer ≡ x .master .timer
+  pub rested : M.Rested (x .master) (step .side .master .message)
 
 pub master-finished : (limit : ℕ) (p : Profile) (primary : Bool) (x : MasterSide) (heard : Heard) (call : MasterCall) → limit ≤ 255 → MasterIs p primary x → x .master .deaf ≡ true
-    → Still (x .master .message .stage) → Formed (x .frame) (x .master .message) → x .master .timer .window ≡ 0 → Finished p primary x (masterTick limit x heard call)
+    → Still (x .master .message .stage) → Formed (x .master .primary) (x .frame) (x .master .message) → x .master .timer .window ≡ 0 → Finished p primary x (masterTick limit x heard call)
 master-finished limit p primary x heard call small is deaf still formed shut =
     let e : masterTakes (x .master) heard (masterData x heard) .master ≡ x .master = ap (λ (t : MasterTaken). t .master) (T.takes-nothing (x .master) heard (masterData x heard) deaf) in
     let took : T.Took (x .frame) (x .master) (masterTakes (x .master) heard (masterData x heard) .master) =
@@ -256,6 +290,7 @@ master-finished limit p primary x heard call small is deaf still formed shut =
       same-burst = rest .same-burst ∙ ap (λ (m : Master). m .burst) e;
       same-noted = rest .same-noted ∙ ap (λ (m : Master). m .noted) e;
       same-timer = rest .same-timer ∙ ap (λ (m : Master). m .timer) e;
+      rested = rested-as (ap (λ (m : Master). m .message) e) (rest .rested);
     }
 
 -- ---- devices

@@ -55,7 +55,7 @@ pub record MasterListens (p : Profile) (primary : Bool) (x : MasterSide) : Type 
   pub is-it : MasterIs p primary x
   pub hears : x .master .deaf ≡ false
   pub still : Still (x .master .message .stage)
-  pub formed : Formed (x .frame) (x .master .message)
+  pub formed : Formed (x .master .primary) (x .frame) (x .master .message)
 
 pub record DeviceListens (p : Profile) (x : DeviceSide) : Type 0 where
   pub profile-is : x .device .profile ≡ p

@@ -113,6 +113,7 @@ master-tick limit small p primary burst noted C x call q bc f = go (m .1)
           header-is = s .header-is;
           no-expansion = s .no-expansion;
           type-is = s .type-is;
+          bit-is = s .bit-is;
           place = S.inside (omega (arith, s .held .speaks .long)) (s .stage-is);
         })
 

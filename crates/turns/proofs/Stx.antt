@@ -105,8 +105,8 @@ stx-tick limit low high p v primary other burst noted k w message x y xs cx cy c
         let q = all-quiet limit heard cs (device-hears-on limit low high p (v .some-sto) w message sp k 0 below) (o .devices) in
         goes-on (s .0) (t .0) (all-carried q)
         (record { speaks = s .1; hears = t .1; devices = all-sides q; distinct = all-distinct q (o .distinct); agreed = agreed-same q (o .agreed) })
-    go (finished last timer still) =
-        let s = speaks-out limit high p primary burst noted w message k x heard cx timer still (o .speaks) in
+    go (finished last timer still left) =
+        let s = speaks-out limit high p primary burst noted w message k x heard cx timer still left (o .speaks) in
         let t = master-frame limit high p other y cy (o .hears .listens) w message k sp last (o .hears .receiver-is) in
         let q = all-quiet limit heard cs (device-hears-stx limit low high p (v .some-sto) w message sp k last (o .speaks .no-expansion) (o .speaks .type-is)) (o .devices) in
         let b = stx-burst (y .master .burst) (y .master .noted) (message .header) (o .speaks .type-is) in
