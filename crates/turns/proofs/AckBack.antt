@@ -143,6 +143,7 @@ module _ (limit : ℕ) (low : 2 ≤ limit) (high : limit ≤ 255) (p : Profile) 
             silent = r .silent;
             same = r .same;
             same-burst = r .same-burst;
+            same-primary = r .same-primary;
             good = record {
               listens = r .listens;
               ready = subst Ready (sym (r .same-receiver ∙ s .receiver-is)) passing-ready;
@@ -169,6 +170,7 @@ module _ (limit : ℕ) (low : 2 ≤ limit) (high : limit ≤ 255) (p : Profile) 
       silent = e .silent;
       same = e .same;
       same-burst = e .same-burst;
+      same-primary = e .same-primary;
       good = record {
         listens = e .listens;
         ready = subst Ready (sym (e .receiver-is)) idle-ready;
@@ -210,6 +212,7 @@ module _ (limit : ℕ) (low : 2 ≤ limit) (high : limit ≤ 255) (p : Profile) 
         silent = q .0 .silent;
         same = q .0 .same;
         same-burst = q .0 .same-burst;
+        same-primary = q .0 .same-primary;
         good = record {
           listens = q .0 .good .listens;
           ready = q .0 .good .ready;
@@ -227,6 +230,7 @@ module _ (limit : ℕ) (low : 2 ≤ limit) (high : limit ≤ 255) (p : Profile) 
         silent = q .0 .silent;
         same = q .0 .same;
         same-burst = q .0 .same-burst;
+        same-primary = q .0 .same-primary;
         good = record { listens = q .0 .good .listens; receiver-is = q .1; another = λ e. h .another (sym (q .0 .same .same-unique) ∙ e) };
       }
 

@@ -127,12 +127,13 @@ device-does limit low high p some g h n x call q = go (device-silence limit low 
     one-more w message k = omega (arith, k .speaks .long)
 
     go : L.DeviceSilent limit low high p some x call (q .listens) s → DeviceDoes p g h n x s
-    go (L.stays-quiet listens sil same rec bur due nd less kept) =
+    go (L.stays-quiet listens sil same rec bur due nd less kept pri req) =
         does-rest (record {
           quietly = record {
             silent = sil;
             same = same;
             same-burst = bur;
+            same-primary = pri;
             good = record {
               listens = listens;
               ready = subst Ready (sym rec) idle-ready;
@@ -144,7 +145,7 @@ device-does limit low high p some g h n x call q = go (device-silence limit low 
           idle-is = rec;
           not-due = λ b e. nd b (q .back-due b ∙ e);
         })
-    go (L.begins-answer t burst b same tb hd own short nl req) =
+    go (L.begins-answer t burst b same tb hd own short nl req first) =
         does-answer (omega (arith, q .in-time, one-in-hand (x .device) (x .frame) (q .listens .hand) nl))
         (record {
           w = b .w;
@@ -169,7 +170,7 @@ device-does limit low high p some g h n x call q = go (device-silence limit low 
           short-same = short;
           asked = q .asked-own nl;
         })
-    go (L.begins-back t b command same tb tp on one hd) =
+    go (L.begins-back t b command same tb tp on one hd next) =
         does-burst (sym (q .back-due on) ∙ one)
         (record {
           w = b .w;

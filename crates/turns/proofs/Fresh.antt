@@ -145,6 +145,7 @@ fresh-device limit low high p v heard x call s =
       silent = r .silent;
       same = r .same;
       same-burst = r .same-burst;
+      same-primary = r .same-primary;
       good = record {
         listens = r .listens;
         ready = subst Ready (sym (r .same-receiver ∙ ap (λ (d : Device). d .receiver) e)) passing-ready;

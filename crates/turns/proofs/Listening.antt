@@ -22,7 +22,7 @@ use Rattle.line.specs.declared.Receiver.{Receiver}
 use Rattle.line.specs.declared.Whole.{Whole}
 use Rattle.line.proofs.Leads.{readerAfter}
 use Rattle.turns.specs.Master.{Called, accepted, refused, burstAfter, notedAfter, timerAfter, timer, timerCounted, burstCounted, masterTakes, toItself, requested, requestHeader}
-use Rattle.turns.specs.Device.{isOwn, dueAfter, errorFrame, deviceTakes, answerHeader}
+use Rattle.turns.specs.Device.{isOwn, dueAfter, errorFrame, deviceTakes, answerHeader, firstFor}
 use Rattle.turns.specs.Link.{MasterCall, no-request, requests, DeviceCall, MasterSide, MasterStep, masterCalled, masterTick, masterData, DeviceSide, DeviceStep, deviceCalls, deviceTick, deviceData, heardFrame}
 use Rattle.turns.specs.declared.Sent.{Sent}
 use Rattle.turns.specs.declared.Sent.the-variants.{Silent}
@@ -337,6 +337,7 @@ pub record DeviceRests (p : Profile) (x : DeviceSide) (t : Device) (step : Devic
   pub same : SameDevice (x .device) (step .side .device)
   pub same-receiver : step .side .device .receiver ≡ t .receiver
   pub same-burst : step .side .device .burst ≡ t .burst
+  pub same-primary : step .side .device .primary ≡ t .primary
   pub same-due : step .side .device .due ≡ t .due
   pub same-request : step .side .device .request ≡ t .request
   pub less-in-hand : inHand (step .side .device .turn) ≤ inHand (t .turn)
@@ -350,6 +351,7 @@ rests-from p x t step q same (D.rests sd sil deaf rec bur pri due req less hand 
   same = joined same sd;
   same-receiver = rec;
   same-burst = bur;
+  same-primary = pri;
   same-due = due;
   same-request = req;
   less-in-hand = less;
@@ -379,6 +381,7 @@ pub record FollowsOn (x : DeviceSide) (step : DeviceStep) : Type 0 where
   pub begun : D.Begun (x .device) step Bursts (x .device .burst)
   pub command : ℕ
   pub header-is : begun .message .header ≡ D.backFor (x .device) command
+  pub primary-is : step .side .device .primary ≡ (if x .device .primary then false else true)
 
 pub device-follows : (limit : ℕ) (x : DeviceSide) (heard : Heard) (call : DeviceCall) → 2 ≤ limit → limit ≤ 255 → 1 ≤ x .device .profile .sto → x .device .deaf ≡ true
     → Sound (x .device) (x .frame) (x .contents) → x .device .turn ≡ Follows → x .device .burst ≡ true → FollowsOn x (deviceTick limit x heard call)
@@ -387,7 +390,7 @@ device-follows limit x heard call low high some deaf sound turn on = go (deaf-do
     go : D.Goes (x .device) (deviceTick limit x heard call) → FollowsOn x (deviceTick limit x heard call)
     go (D.rests sd sil deaf′ rec bur pri due req less hand sound′ nb) = absurd (nb turn)
     go (D.answers burst primary b hd req own short nl nf nb) = absurd (nb turn)
-    go (D.bursts b command f hd pr) = record { begun = b; command = command; header-is = hd }
+    go (D.bursts b command f hd pr) = record { begun = b; command = command; header-is = hd; primary-is = pr }
 
 module _ (limit : ℕ) (low : 2 ≤ limit) (high : limit ≤ 255) (p : Profile) (some : 1 ≤ p .sto) (x : DeviceSide) (call : DeviceCall) (l : DeviceListens p x) where
   some-own : 1 ≤ x .device .profile .sto
@@ -400,6 +403,7 @@ module _ (limit : ℕ) (low : 2 ≤ limit) (high : limit ≤ 255) (p : Profile) 
     pub same : SameDevice (x .device) (step .side .device)
     pub receiver-is : step .side .device .receiver ≡ r
     pub same-burst : step .side .device .burst ≡ x .device .burst
+    pub same-primary : step .side .device .primary ≡ x .device .primary
 
   pub device-mid : (w : List ℕ) (message : Whole) (k : ℕ) → Spoken w message → suc k < length w → x .device .receiver ≡ readerAfter idle (take k w)
       → DeviceMid (readerAfter idle (take (suc k) w)) (deviceTick limit x (Character (getD w k 0)) call)
@@ -414,6 +418,7 @@ module _ (limit : ℕ) (low : 2 ≤ limit) (high : limit ≤ 255) (p : Profile) 
         same = rest .same;
         receiver-is = rest .same-receiver ∙ took .receiver-is;
         same-burst = rest .same-burst ∙ took .took .same-burst;
+        same-primary = rest .same-primary ∙ took .took .same-primary;
       }
 
   -- at a frame's end
@@ -423,10 +428,12 @@ module _ (limit : ℕ) (low : 2 ≤ limit) (high : limit ≤ 255) (p : Profile) 
     pub same : SameDevice (x .device) (step .side .device)
     pub receiver-is : step .side .device .receiver ≡ idle
     pub same-burst : step .side .device .burst ≡ x .device .burst
+    pub same-primary : step .side .device .primary ≡ x .device .primary
     pub due-is : step .side .device .due ≡ (if message .header .frame =? stx then p .rt1p else dueAfter (x .device) (message .header))
     pub in-time : inHand (step .side .device .turn) ≤ p .sto
     pub asked-own : (step .side .device .turn ≡ Listens → ⊥) → isOwn (x .device) (message .header) ≡ true
     pub only-stx : (step .side .device .turn ≡ Listens → ⊥) → message .header .frame ≡ stx
+    pub request-is : (step .side .device .turn ≡ Listens → ⊥) → step .side .device .request ≡ message .header
 
   pub device-frame : (w : List ℕ) (message : Whole) (k : ℕ) → Spoken w message → suc k ≡ length w → x .device .receiver ≡ readerAfter idle (take k w) → message .expansion ≡ 0
       → DeviceFrame message (deviceTick limit x (Character (getD w k 0)) call)
@@ -462,10 +469,12 @@ module _ (limit : ℕ) (low : 2 ≤ limit) (high : limit ≤ 255) (p : Profile) 
             same = rest .same;
             receiver-is = rest .same-receiver ∙ took .receiver-is;
             same-burst = rest .same-burst ∙ took .took .same-burst;
+            same-primary = rest .same-primary ∙ took .took .same-primary;
             due-is = rest .same-due ∙ due ∙ rt1p-is ∙ sym (if-is-true (message .header .frame =? stx) (p .rt1p) (dueAfter (x .device) (message .header)) (eq-eqb (message .header .frame) stx type));
             in-time = omega (arith, rest .less-in-hand, ap inHand turn, ap (λ (q : Profile). q .sto) (l .profile-is));
             asked-own = λ z. own;
             only-stx = λ z. type;
+            request-is = λ z. rest .same-request ∙ req;
           }
       by-turn (DT.listens-on turn due) =
           let rest = rests-from p x t step (l .profile-is) (took .took .same) goes (λ a b. a turn) (λ f. listens-follows (sym turn ∙ f)) in
@@ -476,21 +485,23 @@ module _ (limit : ℕ) (low : 2 ≤ limit) (high : limit ≤ 255) (p : Profile) 
             same = rest .same;
             receiver-is = rest .same-receiver ∙ took .receiver-is;
             same-burst = rest .same-burst ∙ took .took .same-burst;
+            same-primary = rest .same-primary ∙ took .took .same-primary;
             due-is = rest .same-due ∙ due ∙ ap (λ (n : ℕ). if message .header .frame =? stx then n else dueAfter (x .device) (message .header)) rt1p-is;
             in-time = omega (arith, rest .less-in-hand, ap inHand turn);
             asked-own = λ z. absurd (z still);
             only-stx = λ z. absurd (z still);
+            request-is = λ z. absurd (z still);
           }
 
   -- on the silent line
   pub data DeviceSilent (step : DeviceStep) : Type 0 where
     stays-quiet : DeviceListens p (step .side) → step .sent ≡ Silent → SameDevice (x .device) (step .side .device) → step .side .device .receiver ≡ idle → step .side .device .burst ≡ x .device .burst
         → step .side .device .due ≡ x .device .due - 1 → (x .device .burst ≡ true → x .device .due ≡ 1 → ⊥) → inHand (step .side .device .turn) ≤ inHand (x .device .turn) - 1
-        → ((step .side .device .turn ≡ Listens → ⊥) → x .device .turn ≡ Listens → ⊥) → DeviceSilent step
+        → ((step .side .device .turn ≡ Listens → ⊥) → x .device .turn ≡ Listens → ⊥) → step .side .device .primary ≡ x .device .primary → step .side .device .request ≡ x .device .request → DeviceSilent step
     begins-answer : (t : Device) (burst : Bool) (b : D.Begun t step Answers burst) → SameDevice (x .device) t → t .burst ≡ x .device .burst → b .message .header ≡ answerHeader (x .device .request) burst
-        → isOwn (x .device) (x .device .request) ≡ true → (x .device .request .long ≡ false → burst ≡ x .device .burst) → (x .device .turn ≡ Listens → ⊥) → step .side .device .request ≡ x .device .request → DeviceSilent step
+        → isOwn (x .device) (x .device .request) ≡ true → (x .device .request .long ≡ false → burst ≡ x .device .burst) → (x .device .turn ≡ Listens → ⊥) → step .side .device .request ≡ x .device .request → step .side .device .primary ≡ firstFor (x .device) → DeviceSilent step
     begins-back : (t : Device) (b : D.Begun t step Bursts (t .burst)) (command : ℕ) → SameDevice (x .device) t → t .burst ≡ x .device .burst → t .primary ≡ x .device .primary
-        → x .device .burst ≡ true → x .device .due ≡ 1 → b .message .header ≡ D.backFor t command → DeviceSilent step
+        → x .device .burst ≡ true → x .device .due ≡ 1 → b .message .header ≡ D.backFor t command → step .side .device .primary ≡ (if x .device .primary then false else true) → DeviceSilent step
 
   pub device-silence : Ready (x .device .receiver) → DeviceSilent (deviceTick limit x Silence call)
   unfolding Ready
@@ -514,7 +525,7 @@ module _ (limit : ℕ) (low : 2 ≤ limit) (high : limit ≤ 255) (p : Profile) 
       by-turn : DT.SilentTurn (x .device) (deviceTakes (x .device) Silence) → D.Goes t step → DeviceSilent step
       by-turn (DT.back-is-due on one f) (D.rests sd sil deaf rec bur pri due req less hand sound nb) = absurd (nb f)
       by-turn (DT.back-is-due on one f) (D.answers burst primary b hd req own short nl nf nb) = absurd (nb f)
-      by-turn (DT.back-is-due on one f) (D.bursts b command g hd pr) = begins-back t b command same (took .took .same-burst) (took .took .same-primary) on one hd
+      by-turn (DT.back-is-due on one f) (D.bursts b command g hd pr) = begins-back t b command same (took .took .same-burst) (took .took .same-primary) on one hd (pr ∙ ap (λ (b : Bool). if b then false else true) (took .took .same-primary))
       by-turn (DT.counts-on nd due req nf less ll) (D.rests sd sil deaf rec bur pri due′ req′ less′ hand sound nb) =
           stays-quiet
           (record { profile-is = sd .same-profile ∙ same .same-profile ∙ l .profile-is; hears = deaf; hand = hand; sound = sound })
@@ -526,6 +537,8 @@ module _ (limit : ℕ) (low : 2 ≤ limit) (high : limit ≤ 255) (p : Profile) 
           nd
           (omega arith)
           (λ z q. z (hand-listens (step .side .device) (step .side .frame) hand (omega (arith, ap inHand (ll q)))))
+          (pri ∙ took .took .same-primary)
+          (req′ ∙ req)
       by-turn (DT.counts-on nd due req nf less ll) (D.answers burst primary b hd req′ own short nl nq nb) =
           begins-answer t burst b same (took .took .same-burst)
           (hd ∙ ap (λ (h : Header). answerHeader h burst) req)
@@ -533,4 +546,5 @@ module _ (limit : ℕ) (low : 2 ≤ limit) (high : limit ≤ 255) (p : Profile) 
           (λ q. short (ap (λ (h : Header). h .long) req ∙ q) ∙ took .took .same-burst)
           (λ q. nl (ll q))
           (req′ ∙ req)
+          (primary ∙ (λ i. if took .took .same-burst i then took .took .same-primary i else true))
       by-turn (DT.counts-on nd due req nf less ll) (D.bursts b command g hd pr) = absurd (nf g)

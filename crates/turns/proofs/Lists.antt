@@ -18,6 +18,7 @@ pub record Quietly (R : DeviceSide → Type 0) (x : DeviceSide) (s : DeviceStep)
   pub silent : s .sent ≡ Silent
   pub same : SameDevice (x .device) (s .side .device)
   pub same-burst : s .side .device .burst ≡ x .device .burst
+  pub same-primary : s .side .device .primary ≡ x .device .primary
   pub good : R (s .side)
 
 -- a device that sends c in a tick, and of which L holds behind it

@@ -137,6 +137,7 @@ module _ {p : Profile} {g : ℕ} {h : Header} {n : ℕ} where
         silent = q .quietly .silent;
         same = q .quietly .same;
         same-burst = q .quietly .same-burst;
+        same-primary = q .quietly .same-primary;
         good = record { listens = q .quietly .good .listens; receiver-is = q .idle-is ∙ nothing-read w; another = λ e. omega (arith, e, q .quietly .good .listens .sound .unique-low) };
       })
       (still-hears w a)
@@ -147,6 +148,7 @@ module _ {p : Profile} {g : ℕ} {h : Header} {n : ℕ} where
     silent = q .quietly .silent;
     same = q .quietly .same;
     same-burst = q .quietly .same-burst;
+    same-primary = q .quietly .same-primary;
     good = record { listens = q .quietly .good .listens; receiver-is = q .idle-is ∙ nothing-read w; another = λ e. apart (sym (q .quietly .same .same-unique) ∙ e) };
   }
 

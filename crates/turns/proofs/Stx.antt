@@ -43,6 +43,7 @@ module _ (limit : ℕ) (low : 2 ≤ limit) (high : limit ≤ 255) (p : Profile) 
         silent = m .silent;
         same = m .same;
         same-burst = m .same-burst;
+        same-primary = m .same-primary;
         good = record { listens = m .listens; receiver-is = m .receiver-is; another = λ e. h .another (sym (m .same .same-unique) ∙ e) };
       }
 
@@ -55,6 +56,7 @@ module _ (limit : ℕ) (low : 2 ≤ limit) (high : limit ≤ 255) (p : Profile) 
         silent = f .silent;
         same = f .same;
         same-burst = f .same-burst;
+        same-primary = f .same-primary;
         good = record {
           listens = f .listens;
           ready = subst Ready (sym (f .receiver-is)) idle-ready;
