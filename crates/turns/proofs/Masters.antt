@@ -4,6 +4,7 @@ use native.Mathlib.Omega.{arith}
 use mathlib.Core.Path.{_≡_, refl, sym, ap, subst, _∙_}
 use mathlib.Core.Bool.{Bool, true, false}
 use mathlib.Core.List.{List}
+use mathlib.Core.Logic.{_⊎_, inl, inr}
 use lib.ListN.{length, getD, take}
 use lib.Seq.{getD-take}
 use borrow.Author.Tests.{ltb-true, ltb-false, lt-ltb}
@@ -101,6 +102,7 @@ pub record Rested (m : Master) (g : Message) : Type 0 where
 pub record Counts (m : Master) (g : Message) : Type 0 where
   pub some : 1 ≤ g .attempts
   pub again : m .message .stage ≡ Waiting → g .attempts ≡ m .message .attempts + 1
+  pub from : (m .message .stage ≡ Waiting) ⊎ (m .message .stage ≡ Free)
 
 pub data Goes (m : Master) (step : MasterStep) : Type 0 where
   -- it sends nothing: then no message waits in an open window
@@ -147,7 +149,7 @@ module _ (m : Master) (frame bytes : List ℕ) (told : MasterTold) (answer : Ans
           let there : by (0 <? m .timer .window) ≡ masterSent (sends m true (timer 0) g passing (Character (byteAt frame 0))) frame bytes told answer =
           ap (λ (s : MasterSent). masterSent s frame bytes told answer) (if-is-true (0 <? m .timer .window) _ _ q ∙ first) in
           subst (Goes m) (sym there)
-          (begins g w message refl refl (ap Character (h .same 0 (omega (arith, h .speaks .long)))) (record { speaks = h .speaks; sized = h .sized; same = h .same }) a x t u (ltb-true 0 (m .timer .window) q) (record { some = omega arith; again = λ z. refl }))
+          (begins g w message refl refl (ap Character (h .same 0 (omega (arith, h .speaks .long)))) (record { speaks = h .speaks; sized = h .sized; same = h .same }) a x t u (ltb-true 0 (m .timer .window) q) (record { some = omega arith; again = λ z. refl; from = inl e }))
       open-or-not false q f =
           let shut : m .timer .window ≤ 0 = ltb-false 0 (m .timer .window) q in
           subst (Goes m) (sym (ap (λ (s : MasterSent). masterSent s frame bytes told answer) (if-is-false (0 <? m .timer .window) _ _ q)))
@@ -261,7 +263,7 @@ master-goes limit t (requests q put) frame bytes small room v f = go (asks limit
           same-attempts = λ k. absurd (omega (arith, r .same-left, ap left y));
           waits-on = λ k. absurd (free-waiting (sym z ∙ k));
         })
-    other m g z y (begins g′ w′ x a b c d e f h i j k) = begins g′ w′ x a b c d e f h i j (record { some = k .some; again = λ q. absurd (free-waiting (sym z ∙ q)) })
+    other m g z y (begins g′ w′ x a b c d e f h i j k) = begins g′ w′ x a b c d e f h i j (record { some = k .some; again = λ q. absurd (free-waiting (sym z ∙ q)); from = inr z })
 
     go : Asks limit m q (length put) → Goes m (by (requested limit m q (length put)))
     go (is-refused why e) = subst (λ (c : Called Master). Goes m (by c)) (sym e) (sends-still m frame bytes (t .told) (was-refused why) f v)
