@@ -66,19 +66,19 @@ valid p e =
     }
 
 -- a master that started is the fresh one
-master-is : (p : Profile) (primary : Bool) (retries : ℕ) (m : Master) → masterStarts p primary retries ≡ accepted m → m ≡ freshMaster p primary retries
+pub master-is : (p : Profile) (primary : Bool) (retries : ℕ) (m : Master) → masterStarts p primary retries ≡ accepted m → m ≡ freshMaster p primary retries
 master-is p primary retries m e = sym (ap (got m) (went-else (retries outside 3 to 15) (refused BadRetries) (accepted (freshMaster p primary retries)) (accepted m) e refused-accepted .1))
 
 -- and a device, with its addresses in range
-record FreshDevice (p : Profile) (preamble polling unique : ℕ) (d : Device) : Type 0 where
-  preamble-low : 5 ≤ preamble
-  preamble-high : preamble ≤ 20
-  polling-high : polling ≤ largestAddress false
-  unique-low : 1 ≤ unique
-  unique-high : unique ≤ largestAddress true
-  is : d ≡ freshDevice p preamble polling unique
+pub record FreshDevice (p : Profile) (preamble polling unique : ℕ) (d : Device) : Type 0 where
+  pub preamble-low : 5 ≤ preamble
+  pub preamble-high : preamble ≤ 20
+  pub polling-high : polling ≤ largestAddress false
+  pub unique-low : 1 ≤ unique
+  pub unique-high : unique ≤ largestAddress true
+  pub is : d ≡ freshDevice p preamble polling unique
 
-device-is : (p : Profile) (preamble polling unique : ℕ) (d : Device) → deviceStarts p preamble polling unique ≡ accepted d → FreshDevice p preamble polling unique d
+pub device-is : (p : Profile) (preamble polling unique : ℕ) (d : Device) → deviceStarts p preamble polling unique ≡ accepted d → FreshDevice p preamble polling unique d
 device-is p preamble polling unique d e =
     let a = went-else (preamble outside 5 to 20) (refused PreambleLength) _ (accepted d) e refused-accepted in
     let b = went-else (largestAddress false <? polling) (refused Address) _ (accepted d) (a .1) refused-accepted in

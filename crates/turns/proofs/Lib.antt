@@ -8,6 +8,8 @@ pub mod DeviceTaking
 pub mod Devices
 pub mod Example
 pub mod Fresh
+pub mod Kept
+pub mod KeptLink
 pub mod Listening
 pub mod Lists
 pub mod Masters

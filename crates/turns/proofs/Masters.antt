@@ -184,7 +184,7 @@ stx-typed = refl
 -- a request is refused, or it can be written and the master had no message
 pub data Asks (limit : ℕ) (m : Master) (q : Request) (count : ℕ) : Type 0 where
   is-refused : (why : Refusal) → requested limit m q count ≡ refused why → Asks limit m q count
-  is-taken : Fits (q .preamble) (requestHeader m q) count → m .message .stage ≡ Free → requested limit m q count ≡ accepted (withMessage m (newMessage m q count)) → Asks limit m q count
+  is-taken : Fits (q .preamble) (requestHeader m q) count → count ≤ limit → m .message .stage ≡ Free → requested limit m q count ≡ accepted (withMessage m (newMessage m q count)) → Asks limit m q count
 
 pub asks : (limit : ℕ) (m : Master) (q : Request) (count : ℕ) → limit ≤ 255 → Asks limit m q count
 unfolding requested
@@ -221,7 +221,7 @@ asks limit m q count small = first (q .preamble outside 5 to 20) refl
           count-high = omega (arith, ltb-false limit count d);
           enough = stx-enough count;
           typed = stx-typed;
-        }) (free (m .message .stage) e) (if-is-false A _ _ a ∙ if-is-false B _ _ b ∙ if-is-false C _ _ c ∙ if-is-false D _ _ d ∙ if-is-false E _ _ e)
+        }) (ltb-false limit count d) (free (m .message .stage) e) (if-is-false A _ _ a ∙ if-is-false B _ _ b ∙ if-is-false C _ _ c ∙ if-is-false D _ _ d ∙ if-is-false E _ _ e)
 
     fourth : (t : Bool) → D ≡ t → A ≡ false → B ≡ false → C ≡ false → Asks limit m q count
     fourth true d a b c = is-refused DataLong (if-is-false A _ _ a ∙ if-is-false B _ _ b ∙ if-is-false C _ _ c ∙ if-is-true D _ _ d)
@@ -267,7 +267,7 @@ master-goes limit t (requests q put) frame bytes small room v f = go (asks limit
 
     go : Asks limit m q (length put) → Goes m (by (requested limit m q (length put)))
     go (is-refused why e) = subst (λ (c : Called Master). Goes m (by c)) (sym e) (sends-still m frame bytes (t .told) (was-refused why) f v)
-    go (is-taken fits e p) =
+    go (is-taken fits few e p) =
         let g : Message = newMessage m q (length put) in
         let h : Holds (stored frame 0 w) (g .length) w (wholeMessage (requestHeader m q) put) = holds (q .preamble) (requestHeader m q) put frame fits room in
         subst (λ (c : Called Master). Goes m (by c)) (sym p)

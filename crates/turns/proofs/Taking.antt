@@ -321,4 +321,4 @@ master-speaks limit x heard call n w message small deaf e h below =
       where
         go : Asks limit m q (length put) → SpeaksAt x n w (masterCalled (requested limit m q (length put)) m (frameBytes (q .preamble) (requestHeader m q) put) (x .frame) (masterData x heard) MasterTold.Nothing)
         go (is-refused why p) = subst (λ (c : Called Master). SpeaksAt x n w (masterCalled c m (frameBytes (q .preamble) (requestHeader m q) put) (x .frame) (masterData x heard) MasterTold.Nothing)) (sym p) (sent (was-refused why) (masterData x heard))
-        go (is-taken fits f p) = absurd (sending-free (sym e ∙ f))
+        go (is-taken fits few f p) = absurd (sending-free (sym e ∙ f))
