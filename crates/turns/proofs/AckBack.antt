@@ -395,15 +395,15 @@ back-notes noted h u e l a nl na =
     if-is-true (h .frame =? back) _ _ (eq-eqb (h .frame) back e) ∙ (λ i. record { long = (l ∙ sym nl) i; address = (a ∙ sym na) i })
 
 -- the silent line behind an ACK: with BURST clear the master that it is not for comes first; with BURST set a BACK is due in the next tick
-pub data AckEnded (p : Profile) (e : ℕ) (next : Bool) (h : Header) (a b : MasterSide) (xs : List DeviceSide) : Type 0 where
-  ended-clear : ClearLine p e a b xs → a .master .timer ≡ (if itself true h then timer (p .rt2) else timer 1) → b .master .timer ≡ (if itself false h then timer (p .rt2) else timer 1) → AckEnded p e next h a b xs
-  ended-set : SetLine p 1 next a b xs → NoSlot (a .master .timer) → NoSlot (b .master .timer) → AckEnded p e next h a b xs
+pub data AckEnded (p : Profile) (e : ℕ) (burst next : Bool) (h : Header) (a b : MasterSide) (xs : List DeviceSide) : Type 0 where
+  ended-clear : burst ≡ false → NobodyAwaits a b → ClearLine p e a b xs → a .master .timer ≡ (if itself true h then timer (p .rt2) else timer 1) → b .master .timer ≡ (if itself false h then timer (p .rt2) else timer 1) → AckEnded p e burst next h a b xs
+  ended-set : burst ≡ true → NobodyAwaits a b → SetLine p 1 next a b xs → NoSlot (a .master .timer) → NoSlot (b .master .timer) → AckEnded p e burst next h a b xs
 
 pub data AckTick (p : Profile) (e : ℕ) (burst : Bool) (noted : Noted) (next : Bool) (k : ℕ) (w : List ℕ) (message : Whole) (u : ℕ) (on : Bool) (a b : MasterSide) (s t : MasterStep) (ss : List DeviceStep) : Type 0 where
   ack-goes-on : suc k < length w → s .sent ≡ Silent → t .sent ≡ Silent → carried ss ≡ Character (getD w (suc k) 0)
       → OneDeviceSends p an-ack burst noted next (suc k) w message u on (s .side) (t .side) (sides ss) → WaitsOn a s → WaitsOn b t → AckTick p e burst noted next k w message u on a b s t ss
   ack-ends : suc k ≡ length w → on ≡ false → s .sent ≡ Silent → t .sent ≡ Silent → carried ss ≡ Silence
-      → AckEnded p e next (message .header) (s .side) (t .side) (sides ss) → WaitsOn a s → WaitsOn b t → AckTick p e burst noted next k w message u on a b s t ss
+      → AckEnded p e (burstAfter burst noted (message .header)) next (message .header) (s .side) (t .side) (sides ss) → WaitsOn a s → WaitsOn b t → AckTick p e burst noted next k w message u on a b s t ss
   back-follows-it : suc k ≡ length w → on ≡ true → (who : Noted) (w′ : List ℕ) (message′ : Whole) → s .sent ≡ Silent → t .sent ≡ Silent → carried ss ≡ Character (getD w′ 0 0)
       → OneDeviceSends p a-back true who (if next then false else true) 0 w′ message′ u true (s .side) (t .side) (sides ss) → WaitsOn a s → WaitsOn b t → AckTick p e burst noted next k w message u on a b s t ss
 
@@ -412,7 +412,7 @@ pub data BackTick (p : Profile) (burst : Bool) (noted : Noted) (next : Bool) (k 
       → OneDeviceSends p a-back burst noted next (suc k) w message u true (s .side) (t .side) (sides ss) → WaitsOn a s → WaitsOn b t → BackTick p burst noted next k w message u a b s t ss
   back-ends : suc k ≡ length w → s .sent ≡ Silent → t .sent ≡ Silent → carried ss ≡ Silence → SetLine p (p .rt2) next (s .side) (t .side) (sides ss)
       → s .side .master .timer ≡ (if itself true (message .header) then slotTimer p true 0 else slotTimer p true 1) → t .side .master .timer ≡ (if itself false (message .header) then slotTimer p false 0 else slotTimer p false 1)
-      → WaitsOn a s → WaitsOn b t → BackTick p burst noted next k w message u a b s t ss
+      → NobodyAwaits (s .side) (t .side) → WaitsOn a s → WaitsOn b t → BackTick p burst noted next k w message u a b s t ss
 
 -- who sends what stays while the frame goes on
 frame-same : {f : Frames} {on burst next : Bool} {h : Header} {a b c d : MasterSide} → left (c .master .message .stage) ≡ left (a .master .message .stage) → left (d .master .message .stage) ≡ left (b .master .message .stage) → FrameIs on burst next h a b f → FrameIs on burst next h c d f
@@ -494,9 +494,9 @@ module _ (limit : ℕ) (low : 2 ≤ limit) (high : limit ≤ 255) (p : Profile) 
       no-slot primary e = record { no-next = ap (λ (t : Timer). t .next) e; no-window = ap (λ (t : Timer). t .window) e }
 
       by : (c : Bool) → MasterQuiet p true c who x → MasterQuiet p false c who y → x .master .timer ≡ (if c then slotTimer p true 0 else (if itself true h then timer (p .rt2) else timer 1))
-          → y .master .timer ≡ (if c then slotTimer p false 0 else (if itself false h then timer (p .rt2) else timer 1)) → NobodyAwaits x y → {zs : List DeviceSide} → All (DeviceQuiet p 0 h 1) zs → Distinct zs → Agreed c who next zs → AckEnded p e next h x y zs
-      by true qa qb ta tb n qs d g = ended-set (behind-ack-set p v who next h x y _ qa qb ta tb n qs d g) (no-slot true ta) (no-slot false tb)
-      by false qa qb ta tb n qs d g = ended-clear (behind-ack-clear p v e who next h h x y _ qa qb ta tb n qs d g) ta tb
+          → y .master .timer ≡ (if c then slotTimer p false 0 else (if itself false h then timer (p .rt2) else timer 1)) → NobodyAwaits x y → {zs : List DeviceSide} → All (DeviceQuiet p 0 h 1) zs → Distinct zs → Agreed c who next zs → AckEnded p e c next h x y zs
+      by true qa qb ta tb n qs d g = ended-set refl n (behind-ack-set p v who next h x y _ qa qb ta tb n qs d g) (no-slot true ta) (no-slot false tb)
+      by false qa qb ta tb n qs d g = ended-clear refl n (behind-ack-clear p v e who next h h x y _ qa qb ta tb n qs d g) ta tb
 
   ack-on : (e : ℕ) → suc k ≡ length w → message .header .frame ≡ ack → OneDeviceSends p an-ack burst noted next k w message u true a b xs → AckTicks e true
   unfolding if_then_else_
@@ -565,7 +565,7 @@ module _ (limit : ℕ) (low : 2 ≤ limit) (high : limit ≤ 255) (p : Profile) 
       (subst (λ (c : Bool). MasterQuiet p false c (notedAfter noted h) (masterTick limit b heard cb .side)) set (eb .quiet))
       ta tb (record { primary-gone = ea .gone; secondary-gone = eb .gone })
       (all-sides q) (all-distinct q (o .distinct)) (agreed-same q ag))
-      ta tb (ea .waits-on) (eb .waits-on)
+      ta tb (record { primary-gone = ea .gone; secondary-gone = eb .gone }) (ea .waits-on) (eb .waits-on)
 
   pub back-tick : OneDeviceSends p a-back burst noted next k w message u true a b xs
       → BackTick p burst noted next k w message u a b (masterTick limit a (Character (getD w k 0)) ca) (masterTick limit b (Character (getD w k 0)) cb) (deviceTicks limit (Character (getD w k 0)) xs cs)

@@ -32,7 +32,7 @@ use Rattle.turns.proofs.Masters.{left}
 use Rattle.turns.proofs.Listening.{master-finished, device-finished, hand-listens}
 use Rattle.turns.proofs.Lists.{Quietly, all-quiet, all-carried, all-sides, all-distinct, agreed-same}
 use Rattle.turns.proofs.Phases.{BurstIs, MasterQuiet, DeviceQuiet, Ready, passing-ready}
-use Rattle.turns.proofs.Quiet.{SilentLine, breakTimer, behind-break}
+use Rattle.turns.proofs.Quiet.{ClearLine, breakTimer, behind-break-clear}
 
 -- ---- what a start that was accepted tells
 
@@ -171,7 +171,7 @@ pub record FirstTick (p : Profile) (s t : MasterStep) (ss : List DeviceStep) : T
   pub primary-silent : s .sent ≡ Silent
   pub secondary-silent : t .sent ≡ Silent
   pub devices-silent : carried ss ≡ Silence
-  pub silent-line : SilentLine p (p .rt1s) (s .side) (t .side) (sides ss)
+  pub silent-line : ClearLine p (p .rt1s) (s .side) (t .side) (sides ss)
 
 pub first-tick : (limit : ℕ) → 2 ≤ limit → limit ≤ 255 → (p : Profile) → Valid p → (retries : ℕ) (a b : MasterSide) (xs : List DeviceSide) (heard : Heard) (ca cb : MasterCall) (cs : List DeviceCall)
     → MasterStarts p true retries a → MasterStarts p false retries b → All (DeviceStarts p) xs → Distinct xs
@@ -184,7 +184,7 @@ first-tick limit low high p v retries a b xs heard ca cb cs sa sb ds d =
       primary-silent = fa .silent;
       secondary-silent = fb .silent;
       devices-silent = all-carried q;
-      silent-line = behind-break p v (p .rt1s) false nobody true noHeader 0 _ _ _ (omega arith) (fa .quiet) (fb .quiet) (fa .timer-is) (fb .timer-is)
+      silent-line = behind-break-clear p v (p .rt1s) nobody true noHeader 0 _ _ _ (omega arith) (fa .quiet) (fb .quiet) (fa .timer-is) (fb .timer-is)
           (record {
             asked = record { by-primary = λ z. absurd (omega arith); by-secondary = λ z. absurd (omega arith) };
             primary-left = λ z. absurd (omega (arith, fa .gone));

@@ -4,6 +4,7 @@ use native.Mathlib.Omega.{arith}
 use mathlib.Core.Path.{_≡_, refl, sym, ap, subst, _∙_}
 use mathlib.Core.Bool.{Bool, true, false}
 use mathlib.Core.List.{List}
+use mathlib.Core.Logic.{_⊎_}
 use lib.ListN.{length, getD, take}
 use Rattle.base.specs.Choice.{if_then_else_, _=?_}
 use Rattle.base.proofs.Choices.{if-is-true}
@@ -243,6 +244,7 @@ module _ (limit : ℕ) (small : limit ≤ 255) (p : Profile) (primary : Bool) (x
     pub same-attempts : t .message .attempts ≡ x .master .message .attempts
     pub retried : 1 ≤ left (x .master .message .stage) → t .message .stage ≡ Waiting → x .master .message .attempts ≤ x .master .retries
     pub free-shut : 1 ≤ left (x .master .message .stage) → t .message .stage ≡ Free → t .timer .window ≡ 0
+    pub over : 1 ≤ left (x .master .message .stage) → left (t .message .stage) ≡ 0 → (t .message .stage ≡ Waiting) ⊎ (t .message .stage ≡ Free)
     pub waits-on : x .master .message .stage ≡ Waiting → (t .message .stage ≡ Waiting) × (t .timer ≡ timerCounted (x .master))
 
   pub master-silence : Ready (x .master .receiver)
@@ -261,6 +263,7 @@ module _ (limit : ℕ) (small : limit ≤ 255) (p : Profile) (primary : Bool) (x
           same-attempts = took .same-attempts;
           retried = took .retried;
           free-shut = took .free-shut;
+          over = took .over;
           waits-on = took .waits-on;
         },
         master-does limit p primary x Silence call small (l .is-it) (took .took),

@@ -20,7 +20,7 @@ use Rattle.turns.specs.declared.Sent.the-variants.{Silent}
 use Rattle.turns.proofs.DeviceSpeaking.{an-ack, a-back}
 use Rattle.turns.proofs.Windows.{Valid}
 use Rattle.turns.proofs.Begun.{nextAfter}
-use Rattle.turns.proofs.Quiet.{ClearLine, SetLine, SilentLine, clear, set, behind-break}
+use Rattle.turns.proofs.Quiet.{ClearLine, SetLine, SilentLine, clear, set, Awaits, behind-break-set, behind-break-clear}
 use Rattle.turns.proofs.Stx as X
 use Rattle.turns.proofs.Stx.{OneMasterSends, StxEnded, StxTick, stx-tick}
 use Rattle.turns.proofs.SilentTick as T
@@ -49,33 +49,48 @@ pub carries : (s : LinkStep) {x y : Sent} {z : Heard} → s .for-primary .sent �
 carries s a b c = λ i. joins (a i) (joins (b i) (c i))
 
 -- behind an STX its sender awaits the ACK
-pub stx-line : (p : Profile) → Valid p → (e : ℕ) {burst : Bool} {noted : Noted} {next : Bool} {h : Header} {a b : MasterSide} {xs : List DeviceSide} → StxEnded p true false burst noted next h a b xs → SilentLine p e a b xs
+primary-awaits : (p : Profile) → Valid p → (e : ℕ) {burst : Bool} {noted : Noted} {next : Bool} {h : Header} {a b : MasterSide} {xs : List DeviceSide} → StxEnded p true false burst noted next h a b xs → Awaits p e burst next h (p .sto) a b
 unfolding if_then_else_
-stx-line p v e {burst} {noted} {next} {h} {a} {b} {xs} x =
-    behind-break p v e burst noted next h (p .sto) a b xs (omega arith) (x .sender) (x .listener) (x .sender-timer) (x .listener-timer)
-    (record {
-      asked = record { by-primary = λ z q. omega (arith, x .sender-left, v .sto-short); by-secondary = λ z q. absurd (true-false (sym (x .bit-is) ∙ q)) };
-      primary-left = λ z. x .sender-left;
-      secondary-left = λ z. absurd (omega (arith, x .listener-left));
-      primary-next = λ z q. x .turn-is z;
-      secondary-next = λ z q. absurd (omega (arith, x .listener-left));
-      nobody = λ y z. absurd (omega (arith, x .sender-left, v .rt2-short));
-    })
-    (x .devices) (x .distinct) (x .agreed)
+primary-awaits p v e x = record {
+  asked = record { by-primary = λ z q. omega (arith, x .sender-left, v .sto-short); by-secondary = λ z q. absurd (true-false (sym (x .bit-is) ∙ q)) };
+  primary-left = λ z. x .sender-left;
+  secondary-left = λ z. absurd (omega (arith, x .listener-left));
+  primary-next = λ z q. x .turn-is z;
+  secondary-next = λ z q. absurd (omega (arith, x .listener-left));
+  nobody = λ y z. absurd (omega (arith, x .sender-left, v .rt2-short));
+}
 
-pub stx-line-secondary : (p : Profile) → Valid p → (e : ℕ) {burst : Bool} {noted : Noted} {next : Bool} {h : Header} {a b : MasterSide} {xs : List DeviceSide} → StxEnded p false true burst noted next h b a xs → SilentLine p e a b xs
+secondary-awaits : (p : Profile) → Valid p → (e : ℕ) {burst : Bool} {noted : Noted} {next : Bool} {h : Header} {a b : MasterSide} {xs : List DeviceSide} → StxEnded p false true burst noted next h b a xs → Awaits p e burst next h (p .sto) a b
 unfolding if_then_else_
-stx-line-secondary p v e {burst} {noted} {next} {h} {a} {b} {xs} x =
-    behind-break p v e burst noted next h (p .sto) a b xs (omega arith) (x .listener) (x .sender) (x .listener-timer) (x .sender-timer)
-    (record {
-      asked = record { by-primary = λ z q. absurd (true-false (sym q ∙ x .bit-is)); by-secondary = λ z q. omega (arith, x .sender-left, v .sto-short, v .secondary) };
-      primary-left = λ z. absurd (omega (arith, x .listener-left));
-      secondary-left = λ z. x .sender-left;
-      primary-next = λ z q. absurd (omega (arith, x .listener-left));
-      secondary-next = λ z q. x .turn-is z;
-      nobody = λ y z. absurd (omega (arith, x .sender-left, v .rt2-short, v .secondary));
-    })
-    (x .devices) (x .distinct) (x .agreed)
+secondary-awaits p v e x = record {
+  asked = record { by-primary = λ z q. absurd (true-false (sym q ∙ x .bit-is)); by-secondary = λ z q. omega (arith, x .sender-left, v .sto-short, v .secondary) };
+  primary-left = λ z. absurd (omega (arith, x .listener-left));
+  secondary-left = λ z. x .sender-left;
+  primary-next = λ z q. absurd (omega (arith, x .listener-left));
+  secondary-next = λ z q. x .turn-is z;
+  nobody = λ y z. absurd (omega (arith, x .sender-left, v .rt2-short, v .secondary));
+}
+
+module _ (p : Profile) (v : Valid p) (e : ℕ) {noted : Noted} {next : Bool} {h : Header} {a b : MasterSide} {xs : List DeviceSide} where
+  pub primary-set : StxEnded p true false true noted next h a b xs → SetLine p (p .rt1p) next a b xs
+  primary-set x = behind-break-set p v e noted next h (p .sto) a b xs (omega arith) (x .sender) (x .listener) (x .sender-timer) (x .listener-timer) (primary-awaits p v e x) (x .devices) (x .distinct) (x .agreed)
+
+  pub primary-clear : StxEnded p true false false noted next h a b xs → ClearLine p e a b xs
+  primary-clear x = behind-break-clear p v e noted next h (p .sto) a b xs (omega arith) (x .sender) (x .listener) (x .sender-timer) (x .listener-timer) (primary-awaits p v e x) (x .devices) (x .distinct) (x .agreed)
+
+  pub secondary-set : StxEnded p false true true noted next h b a xs → SetLine p (p .rt1p) next a b xs
+  secondary-set x = behind-break-set p v e noted next h (p .sto) a b xs (omega arith) (x .listener) (x .sender) (x .listener-timer) (x .sender-timer) (secondary-awaits p v e x) (x .devices) (x .distinct) (x .agreed)
+
+  pub secondary-clear : StxEnded p false true false noted next h b a xs → ClearLine p e a b xs
+  secondary-clear x = behind-break-clear p v e noted next h (p .sto) a b xs (omega arith) (x .listener) (x .sender) (x .listener-timer) (x .sender-timer) (secondary-awaits p v e x) (x .devices) (x .distinct) (x .agreed)
+
+stx-line : (p : Profile) → Valid p → (e : ℕ) (burst : Bool) {noted : Noted} {next : Bool} {h : Header} {a b : MasterSide} {xs : List DeviceSide} → StxEnded p true false burst noted next h a b xs → SilentLine p e a b xs
+stx-line p v e true {next = next} x = set (p .rt1p) next (primary-set p v e x)
+stx-line p v e false x = clear (primary-clear p v e x)
+
+stx-line-secondary : (p : Profile) → Valid p → (e : ℕ) (burst : Bool) {noted : Noted} {next : Bool} {h : Header} {a b : MasterSide} {xs : List DeviceSide} → StxEnded p false true burst noted next h b a xs → SilentLine p e a b xs
+stx-line-secondary p v e true {next = next} x = set (p .rt1p) next (secondary-set p v e x)
+stx-line-secondary p v e false x = clear (secondary-clear p v e x)
 
 module _ (p : Profile) (v : Valid p) (e : ℕ) (s : LinkStep) where
   behind-clear : {burst : Bool} {noted : Noted} {next : Bool} {a b : MasterSide} → SilentTick p 0 burst noted next a b (s .for-primary) (s .for-secondary) (s .for-devices) (ClearLine p e (s .for-primary .side) (s .for-secondary .side) (sides (s .for-devices))) → Phase p e (linkAfter s)
@@ -94,15 +109,15 @@ module _ (p : Profile) (v : Valid p) (e : ℕ) (s : LinkStep) where
 
   behind-primary : {burst : Bool} {noted : Noted} {next : Bool} {k : ℕ} {w : List ℕ} {message : Whole} {a b : MasterSide} → StxTick p true false burst noted next k w message a b (s .for-primary) (s .for-secondary) (s .for-devices) → Phase p e (linkAfter s)
   behind-primary {burst} {noted} {next} {k} {w} {message} (X.goes-on m a b c o n y) = primary-sends burst noted next (suc k) w message (carries s a b c) o
-  behind-primary (X.ends m a b c x n y) = silent (carries s a b c) (stx-line p v e x)
+  behind-primary {burst} (X.ends m a b c x n y) = silent (carries s a b c) (stx-line p v e burst x)
 
   behind-secondary : {burst : Bool} {noted : Noted} {next : Bool} {k : ℕ} {w : List ℕ} {message : Whole} {a b : MasterSide} → StxTick p false true burst noted next k w message b a (s .for-secondary) (s .for-primary) (s .for-devices) → Phase p e (linkAfter s)
   behind-secondary {burst} {noted} {next} {k} {w} {message} (X.goes-on m a b c o n y) = secondary-sends burst noted next (suc k) w message (carries s b a c) o
-  behind-secondary (X.ends m a b c x n y) = silent (carries s b a c) (stx-line-secondary p v e x)
+  behind-secondary {burst} (X.ends m a b c x n y) = silent (carries s b a c) (stx-line-secondary p v e burst x)
 
-  behind-ended : {next : Bool} {h : Header} → linkAfter s .line ≡ Silence → AckEnded p e next h (s .for-primary .side) (s .for-secondary .side) (sides (s .for-devices)) → Phase p e (linkAfter s)
-  behind-ended q (A.ended-clear l ta tb) = silent q (clear l)
-  behind-ended {next} q (A.ended-set l ta tb) = silent q (set 1 next l)
+  behind-ended : {burst next : Bool} {h : Header} → linkAfter s .line ≡ Silence → AckEnded p e burst next h (s .for-primary .side) (s .for-secondary .side) (sides (s .for-devices)) → Phase p e (linkAfter s)
+  behind-ended q (A.ended-clear z n l ta tb) = silent q (clear l)
+  behind-ended {next = next} q (A.ended-set z n l ta tb) = silent q (set 1 next l)
 
   behind-ack : {burst : Bool} {noted : Noted} {next : Bool} {k : ℕ} {w : List ℕ} {message : Whole} {u : ℕ} {on : Bool} {a b : MasterSide} → AckTick p e burst noted next k w message u on a b (s .for-primary) (s .for-secondary) (s .for-devices) → Phase p e (linkAfter s)
   behind-ack {burst} {noted} {next} {k} {w} {message} {u} {on} (A.ack-goes-on m a b c o x y) = ack-sent burst noted next (suc k) w message u on (carries s a b c) o
@@ -111,7 +126,7 @@ module _ (p : Profile) (v : Valid p) (e : ℕ) (s : LinkStep) where
 
   behind-back : {burst : Bool} {noted : Noted} {next : Bool} {k : ℕ} {w : List ℕ} {message : Whole} {u : ℕ} {a b : MasterSide} → BackTick p burst noted next k w message u a b (s .for-primary) (s .for-secondary) (s .for-devices) → Phase p e (linkAfter s)
   behind-back {burst} {noted} {next} {k} {w} {message} {u} (A.back-goes-on m a b c o x y) = back-sent burst noted next (suc k) w message u (carries s a b c) o
-  behind-back {next = next} (A.back-ends m a b c l ta tb x y) = silent (carries s a b c) (set (p .rt2) next l)
+  behind-back {next = next} (A.back-ends m a b c l ta tb n x y) = silent (carries s a b c) (set (p .rt2) next l)
 
 -- a tick of the link that heard this
 unfoldable pub heardTick : ℕ → Link → Heard → Calls → LinkStep
@@ -158,7 +173,7 @@ pub phase-first : (limit : ℕ) → 2 ≤ limit → limit ≤ 255 → (p : Profi
 unfolding linkTick
 phase-first limit low high p v retries l c s =
     let f = first-tick limit low high p v retries (l .primary) (l .secondary) (l .devices) (l .line) (c .for-primary) (c .for-secondary) (c .for-devices) (s .primary) (s .secondary) (s .devices) (s .distinct) in
-    silent (carries (linkTick limit l c) (f .primary-silent) (f .secondary-silent) (f .devices-silent)) (f .silent-line)
+    silent (carries (linkTick limit l c) (f .primary-silent) (f .secondary-silent) (f .devices-silent)) (clear (f .silent-line))
 
 -- ---- a line that is not damaged had one sender at most
 

@@ -48,6 +48,8 @@ pub record ClearLine (p : Profile) (e : ℕ) (a b : MasterSide) (xs : List Devic
   -- a master that awaits its ACK has its next window where RT1 ends
   pub primary-awaits : 1 ≤ left (a .master .message .stage) → a .master .timer .next ≡ left (a .master .message .stage)
   pub secondary-awaits : 1 ≤ left (b .master .message .stage) → b .master .timer .next ≡ left (b .master .message .stage)
+  pub primary-most : left (a .master .message .stage) ≤ p .rt1s
+  pub secondary-most : left (b .master .message .stage) ≤ p .rt1s
   -- where nobody awaits, the next windows are near
   pub near : left (a .master .message .stage) ≡ 0 → left (b .master .message .stage) ≡ 0 → (a .master .timer .next ≤ 2 * p .rt2 + e) × (b .master .timer .next ≤ 2 * p .rt2 + e)
 
@@ -73,9 +75,9 @@ pub record SetLine (p : Profile) (n : ℕ) (next : Bool) (a b : MasterSide) (xs 
   -- only the master that the next BACK is for has a window before it
   pub primary-slot : next ≡ false → NoSlot (a .master .timer)
   pub secondary-slot : next ≡ true → NoSlot (b .master .timer)
-  -- and only that one awaits its ACK
-  pub primary-awaits : 1 ≤ left (a .master .message .stage) → next ≡ true
-  pub secondary-awaits : 1 ≤ left (b .master .message .stage) → next ≡ false
+  -- and only that one awaits its ACK, and then has none
+  pub primary-awaits : 1 ≤ left (a .master .message .stage) → (next ≡ true) × NoSlot (a .master .timer)
+  pub secondary-awaits : 1 ≤ left (b .master .message .stage) → (next ≡ false) × NoSlot (b .master .timer)
 
 pub data SilentLine (p : Profile) (e : ℕ) (a b : MasterSide) (xs : List DeviceSide) : Type 0 where
   clear : ClearLine p e a b xs → SilentLine p e a b xs
@@ -129,14 +131,13 @@ pub record Awaits (p : Profile) (e : ℕ) (burst next : Bool) (h : Header) (g : 
   pub secondary-next : burst ≡ true → 1 ≤ left (b .master .message .stage) → next ≡ false
   pub nobody : left (a .master .message .stage) ≡ 0 → left (b .master .message .stage) ≡ 0 → p .rt1s ≤ 2 * p .rt2 + e
 
-pub behind-break : (p : Profile) → Valid p → (e : ℕ) (burst : Bool) (noted : Noted) (next : Bool) (h : Header) (g : ℕ) (a b : MasterSide) (xs : List DeviceSide) → g ≤ p .sto → MasterQuiet p true burst noted a → MasterQuiet p false burst noted b
-    → a .master .timer ≡ breakTimer p true burst → b .master .timer ≡ breakTimer p false burst → Awaits p e burst next h g a b → All (DeviceQuiet p g h (p .rt1p)) xs → Distinct xs → Agreed burst noted next xs → SilentLine p e a b xs
+pub behind-break-set : (p : Profile) → Valid p → (e : ℕ) (noted : Noted) (next : Bool) (h : Header) (g : ℕ) (a b : MasterSide) (xs : List DeviceSide) → g ≤ p .sto → MasterQuiet p true true noted a → MasterQuiet p false true noted b
+    → a .master .timer ≡ breakTimer p true true → b .master .timer ≡ breakTimer p false true → Awaits p e true next h g a b → All (DeviceQuiet p g h (p .rt1p)) xs → Distinct xs → Agreed true noted next xs → SetLine p (p .rt1p) next a b xs
 unfolding if_then_else_
-behind-break p v e true noted next h g a b xs short qa qb ta tb w qs d ag =
+behind-break-set p v e noted next h g a b xs short qa qb ta tb w qs d ag =
     let sa = no-slot a true ta in
     let sb = no-slot b false tb in
-    set (p .rt1p) next
-    (record {
+    record {
       g = g;
       h = h;
       noted = noted;
@@ -156,18 +157,30 @@ behind-break p v e true noted next h g a b xs short qa qb ta tb w qs d ag =
       asked = w .asked;
       primary-slot = λ z. sa;
       secondary-slot = λ z. sb;
-      primary-awaits = w .primary-next refl;
-      secondary-awaits = w .secondary-next refl;
-    })
+      primary-awaits = λ z. (w .primary-next refl z, sa);
+      secondary-awaits = λ z. (w .secondary-next refl z, sb);
+    }
   where
     no-slot : (x : MasterSide) (primary : Bool) → x .master .timer ≡ breakTimer p primary true → NoSlot (x .master .timer)
     no-slot x primary e = record { no-next = ap (λ (t : Timer). t .next) e; no-window = ap (λ (t : Timer). t .window) e }
-behind-break p v e false noted next h g a b xs short qa qb ta tb w qs d ag =
+
+-- a number that is n or 0
+most : (k n : ℕ) → (1 ≤ k → k ≡ n) → {m : ℕ} → n ≤ m → k ≤ m
+most k n f {m} z = go (native.Mathlib.Decide.decLe 1 k)
+  where
+    go : Dec (1 ≤ k) → k ≤ m
+    go (yes q) = omega (arith, f q)
+    go (no q) = omega arith
+
+pub behind-break-clear : (p : Profile) → Valid p → (e : ℕ) (noted : Noted) (next : Bool) (h : Header) (g : ℕ) (a b : MasterSide) (xs : List DeviceSide) → g ≤ p .sto → MasterQuiet p true false noted a → MasterQuiet p false false noted b
+    → a .master .timer ≡ breakTimer p true false → b .master .timer ≡ breakTimer p false false → Awaits p e false next h g a b → All (DeviceQuiet p g h (p .rt1p)) xs → Distinct xs → Agreed false noted next xs → ClearLine p e a b xs
+unfolding if_then_else_
+behind-break-clear p v e noted next h g a b xs short qa qb ta tb w qs d ag =
     let na : a .master .timer .next ≡ p .rt1p = ap (λ (t : Timer). t .next) ta in
     let nb : b .master .timer .next ≡ p .rt1s = ap (λ (t : Timer). t .next) tb in
     let wa : a .master .timer .window ≡ 0 = ap (λ (t : Timer). t .window) ta in
     let wb : b .master .timer .window ≡ 0 = ap (λ (t : Timer). t .window) tb in
-    clear (record {
+    record {
       g = g;
       h = h;
       noted = noted;
@@ -182,8 +195,10 @@ behind-break p v e false noted next h g a b xs short qa qb ta tb w qs d ag =
       asked = w .asked;
       primary-awaits = λ z. na ∙ sym (w .primary-left z);
       secondary-awaits = λ z. nb ∙ sym (w .secondary-left z);
+      primary-most = most (left (a .master .message .stage)) (p .rt1p) (w .primary-left) (omega (arith, v .secondary));
+      secondary-most = most (left (b .master .message .stage)) (p .rt1s) (w .secondary-left) (omega arith);
       near = λ x y. (omega (arith, w .nobody x y, v .secondary), omega (arith, w .nobody x y));
-    })
+    }
 
 -- ---- behind an ACK and behind a BACK
 
@@ -283,6 +298,8 @@ behind-ack-clear p v e noted next h k a b xs qa qb ta tb n qs d g = go (h .prima
       asked = no-answer k a b;
       primary-awaits = λ z. absurd (omega (arith, n .primary-gone));
       secondary-awaits = λ z. absurd (omega (arith, n .secondary-gone));
+      primary-most = omega (arith, n .primary-gone);
+      secondary-most = omega (arith, n .secondary-gone);
       near = λ x y. (omega arith, omega arith);
     }
 

@@ -178,6 +178,8 @@ module _ (limit : ℕ) (low : 2 ≤ limit) (high : limit ≤ 255) (p : Profile) 
         asked = asked-next (l .asked) ra rb;
         primary-awaits = λ z. awaits-next p _ _ _ x (l .primary-awaits) (omega (arith, ra .one-less)) ∙ sym (ra .one-less);
         secondary-awaits = λ z. awaits-next p _ _ _ y (l .secondary-awaits) (omega (arith, rb .one-less)) ∙ sym (rb .one-less);
+        primary-most = omega (arith, ra .one-less, l .primary-most);
+        secondary-most = omega (arith, rb .one-less, l .secondary-most);
         near = λ j k. near-both p v e _ _ _ _ _ _ x y w (l .primary-awaits) (l .secondary-awaits) (l .near) (sym (ra .one-less) ∙ j) (sym (rb .one-less) ∙ k);
       })
       (master-tick limit high p true false (l .noted) (Counted p (a .master .timer)) a ca (l .primary) (if-is-false (a .master .burst) _ _ (l .primary .burst-is)) (λ t n k m. clear-counts p a (l .primary .listens .is-it .profile-is) (l .primary .burst-is) t n m))
@@ -223,8 +225,8 @@ module _ (limit : ℕ) (low : 2 ≤ limit) (high : limit ≤ 255) (p : Profile) 
         asked = asked-next (l .asked) ra rb;
         primary-slot = λ z. no-slot-next p _ _ (x .counts) (l .primary-slot z);
         secondary-slot = λ z. no-slot-next p _ _ (y .counts) (l .secondary-slot z);
-        primary-awaits = λ z. l .primary-awaits (omega (arith, ra .one-less));
-        secondary-awaits = λ z. l .secondary-awaits (omega (arith, rb .one-less));
+        primary-awaits = λ z. let w = l .primary-awaits (omega (arith, ra .one-less)) in (w .0, no-slot-next p _ _ (x .counts) (w .1));
+        secondary-awaits = λ z. let w = l .secondary-awaits (omega (arith, rb .one-less)) in (w .0, no-slot-next p _ _ (y .counts) (w .1));
       })
       (master-tick limit high p true true (l .noted) (SetCounts p (a .master .timer)) a ca (l .primary) (set-burst a (l .primary .burst-is) (omega (arith, l .some, l .primary-quiet)))
       (set-counts p a (l .primary .listens .is-it .profile-is) (l .primary .burst-is) (omega (arith, l .some, l .primary-quiet))))

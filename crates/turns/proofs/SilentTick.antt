@@ -62,11 +62,16 @@ pub record MasterRests (x : MasterSide) (s : MasterStep) : Type 0 where
   pub waits-on : WaitsOn x s
   pub counts-on : x .master .message .stage ≡ Waiting → s .side .master .timer ≡ timerCounted (x .master)
   pub shut : s .side .master .message .stage ≡ Waiting → s .side .master .timer .window ≡ 0
+  pub next-is : s .side .master .timer .next ≡ timerCounted (x .master) .next
+  pub window-is : s .side .master .timer .window ≤ timerCounted (x .master) .window
+  -- where RT1 ends and it rests, it uses no window
+  pub over-shut : 1 ≤ left (x .master .message .stage) → left (s .side .master .message .stage) ≡ 0 → s .side .master .timer .window ≡ 0
 
 -- a master that begins its STX: where its ACK did not come, it is a retry
 pub record MasterTries (x : MasterSide) (s : MasterStep) : Type 0 where
   pub some : 1 ≤ s .side .master .message .attempts
   pub again : 1 ≤ left (x .master .message .stage) → (s .side .master .message .attempts ≡ x .master .message .attempts + 1) × (x .master .message .attempts ≤ x .master .retries)
+  pub in-window : 0 < timerCounted (x .master) .window
 
 -- what comes of a silent tick; L is the silent line behind it
 pub data SilentTick (p : Profile) (n : ℕ) (burst : Bool) (noted : Noted) (next : Bool) (a b : MasterSide) (s t : MasterStep) (ss : List DeviceStep) (L : Type 0) : Type 0 where
@@ -115,6 +120,10 @@ master-tick limit small p primary burst noted C x call q bc f = go (m .1)
     again r z (inl e) = (r .counts .again e ∙ ap (λ (k : ℕ). k + 1) (m .0 .same-attempts), m .0 .retried z e)
     again r z (inr e) = absurd (omega (arith, r .in-window, m .0 .free-shut z e))
 
+    over : (r : L.Rests p primary t step) → (t .message .stage ≡ Waiting) ⊎ (t .message .stage ≡ Free) → 1 ≤ left (x .master .message .stage) → t .timer .window ≡ 0
+    over r (inl e) z = r .shut (r .rested .waits-on e .0)
+    over r (inr e) z = m .0 .free-shut z e
+
     go : L.Does p primary t step → MasterTick p primary burst noted C x step
     go (L.does-rest r) =
         rests (subst C (sym (r .same-timer)) c) (r .silent)
@@ -131,6 +140,9 @@ master-tick limit small p primary burst noted C x call q bc f = go (m .1)
           waits-on = λ z. let k = r .rested .waits-on (m .0 .waits-on z .0) in (k .0, k .1 ∙ m .0 .same-attempts);
           counts-on = λ z. r .same-timer ∙ m .0 .waits-on z .1;
           shut = λ z. ap (λ (u : Timer). u .window) (r .same-timer) ∙ r .shut z;
+          next-is = ap (λ (u : Timer). u .next) (r .same-timer) ∙ m .0 .next-is;
+          window-is = omega (arith, ap (λ (u : Timer). u .window) (r .same-timer), m .0 .window-is);
+          over-shut = λ z y. ap (λ (u : Timer). u .window) (r .same-timer) ∙ over r (m .0 .over z (sym (r .rested .same-left) ∙ y)) z;
         })
     go (L.does-start s) =
         begins (t .timer) c (s .in-window) (s .w) (s .message) (s .character)
@@ -147,7 +159,7 @@ master-tick limit small p primary burst noted C x call q bc f = go (m .1)
           bit-is = s .bit-is;
           place = S.inside (omega (arith, s .held .speaks .long)) (s .stage-is);
         })
-        (record { some = s .counts .some; again = λ z. again s z (s .counts .from) })
+        (record { some = s .counts .some; again = λ z. again s z (s .counts .from); in-window = omega (arith, s .in-window, m .0 .window-is) })
 
 -- one that rests hears what begins
 rest-hears : {p : Profile} {primary burst : Bool} {noted : Noted} {x : MasterSide} (w : List ℕ) → MasterQuiet p primary burst noted x → x .master .receiver ≡ idle → MasterHears p primary burst noted (readerAfter idle (take 0 w)) x

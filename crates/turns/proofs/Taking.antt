@@ -5,8 +5,9 @@ use native.Mathlib.Numerals.{add-one}
 use mathlib.Core.Path.{_≡_, refl, sym, ap, subst, _∙_}
 use mathlib.Core.Bool.{Bool, true, false}
 use mathlib.Core.List.{List}
+use mathlib.Core.Logic.{_⊎_, inl, inr}
 use lib.ListN.{length, getD}
-use borrow.Author.Tests.{ltb-true, ltb-false, leb-true}
+use borrow.Author.Tests.{ltb-true, ltb-false, leb-true, leb-false}
 use Rattle.base.specs.Choice.{if_then_else_, _<?_, _≤?_}
 use Rattle.base.proofs.Choices.{true-false, if-is-true, if-is-false}
 use Rattle.frame.specs.Frame.{frameBytes}
@@ -47,16 +48,17 @@ record Ended (primary : Bool) (frame : List ℕ) (retries : ℕ) (g : Message) (
   same-attempts : e .message .attempts ≡ g .attempts
   -- one that waits again has a retry left
   retried : e .message .stage ≡ Waiting → g .attempts ≤ retries
+  over : (e .message .stage ≡ Waiting) ⊎ (e .message .stage ≡ Free)
 
 ends-ended : {primary : Bool} (frame : List ℕ) (retries : ℕ) (g : Message) (told : MasterTold) → Ended primary frame retries g (ends g told)
-ends-ended frame retries g told = record { still = is-free; formed = no-message refl; gone = refl; same-attempts = refl; retried = λ z. absurd (free-waiting z) }
+ends-ended frame retries g told = record { still = is-free; formed = no-message refl; gone = refl; same-attempts = refl; retried = λ z. absurd (free-waiting z); over = inr refl }
 
 fails-ended : {primary : Bool} (frame : List ℕ) (retries : ℕ) (g : Message) (n : ℕ) → g .stage ≡ Awaiting n → Formed primary frame g → Ended primary frame retries g (fails retries g)
 unfolding if_then_else_
 fails-ended {primary} frame retries g n e f = go (g .attempts ≤? retries) refl
   where
     go : (t : Bool) → (g .attempts ≤? retries) ≡ t → Ended primary frame retries g (if t then record { message = staged g Waiting; told = MasterTold.Nothing } else ends g (MasterTold.GivenUp (g .attempts)))
-    go true q = record { still = is-waiting; formed = formed-staged frame g Waiting (λ q. absurd (awaiting-free n (sym e ∙ q))) f; gone = refl; same-attempts = refl; retried = λ z. leb-true (g .attempts) retries q }
+    go true q = record { still = is-waiting; formed = formed-staged frame g Waiting (λ q. absurd (awaiting-free n (sym e ∙ q))) f; gone = refl; same-attempts = refl; retried = λ z. leb-true (g .attempts) retries q; over = inl refl }
     go false q = ends-ended frame retries g (MasterTold.GivenUp (g .attempts))
 
 either-ended : {primary : Bool} {frame : List ℕ} {retries : ℕ} {g : Message} (t : Bool) (a b : Ending) → Ended primary frame retries g a → Ended primary frame retries g b → Ended primary frame retries g (if t then a else b)
@@ -131,6 +133,7 @@ pub record TookSilence (frame : List ℕ) (m t : Master) : Type 0 where
   -- where RT1 ends, a message that waits again has a retry left, and one that is given up leaves the window unused
   pub retried : 1 ≤ left (m .message .stage) → t .message .stage ≡ Waiting → m .message .attempts ≤ m .retries
   pub free-shut : 1 ≤ left (m .message .stage) → t .message .stage ≡ Free → t .timer .window ≡ 0
+  pub over : 1 ≤ left (m .message .stage) → left (t .message .stage) ≡ 0 → (t .message .stage ≡ Waiting) ⊎ (t .message .stage ≡ Free)
   -- a message that waits stays, and its window is used
   pub waits-on : m .message .stage ≡ Waiting → (t .message .stage ≡ Waiting) × (t .timer ≡ timerCounted m)
 
@@ -190,6 +193,12 @@ module _ (frame bytes : List ℕ) (m : Master) (hears : m .deaf ≡ false) (stil
       counted-one (Sending k) = refl
       counted-one (Awaiting k) = refl
 
+      more-left : (s : Stage) → rt1Ends s ≡ false → 1 ≤ left s → left (waited s) ≡ 0 → ⊥
+      more-left Free q z f = omega arith
+      more-left Waiting q z f = omega arith
+      more-left (Sending k) q z f = omega arith
+      more-left (Awaiting k) q z f = omega (arith, leb-false k 1 q)
+
       still-awaits : (s : Stage) → 1 ≤ left s → ((k : ℕ) → waited s ≡ Awaiting k → ⊥) → ⊥
       still-awaits Free z f = omega arith
       still-awaits Waiting z f = omega arith
@@ -233,6 +242,7 @@ module _ (frame bytes : List ℕ) (m : Master) (hears : m .deaf ≡ false) (stil
             same-attempts = done .same-attempts;
             retried = λ z w. done .retried w;
             free-shut = λ z f. ap (λ (s : Stage). unlessEnded s (timerCounted n) .window) f;
+            over = λ z f. done .over;
             waits-on = λ z. absurd (awaiting-waiting (waits .0) (sym (waits .1) ∙ z));
           })
       go false q =
@@ -257,6 +267,7 @@ module _ (frame bytes : List ℕ) (m : Master) (hears : m .deaf ≡ false) (stil
             same-attempts = refl;
             retried = λ z w. absurd (still-awaits (m .message .stage) z (λ k e. awaiting-waiting k (sym e ∙ w)));
             free-shut = λ z w. absurd (still-awaits (m .message .stage) z (λ k e. awaiting-free k (sym e ∙ w)));
+            over = λ z f. absurd (more-left (m .message .stage) q z f);
             waits-on = λ z. (ap waited z, refl);
           })
 
