@@ -17,6 +17,7 @@ pub mod NoTwoSend
 pub mod Phases
 pub mod Premises
 pub mod Quiet
+pub mod Rank
 pub mod Rules
 pub mod Sending
 pub mod Silences
@@ -25,4 +26,5 @@ pub mod Spoken
 pub mod Stx
 pub mod Taking
 pub mod Turns
+pub mod Waits
 pub mod Windows

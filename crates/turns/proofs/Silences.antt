@@ -25,7 +25,7 @@ use Rattle.turns.proofs.SilentTick.{MasterRests, SilentTick, master-tic
 
 -- ---- BURST clear
 
-clear-timer : (p : Profile) (x : MasterSide) → x .master .profile ≡ p → x .master .burst ≡ false → timerCounted (x .master) ≡ countClear p (x .master .timer)
+pub clear-timer : (p : Profile) (x : MasterSide) → x .master .profile ≡ p → x .master .burst ≡ false → timerCounted (x .master) ≡ countClear p (x .master .timer)
 clear-timer p x e b = if-is-false (x .master .burst) _ _ b ∙ ap (λ (q : Profile). countClear q (x .master .timer)) e
 
 clear-counts : (p : Profile) (x : MasterSide) → x .master .profile ≡ p → x .master .burst ≡ false → (t : Timer) → t .next ≡ timerCounted (x .master) .next → t .window ≤ timerCounted (x .master) .window → Counted p (x .master .timer) t
@@ -68,7 +68,7 @@ count-quiet p t = go (t .next =? 1)
     go true = refl
     go false = refl
 
-set-timer : (p : Profile) (x : MasterSide) → x .master .profile ≡ p → x .master .burst ≡ true → 1 < x .master .timer .quiet → timerCounted (x .master) ≡ countBurst p (x .master .timer)
+pub set-timer : (p : Profile) (x : MasterSide) → x .master .profile ≡ p → x .master .burst ≡ true → 1 < x .master .timer .quiet → timerCounted (x .master) ≡ countBurst p (x .master .timer)
 set-timer p x e b q =
     if-is-true (x .master .burst) _ _ b ∙ if-is-false (x .master .timer .quiet ≤? 1) _ _ (lt-leb (x .master .timer .quiet) 1 q) ∙ ap (λ (r : Profile). countBurst r (x .master .timer)) e
 
@@ -103,7 +103,7 @@ slot-shut p g n t u h c s k (inr e) = slot-last p t u h c (subst (λ (i : ℕ). 
 -- ---- the tick with BURST clear
 
 -- where one master's window is about to open, the other's is not far
-near-other : (p : Profile) → Valid p → (a b : Timer) → ClearWindows p a b → a .next ≤ 1 → b .next ≤ p .rt2 + 2
+pub near-other : (p : Profile) → Valid p → (a b : Timer) → ClearWindows p a b → a .next ≤ 1 → b .next ≤ p .rt2 + 2
 near-other p v a b (primary-first gap g (W.waiting e f h i)) z = omega (arith, g .most)
 near-other p v a b (primary-first gap g (W.first-open e f h i j)) z = omega (arith, g .most)
 near-other p v a b (primary-first gap g (W.first-shut e f h i j)) z = omega (arith, g .most)
@@ -115,7 +115,7 @@ near-other p v a b (secondary-first gap g (W.first-shut e f h i j)) z = omega (a
 near-other p v a b (secondary-first gap g (W.second-open e f h i j)) z = omega (arith, g .most)
 near-other p v a b (secondary-first gap g (W.second-shut e f h i j)) z = omega (arith, g .most)
 
-swapped : {p : Profile} {a b : Timer} → ClearWindows p a b → ClearWindows p b a
+pub swapped : {p : Profile} {a b : Timer} → ClearWindows p a b → ClearWindows p b a
 swapped (primary-first gap g w) = secondary-first gap g w
 swapped (secondary-first gap g w) = primary-first gap g w
 
