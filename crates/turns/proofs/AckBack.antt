@@ -61,7 +61,7 @@ module _ {p : Profile} {f : Frames} {k : ℕ} {w : List ℕ} {message : Whole} {
   spoken-of (further q o) = spoken-of o
 
   -- what BURST says of the device that sends
-  noted-of : {burst : Bool} {noted : Noted} {next : Bool} {xs : List DeviceSide} → on ≡ true → OneOf (DeviceSpeaks p f k w message u on) Q xs → All (BurstIs burst noted next) xs → (burst ≡ true) × (noted .long ≡ true) × (noted .address ≡ u)
+  pub noted-of : {burst : Bool} {noted : Noted} {next : Bool} {xs : List DeviceSide} → on ≡ true → OneOf (DeviceSpeaks p f k w message u on) Q xs → All (BurstIs burst noted next) xs → (burst ≡ true) × (noted .long ≡ true) × (noted .address ≡ u)
   noted-of e (here s a) (and b bs) = (b .burst-set (s .burst-is ∙ e), b .long-noted (s .burst-is ∙ e), b .unique-noted (s .burst-is ∙ e) ∙ s .unique-is)
   noted-of e (further q o) (and b bs) = noted-of e o bs
 

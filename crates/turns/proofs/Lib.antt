@@ -26,5 +26,9 @@ pub mod Spoken
 pub mod Stx
 pub mod Taking
 pub mod Turns
+pub mod WaitBurst
+pub mod WaitFrames
+pub mod WaitSides
+pub mod WaitSoon
 pub mod Waits
 pub mod Windows
