@@ -27,6 +27,7 @@ pub mod Stx
 pub mod Taking
 pub mod Turns
 pub mod WaitBurst
+pub mod WaitClear
 pub mod WaitFrames
 pub mod WaitSides
 pub mod WaitSoon
