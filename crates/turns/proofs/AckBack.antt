@@ -48,7 +48,7 @@ use Rattle.turns.proofs.SilentTick.{FrameIs, is-ack, is-back, OneDevice
 -- ---- the device that sends
 
 module _ {p : Profile} {f : Frames} {k : ℕ} {w : List ℕ} {message : Whole} {u : ℕ} {on : Bool} {Q : DeviceSide → Type 0} where
-  place-of : {xs : List DeviceSide} → OneOf (DeviceSpeaks p f k w message u on) Q xs → (suc k < length w) ⊎ (suc k ≡ length w)
+  pub place-of : {xs : List DeviceSide} → OneOf (DeviceSpeaks p f k w message u on) Q xs → (suc k < length w) ⊎ (suc k ≡ length w)
   place-of (here s a) = go (s .place)
     where
       go : {d : Device} → DevicePlace f k w d → (suc k < length w) ⊎ (suc k ≡ length w)

@@ -26,6 +26,7 @@ pub mod Spoken
 pub mod Stx
 pub mod Taking
 pub mod Turns
+pub mod Wait
 pub mod WaitBurst
 pub mod WaitClear
 pub mod WaitFrames

@@ -13,7 +13,8 @@ use Rattle.line.specs.declared.Heard.the-variants.{Silence, Character, Damaged}
 use Rattle.line.specs.declared.Profile.{Profile}
 use Rattle.line.specs.declared.Whole.{Whole}
 use Rattle.turns.specs.Link.{MasterSide, DeviceSide, DeviceStep, Link, LinkStep, Calls, masterTick, deviceTicks, linkTick, linkAfter, run, sides, carried, joins}
-use Rattle.turns.specs.Run.{Starts, count, deviceSenders, EachTick, no-tick, tick-and, OneBursts, NoTwoSend, NoTwoSendInARun}
+use Rattle.turns.specs.Run.{Starts, count, deviceSenders, EachTick, no-tick, tick-and, OneBursts, NoTwoSend}
+use Rattle.turns.specs.Demand3.{Premises, NoTwoSendInARun}
 use Rattle.turns.specs.declared.Noted.{Noted}
 use Rattle.turns.specs.declared.Sent.{Sent}
 use Rattle.turns.specs.declared.Sent.the-variants.{Silent}
@@ -227,8 +228,11 @@ phases-run limit low high p v e l (c ∷ cs) q (tick-and b bs) =
 -- the data limit may be any that leaves room for an answer's two bytes and fits a byte count
 pub no-two-send : (limit : ℕ) → 2 ≤ limit → limit ≤ 255 → NoTwoSendInARun limit
 unfolding run
-no-two-send limit low high p retries l [] e s b = no-tick
-no-two-send limit low high p retries l (c ∷ cs) e s (tick-and b bs) =
-    let v = valid p e in
-    let next = phase-first limit low high p v retries l c s in
-    tick-and (one-sender (linkTick limit l c) (phase-plain next)) (phases-run limit low high p v (p .rt1s) (linkAfter (linkTick limit l c)) cs next bs)
+no-two-send limit low high p retries l [] k = no-tick
+no-two-send limit low high p retries l (c ∷ cs) k = go (k .one-bursts)
+  where
+    go : EachTick OneBursts (run limit l (c ∷ cs)) → EachTick NoTwoSend (run limit l (c ∷ cs))
+    go (tick-and b bs) =
+        let v = valid p (k .made) in
+        let next = phase-first limit low high p v retries l c (k .starts) in
+        tick-and (one-sender (linkTick limit l c) (phase-plain next)) (phases-run limit low high p v (p .rt1s) (linkAfter (linkTick limit l c)) cs next bs)
