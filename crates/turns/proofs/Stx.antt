@@ -83,7 +83,7 @@ pub record OneMasterSends (p : Profile) (primary other burst : Bool) (noted : No
 abbrev pub rt1Of : Profile → Bool → ℕ
 rt1Of p primary = if primary then p .rt1p else p .rt1s
 
-own-is : (p : Profile) (primary : Bool) (m : Master) → m .profile ≡ p → m .primary ≡ primary → ownRt1 m ≡ rt1Of p primary
+pub own-is : (p : Profile) (primary : Bool) (m : Master) → m .profile ≡ p → m .primary ≡ primary → ownRt1 m ≡ rt1Of p primary
 own-is p primary m a b = λ i. if b i then a i .rt1p else a i .rt1s
 
 -- both masters behind the STX: the sender awaits its ACK for RT1
