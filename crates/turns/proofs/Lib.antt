@@ -3,6 +3,8 @@ pub mod AckBack
 pub mod Beginning
 pub mod Begun
 pub mod Bursting
+pub mod CreditDevices
+pub mod CreditMasters
 pub mod DeviceSpeaking
 pub mod DeviceTaking
 pub mod Devices

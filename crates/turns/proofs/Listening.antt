@@ -302,10 +302,10 @@ master-finished limit p primary x heard call small is deaf still formed shut =
 -- ---- devices
 
 -- without a damaged frame the frame buffer stays behind what was heard
-plain : (d : Device) (frame : List ℕ) (e : Event) → (e ≡ Nothing) → errorFrame d e frame ≡ frame
+pub plain : (d : Device) (frame : List ℕ) (e : Event) → (e ≡ Nothing) → errorFrame d e frame ≡ frame
 plain d frame e q = ap (λ (z : Event). errorFrame d z frame) q
 
-plain-frame : (d : Device) (frame : List ℕ) (e : Event) (w : Whole) → (e ≡ Frame w) → errorFrame d e frame ≡ frame
+pub plain-frame : (d : Device) (frame : List ℕ) (e : Event) (w : Whole) → (e ≡ Frame w) → errorFrame d e frame ≡ frame
 plain-frame d frame e w q = ap (λ (z : Event). errorFrame d z frame) q
 
 -- every tick of a device, from what it is behind what it heard

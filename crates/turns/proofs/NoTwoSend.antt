@@ -95,11 +95,11 @@ module _ (p : Profile) (v : Valid p) (e : ℕ) {noted : Noted} {next : Bool} {h 
   pub secondary-clear : StxEnded p false true false noted next h b a xs → ClearLine p e a b xs
   secondary-clear x = behind-break-clear p v e noted next h (p .sto) a b xs (omega arith) (x .listener) (x .sender) (x .listener-timer) (x .sender-timer) (secondary-awaits p v e x) (x .devices) (x .distinct) (x .agreed)
 
-stx-line : (p : Profile) → Valid p → (e : ℕ) (burst : Bool) {noted : Noted} {next : Bool} {h : Header} {a b : MasterSide} {xs : List DeviceSide} → StxEnded p true false burst noted next h a b xs → SilentLine p e a b xs
+pub stx-line : (p : Profile) → Valid p → (e : ℕ) (burst : Bool) {noted : Noted} {next : Bool} {h : Header} {a b : MasterSide} {xs : List DeviceSide} → StxEnded p true false burst noted next h a b xs → SilentLine p e a b xs
 stx-line p v e true {next = next} x = set (p .rt1p) next (primary-set p v e x)
 stx-line p v e false x = clear (primary-clear p v e x)
 
-stx-line-secondary : (p : Profile) → Valid p → (e : ℕ) (burst : Bool) {noted : Noted} {next : Bool} {h : Header} {a b : MasterSide} {xs : List DeviceSide} → StxEnded p false true burst noted next h b a xs → SilentLine p e a b xs
+pub stx-line-secondary : (p : Profile) → Valid p → (e : ℕ) (burst : Bool) {noted : Noted} {next : Bool} {h : Header} {a b : MasterSide} {xs : List DeviceSide} → StxEnded p false true burst noted next h b a xs → SilentLine p e a b xs
 stx-line-secondary p v e true {next = next} x = set (p .rt1p) next (secondary-set p v e x)
 stx-line-secondary p v e false x = clear (secondary-clear p v e x)
 
