@@ -72,7 +72,7 @@ follows-asked n e = let z : _≡_ {A = ℕ} 0 1 = cc in omega arith
 pub bursts-asked : (m n : ℕ) → Bursts m ≡ Asked n → ⊥
 bursts-asked m n e = let z : _≡_ {A = ℕ} 0 1 = cc in omega arith
 
-accepted-asked : (n : ℕ) → Accepted ≡ Asked n → ⊥
+pub accepted-asked : (n : ℕ) → Accepted ≡ Asked n → ⊥
 accepted-asked n e = let z : _≡_ {A = ℕ} 0 1 = cc in omega arith
 
 begins-asked : (n : ℕ) → Begins ≡ Asked n → ⊥

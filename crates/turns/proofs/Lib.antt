@@ -2,6 +2,7 @@
 pub mod AckBack
 pub mod Beginning
 pub mod Begun
+pub mod Booked
 pub mod Bursting
 pub mod CreditDevices
 pub mod CreditMasters
