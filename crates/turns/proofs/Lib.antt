@@ -4,6 +4,7 @@ pub mod Beginning
 pub mod Begun
 pub mod Booked
 pub mod Bursting
+pub mod Credit
 pub mod CreditDevices
 pub mod CreditMasters
 pub mod DeviceSpeaking
