@@ -24,13 +24,15 @@ use Rattle.line.proofs.Hearing.{wholeMessage}
 use Rattle.line.proofs.Leads.{readerAfter, dataAfter}
 use Rattle.turns.specs.Master.{toItself, sameBit, isAnswer}
 use Rattle.turns.specs.Device.{isOwn, answerHeader}
-use Rattle.turns.specs.Link.{MasterCall, DeviceCall, no-call, MasterSide, MasterStep, DeviceSide, DeviceStep, Link, LinkStep, Calls, masterTick, masterData, deviceTick, deviceTicks, linkTick, linkAfter, sides}
+use Rattle.turns.specs.Link.{MasterCall, DeviceCall, no-call, MasterSide, MasterStep, DeviceSide, DeviceStep, Link, LinkStep, Calls, masterTick, masterData, deviceTick, deviceTicks, linkTick, linkAfter, run, sides}
 use Rattle.turns.specs.Run.{All, none, and, Starts, EachTick, OneBursts}
 use Rattle.turns.specs.Run as R1
 use Rattle.turns.specs.Demand3.{Premises, masterIn}
 use Rattle.turns.specs.Credit.{Ledger, blank, given, closed, closedBy, ledgerAfter, ledgersAfter, bookedBy, Gave, this-one, another, masterOf, Credited, EachCredited, no-tick, tick-and, blanks, CreditInARun}
 use Rattle.turns.specs.declared.Noted.{Noted}
 use Rattle.turns.specs.declared.Master.{Master}
+use Rattle.turns.specs.declared.Device.{Device}
+use Rattle.turns.proofs.Turns.{listens-asked}
 use Rattle.turns.specs.declared.MasterTold.{MasterTold}
 use Rattle.turns.specs.declared.MasterTold.the-variants.{Answered, GivenUp, BroadcastSent}
 use Rattle.turns.specs.declared.Turn.the-variants.{Listens, Answers}
@@ -52,10 +54,10 @@ use Rattle.turns.proofs.Silences.{clear-tick, set-tick}
 use Rattle.turns.proofs.AckBack as A
 use Rattle.turns.proofs.AckBack.{AckEnded, AckTick, BackTick, ack-tick, back-tick, place-of, spoken-of}
 use Rattle.turns.proofs.NoTwoSend.{carries, heardTick, tick-is, phase-first, stx-line, stx-line-secondary}
-use Rattle.turns.proofs.Fresh.{valid, first-tick, device-is}
+use Rattle.turns.proofs.Fresh.{valid, first-tick, master-is, device-is}
 use Rattle.turns.proofs.Kept.{header-kept}
 use Rattle.turns.proofs.CreditMasters.{Reports, reports, tick-bytes, bytes-length, data-next, hears-data}
-use Rattle.turns.proofs.CreditDevices.{DeviceOwes, Gives, none-owed, ledger-same, same-gives}
+use Rattle.turns.proofs.CreditDevices.{DeviceOwes, Gives, answering, none-owed, ledger-same, same-gives}
 use Rattle.turns.proofs.Booked.{AllOwe, no-more, owe-and, Ledgers, no-ledger, ledger-and, owe-ledgers, closed-ledgers, owe-after, owe-anew, one-all, silent-owes, mid-owes, end-owes, speaks-owes, speaker-free, finished-owes, same-frame, frame-sent, message-sent, data-heard}
 
 -- ---- who reports an answer
@@ -466,3 +468,155 @@ module _ (limit : ℕ) (low : 2 ≤ limit) (high : limit ≤ 255) (p : Profile) 
     found (further q o) (sender-and f fs) =
         let r = found o fs in
         record { x = r .x; g = r .g; speaks = r .speaks; owes = r .owes; gave = λ h e. another (r .gave h e) }
+
+    -- whose ACK it is, by its master bit
+    asked-by : (bit : Bool) (m : Master) (h : Header) {g : Ledger} (x : DeviceSide) → m .primary ≡ bit → toItself m h ≡ true → h .primary ≡ x .device .request .primary → SenderOwes g x (l .primary) (l .secondary) → x .device .request ≡ masterOf bit l .master .message .header
+    unfolding if_then_else_
+    asked-by true m h x e own same o = o .primary-asked (sym same ∙ sym (if-is-true (m .primary) (h .primary) _ e) ∙ own)
+    asked-by false m h x e own same o = o .secondary-asked (sym same ∙ go (h .primary) (sym (if-is-false (m .primary) _ (if h .primary then false else true) e) ∙ own))
+      where
+        go : (b : Bool) → (if b then false else true) ≡ true → b ≡ false
+        go true q = absurd (true-false (sym q))
+        go false q = refl
+
+    -- a master that reports the ACK which ends in this tick
+    record Credits (bit : Bool) (ack-told : Whole) (bytes : List ℕ) : Type 0 where
+      put : List ℕ
+      gave : Gave (masterOf bit l .master .message .header) put (l .devices) gs
+      command-is : ack-told .header .command ≡ masterOf bit l .master .message .header .command
+      data-is : take (ack-told .count) bytes ≡ put
+
+    credit : (bit : Bool) (k : ℕ) (w : List ℕ) (message : Whole) (u : ℕ) (on : Bool) (x : MasterSide) (d : MasterCall) → suc k ≡ length w → Found an-ack k w message u on (l .primary) (l .secondary) gs (l .devices)
+        → x .master .primary ≡ bit → x .master .receiver ≡ readerAfter idle (take k w) → HearsData k w x → (told : Whole) → masterTick limit x (Character (getD w k 0)) d .told ≡ Answered told
+        → Credits bit told (masterTick limit x (Character (getD w k 0)) d .side .bytes)
+    credit bit k w message u on x d last f pr r hd told e =
+        let t = end-reports limit x d w message k (f .speaks .held .speaks) last r told e in
+        let o = f .owes in
+        let v-is = t .0 ∙ message-sent (o .gives) (f .speaks .held) k last in
+        let request-is = asked-by bit (x .master) (told .header) (f .x) pr (answer-ack (x .master) (told .header) (t .1) .1) (ap (λ (z : Whole). z .header .primary) v-is) o in
+        let w-is = frame-sent (o .gives) (f .speaks .held) in
+        record {
+          put = o .gives .put;
+          gave = f .gave (masterOf bit l .master .message .header) request-is;
+          command-is = ap (λ (z : Whole). z .header .command) v-is ∙ ap (λ (h : Header). h .command) request-is;
+          data-is = ap (λ (z : Whole). take (z .count) (masterTick limit x (Character (getD w k 0)) d .side .bytes)) v-is
+              ∙ ap (take (length (o .gives .put))) (tick-bytes limit x (Character (getD w k 0)) d ∙ hears-data x (Character (getD w k 0)) (t .2) ∙ (λ i. takenData (r i) (Character (getD w k 0)) (hd .bytes-are i)))
+              ∙ ap (λ (z : List ℕ). take (length (o .gives .put)) (takenData (readerAfter idle (take k z)) (Character (getD z k 0)) (dataAfter idle (take k z) (hd .before)))) w-is
+              ∙ data-heard (f .x .device .preamble) (answerHeader (f .x .device .request) (o .gives .flag)) (o .gives .put) (hd .before) k (o .gives .fits) (last ∙ ap length w-is) (hd .room);
+        }
+
+    closed-any : (t : MasterTold) {hs : List Ledger} → Ledgers hs (l .devices) → Ledgers (closedBy t hs) (l .devices)
+    closed-any MasterTold.Nothing a = a
+    closed-any (Answered w) a = closed-ledgers a
+    closed-any (GivenUp n) a = a
+    closed-any BroadcastSent a = a
+
+    ack-books : (burst : Bool) (noted : Noted) (next : Bool) (k : ℕ) (w : List ℕ) (message : Whole) (u : ℕ) (on : Bool) → OneDeviceSends p an-ack burst noted next k w message u on (l .primary) (l .secondary) (l .devices) → AllOwe gs (l .devices)
+        → SenderGives u (l .primary) (l .secondary) gs (l .devices) → HearsData k w (l .primary) → HearsData k w (l .secondary) → Ticked p gs l c (heardTick limit l (Character (getD w k 0)) c)
+    unfolding heardTick
+    ack-books burst noted next k w message u on o os sg ha hb = go (ack-tick limit low high p v burst noted next k w message u (l .primary) (l .secondary) (l .devices) (c .for-primary) (c .for-secondary) (c .for-devices) 0 on o)
+      where
+        s : LinkStep
+        s = heard w k
+
+        sp : Spoken w message
+        sp = spoken-of (o .devices)
+
+        lefts : {a b : MasterSide} → FrameIs on burst next (message .header) a b an-ack → (message .header .primary ≡ true → 1 ≤ left (a .master .message .stage)) × (message .header .primary ≡ false → 1 ≤ left (b .master .message .stage))
+        lefts (is-ack type pa pb) = (pa, pb)
+
+        -- a report at the end of the ACK
+        reported : suc k ≡ length w → (primary : Bool) (v : Whole) → masterIn primary s .told ≡ Answered v → Credited primary gs l s v
+        reported last true v e =
+            let r = credit true k w message u on (l .primary) (c .for-primary) last (found (o .devices) sg) (o .primary .listens .is-it .primary-is) (o .primary .receiver-is) ha v e in
+            record { put = r .put; gave = r .gave; command-is = r .command-is; data-is = r .data-is }
+        reported last false v e =
+            let r = credit false k w message u on (l .secondary) (c .for-secondary) last (found (o .devices) sg) (o .secondary .listens .is-it .primary-is) (o .secondary .receiver-is) hb v e in
+            record { put = r .put; gave = r .gave; command-is = r .command-is; data-is = r .data-is }
+
+        ends-owe : suc k ≡ length w → AllOwe (bookedBy c s gs) (linkAfter s .devices)
+        ends-owe last = end-books an-ack w message k u on (closedBy (s .for-primary .told) (closedBy (s .for-secondary .told) gs)) sp last (o .no-expansion) (o .devices) (closed-any (s .for-primary .told) (closed-any (s .for-secondary .told) (owe-ledgers os)))
+
+        ended : linkAfter s .line ≡ Silence → AckEnded p 0 (Rattle.turns.specs.Master.burstAfter burst noted (message .header)) next (message .header) (s .for-primary .side) (s .for-secondary .side) (sides (s .for-devices)) → SilentLine p 0 (s .for-primary .side) (s .for-secondary .side) (sides (s .for-devices))
+        ended line (A.ended-clear z n m ta tb) = clear m
+        ended line (A.ended-set z n m ta tb) = set 1 next m
+
+        go : AckTick p 0 burst noted next k w message u on (l .primary) (l .secondary) (s .for-primary) (s .for-secondary) (s .for-devices) → Ticked p gs l c s
+        go (A.ack-goes-on below a b line m x y) =
+            let z = lefts (m .frame-is) in
+            unreported p gs l c s (mid-reports limit (l .primary) (c .for-primary) w message k sp below (o .primary .receiver-is)) (mid-reports limit (l .secondary) (c .for-secondary) w message k sp below (o .secondary .receiver-is))
+            (in-ack burst noted next (suc k) w message u on (carries s a b line) m (send-books an-ack w message k u on sp (inl below) (o .no-expansion) (o .devices) os)
+            (sender-after w message k u on sp below (z .0) (z .1) (c .for-devices) (one-all (o .devices)) sg)
+            (hears-on-data (l .primary) (c .for-primary) w k (omega arith) (o .primary .listens .hears) (o .primary .receiver-is) ha)
+            (hears-on-data (l .secondary) (c .for-secondary) w k (omega arith) (o .secondary .listens .hears) (o .secondary .receiver-is) hb))
+        go (A.ack-ends last off a b line m x y) = record { credited = reported last; next = in-silence 0 (carries s a b line) (ended (carries s a b line) m) (ends-owe last) }
+        go (A.back-follows-it last z who w′ message′ a b line m x y) = record { credited = reported last; next = in-back true who (if next then false else true) 0 w′ message′ u (carries s a b line) m (ends-owe last) }
+
+-- ---- the theorem
+
+module _ (limit : ℕ) (low : 2 ≤ limit) (high : limit ≤ 255) (p : Profile) (v : Valid p) where
+  book-tick : (l : Link) (c : Calls) (gs : List Ledger) → Rooms l → OneBursts (linkTick limit l c) → Booked p gs l → Ticked p gs l c (linkTick limit l c)
+  book-tick l c gs rooms sole (in-silence e line o os) =
+      let q = tick-is limit l Silence c line in
+      subst (Ticked p gs l c) (sym q) (silence-books limit low high p v l c gs rooms e (subst OneBursts q sole) o os)
+  book-tick l c gs rooms sole (in-primary burst noted next k w message line o os) =
+      subst (Ticked p gs l c) (sym (tick-is limit l (Character (getD w k 0)) c line)) (primary-books limit low high p v l c gs rooms burst noted next k w message o os)
+  book-tick l c gs rooms sole (in-secondary burst noted next k w message line o os) =
+      subst (Ticked p gs l c) (sym (tick-is limit l (Character (getD w k 0)) c line)) (secondary-books limit low high p v l c gs rooms burst noted next k w message o os)
+  book-tick l c gs rooms sole (in-ack burst noted next k w message u on line o os sg ha hb) =
+      subst (Ticked p gs l c) (sym (tick-is limit l (Character (getD w k 0)) c line)) (ack-books limit low high p v l c gs rooms burst noted next k w message u on o os sg ha hb)
+  book-tick l c gs rooms sole (in-back burst noted next k w message u line o os) =
+      subst (Ticked p gs l c) (sym (tick-is limit l (Character (getD w k 0)) c line)) (back-books limit low high p v l c gs rooms burst noted next k w message u o os)
+
+  rooms-after : (l : Link) (c : Calls) → Rooms l → Rooms (linkAfter (linkTick limit l c))
+  unfolding linkTick
+  rooms-after l c r = record {
+    primary-room = omega (arith, r .primary-room, bytes-length limit (l .primary) (l .line) (c .for-primary));
+    secondary-room = omega (arith, r .secondary-room, bytes-length limit (l .secondary) (l .line) (c .for-secondary));
+  }
+
+  booked-run : (l : Link) (ticks : List Calls) (gs : List Ledger) → Rooms l → Booked p gs l → EachTick OneBursts (run limit l ticks) → EachCredited limit gs l ticks
+  unfolding run
+  booked-run l [] gs rooms k b = no-tick
+  booked-run l (c ∷ cs) gs rooms k (R1.EachTick.tick-and one b) =
+      let t = book-tick l c gs rooms one k in
+      tick-and (t .credited) (booked-run (linkAfter (linkTick limit l c)) cs (bookedBy c (linkTick limit l c) gs) (rooms-after l c rooms) (t .next) b)
+
+blank-ledgers : (xs : List DeviceSide) → Ledgers (blanks xs) xs
+unfolding blanks
+blank-ledgers [] = no-ledger
+blank-ledgers (x ∷ xs) = ledger-and (blank-ledgers xs)
+
+pub credit-in-a-run : (limit : ℕ) → 2 ≤ limit → limit ≤ 255 → CreditInARun limit
+unfolding run linkTick
+credit-in-a-run limit low high p retries l [] k ra rb = no-tick
+credit-in-a-run limit low high p retries l (c ∷ cs) k ra rb = go (k .one-bursts)
+  where
+    v : Valid p
+    v = valid p (k .made)
+
+    s : LinkStep
+    s = linkTick limit l c
+
+    rooms : Rooms l
+    rooms = record { primary-room = ra; secondary-room = rb }
+
+    -- a fresh device has nothing in hand
+    fresh : (x : DeviceSide) (d : DeviceCall) (g : Ledger) → R1.DeviceStarts p x → DeviceOwes (ledgerAfter d (deviceTick limit x (l .line) d) g) (deviceTick limit x (l .line) d .side .device) (deviceTick limit x (l .line) d .side .frame)
+    fresh x d g q =
+        let e = device-is p (q .preamble) (q .polling) (q .unique) (x .device) (q .starts) .is in
+        let turn = ap (λ (z : Device). z .turn) e in
+        speaks-owes limit high x (l .line) d g (ap (λ (z : Device). z .deaf) e) (λ n z. listens-asked n (sym turn ∙ z)) (none-owed (λ n z. listens-asked n (sym turn ∙ z)) (ap answering turn))
+
+    first : Ticked p (blanks (l .devices)) l c (linkTick limit l c)
+    first =
+        let f = first-tick limit low high p v retries (l .primary) (l .secondary) (l .devices) (l .line) (c .for-primary) (c .for-secondary) (c .for-devices) (k .starts .primary) (k .starts .secondary) (k .starts .devices) (k .starts .distinct) in
+        unreported p (blanks (l .devices)) l c (linkTick limit l c)
+        (deaf-reports limit (l .primary) (c .for-primary) (l .line) (ap (λ (m : Master). m .deaf) (master-is p true retries (l .primary .master) (k .starts .primary .starts))))
+        (deaf-reports limit (l .secondary) (c .for-secondary) (l .line) (ap (λ (m : Master). m .deaf) (master-is p false retries (l .secondary .master) (k .starts .secondary .starts))))
+        (in-silence (p .rt1s) (carries (linkTick limit l c) (f .primary-silent) (f .secondary-silent) (f .devices-silent)) (clear (f .silent-line))
+        (owe-anew limit (l .line) (c .for-devices) fresh (k .starts .devices) (blank-ledgers (l .devices))))
+
+    go : EachTick OneBursts (run limit l (c ∷ cs)) → EachCredited limit (blanks (l .devices)) l (c ∷ cs)
+    go (R1.EachTick.tick-and one b) =
+        tick-and (first .credited) (booked-run limit low high p v (linkAfter s) cs (bookedBy c s (blanks (l .devices))) (rooms-after limit low high p v l c rooms) (first .next) b)
