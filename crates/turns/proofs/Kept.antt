@@ -21,7 +21,7 @@ use Rattle.line.specs.declared.Heard.{Heard}
 use Rattle.line.specs.declared.Heard.the-variants.{Silence, Character}
 use Rattle.line.specs.declared.Receiver.{Receiver}
 use Rattle.line.specs.declared.Whole.{Whole}
-use Rattle.turns.specs.Master.{Called, Ending, Request, requested, requestHeader, isBroadcast, isAnswer, fails, atFrame, atBreak, ifAwaiting, rt1Ends, waited, counts, afterBreak, onSilence, onCharacter, onHeard, masterTakes, masterSends, sendsBy, sendsAt, behind}
+use Rattle.turns.specs.Master.{Called, Ending, Request, requested, requestHeader, isBroadcast, isAnswer, fails, atFrame, atBreak, ifAwaiting, rt1Ends, waited, counts, afterBreak, onSilence, onCharacter, onHeard, masterTakes, masterSends, oneMore, sendsBy, sendsAt, behind}
 use Rattle.turns.specs.Link.{MasterCall, no-request, requests, Answer, none, was-taken, was-refused, MasterSide, MasterStep, masterSent, masterCalled, masterCalls, masterTick, masterData}
 use Rattle.turns.specs.declared.Sent.{Sent}
 use Rattle.turns.specs.declared.Stage.{Stage}
@@ -32,7 +32,7 @@ use Rattle.turns.specs.declared.Master.{Master}
 use Rattle.turns.specs.declared.MasterTold.{MasterTold}
 use Rattle.turns.specs.declared.MasterTaken.{MasterTaken}
 use Rattle.turns.specs.declared.MasterSent.{MasterSent}
-use Rattle.turns.proofs.Masters.{Asks, is-refused, is-taken, asks, newMessage, withMessage, free-waiting, awaiting-waiting}
+use Rattle.turns.proofs.Masters.{Asks, is-refused, is-taken, asks, newMessage, withMessage, free-waiting, awaiting-waiting, one-more-some}
 use Rattle.turns.proofs.Bursting.{if-both}
 
 -- ---- masters
@@ -166,8 +166,8 @@ module _ (longest retries : ℕ) (m : Master) (frame : List ℕ) (k : MasterKept
   by-stage Free e = record { kept = record { retries-is = k .retries-is; short = k .short; counted = k .counted }; shut = λ z. absurd (free-waiting (sym e ∙ z)) }
   by-stage Waiting e = go (0 <? m .timer .window) refl
     where
-      go : (t : Bool) → (0 <? m .timer .window) ≡ t → MasterSettled longest retries ((if t then sendsAt m frame 0 (m .message .attempts + 1) else Rattle.turns.specs.Master.sends m false (m .timer) (m .message) (m .receiver) Sent.Silent) .master)
-      go true q = at 0 (m .message .attempts + 1) (omega arith)
+      go : (t : Bool) → (0 <? m .timer .window) ≡ t → MasterSettled longest retries ((if t then sendsAt m frame 0 (oneMore (m .retries) (m .message .attempts)) else Rattle.turns.specs.Master.sends m false (m .timer) (m .message) (m .receiver) Sent.Silent) .master)
+      go true q = at 0 (oneMore (m .retries) (m .message .attempts)) (one-more-some (m .retries) (m .message .attempts))
       go false q = record { kept = record { retries-is = k .retries-is; short = k .short; counted = k .counted }; shut = λ z. omega (arith, ltb-false 0 (m .timer .window) q) }
   by-stage (Sending n) e = at n (m .message .attempts) (k .counted (ap begun e))
   by-stage (Awaiting n) e = record { kept = record { retries-is = k .retries-is; short = k .short; counted = k .counted }; shut = λ z. absurd (awaiting-waiting n (sym e ∙ z)) }

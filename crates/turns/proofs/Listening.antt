@@ -242,6 +242,7 @@ module _ (limit : ℕ) (small : limit ≤ 255) (p : Profile) (primary : Bool) (x
     pub window-is : t .timer .window ≤ timerCounted (x .master) .window
     pub one-less : left (t .message .stage) ≡ left (x .master .message .stage) - 1
     pub same-attempts : t .message .attempts ≡ x .master .message .attempts
+    pub same-retries : t .retries ≡ x .master .retries
     pub retried : 1 ≤ left (x .master .message .stage) → t .message .stage ≡ Waiting → x .master .message .attempts ≤ x .master .retries
     pub free-shut : 1 ≤ left (x .master .message .stage) → t .message .stage ≡ Free → t .timer .window ≡ 0
     pub over : 1 ≤ left (x .master .message .stage) → left (t .message .stage) ≡ 0 → (t .message .stage ≡ Waiting) ⊎ (t .message .stage ≡ Free)
@@ -261,6 +262,7 @@ module _ (limit : ℕ) (small : limit ≤ 255) (p : Profile) (primary : Bool) (x
           window-is = took .window-is;
           one-less = took .one-less;
           same-attempts = took .same-attempts;
+          same-retries = took .took .same-retries;
           retried = took .retried;
           free-shut = took .free-shut;
           over = took .over;
