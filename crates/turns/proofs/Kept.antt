@@ -6,11 +6,11 @@ use mathlib.Core.Bool.{Bool, true, false}
 use mathlib.Core.List.{List, [], _∷_}
 use mathlib.Core.Logic.{_⊎_, inl, inr}
 use lib.ListN.{length}
-use borrow.Author.Tests.{ltb-false}
+use borrow.Author.Tests.{ltb-false, lt-ltb}
 use Rattle.base.specs.Choice.{if_then_else_, _<?_, _≤?_, _=?_}
 use Rattle.base.specs.Store.{stored}
 use Rattle.base.specs.declared.Refusal.{Refusal}
-use Rattle.base.proofs.Choices.{true-false}
+use Rattle.base.proofs.Choices.{true-false, if-is-true}
 use Rattle.frame.specs.Frame.{frameBytes, frameLength}
 use Rattle.frame.specs.declared.Header.{Header}
 use Rattle.frame.proofs.Longest.{address-at-most}
@@ -21,7 +21,7 @@ use Rattle.line.specs.declared.Heard.{Heard}
 use Rattle.line.specs.declared.Heard.the-variants.{Silence, Character}
 use Rattle.line.specs.declared.Receiver.{Receiver}
 use Rattle.line.specs.declared.Whole.{Whole}
-use Rattle.turns.specs.Master.{Called, Ending, Request, requested, requestHeader, isBroadcast, isAnswer, fails, atFrame, atBreak, ifAwaiting, rt1Ends, waited, counts, afterBreak, onSilence, onCharacter, onHeard, masterTakes, masterSends, sendsBy, sendsAt, behind}
+use Rattle.turns.specs.Master.{Called, Ending, Request, requested, requestHeader, isBroadcast, isAnswer, fails, atFrame, atBreak, ifAwaiting, rt1Ends, waited, counts, afterBreak, onSilence, onCharacter, onHeard, masterTakes, masterSends, oneMore, sendsBy, sendsAt, behind}
 use Rattle.turns.specs.Link.{MasterCall, no-request, requests, Answer, none, was-taken, was-refused, MasterSide, MasterStep, masterSent, masterCalled, masterCalls, masterTick, masterData}
 use Rattle.turns.specs.declared.Sent.{Sent}
 use Rattle.turns.specs.declared.Stage.{Stage}
@@ -32,7 +32,7 @@ use Rattle.turns.specs.declared.Master.{Master}
 use Rattle.turns.specs.declared.MasterTold.{MasterTold}
 use Rattle.turns.specs.declared.MasterTaken.{MasterTaken}
 use Rattle.turns.specs.declared.MasterSent.{MasterSent}
-use Rattle.turns.proofs.Masters.{left, Asks, is-refused, is-taken, asks, newMessage, withMessage, free-waiting, awaiting-waiting}
+use Rattle.turns.proofs.Masters.{left, Asks, is-refused, is-taken, asks, newMessage, withMessage, free-waiting, awaiting-waiting, one-more-some}
 use Rattle.turns.proofs.Bursting.{if-both}
 
 -- ---- masters
@@ -168,8 +168,8 @@ module _ (longest retries : ℕ) (m : Master) (frame : List ℕ) (k : MasterKept
   by-stage Free e = record { kept = record { retries-is = k .retries-is; short = k .short; counted = k .counted }; shut = λ z. absurd (free-waiting (sym e ∙ z)) }
   by-stage Waiting e = go (0 <? m .timer .window) refl
     where
-      go : (t : Bool) → (0 <? m .timer .window) ≡ t → MasterSettled longest retries ((if t then sendsAt m frame 0 (m .message .attempts + 1) else Rattle.turns.specs.Master.sends m false (m .timer) (m .message) (m .receiver) Sent.Silent) .master)
-      go true q = at 0 (m .message .attempts + 1) (omega arith)
+      go : (t : Bool) → (0 <? m .timer .window) ≡ t → MasterSettled longest retries ((if t then sendsAt m frame 0 (oneMore (m .retries) (m .message .attempts)) else Rattle.turns.specs.Master.sends m false (m .timer) (m .message) (m .receiver) Sent.Silent) .master)
+      go true q = at 0 (oneMore (m .retries) (m .message .attempts)) (one-more-some (m .retries) (m .message .attempts))
       go false q = record { kept = record { retries-is = k .retries-is; short = k .short; counted = k .counted }; shut = λ z. omega (arith, ltb-false 0 (m .timer .window) q) }
   by-stage (Sending n) e = at n (m .message .attempts) (k .counted (ap begun e))
   by-stage (Awaiting n) e = record { kept = record { retries-is = k .retries-is; short = k .short; counted = k .counted }; shut = λ z. absurd (awaiting-waiting n (sym e ∙ z)) }
@@ -231,19 +231,12 @@ module _ (m : Master) (frame : List ℕ) where
 
 -- a new message is longer than one character
 new-unawaited : (m : Master) (frame : List ℕ) → m .message .stage ≡ Waiting → 2 ≤ m .message .length → 1 ≤ left (masterSends m frame .master .message .stage) → ⊥
-unfolding masterSends if_then_else_
-new-unawaited m frame e long = subst (λ (s : Stage). 1 ≤ left (sendsBy m frame s .master .message .stage) → ⊥) (sym e) (go (0 <? m .timer .window) (0 + 1 <? m .message .length) refl)
-  where
-    by : Bool → Bool → MasterSent
-    by a b =
-        if a then (if b then Rattle.turns.specs.Master.sends m true (Rattle.turns.specs.Master.timer 0) (Rattle.turns.specs.Master.attempted (m .message) (Sending (0 + 1)) (m .message .attempts + 1)) Rattle.line.specs.Reader.passing (Sent.Character (Rattle.frame.specs.Address.byteAt frame 0))
-        else Rattle.turns.specs.Master.sends m true (Rattle.turns.specs.Master.brokenTimer m) (Rattle.turns.specs.Master.attempted (m .message) (Awaiting (Rattle.turns.specs.Master.ownRt1 m)) (m .message .attempts + 1)) Rattle.line.specs.Reader.passing (Sent.Character (Rattle.frame.specs.Address.byteAt frame 0)))
-        else Rattle.turns.specs.Master.sends m false (m .timer) (m .message) (m .receiver) Sent.Silent
-
-    go : (a b : Bool) → (0 + 1 <? m .message .length) ≡ b → 1 ≤ left (by a b .master .message .stage) → ⊥
-    go true true q z = omega arith
-    go true false q z = omega (arith, ltb-false (0 + 1) (m .message .length) q)
-    go false b q z = omega (arith, ap left e)
+unfolding masterSends
+new-unawaited m frame e long =
+    subst (λ (s : Stage). 1 ≤ left (sendsBy m frame s .master .message .stage) → ⊥) (sym e)
+    (if-both (λ (s : MasterSent). 1 ≤ left (s .master .message .stage) → ⊥) (0 <? m .timer .window) _ _
+    (subst (λ (s : MasterSent). 1 ≤ left (s .master .message .stage) → ⊥) (sym (if-is-true (0 + 1 <? m .message .length) _ _ (lt-ltb (0 + 1) (m .message .length) (omega arith)))) (λ z. omega arith))
+    (λ z. omega (arith, ap left e)))
 
 pub header-kept : (limit : ℕ) → limit ≤ 255 → (x : MasterSide) (heard : Heard) (call : MasterCall) → 1 ≤ left (masterTick limit x heard call .side .master .message .stage) → masterTick limit x heard call .side .master .message .header ≡ x .master .message .header
 unfolding masterTick Kept

@@ -244,6 +244,7 @@ module _ (limit : ℕ) (small : limit ≤ 255) (p : Profile) (primary : Bool) (x
     pub one-less : left (t .message .stage) ≡ left (x .master .message .stage) - 1
     pub same-attempts : t .message .attempts ≡ x .master .message .attempts
     pub same-header : t .message .header ≡ x .master .message .header
+    pub same-retries : t .retries ≡ x .master .retries
     pub retried : 1 ≤ left (x .master .message .stage) → t .message .stage ≡ Waiting → x .master .message .attempts ≤ x .master .retries
     pub free-shut : 1 ≤ left (x .master .message .stage) → t .message .stage ≡ Free → t .timer .window ≡ 0
     pub over : 1 ≤ left (x .master .message .stage) → left (t .message .stage) ≡ 0 → (t .message .stage ≡ Waiting) ⊎ (t .message .stage ≡ Free)
@@ -264,6 +265,7 @@ module _ (limit : ℕ) (small : limit ≤ 255) (p : Profile) (primary : Bool) (x
           one-less = took .one-less;
           same-attempts = took .same-attempts;
           same-header = took .same-header;
+          same-retries = took .took .same-retries;
           retried = took .retried;
           free-shut = took .free-shut;
           over = took .over;

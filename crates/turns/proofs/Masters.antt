@@ -7,8 +7,8 @@ use mathlib.Core.List.{List}
 use mathlib.Core.Logic.{_⊎_, inl, inr}
 use lib.ListN.{length, getD, take}
 use lib.Seq.{getD-take}
-use borrow.Author.Tests.{ltb-true, ltb-false, lt-ltb}
-use Rattle.base.specs.Choice.{if_then_else_, _<?_, _outside_to_}
+use borrow.Author.Tests.{ltb-true, ltb-false, lt-ltb, le-leb, leb-false}
+use Rattle.base.specs.Choice.{if_then_else_, _<?_, _≤?_, _outside_to_}
 use Rattle.base.specs.Store.{stored}
 use Rattle.base.specs.declared.Refusal.{Refusal}
 use Rattle.base.specs.declared.Refusal.the-variants.{PreambleLength, Address, Command, DataLong, MessageInHand}
@@ -24,7 +24,7 @@ use Rattle.frame.proofs.Taken.{Fits}
 use Rattle.line.specs.Reader.{passing}
 use Rattle.line.specs.declared.Whole.{Whole}
 use Rattle.line.proofs.Hearing.{wholeMessage}
-use Rattle.turns.specs.Master.{Called, accepted, refused, Request, requested, requestHeader, hasMessage, commandRefused, behind, timer, brokenTimer, attempted, sends, sendsAt, sendsBy, masterSends}
+use Rattle.turns.specs.Master.{Called, accepted, refused, Request, requested, requestHeader, hasMessage, commandRefused, behind, timer, brokenTimer, attempted, sends, sendsAt, oneMore, sendsBy, masterSends}
 use Rattle.turns.specs.Link.{MasterCall, no-request, requests, Answer, none, was-taken, was-refused, MasterStep, masterCalls, masterCalled, masterSent}
 use Rattle.turns.specs.declared.Sent.the-variants.{Silent, Character}
 use Rattle.turns.specs.declared.Stage.{Stage}
@@ -102,8 +102,19 @@ pub record Rested (m : Master) (g : Message) : Type 0 where
 -- the attempts of a master that begins its STX
 pub record Counts (m : Master) (g : Message) : Type 0 where
   pub some : 1 ≤ g .attempts
-  pub again : m .message .stage ≡ Waiting → g .attempts ≡ m .message .attempts + 1
+  pub again : m .message .stage ≡ Waiting → m .message .attempts ≤ m .retries → g .attempts ≡ m .message .attempts + 1
   pub from : (m .message .stage ≡ Waiting) ⊎ (m .message .stage ≡ Free)
+
+pub one-more-some : (retries n : ℕ) → 1 ≤ oneMore retries n
+unfolding if_then_else_
+one-more-some retries n = go (n ≤? retries) refl
+  where
+    go : (t : Bool) → (n ≤? retries) ≡ t → 1 ≤ (if t then n + 1 else n)
+    go true e = omega arith
+    go false e = omega (arith, leb-false n retries e)
+
+one-more-is : (retries n : ℕ) → n ≤ retries → oneMore retries n ≡ n + 1
+one-more-is retries n h = if-is-true (n ≤? retries) (n + 1) n (le-leb n retries h)
 
 pub data Goes (m : Master) (step : MasterStep) : Type 0 where
   -- it sends nothing: then no message waits in an open window
@@ -139,18 +150,18 @@ module _ (m : Master) (frame bytes : List ℕ) (told : MasterTold) (answer : Ans
   waiting-goes e = open-or-not (0 <? m .timer .window) refl formed
     where
       by : Bool → MasterStep
-      by t = masterSent (if t then sendsAt m frame 0 (m .message .attempts + 1) else sends m false (m .timer) (m .message) (m .receiver) Silent) frame bytes told answer
+      by t = masterSent (if t then sendsAt m frame 0 (oneMore (m .retries) (m .message .attempts)) else sends m false (m .timer) (m .message) (m .receiver) Silent) frame bytes told answer
 
       open-or-not : (t : Bool) → (0 <? m .timer .window) ≡ t → Formed (m .primary) frame (m .message) → Goes m (by (0 <? m .timer .window))
       open-or-not true q (no-message f) = absurd (waiting-free (sym e ∙ f))
       open-or-not true q (stands w message h a x t u) =
-          let g : Message = attempted (m .message) (Sending 1) (m .message .attempts + 1) in
+          let g : Message = attempted (m .message) (Sending 1) (oneMore (m .retries) (m .message .attempts)) in
           let more : (0 + 1 <? m .message .length) ≡ true = lt-ltb (0 + 1) (m .message .length) (omega (arith, h .sized, h .speaks .long)) in
-          let first : sendsAt m frame 0 (m .message .attempts + 1) ≡ sends m true (timer 0) g passing (Character (byteAt frame 0)) = if-is-true (0 + 1 <? m .message .length) _ _ more in
+          let first : sendsAt m frame 0 (oneMore (m .retries) (m .message .attempts)) ≡ sends m true (timer 0) g passing (Character (byteAt frame 0)) = if-is-true (0 + 1 <? m .message .length) _ _ more in
           let there : by (0 <? m .timer .window) ≡ masterSent (sends m true (timer 0) g passing (Character (byteAt frame 0))) frame bytes told answer =
           ap (λ (s : MasterSent). masterSent s frame bytes told answer) (if-is-true (0 <? m .timer .window) _ _ q ∙ first) in
           subst (Goes m) (sym there)
-          (begins g w message refl refl (ap Character (h .same 0 (omega (arith, h .speaks .long)))) (record { speaks = h .speaks; sized = h .sized; same = h .same }) a x t u (ltb-true 0 (m .timer .window) q) (record { some = omega arith; again = λ z. refl; from = inl e }))
+          (begins g w message refl refl (ap Character (h .same 0 (omega (arith, h .speaks .long)))) (record { speaks = h .speaks; sized = h .sized; same = h .same }) a x t u (ltb-true 0 (m .timer .window) q) (record { some = one-more-some (m .retries) (m .message .attempts); again = λ z h. one-more-is (m .retries) (m .message .attempts) h; from = inl e }))
       open-or-not false q f =
           let shut : m .timer .window ≤ 0 = ltb-false 0 (m .timer .window) q in
           subst (Goes m) (sym (ap (λ (s : MasterSent). masterSent s frame bytes told answer) (if-is-false (0 <? m .timer .window) _ _ q)))
@@ -265,7 +276,7 @@ master-goes limit t (requests q put) frame bytes small room v f = go (asks limit
           same-header = λ k. absurd (omega (arith, r .same-left, ap left y));
           waits-on = λ k. absurd (free-waiting (sym z ∙ k));
         })
-    other m g z y (begins g′ w′ x a b c d e f h i j k) = begins g′ w′ x a b c d e f h i j (record { some = k .some; again = λ q. absurd (free-waiting (sym z ∙ q)); from = inr z })
+    other m g z y (begins g′ w′ x a b c d e f h i j k) = begins g′ w′ x a b c d e f h i j (record { some = k .some; again = λ q h. absurd (free-waiting (sym z ∙ q)); from = inr z })
 
     go : Asks limit m q (length put) → Goes m (by (requested limit m q (length put)))
     go (is-refused why e) = subst (λ (c : Called Master). Goes m (by c)) (sym e) (sends-still m frame bytes (t .told) (was-refused why) f v)

@@ -118,7 +118,7 @@ master-tick limit small p primary burst noted C x call q bc f = go (m .1)
 
     again : (r : L.Starts p primary t step) → 1 ≤ left (x .master .message .stage) → (t .message .stage ≡ Waiting) ⊎ (t .message .stage ≡ Free)
         → (step .side .master .message .attempts ≡ x .master .message .attempts + 1) × (x .master .message .attempts ≤ x .master .retries)
-    again r z (inl e) = (r .counts .again e ∙ ap (λ (k : ℕ). k + 1) (m .0 .same-attempts), m .0 .retried z e)
+    again r z (inl e) = (r .counts .again e (omega (arith, m .0 .same-attempts, m .0 .same-retries, m .0 .retried z e)) ∙ ap (λ (k : ℕ). k + 1) (m .0 .same-attempts), m .0 .retried z e)
     again r z (inr e) = absurd (omega (arith, r .in-window, m .0 .free-shut z e))
 
     over : (r : L.Rests p primary t step) → (t .message .stage ≡ Waiting) ⊎ (t .message .stage ≡ Free) → 1 ≤ left (x .master .message .stage) → t .timer .window ≡ 0

@@ -1,0 +1,2 @@
+-- The laws by which a master's tick is proved.
+pub mod Ticks

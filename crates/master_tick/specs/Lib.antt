@@ -1,0 +1,2 @@
+-- What a tick of a master promises.
+pub mod Tick
