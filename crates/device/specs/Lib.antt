@@ -1,0 +1,2 @@
+-- What a device's functions promise, by the definitions of turns.
+pub mod Calls
