@@ -1,0 +1,2 @@
+-- What master and device have in common: document 01, "Line and ticks".
+pub mod Hears
