@@ -10,9 +10,16 @@ use Rattle.line.specs.Reader.{passing, noHeader}
 use Rattle.line.specs.declared.Profile.{Profile}
 use Rattle.line.specs.declared.Receiver.{Receiver}
 use Rattle.turns.specs.Master.{Called, accepted, refused}
-use Rattle.turns.specs.Device.{freshDevice}
+use Rattle.frame.specs.declared.Header.{Header}
+use Rattle.line.specs.declared.Event.{Event}
+use Rattle.turns.specs.Device.{behind, tells, waited, counts, onSilence, freshDevice}
 use Rattle.turns.specs.declared.Device.{Device}
+use Rattle.turns.specs.declared.DeviceTaken.{DeviceTaken}
+use Rattle.turns.specs.declared.DeviceTold.{DeviceTold}
+use Rattle.turns.specs.declared.DeviceTold.the-variants.{Nothing}
+use Rattle.turns.specs.declared.Turn.{Turn}
 use Rattle.turns.specs.declared.Turn.the-variants.{Listens}
+use Rattle.turns.specs.declared.Wish.{Wish}
 use Rattle.turns.specs.declared.Wish.the-variants.{Same}
 
 pub fresh-same : (p : Profile) (preamble polling unique : ℕ) (r : Receiver) → r ≡ passing → _≡_ {A = Device} (record {
@@ -72,6 +79,27 @@ module _ (n : ℕ) (x a b : Called Device) where
 pub preamble-small : (n : ℕ) (r : Bool) → r ≡ (n outside 5 to 20) → r ≡ false → n < 256
 preamble-small n r q e = omega (arith, inside-high n 5 20 r q e)
 
-pub ruleset parts = (refl, fresh-same, accepted-same)
+-- what is told, of an equal device
+pub tells-same : (d e : Device) (told : DeviceTold) (event : Event) → d ≡ e → _≡_ {A = DeviceTaken} (record { device = d; told = told; event = event }) (tells e told event)
+tells-same d e told event p = ap (λ (x : Device). tells x told event) p
+
+-- a device that listens, with equal ticks before its next BACK
+pub listens-same : (d : Device) (r : Receiver) (due other : ℕ) (told : DeviceTold) (event : Event) (t : DeviceTaken) → due ≡ other
+    → t ≡ tells (behind d r Listens (d .request) Same (d .length) due) told event → t ≡ tells (behind d r Listens (d .request) Same (d .length) other) told event
+listens-same d r due other told event t e p = p ∙ ap (λ (n : ℕ). tells (behind d r Listens (d .request) Same (d .length) n) told event) e
+
+-- a device that counts a silent tick
+pub counts-same : (d e : Device) (r : Receiver) (turn : Turn) (due other : ℕ) (event : Event) → turn ≡ waited (d .turn) → due ≡ other → e ≡ behind d r turn (d .request) (d .wish) (d .length) due
+    → _≡_ {A = DeviceTaken} (record { device = e; told = Nothing; event = event }) (tells (behind d r (waited (d .turn)) (d .request) (d .wish) (d .length) other) Nothing event)
+counts-same d e r turn due other event p q f = ap (λ (x : Device). tells x Nothing event) f ∙ (λ i. tells (behind d r (p i) (d .request) (d .wish) (d .length) (q i)) Nothing event)
+
+-- a definition by cases, at a case that a `match` has told
+pub waited-at : (p q t : Turn) → p ≡ q → t ≡ waited q → t ≡ waited p
+waited-at p q t e f = f ∙ ap waited (sym e)
+
+pub silence-at : (d : Device) (r : Receiver) (p q : Event) (t : DeviceTaken) → p ≡ q → t ≡ onSilence d r q → t ≡ onSilence d r p
+silence-at d r p q t e f = f ∙ ap (onSilence d r) (sym e)
+
+pub ruleset parts = (refl, fresh-same, accepted-same, tells-same, listens-same, counts-same, waited-at, silence-at)
 
 pub ruleset starts = (refl, accepted-same, polling-above, polling-within, unique-outside, unique-within, preamble-small)

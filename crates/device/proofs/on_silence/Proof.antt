@@ -1,0 +1,26 @@
+use borrow.Author.Needs.{needs}
+use Rattle.base.proofs.Choices.{choices}
+use Rattle.device.proofs.Parts.{parts}
+use Rattle.device.proofs.on_silence.Statement.{statement}
+use Rattle.device.proofs.on_silence.Tie as tie
+
+pub on-silence-spec : {M : Type 1} → statement M
+on-silence-spec =
+    tie.close
+    (tie.spec
+    (λ c. search (needs, choices, parts))
+    (λ c. search (needs, choices, parts))
+    (λ c κs. search (needs, choices, parts))
+    (λ c. search (needs, choices, parts))
+    (λ c κs. search (needs, choices, parts))
+    (λ c. search (needs, choices, parts))
+    (λ c κs. search (needs, choices, parts))
+    (λ c. search (needs, choices, parts))
+    (λ c κs. search (needs, choices, parts))
+    (λ c. search (needs, choices, parts))
+    (λ c κs. search (needs, choices, parts))
+    (λ c. search (needs, choices, parts))
+    (λ c. search (needs, choices, parts))
+    (λ c. search (needs, choices, parts))
+    (λ c. search (needs, choices, parts))
+    (λ c. search (needs, choices, parts)))
