@@ -1,2 +1,4 @@
 -- The laws by which a device's functions are proved.
 pub mod Parts
+pub mod Starts
+pub mod Answers

@@ -1,18 +1,15 @@
 -- Laws of a device's parts: equal parts give equal devices and equal answers.
-use Prim.Native.Nat.{ℕ, _^_, _-_, _<_, _≤_}
+use Prim.Native.Nat.{ℕ, _+_}
 use native.Mathlib.Omega.{arith}
 use mathlib.Core.Bool.{Bool, true, false}
 use mathlib.Core.Path.{_≡_, refl, sym, ap, _∙_}
-use Rattle.base.specs.Choice.{if_then_else_, _<?_, _outside_to_}
-use Rattle.base.proofs.Choices.{if-below, if-not-below, if-true, if-false, inside-high}
-use Rattle.frame.specs.Address.{largestAddress}
-use Rattle.line.specs.Reader.{passing, noHeader}
-use Rattle.line.specs.declared.Profile.{Profile}
-use Rattle.line.specs.declared.Receiver.{Receiver}
-use Rattle.turns.specs.Master.{Called, accepted, refused}
+use Rattle.base.proofs.Choices.{if-is-true, if-is-false}
+use Rattle.frame.specs.Address.{addressLength}
 use Rattle.frame.specs.declared.Header.{Header}
 use Rattle.line.specs.declared.Event.{Event}
-use Rattle.turns.specs.Device.{behind, tells, waited, counts, onSilence, freshDevice}
+use Rattle.line.specs.declared.Receiver.{Receiver}
+use Rattle.turns.specs.Master.{accepted}
+use Rattle.turns.specs.Device.{behind, tells, waited, onSilence, onCharacter}
 use Rattle.turns.specs.declared.Device.{Device}
 use Rattle.turns.specs.declared.DeviceTaken.{DeviceTaken}
 use Rattle.turns.specs.declared.DeviceTold.{DeviceTold}
@@ -22,62 +19,25 @@ use Rattle.turns.specs.declared.Turn.the-variants.{Listens}
 use Rattle.turns.specs.declared.Wish.{Wish}
 use Rattle.turns.specs.declared.Wish.the-variants.{Same}
 
-pub fresh-same : (p : Profile) (preamble polling unique : ℕ) (r : Receiver) → r ≡ passing → _≡_ {A = Device} (record {
-  profile = p;
-  preamble = preamble;
-  polling = polling;
-  unique = unique;
-  receiver = r;
-  deaf = true;
-  turn = Listens;
-  request = noHeader;
-  wish = Same;
-  length = 0;
-  burst = false;
-  primary = true;
-  due = p .rt1p;
-  content = record { given = false; command = 0; count = 0 };
-}) (freshDevice p preamble polling unique)
-fresh-same p preamble polling unique r e = ap (λ (x : Receiver). record {
-  profile = p;
-  preamble = preamble;
-  polling = polling;
-  unique = unique;
-  receiver = x;
-  deaf = true;
-  turn = Listens;
-  request = noHeader;
-  wish = Same;
-  length = 0;
-  burst = false;
-  primary = true;
-  due = p .rt1p;
-  content = record { given = false; command = 0; count = 0 };
-}) e
-
 pub accepted-same : (d e : Device) → d ≡ e → accepted d ≡ accepted e
 accepted-same d e p = ap accepted p
 
--- the addresses of a start
-module _ (n : ℕ) (x a b : Called Device) where
-  pub polling-above : 63 < n → x ≡ a → x ≡ (if largestAddress false <? n then a else b)
-  unfolding if_then_else_
-  polling-above h p = if-below 63 n x a b h p
+-- how many characters a frame has, by the address's form
+pub length-long : (preamble : ℕ) (long : Bool) (count : ℕ) → long ≡ true → preamble + (8 + count + 1) ≡ preamble + (addressLength long + 3 + count + 1)
+length-long preamble long count e = omega (arith, if-is-true {A = ℕ} long 5 1 e)
 
-  pub polling-within : n ≤ 63 → x ≡ b → x ≡ (if largestAddress false <? n then a else b)
-  unfolding if_then_else_
-  polling-within h p = if-not-below 63 n x a b h p
+pub length-short : (preamble : ℕ) (long : Bool) (count : ℕ) → long ≡ false → preamble + (4 + count + 1) ≡ preamble + (addressLength long + 3 + count + 1)
+length-short preamble long count e = omega (arith, if-is-false {A = ℕ} long 5 1 e)
 
-  pub unique-outside : (r : Bool) → r ≡ (n outside 1 to 274877906943) → r ≡ true → x ≡ a → x ≡ (if n outside 1 to largestAddress true then a else b)
-  unfolding if_then_else_
-  unique-outside r q e p = if-true (n outside 1 to 274877906943) x a b (sym q ∙ e) p
+-- a device with another turn and another length
+pub behind-same : (d e : Device) (r : Receiver) (turn t : Turn) (request : Header) (wish : Wish) (length n due : ℕ) → turn ≡ t → length ≡ n
+    → e ≡ behind d r turn request wish length due → e ≡ behind d r t request wish n due
+behind-same d e r turn t request wish length n due p q f = f ∙ (λ i. behind d r (p i) request wish (q i) due)
 
-  pub unique-within : (r : Bool) → r ≡ (n outside 1 to 274877906943) → r ≡ false → x ≡ b → x ≡ (if n outside 1 to largestAddress true then a else b)
-  unfolding if_then_else_
-  unique-within r q e p = if-false (n outside 1 to 274877906943) x a b (sym q ∙ e) p
-
-pub preamble-small : (n : ℕ) (r : Bool) → r ≡ (n outside 5 to 20) → r ≡ false → n < 256
-preamble-small n r q e = omega (arith, inside-high n 5 20 r q e)
+-- a device that answers damage
+pub answers-same : (d e : Device) (r : Receiver) (turn : Turn) (request : Header) (wish : Wish) (length n due : ℕ) (told : DeviceTold) (event : Event) → length ≡ n
+    → e ≡ behind d r turn request wish length due → _≡_ {A = DeviceTaken} (record { device = e; told = told; event = event }) (tells (behind d r turn request wish n due) told event)
+answers-same d e r turn request wish length n due told event q f = ap (λ (x : Device). tells x told event) f ∙ (λ i. tells (behind d r turn request wish (q i) due) told event)
 
 -- what is told, of an equal device
 pub tells-same : (d e : Device) (told : DeviceTold) (event : Event) → d ≡ e → _≡_ {A = DeviceTaken} (record { device = d; told = told; event = event }) (tells e told event)
@@ -100,6 +60,7 @@ waited-at p q t e f = f ∙ ap waited (sym e)
 pub silence-at : (d : Device) (r : Receiver) (p q : Event) (t : DeviceTaken) → p ≡ q → t ≡ onSilence d r q → t ≡ onSilence d r p
 silence-at d r p q t e f = f ∙ ap (onSilence d r) (sym e)
 
-pub ruleset parts = (refl, fresh-same, accepted-same, tells-same, listens-same, counts-same, waited-at, silence-at)
+pub character-at : (d : Device) (r : Receiver) (p q : Event) (t : DeviceTaken) → p ≡ q → t ≡ onCharacter d r q → t ≡ onCharacter d r p
+character-at d r p q t e f = f ∙ ap (onCharacter d r) (sym e)
 
-pub ruleset starts = (refl, accepted-same, polling-above, polling-within, unique-outside, unique-within, preamble-small)
+pub ruleset parts = (refl, length-long, length-short, tells-same, listens-same, answers-same, counts-same, waited-at, silence-at, character-at)

@@ -3,26 +3,38 @@ use base::Refusal;
 use frame::Header;
 use line::Event;
 use line::Harm;
+use line::Heard;
 use line::Profile;
 use line::Receiver;
 use line::Whole;
 use turns::Content;
 use turns::Device;
+use turns::DeviceSent;
 use turns::DeviceTaken;
 use turns::DeviceTold;
+use turns::Sent;
 use turns::Turn;
 use turns::Wish;
 ghost use mathlib.Core.Path.{_≡_};
-ghost use mathlib.Core.Bool.{false};
-ghost use Prim.Native.Nat.{_-_};
+ghost use mathlib.Core.Bool.{true, false};
+ghost use Prim.Native.Nat.{_+_, _-_};
 ghost use Rattle.base.specs.Choice.{if_then_else_};
+ghost use Rattle.frame.specs.Address.{addressLength};
+ghost use Rattle.frame.specs.Write.{writeBuffer};
+ghost use Rattle.line.specs.Reader.{passing};
 ghost use Rattle.turns.specs.Master.{isBroadcast};
-ghost use Rattle.turns.specs.Device.{behind, isOwn, dueAfter, errorStatus, errorData, answerHeader, hasError, tells, afterRequest, afterFrame, waited, backDue, counts, onSilence, freshDevice, deviceStarts};
-ghost use Rattle.device.specs.Calls.{startedAs};
+ghost use Rattle.turns.specs.Device.{behind, isOwn, dueAfter, errorStatus, errorData, answerHeader, hasError, tells, afterRequest, afterFrame, afterDamage, onCharacter, waited, backDue, counts, onSilence, wished, wishRefused, answersAt, answeredBy, answered, sends, backHeader, firstFor, behindAck, answersFrom, burstsFrom, backLength, sendsBy, freshDevice, deviceStarts};
+ghost use Rattle.device.specs.Calls.{startedAs, calledAs};
 
 // What a start answers.
 pub enum DeviceStarted {
     Started(Device),
+    Refused(Refusal),
+}
+
+// What a host's call answers.
+pub enum DeviceCalled {
+    Accepted(Device),
     Refused(Refusal),
 }
 
@@ -90,6 +102,47 @@ fn due_after(d: Device, h: Header) -> u32
     }
     let profile = d.profile;
     profile.rt1p as u32
+}
+
+// The first data byte of an error answer.
+fn error_status(m: Harm) -> u8
+    ensures { λ r. ⌜ r ≡ errorStatus m ⌝ }
+{
+    0x80
+        + frame_write::flag(m.parity, 0x40)
+        + frame_write::flag(m.overrun, 0x20)
+        + frame_write::flag(m.framing, 0x10)
+        + frame_write::flag(m.check, 0x08)
+}
+
+fn error_data(m: Harm) -> [u8; 2]
+    ensures { λ r. ⌜ r ≡ errorData m ⌝ }
+{
+    [error_status(m), 0]
+}
+
+// An ACK to a request.
+fn answer_header(h: Header, burst: bool) -> Header
+    ensures { λ r. ⌜ r ≡ answerHeader h burst ⌝ }
+{
+    Header {
+        frame: frame::ACK,
+        long: h.long,
+        primary: h.primary,
+        burst: burst,
+        address: h.address,
+        command: h.command,
+    }
+}
+
+// How many characters a frame has.
+fn frame_length(preamble: u8, long: bool, count: u8) -> u16
+    ensures { λ r. ⌜ r ≡ preamble + (addressLength long + 3 + count + 1) ⌝ }
+{
+    if long {
+        return (preamble as u16) + (8 + (count as u16) + 1);
+    }
+    (preamble as u16) + (4 + (count as u16) + 1)
 }
 
 // Whether a damaged frame is answered without the host.
@@ -168,6 +221,40 @@ fn after_frame(d: Device, r: Receiver, w: Whole) -> DeviceTaken
         );
     }
     listens(d, r, due_after(d, h), DeviceTold::Nothing, Event::Frame(w))
+}
+
+// A damaged frame.
+fn after_damage(d: Device, r: Receiver, w: Whole, m: Harm) -> DeviceTaken
+    ensures { λ t. ⌜ t ≡ afterDamage d r w m ⌝ }
+{
+    let h = w.header;
+    let profile = d.profile;
+    let due = profile.rt1p as u32;
+    if has_error(d, w, m) {
+        let length = frame_length(d.preamble, h.long, 2);
+        let device = with_parts(d, r, Turn::Accepted, h, Wish::Same, length, due);
+        return DeviceTaken {
+            device: device,
+            told: DeviceTold::Nothing,
+            event: Event::Damaged(w, m),
+        };
+    }
+    listens(d, r, due, DeviceTold::Nothing, Event::Damaged(w, m))
+}
+
+// A character, by what the reader tells.
+fn on_character(d: Device, r: Receiver, event: Event) -> DeviceTaken
+    ensures { λ t. ⌜ t ≡ onCharacter d r event ⌝ }
+{
+    let profile = d.profile;
+    let due = profile.rt1p as u32;
+    match event {
+        Event::Nothing => listens(d, r, 0, DeviceTold::Nothing, Event::Nothing),
+        Event::PassedOver => listens(d, r, due, DeviceTold::Nothing, Event::PassedOver),
+        Event::Broken => listens(d, r, due, DeviceTold::Nothing, Event::Broken),
+        Event::Frame(w) => after_frame(d, r, w),
+        Event::Damaged(w, m) => after_damage(d, r, w, m),
+    }
 }
 
 // The turn behind a silent tick.
@@ -249,6 +336,100 @@ fn on_silence(d: Device, r: Receiver, event: Event) -> DeviceTaken
         Event::Broken => count_tick(d, r, due, Event::Broken),
         Event::Frame(w) => count_tick(d, r, due, Event::Frame(w)),
         Event::Damaged(w, m) => count_tick(d, r, due, Event::Damaged(w, m)),
+    }
+}
+
+// Burst, from the ACK's first character on.
+fn wished_burst(burst: bool, wish: Wish) -> bool
+    ensures { λ r. ⌜ r ≡ wished burst wish ⌝ }
+{
+    match wish {
+        Wish::Same => burst,
+        Wish::On => true,
+        Wish::Off => false,
+    }
+}
+
+// Whether burst may not be turned on.
+fn on_refused(d: Device) -> bool
+    ensures { λ r. ⌜ r ≡ wishRefused d Wish.On ⌝ }
+{
+    let request = d.request;
+    let content = d.content;
+    if request.command == 0 {
+        return true;
+    }
+    if content.given {
+        return false;
+    }
+    true
+}
+
+fn wish_refused(d: Device, wish: Wish) -> bool
+    ensures { λ r. ⌜ r ≡ wishRefused d wish ⌝ }
+{
+    let request = d.request;
+    match wish {
+        Wish::Same => false,
+        Wish::On => on_refused(d),
+        Wish::Off => request.command == 0,
+    }
+}
+
+// The turn behind an answer, with so many ticks left of its request.
+fn answers_at(d: Device, left: u16) -> Turn
+    ensures { λ r. ⌜ r ≡ answersAt d left ⌝ }
+{
+    let profile = d.profile;
+    if left == profile.sto {
+        return Turn::Accepted;
+    }
+    Turn::Begins
+}
+
+// The device with an answer of so many data bytes.
+fn answering(d: Device, wish: Wish, count: u8, left: u16) -> Device
+    ensures { λ r. ⌜ r ≡ behind d (d .receiver) (answersAt d left) (d .request) wish (d .preamble + (addressLength (d .request .long) + 3 + count + 1)) (d .due) ⌝ }
+{
+    let receiver = d.receiver;
+    let request = d.request;
+    let length = frame_length(d.preamble, request.long, count);
+    with_parts(
+        d,
+        receiver,
+        answers_at(d, left),
+        request,
+        wish,
+        length,
+        d.due,
+    )
+}
+
+// An answer of so many data bytes to the request in hand.
+fn answer_request(d: Device, wish: Wish, count: usize, left: u16) -> DeviceCalled
+    ensures { λ r. ⌜ calledAs r ≡ answeredBy 255 d wish count (Turn.Asked left) ⌝ }
+{
+    if base::outside(count, 2, 255) {
+        return DeviceCalled::Refused(Refusal::DataLength);
+    }
+    if wish_refused(d, wish) {
+        return DeviceCalled::Refused(Refusal::BurstWish);
+    }
+    DeviceCalled::Accepted(answering(d, wish, count as u8, left))
+}
+
+fn answer_by(d: Device, wish: Wish, count: usize) -> DeviceCalled
+    ensures { λ r. ⌜ calledAs r ≡ answered 255 d wish count ⌝ }
+{
+    let turn = d.turn;
+    match turn {
+        Turn::Listens => DeviceCalled::Refused(Refusal::NoRequest),
+        Turn::Asked(left) => answer_request(d, wish, count, left),
+        Turn::Accepted => DeviceCalled::Refused(Refusal::NoRequest),
+        Turn::Begins => DeviceCalled::Refused(Refusal::NoRequest),
+        Turn::Answers(_) => DeviceCalled::Refused(Refusal::NoRequest),
+        Turn::Follows => DeviceCalled::Refused(Refusal::NoRequest),
+        Turn::Bursts(_) => DeviceCalled::Refused(Refusal::NoRequest),
     }
 }
 

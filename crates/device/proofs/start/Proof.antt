@@ -1,6 +1,6 @@
 use borrow.Author.Needs.{needs}
 use Rattle.base.proofs.Choices.{choices}
-use Rattle.device.proofs.Parts.{starts}
+use Rattle.device.proofs.Starts.{starts}
 use Rattle.device.proofs.start.Statement.{statement}
 use Rattle.device.proofs.start.Tie as tie
 
