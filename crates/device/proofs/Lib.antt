@@ -2,3 +2,4 @@
 pub mod Parts
 pub mod Starts
 pub mod Answers
+pub mod Sends
