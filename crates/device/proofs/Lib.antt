@@ -3,3 +3,5 @@ pub mod Parts
 pub mod Starts
 pub mod Answers
 pub mod Sends
+pub mod Limits
+pub mod Puts

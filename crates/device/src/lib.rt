@@ -6,6 +6,7 @@ use line::Harm;
 use line::Heard;
 use line::Profile;
 use line::Receiver;
+use line::Taken;
 use line::Whole;
 use turns::Content;
 use turns::Device;
@@ -17,7 +18,8 @@ use turns::Turn;
 use turns::Wish;
 ghost use mathlib.Core.Path.{_≡_};
 ghost use mathlib.Core.Bool.{true, false};
-ghost use Prim.Native.Nat.{_+_, _-_};
+ghost use Prim.Native.Nat.{_+_, _-_, _≤_};
+ghost use lib.ListN.{length, take};
 ghost use Rattle.base.specs.Choice.{if_then_else_};
 ghost use Rattle.frame.specs.Address.{addressLength};
 ghost use Rattle.frame.specs.Write.{writeBuffer};
@@ -25,6 +27,8 @@ ghost use Rattle.line.specs.Reader.{passing};
 ghost use Rattle.turns.specs.Master.{isBroadcast};
 ghost use Rattle.turns.specs.Device.{behind, isOwn, dueAfter, errorStatus, errorData, answerHeader, hasError, tells, afterRequest, afterFrame, afterDamage, onCharacter, waited, backDue, counts, onSilence, wished, wishRefused, answersAt, answeredBy, answered, sends, backHeader, firstFor, behindAck, answersFrom, burstsFrom, backLength, sendsBy, deviceSends, freshDevice, deviceStarts};
 ghost use Rattle.device.specs.Calls.{startedAs, calledAs};
+ghost use Rattle.device.specs.Buffers.{errorBuffer, begunBuffer};
+ghost use Rattle.device.specs.Promises.{afterHearing, TakeIs, AnswerIs, SendIs};
 
 // What a start answers.
 pub enum DeviceStarted {
@@ -143,6 +147,22 @@ fn frame_length(preamble: u8, long: bool, count: u8) -> u16
         return (preamble as u16) + (8 + (count as u16) + 1);
     }
     (preamble as u16) + (4 + (count as u16) + 1)
+}
+
+// An ACK or BACK into the lent frame buffer, where the frame writer takes it.
+fn put_frame(preamble: u8, h: Header, bytes: &[u8], frame: &mut [u8; 284])
+    ensures { λ _. ⌜ now (frame .exit) ≡ writeBuffer preamble h (now (bytes .entry)) (now (frame .entry)) 0 ⌝ }
+{
+    frame_write::write(preamble as usize, h, bytes, frame, 0);
+}
+
+// The same with the first bytes of a burst content.
+fn put_part(preamble: u8, h: Header, count: u8, contents: &[u8], frame: &mut [u8; 284])
+    requires { ⌜ 255 ≤ length (now contents) ⌝ }
+    ensures { λ _. ⌜ now (frame .exit) ≡ writeBuffer preamble h (take count (now (contents .entry))) (now (frame .entry)) 0 ⌝ }
+{
+    let end = count as usize;
+    put_frame(preamble, h, &contents[..end], frame);
 }
 
 // Whether a damaged frame is answered without the host.
@@ -339,6 +359,62 @@ fn on_silence(d: Device, r: Receiver, event: Event) -> DeviceTaken
     }
 }
 
+// A tick of a device, by what its reader made of it.
+fn after_hearing(d: Device, heard: Heard, t: Taken) -> DeviceTaken
+    ensures { λ s. ⌜ s ≡ afterHearing d heard t ⌝ }
+{
+    let r = t.receiver;
+    let event = t.event;
+    if d.deaf {
+        return DeviceTaken {
+            device: d,
+            told: DeviceTold::Nothing,
+            event: Event::Nothing,
+        };
+    }
+    match heard {
+        Heard::Silence => on_silence(d, r, event),
+        Heard::Character(_) => on_character(d, r, event),
+        Heard::Damaged(_, _) => on_character(d, r, event),
+    }
+}
+
+// The error answer to a damaged frame, into the lent frame buffer.
+fn put_error(d: Device, w: Whole, m: Harm, frame: &mut [u8; 284])
+    ensures { λ _. ⌜ now (frame .exit) ≡ errorBuffer d (Event.Damaged w m) (now (frame .entry)) ⌝ }
+{
+    let h = w.header;
+    if has_error(d, w, m) {
+        let bytes = error_data(m);
+        put_frame(d.preamble, answer_header(h, d.burst), &bytes, frame);
+    }
+}
+
+// The error answer, by what the reader tells.
+fn put_error_answer(d: Device, event: Event, frame: &mut [u8; 284])
+    ensures { λ _. ⌜ now (frame .exit) ≡ errorBuffer d event (now (frame .entry)) ⌝ }
+{
+    match event {
+        Event::Nothing => {}
+        Event::PassedOver => {}
+        Event::Broken => {}
+        Event::Frame(_) => {}
+        Event::Damaged(w, m) => put_error(d, w, m, frame),
+    }
+}
+
+// Takes what was heard: the device behind it, and what it tells its host. The data of the frame being heard are in the lent data buffer, and an error answer is put into the lent frame buffer.
+pub fn take(d: Device, heard: Heard, bytes: &mut [u8; 255], frame: &mut [u8; 284]) -> DeviceTaken
+    ensures { λ t. ⌜ TakeIs d heard (now (bytes .entry)) (now (frame .entry)) t (now (bytes .exit)) (now (frame .exit)) ⌝ }
+{
+    let receiver = d.receiver;
+    let t = party::hear(d.deaf, receiver, heard, bytes);
+    let taken = after_hearing(d, heard, t);
+    let event = taken.event;
+    put_error_answer(d, event, frame);
+    taken
+}
+
 // Burst, from the ACK's first character on.
 fn wished_burst(burst: bool, wish: Wish) -> bool
     ensures { λ r. ⌜ r ≡ wished burst wish ⌝ }
@@ -430,6 +506,33 @@ fn answer_by(d: Device, wish: Wish, count: usize) -> DeviceCalled
         Turn::Answers(_) => DeviceCalled::Refused(Refusal::NoRequest),
         Turn::Follows => DeviceCalled::Refused(Refusal::NoRequest),
         Turn::Bursts(_) => DeviceCalled::Refused(Refusal::NoRequest),
+    }
+}
+
+// The host's answer, into the lent frame buffer.
+fn put_answer(d: Device, wish: Wish, bytes: &[u8], frame: &mut [u8; 284])
+    ensures { λ _. ⌜ now (frame .exit) ≡ writeBuffer (d .preamble) (answerHeader (d .request) (wished (d .burst) wish)) (now (bytes .entry)) (now (frame .entry)) 0 ⌝ }
+{
+    let request = d.request;
+    put_frame(
+        d.preamble,
+        answer_header(request, wished_burst(d.burst, wish)),
+        bytes,
+        frame,
+    );
+}
+
+// Takes the host's answer to the request in hand, or refuses it with 8, 9 or 10 and leaves the lent frame buffer as it was.
+pub fn answer(d: Device, wish: Wish, bytes: &[u8], frame: &mut [u8; 284]) -> DeviceCalled
+    ensures { λ r. ⌜ AnswerIs d wish (now (bytes .entry)) (now (frame .entry)) r (now (frame .exit)) ⌝ }
+{
+    let called = answer_by(d, wish, bytes.len());
+    match called {
+        DeviceCalled::Accepted(e) => {
+            put_answer(d, wish, bytes, frame);
+            DeviceCalled::Accepted(e)
+        }
+        DeviceCalled::Refused(why) => DeviceCalled::Refused(why),
     }
 }
 
@@ -631,6 +734,38 @@ fn sends_by(d: Device, frame: &[u8; 284]) -> DeviceSent
         Turn::Follows => begins_back(d, frame),
         Turn::Bursts(n) => bursts_from(d, frame, n, d.length, d.primary),
     }
+}
+
+// The next BACK, into the lent frame buffer.
+fn put_back(d: Device, contents: &[u8; 255], frame: &mut [u8; 284])
+    ensures { λ _. ⌜ now (frame .exit) ≡ begunBuffer d Turn.Follows (now (contents .entry)) (now (frame .entry)) ⌝ }
+{
+    let content = d.content;
+    put_part(d.preamble, back_header(d), content.count, contents, frame);
+}
+
+// The BACK that begins in this tick, if one does.
+fn put_begun(d: Device, contents: &[u8; 255], frame: &mut [u8; 284])
+    ensures { λ _. ⌜ now (frame .exit) ≡ begunBuffer d (d .turn) (now (contents .entry)) (now (frame .entry)) ⌝ }
+{
+    let turn = d.turn;
+    match turn {
+        Turn::Listens => {}
+        Turn::Asked(_) => {}
+        Turn::Accepted => {}
+        Turn::Begins => {}
+        Turn::Answers(_) => {}
+        Turn::Follows => put_back(d, contents, frame),
+        Turn::Bursts(_) => {}
+    }
+}
+
+// Sends a character of the frame in the lent frame buffer, or nothing. A BACK that begins is put there first, with what the host gave last.
+pub fn send(d: Device, contents: &[u8; 255], frame: &mut [u8; 284]) -> DeviceSent
+    ensures { λ s. ⌜ SendIs d (now (contents .entry)) (now (frame .entry)) s (now (frame .exit)) ⌝ }
+{
+    put_begun(d, contents, frame);
+    sends_by(d, frame)
 }
 
 // A device with burst off, no request in hand, and no burst content.
