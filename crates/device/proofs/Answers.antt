@@ -5,12 +5,21 @@ use mathlib.Core.Bool.{Bool, false}
 use mathlib.Core.Path.{_≡_, refl, sym, ap, _∙_}
 use Rattle.base.specs.Choice.{_outside_to_}
 use Rattle.base.proofs.Choices.{inside-high}
-use Rattle.turns.specs.Master.{Called}
-use Rattle.turns.specs.Device.{wished, wishRefused, answeredBy, answered}
+use Rattle.frame.specs.declared.Header.{Header}
+use Rattle.line.specs.declared.Receiver.{Receiver}
+use Rattle.turns.specs.Master.{Called, accepted}
+use Rattle.turns.specs.Device.{behind, wished, wishRefused, answeredBy, answered}
 use Rattle.turns.specs.declared.Device.{Device}
 use Rattle.turns.specs.declared.Turn.{Turn}
 use Rattle.turns.specs.declared.Wish.{Wish}
-use Rattle.device.proofs.Parts.{accepted-same, behind-same}
+
+pub accepted-same : (d e : Device) → d ≡ e → accepted d ≡ accepted e
+accepted-same d e p = ap accepted p
+
+-- a device with another turn and another length
+pub behind-same : (d e : Device) (r : Receiver) (turn t : Turn) (request : Header) (wish : Wish) (length n due : ℕ) → turn ≡ t → length ≡ n
+    → e ≡ behind d r turn request wish length due → e ≡ behind d r t request wish n due
+behind-same d e r turn t request wish length n due p q f = f ∙ (λ i. behind d r (p i) request wish (q i) due)
 
 -- a definition by cases, at a case that a `match` has told
 pub wished-at : (burst : Bool) (p q : Wish) (r : Bool) → p ≡ q → r ≡ wished burst q → r ≡ wished burst p

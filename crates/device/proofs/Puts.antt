@@ -1,32 +1,26 @@
 -- Laws of the lent buffers, and of the promises that name them.
 use Prim.Native.Nat.{ℕ}
-use mathlib.Core.Bool.{Bool, true, false}
+use mathlib.Core.Bool.{Bool}
 use mathlib.Core.List.{List}
 use mathlib.Core.Path.{_≡_, refl, sym, ap, _∙_}
 use lib.ListN.{length}
-use Rattle.base.specs.Choice.{if_then_else_}
 use Rattle.base.specs.declared.Refusal.{Refusal}
-use Rattle.base.proofs.Choices.{if-true, if-false}
 use Rattle.frame.specs.Write.{writeBuffer}
 use Rattle.frame.specs.declared.Header.{Header}
-use Rattle.line.specs.declared.Damage.{Damage}
 use Rattle.line.specs.declared.Event.{Event}
 use Rattle.line.specs.declared.Heard.{Heard}
-use Rattle.line.specs.declared.Heard.the-variants.{Silence, Character, Damaged}
-use Rattle.line.specs.declared.Taken.{Taken}
-use Rattle.party.specs.Hears.{hears, HearIs}
 use Rattle.turns.specs.Master.{Called}
-use Rattle.turns.specs.Device.{tells, onSilence, onCharacter, onHeard, deviceTakes, answerHeader, wished, answered, deviceSends}
+use Rattle.turns.specs.Device.{deviceTakes, answerHeader, wished, answered, deviceSends}
 use Rattle.turns.specs.declared.Device.{Device}
 use Rattle.turns.specs.declared.DeviceSent.{DeviceSent}
 use Rattle.turns.specs.declared.DeviceTaken.{DeviceTaken}
-use Rattle.turns.specs.declared.DeviceTold.{DeviceTold}
 use Rattle.turns.specs.declared.Turn.{Turn}
 use Rattle.turns.specs.declared.Wish.{Wish}
+use Rattle.device_heard.specs.Hearing.{HeardIs}
 use Rattle.device.specs.declared.DeviceCalled.{DeviceCalled}
 use Rattle.device.specs.Calls.{calledAs}
 use Rattle.device.specs.Buffers.{errorBuffer, answerBuffer, begunBuffer}
-use Rattle.device.specs.Promises.{byHeard, afterHearing, TakeIs, AnswerIs, SendIs}
+use Rattle.device.specs.Promises.{TakeIs, AnswerIs, SendIs}
 use Rattle.device.proofs.Limits.{error-agrees, answer-agrees, begun-agrees}
 
 -- a frame with equal fields and data
@@ -43,49 +37,15 @@ error-at d p q frame after e f = f ∙ ap (λ (x : Event). errorBuffer d x frame
 pub begun-at : (d : Device) (p q : Turn) (contents frame after : List ℕ) → p ≡ q → after ≡ begunBuffer d q contents frame → after ≡ begunBuffer d p contents frame
 begun-at d p q contents frame after e f = f ∙ ap (λ (x : Turn). begunBuffer d x contents frame) (sym e)
 
--- hearing
-module _ (d : Device) (heard : Heard) (t : Taken) (s : DeviceTaken) where
-  pub hears-deaf : d .deaf ≡ true → s ≡ tells d DeviceTold.Nothing Event.Nothing → s ≡ afterHearing d heard t
-  unfolding afterHearing
-  hears-deaf e f = if-true (d .deaf) s (tells d DeviceTold.Nothing Event.Nothing) (byHeard d heard t) e f
-
-  by-heard : d .deaf ≡ false → s ≡ byHeard d heard t → s ≡ afterHearing d heard t
-  unfolding afterHearing
-  by-heard e f = if-false (d .deaf) s (tells d DeviceTold.Nothing Event.Nothing) (byHeard d heard t) e f
-
-  pub hears-silence : d .deaf ≡ false → heard ≡ Silence → s ≡ onSilence d (t .receiver) (t .event) → s ≡ afterHearing d heard t
-  hears-silence e h f = by-heard e (f ∙ ap (λ (x : Heard). byHeard d x t) (sym h))
-
-  pub hears-character : (c : ℕ) → d .deaf ≡ false → heard ≡ Character c → s ≡ onCharacter d (t .receiver) (t .event) → s ≡ afterHearing d heard t
-  hears-character c e h f = by-heard e (f ∙ ap (λ (x : Heard). byHeard d x t) (sym h))
-
-  pub hears-damage : (c : ℕ) (k : Damage) → d .deaf ≡ false → heard ≡ Damaged c k → s ≡ onCharacter d (t .receiver) (t .event) → s ≡ afterHearing d heard t
-  hears-damage c k e h f = by-heard e (f ∙ ap (λ (x : Heard). byHeard d x t) (sym h))
-
-  -- the reader that a party shares
-  pub hearing : t ≡ hears (d .deaf) (d .receiver) heard → s ≡ afterHearing d heard t → s ≡ deviceTakes d heard
-  unfolding afterHearing deviceTakes if_then_else_
-  hearing e f = f ∙ go (d .deaf) heard t e
-    where
-      go : (deaf : Bool) (x : Heard) (u : Taken) → u ≡ hears deaf (d .receiver) x → (if deaf then tells d DeviceTold.Nothing Event.Nothing else byHeard d x u) ≡ (if deaf then tells d DeviceTold.Nothing Event.Nothing else onHeard d x)
-      go true x u q = refl
-      go false Silence u q = ap (byHeard d Silence) q
-      go false (Character c) u q = ap (byHeard d (Character c)) q
-      go false (Damaged c k) u q = ap (byHeard d (Damaged c k)) q
-
-pub ruleset hearings = (refl, hears-deaf, hears-silence, hears-character, hears-damage)
-
 pub ruleset puts = (refl, written-same, header-same, error-at, begun-at)
 
-pub took : (d : Device) (heard : Heard) (bytes frame : List ℕ) (t : Taken) (s : DeviceTaken) (bytes-after after : List ℕ)
-    → HearIs (d .deaf) (d .receiver) heard bytes t bytes-after → s ≡ afterHearing d heard t → after ≡ errorBuffer d (s .event) frame
-    → TakeIs d heard bytes frame s bytes-after after
-took d heard bytes frame t s bytes-after after h f p =
-    let is : s ≡ deviceTakes d heard = hearing d heard t s (h .reader) f in
-    let put : after ≡ errorBuffer d (deviceTakes d heard .event) frame = p ∙ ap (λ (x : DeviceTaken). errorBuffer d (x .event) frame) is in
+pub took : (d : Device) (heard : Heard) (bytes frame : List ℕ) (s : DeviceTaken) (bytes-after after : List ℕ)
+    → HeardIs d heard bytes s bytes-after → after ≡ errorBuffer d (s .event) frame → TakeIs d heard bytes frame s bytes-after after
+took d heard bytes frame s bytes-after after h p =
+    let put : after ≡ errorBuffer d (deviceTakes d heard .event) frame = p ∙ ap (λ (x : DeviceTaken). errorBuffer d (x .event) frame) (h .taken) in
     record {
-      taken = is;
-      data-is = h .buffer;
+      taken = h .taken;
+      data-is = h .data-is;
       frame-is = put;
       within = λ l. put ∙ error-agrees d (deviceTakes d heard .event) frame l;
     }

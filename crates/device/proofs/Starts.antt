@@ -14,7 +14,7 @@ use Rattle.turns.specs.Device.{freshDevice}
 use Rattle.turns.specs.declared.Device.{Device}
 use Rattle.turns.specs.declared.Turn.the-variants.{Listens}
 use Rattle.turns.specs.declared.Wish.the-variants.{Same}
-use Rattle.device.proofs.Parts.{accepted-same}
+use Rattle.device.proofs.Answers.{accepted-same}
 
 pub fresh-same : (p : Profile) (preamble polling unique : ℕ) (r : Receiver) → r ≡ passing → _≡_ {A = Device} (record {
   profile = p;

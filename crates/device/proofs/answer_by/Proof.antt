@@ -1,6 +1,5 @@
 use borrow.Author.Needs.{needs}
-use Rattle.base.proofs.Choices.{choices}
-use Rattle.device.proofs.Answers.{answers}
+use Rattle.device.proofs.Answers.{answered-at}
 use Rattle.device.proofs.answer_by.Statement.{statement}
 use Rattle.device.proofs.answer_by.Tie as tie
 
@@ -8,18 +7,18 @@ pub answer-by-spec : {M : Type 1} → statement M
 answer-by-spec =
     tie.close
     (tie.spec
-    (λ c. search (needs, choices, answers))
-    (λ c. search (needs, choices, answers))
-    (λ c κs. search (needs, choices, answers))
-    (λ c. search (needs, choices, answers))
-    (λ c. search (needs, choices, answers))
-    (λ c. search (needs, choices, answers))
-    (λ c. search (needs, choices, answers))
-    (λ c. search (needs, choices, answers))
-    (λ c. search (needs, choices, answers))
-    (λ c. search (needs, choices, answers))
-    (λ c. search (needs, choices, answers))
-    (λ c. search (needs, choices, answers))
-    (λ c. search (needs, choices, answers))
-    (λ c. search (needs, choices, answers))
-    (λ c. search (needs, choices, answers)))
+    (λ c. search needs)
+    (λ c. search needs)
+    (λ c κs. search needs)
+    (λ c. search needs)
+    (λ c. search needs)
+    (λ c. search needs)
+    (λ c. search needs)
+    (λ c. search needs)
+    (λ c. search (needs, answered-at))
+    (λ c. search (needs, answered-at))
+    (λ c. search (needs, answered-at))
+    (λ c. search (needs, answered-at))
+    (λ c. search (needs, answered-at))
+    (λ c. search (needs, answered-at))
+    (λ c. search (needs, answered-at)))

@@ -1,6 +1,5 @@
 use borrow.Author.Needs.{needs}
-use Rattle.base.proofs.Choices.{choices}
-use Rattle.device.proofs.Sends.{sendings}
+use Rattle.device.proofs.Sends.{sends-at}
 use Rattle.device.proofs.sends_by.Statement.{statement}
 use Rattle.device.proofs.sends_by.Tie as tie
 
@@ -8,24 +7,24 @@ pub sends-by-spec : {M : Type 1} → statement M
 sends-by-spec =
     tie.close
     (tie.spec
-    (λ c. search (needs, choices, sendings))
-    (λ c κs. search (needs, choices, sendings))
-    (λ c. search (needs, choices, sendings))
-    (λ c κs. search (needs, choices, sendings))
-    (λ c. search (needs, choices, sendings))
-    (λ c κs. search (needs, choices, sendings))
-    (λ c. search (needs, choices, sendings))
-    (λ c κs. search (needs, choices, sendings))
-    (λ c. search (needs, choices, sendings))
-    (λ c κs. search (needs, choices, sendings))
-    (λ c. search (needs, choices, sendings))
-    (λ c κs. search (needs, choices, sendings))
-    (λ c. search (needs, choices, sendings))
-    (λ c κs. search (needs, choices, sendings))
-    (λ c. search (needs, choices, sendings))
-    (λ c. search (needs, choices, sendings))
-    (λ c. search (needs, choices, sendings))
-    (λ c. search (needs, choices, sendings))
-    (λ c. search (needs, choices, sendings))
-    (λ c. search (needs, choices, sendings))
-    (λ c. search (needs, choices, sendings)))
+    (λ c. search needs)
+    (λ c κs. search needs)
+    (λ c. search needs)
+    (λ c κs. search needs)
+    (λ c. search needs)
+    (λ c κs. search needs)
+    (λ c. search needs)
+    (λ c κs. search needs)
+    (λ c. search needs)
+    (λ c κs. search needs)
+    (λ c. search needs)
+    (λ c κs. search needs)
+    (λ c. search needs)
+    (λ c κs. search needs)
+    (λ c. search (needs, sends-at))
+    (λ c. search (needs, sends-at))
+    (λ c. search (needs, sends-at))
+    (λ c. search (needs, sends-at))
+    (λ c. search (needs, sends-at))
+    (λ c. search (needs, sends-at))
+    (λ c. search (needs, sends-at)))

@@ -7,7 +7,6 @@ pub take-spec : {M : Type 1} → statement M
 take-spec =
     tie.close
     (tie.spec
-    (λ c κs. search (needs, took))
-    (λ c κs. search (needs, took))
-    (λ c κs. search (needs, took))
+    (λ c κs. search needs)
+    (λ c κs. search needs)
     (λ c. search (needs, took)))
