@@ -7,16 +7,17 @@ use Rattle.base.proofs.Choices.{if-is-true, if-is-false}
 use Rattle.frame.specs.Address.{addressLength}
 use Rattle.frame.specs.declared.Header.{Header}
 use Rattle.line.specs.declared.Event.{Event}
+use Rattle.line.specs.declared.Event.the-variants.{Nothing, PassedOver, Broken, Frame, Damaged}
 use Rattle.line.specs.declared.Receiver.{Receiver}
-use Rattle.turns.specs.Device.{behind, tells, waited, onSilence, onCharacter}
+use Rattle.turns.specs.Device.{behind, tells, waited, counts, onSilence, onCharacter}
 use Rattle.turns.specs.declared.Device.{Device}
 use Rattle.turns.specs.declared.DeviceTaken.{DeviceTaken}
 use Rattle.turns.specs.declared.DeviceTold.{DeviceTold}
-use Rattle.turns.specs.declared.DeviceTold.the-variants.{Nothing}
 use Rattle.turns.specs.declared.Turn.{Turn}
 use Rattle.turns.specs.declared.Turn.the-variants.{Listens}
 use Rattle.turns.specs.declared.Wish.{Wish}
 use Rattle.turns.specs.declared.Wish.the-variants.{Same}
+use Rattle.device_heard.specs.Hearing.{silentDue}
 
 -- how many characters a frame has, by the address's form
 pub length-long : (preamble : ℕ) (long : Bool) (count : ℕ) → long ≡ true → preamble + (8 + count + 1) ≡ preamble + (addressLength long + 3 + count + 1)
@@ -41,17 +42,28 @@ listens-same d r due other told event t e p = p ∙ ap (λ (n : ℕ). tells (beh
 
 -- a device that counts a silent tick
 pub counts-same : (d e : Device) (r : Receiver) (turn : Turn) (due other : ℕ) (event : Event) → turn ≡ waited (d .turn) → due ≡ other → e ≡ behind d r turn (d .request) (d .wish) (d .length) due
-    → _≡_ {A = DeviceTaken} (record { device = e; told = Nothing; event = event }) (tells (behind d r (waited (d .turn)) (d .request) (d .wish) (d .length) other) Nothing event)
-counts-same d e r turn due other event p q f = ap (λ (x : Device). tells x Nothing event) f ∙ (λ i. tells (behind d r (p i) (d .request) (d .wish) (d .length) (q i)) Nothing event)
+    → _≡_ {A = DeviceTaken} (record { device = e; told = DeviceTold.Nothing; event = event }) (tells (behind d r (waited (d .turn)) (d .request) (d .wish) (d .length) other) DeviceTold.Nothing event)
+counts-same d e r turn due other event p q f = ap (λ (x : Device). tells x DeviceTold.Nothing event) f ∙ (λ i. tells (behind d r (p i) (d .request) (d .wish) (d .length) (q i)) DeviceTold.Nothing event)
 
 -- a definition by cases, at a case that a `match` has told
 pub waited-at : (p q t : Turn) → p ≡ q → t ≡ waited q → t ≡ waited p
 waited-at p q t e f = f ∙ ap waited (sym e)
 
-pub silence-at : (d : Device) (r : Receiver) (p q : Event) (t : DeviceTaken) → p ≡ q → t ≡ onSilence d r q → t ≡ onSilence d r p
-silence-at d r p q t e f = f ∙ ap (onSilence d r) (sym e)
+pub due-at : (d : Device) (p q : Event) (n : ℕ) → p ≡ q → n ≡ silentDue d q → n ≡ silentDue d p
+due-at d p q n e f = f ∙ ap (silentDue d) (sym e)
+
+-- a silent tick counts, whatever the reader tells
+by-due : (d : Device) (r : Receiver) (event : Event) → counts d r (silentDue d event) event ≡ onSilence d r event
+by-due d r Nothing = refl
+by-due d r PassedOver = refl
+by-due d r Broken = refl
+by-due d r (Frame w) = refl
+by-due d r (Damaged w m) = refl
+
+pub silence-is : (d : Device) (r : Receiver) (event : Event) (n : ℕ) (t : DeviceTaken) → n ≡ silentDue d event → t ≡ counts d r n event → t ≡ onSilence d r event
+silence-is d r event n t e f = f ∙ ap (λ (x : ℕ). counts d r x event) e ∙ by-due d r event
 
 pub character-at : (d : Device) (r : Receiver) (p q : Event) (t : DeviceTaken) → p ≡ q → t ≡ onCharacter d r q → t ≡ onCharacter d r p
 character-at d r p q t e f = f ∙ ap (onCharacter d r) (sym e)
 
-pub ruleset parts = (refl, length-long, length-short, tells-same, listens-same, answers-same, counts-same, waited-at, silence-at, character-at)
+pub ruleset parts = (refl, length-long, length-short, tells-same, listens-same, answers-same, counts-same, waited-at)

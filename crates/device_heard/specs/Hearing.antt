@@ -5,13 +5,22 @@ use mathlib.Core.List.{List, []}
 use Rattle.base.specs.Choice.{if_then_else_}
 use Rattle.line.specs.declared.Heard.{Heard}
 use Rattle.line.specs.declared.Heard.the-variants.{Silence, Character, Damaged}
-use Rattle.line.specs.declared.Event.the-variants.{Nothing}
+use Rattle.line.specs.declared.Event.{Event}
+use Rattle.line.specs.declared.Event.the-variants.{Nothing, PassedOver, Broken, Frame}
 use Rattle.line.specs.declared.Taken.{Taken}
 use Rattle.turns.specs.Device.{tells, onSilence, onCharacter, deviceTakes}
 use Rattle.turns.specs.Link.{DeviceSide, deviceData}
 use Rattle.turns.specs.declared.Device.{Device}
 use Rattle.turns.specs.declared.DeviceTaken.{DeviceTaken}
 use Rattle.turns.specs.declared.DeviceTold.{DeviceTold}
+
+-- the ticks before the next BACK, as a silent tick finds them
+abbrev pub silentDue : Device → Event → ℕ
+silentDue d Nothing = d .due
+silentDue d PassedOver = d .profile .rt1p
+silentDue d Broken = d .profile .rt1p
+silentDue d (Frame w) = d .profile .rt1p
+silentDue d (Event.Damaged w m) = d .profile .rt1p
 
 -- behind what its reader made of a tick
 abbrev pub byHeard : Device → Heard → Taken → DeviceTaken

@@ -18,7 +18,7 @@ ghost use Rattle.base.specs.Choice.{if_then_else_};
 ghost use Rattle.frame.specs.Address.{addressLength};
 ghost use Rattle.turns.specs.Master.{isBroadcast};
 ghost use Rattle.turns.specs.Device.{behind, isOwn, dueAfter, hasError, tells, afterRequest, afterFrame, afterDamage, onCharacter, waited, backDue, counts, onSilence};
-ghost use Rattle.device_heard.specs.Hearing.{afterHearing, HeardIs};
+ghost use Rattle.device_heard.specs.Hearing.{silentDue, afterHearing, HeardIs};
 
 // The same device with other parts.
 pub fn with_parts(
@@ -159,8 +159,9 @@ fn after_frame(d: Device, r: Receiver, w: Whole) -> DeviceTaken
 {
     let h = w.header;
     let profile = d.profile;
+    let expansion = w.expansion;
     if h.frame == frame::STX {
-        if w.expansion == 0 {
+        if expansion == 0 {
             return after_request(d, r, w);
         }
         return listens(
@@ -275,19 +276,26 @@ fn count_tick(d: Device, r: Receiver, due: u32, event: Event) -> DeviceTaken
     }
 }
 
+// The ticks before the next BACK, as a silent tick finds them: behind a frame that it breaks they count anew.
+fn silent_due(d: Device, event: Event) -> u32
+    ensures { λ r. ⌜ r ≡ silentDue d event ⌝ }
+{
+    let profile = d.profile;
+    let broken = profile.rt1p as u32;
+    match event {
+        Event::Nothing => d.due,
+        Event::PassedOver => broken,
+        Event::Broken => broken,
+        Event::Frame(_) => broken,
+        Event::Damaged(_, _) => broken,
+    }
+}
+
 // A silent tick, by what the reader tells.
 fn on_silence(d: Device, r: Receiver, event: Event) -> DeviceTaken
     ensures { λ t. ⌜ t ≡ onSilence d r event ⌝ }
 {
-    let profile = d.profile;
-    let due = profile.rt1p as u32;
-    match event {
-        Event::Nothing => count_tick(d, r, d.due, Event::Nothing),
-        Event::PassedOver => count_tick(d, r, due, Event::PassedOver),
-        Event::Broken => count_tick(d, r, due, Event::Broken),
-        Event::Frame(w) => count_tick(d, r, due, Event::Frame(w)),
-        Event::Damaged(w, m) => count_tick(d, r, due, Event::Damaged(w, m)),
-    }
+    count_tick(d, r, silent_due(d, event), event)
 }
 
 // A tick of a device, by what its reader made of it.
