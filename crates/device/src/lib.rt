@@ -286,12 +286,13 @@ fn sends_nothing(d: Device, turn: Turn) -> DeviceSent
     ensures { λ s. ⌜ s ≡ sends d false turn (d .length) (d .burst) (d .primary) (d .due) (d .receiver) Sent.Silent ⌝ }
 {
     let receiver = d.receiver;
+    let burst = d.burst;
     with_sent(
         d,
         false,
         turn,
         d.length,
-        d.burst,
+        burst,
         d.primary,
         d.due,
         receiver,

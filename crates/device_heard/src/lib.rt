@@ -159,18 +159,13 @@ fn after_frame(d: Device, r: Receiver, w: Whole) -> DeviceTaken
 {
     let h = w.header;
     let profile = d.profile;
+    let due = profile.rt1p as u32;
     let expansion = w.expansion;
     if h.frame == frame::STX {
         if expansion == 0 {
             return after_request(d, r, w);
         }
-        return listens(
-            d,
-            r,
-            profile.rt1p as u32,
-            DeviceTold::Nothing,
-            Event::Frame(w),
-        );
+        return listens(d, r, due, DeviceTold::Nothing, Event::Frame(w));
     }
     listens(d, r, due_after(d, h), DeviceTold::Nothing, Event::Frame(w))
 }

@@ -8,11 +8,11 @@ pub after-frame-spec : {M : Type 1} → statement M
 after-frame-spec =
     tie.close
     (tie.spec
-    (λ c κs. search (needs, choices, parts))
+    (λ c. search needs)
+    (λ c κs. search needs)
     (λ c. search (needs, choices, parts))
+    (λ c κs. search needs)
     (λ c. search (needs, choices, parts))
-    (λ c κs. search (needs, choices, parts))
-    (λ c. search (needs, choices, parts))
-    (λ c κs. search (needs, choices, parts))
-    (λ c κs. search (needs, choices, parts))
+    (λ c κs. search needs)
+    (λ c κs. search needs)
     (λ c. search (needs, choices, parts)))
