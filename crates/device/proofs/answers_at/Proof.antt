@@ -1,6 +1,4 @@
-use borrow.Author.Needs.{needs}
 use Rattle.base.proofs.Choices.{choices}
-use Rattle.device.proofs.Answers.{answers}
 use Rattle.device.proofs.answers_at.Statement.{statement}
 use Rattle.device.proofs.answers_at.Tie as tie
 
@@ -8,5 +6,5 @@ pub answers-at-spec : {M : Type 1} → statement M
 answers-at-spec =
     tie.close
     (tie.spec
-    (λ c. search (needs, choices, answers))
-    (λ c. search (needs, choices, answers)))
+    (λ c. search choices)
+    (λ c. search choices))

@@ -1,6 +1,5 @@
 use borrow.Author.Needs.{needs}
-use Rattle.base.proofs.Choices.{choices}
-use Rattle.device.proofs.Sends.{sendings}
+use Rattle.device.proofs.Sends.{answers-same}
 use Rattle.device.proofs.begins_answer.Statement.{statement}
 use Rattle.device.proofs.begins_answer.Tie as tie
 
@@ -8,7 +7,7 @@ pub begins-answer-spec : {M : Type 1} → statement M
 begins-answer-spec =
     tie.close
     (tie.spec
-    (λ c κs. search (needs, choices, sendings))
-    (λ c κs. search (needs, choices, sendings))
-    (λ c κs. search (needs, choices, sendings))
-    (λ c. search (needs, choices, sendings)))
+    (λ c κs. search needs)
+    (λ c κs. search needs)
+    (λ c κs. search needs)
+    (λ c. search answers-same))

@@ -1,6 +1,5 @@
 use borrow.Author.Needs.{needs}
-use Rattle.base.proofs.Choices.{choices}
-use Rattle.device.proofs.Sends.{sendings}
+use Rattle.device.proofs.Sends.{bursts-same}
 use Rattle.device.proofs.begins_back.Statement.{statement}
 use Rattle.device.proofs.begins_back.Tie as tie
 
@@ -8,7 +7,7 @@ pub begins-back-spec : {M : Type 1} → statement M
 begins-back-spec =
     tie.close
     (tie.spec
-    (λ c κs. search (needs, choices, sendings))
-    (λ c κs. search (needs, choices, sendings))
-    (λ c κs. search (needs, choices, sendings))
-    (λ c. search (needs, choices, sendings)))
+    (λ c κs. search needs)
+    (λ c κs. search needs)
+    (λ c κs. search needs)
+    (λ c. search bursts-same))

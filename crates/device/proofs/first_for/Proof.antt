@@ -1,6 +1,4 @@
-use borrow.Author.Needs.{needs}
 use Rattle.base.proofs.Choices.{choices}
-use Rattle.device.proofs.Sends.{sendings}
 use Rattle.device.proofs.first_for.Statement.{statement}
 use Rattle.device.proofs.first_for.Tie as tie
 
@@ -8,5 +6,5 @@ pub first-for-spec : {M : Type 1} → statement M
 first-for-spec =
     tie.close
     (tie.spec
-    (λ c. search (needs, choices, sendings))
-    (λ c. search (needs, choices, sendings)))
+    (λ c. search choices)
+    (λ c. search choices))

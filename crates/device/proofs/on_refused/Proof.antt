@@ -1,6 +1,4 @@
-use borrow.Author.Needs.{needs}
 use Rattle.base.proofs.Choices.{choices}
-use Rattle.device.proofs.Answers.{answers}
 use Rattle.device.proofs.on_refused.Statement.{statement}
 use Rattle.device.proofs.on_refused.Tie as tie
 
@@ -8,6 +6,6 @@ pub on-refused-spec : {M : Type 1} → statement M
 on-refused-spec =
     tie.close
     (tie.spec
-    (λ c. search (needs, choices, answers))
-    (λ c. search (needs, choices, answers))
-    (λ c. search (needs, choices, answers)))
+    (λ c. search choices)
+    (λ c. search choices)
+    (λ c. search choices))

@@ -1,6 +1,5 @@
 use borrow.Author.Needs.{needs}
-use Rattle.base.proofs.Choices.{choices}
-use Rattle.device.proofs.Puts.{puts}
+use Rattle.device.proofs.Puts.{written-same, header-same}
 use Rattle.device.proofs.put_answer.Statement.{statement}
 use Rattle.device.proofs.put_answer.Tie as tie
 
@@ -8,7 +7,7 @@ pub put-answer-spec : {M : Type 1} → statement M
 put-answer-spec =
     tie.close
     (tie.spec
-    (λ c κs. search (needs, choices, puts))
-    (λ c κs. search (needs, choices, puts))
-    (λ c κs. search (needs, choices, puts))
-    (λ c. search (needs, choices, puts)))
+    (λ c κs. search needs)
+    (λ c κs. search needs)
+    (λ c κs. search needs)
+    (λ c. search (written-same, header-same)))

@@ -1,6 +1,5 @@
 use borrow.Author.Needs.{needs}
-use Rattle.base.proofs.Choices.{choices}
-use Rattle.device.proofs.Puts.{puts}
+use Rattle.device.proofs.Puts.{written-same}
 use Rattle.device.proofs.put_back.Statement.{statement}
 use Rattle.device.proofs.put_back.Tie as tie
 
@@ -8,6 +7,6 @@ pub put-back-spec : {M : Type 1} → statement M
 put-back-spec =
     tie.close
     (tie.spec
-    (λ c κs. search (needs, choices, puts))
-    (λ c κs. search (needs, choices, puts))
-    (λ c. search (needs, choices, puts)))
+    (λ c κs. search needs)
+    (λ c κs. search needs)
+    (λ c. search written-same))

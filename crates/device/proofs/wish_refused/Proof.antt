@@ -1,6 +1,5 @@
 use borrow.Author.Needs.{needs}
-use Rattle.base.proofs.Choices.{choices}
-use Rattle.device.proofs.Answers.{answers}
+use Rattle.device.proofs.Answers.{wish-at}
 use Rattle.device.proofs.wish_refused.Statement.{statement}
 use Rattle.device.proofs.wish_refused.Tie as tie
 
@@ -8,10 +7,10 @@ pub wish-refused-spec : {M : Type 1} → statement M
 wish-refused-spec =
     tie.close
     (tie.spec
-    (λ c. search (needs, choices, answers))
-    (λ c. search (needs, choices, answers))
-    (λ c κs. search (needs, choices, answers))
-    (λ c. search (needs, choices, answers))
-    (λ c. search (needs, choices, answers))
-    (λ c. search (needs, choices, answers))
-    (λ c. search (needs, choices, answers)))
+    (λ c. search needs)
+    (λ c. search needs)
+    (λ c κs. search needs)
+    (λ c. search needs)
+    (λ c. search (needs, wish-at))
+    (λ c. search (needs, wish-at))
+    (λ c. search (needs, wish-at)))
