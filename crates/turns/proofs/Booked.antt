@@ -1,5 +1,5 @@
 -- The ledgers of all devices through a tick: what is said of each device, said of the list; and the frame that a device sends, told from its ledger.
-use Prim.Native.Nat.{ℕ, zero, suc, _+_, _≤_, _<_}
+use Prim.Native.Nat.{ℕ, suc, _+_, _≤_, _<_}
 use native.Mathlib.Omega.{arith}
 use mathlib.Core.Path.{_≡_, refl, sym, ap, subst, _∙_}
 use mathlib.Core.Bool.{Bool, true, false}
@@ -9,14 +9,12 @@ use lib.ListN.{length, take, getD, length-append}
 use lib.Seq.{take-at}
 use Rattle.base.specs.Choice.{if_then_else_}
 use Rattle.base.specs.Store.{stored}
-use Rattle.base.proofs.Choices.{true-false}
 use Rattle.base.proofs.Stores.{stored-front}
 use Rattle.frame.specs.Check.{exclusiveOr}
 use Rattle.frame.specs.Frame.{protectedBytes, bodyBytes, preambleBytes, frameBytes, frameLength}
 use Rattle.frame.specs.declared.Header.{Header}
 use Rattle.frame.proofs.Taken.{Fits}
 use Rattle.line.specs.Reader.{idle, tells, taken, takenData}
-use Rattle.line.specs.declared.Event.{Event}
 use Rattle.line.specs.declared.Event.the-variants.{Nothing, Frame, Damaged}
 use Rattle.line.specs.declared.Harm.{Harm}
 use Rattle.line.specs.declared.Heard.{Heard}
@@ -28,12 +26,11 @@ use Rattle.line.specs.declared.Whole.{Whole}
 use Rattle.line.proofs.Hearing as H
 use Rattle.line.proofs.Hearing.{wholeMessage, frame-leads}
 use Rattle.line.proofs.Leads.{readerAfter, dataAfter, leads-to, leads-data}
-use Rattle.turns.specs.Device.{isOwn, answerHeader, deviceTakes}
-use Rattle.turns.specs.Link.{DeviceCall, no-call, MasterSide, DeviceSide, DeviceStep, deviceTick, deviceTicks, heardFrame, sides}
+use Rattle.turns.specs.Device.{answerHeader}
+use Rattle.turns.specs.Link.{DeviceCall, no-call, DeviceSide, deviceTick, deviceTicks, sides}
 use Rattle.turns.specs.Run.{All, none, and}
-use Rattle.turns.specs.Credit.{Ledger, blank, ledgerAfter, ledgersAfter, closed, toldBy}
-use Rattle.turns.specs.declared.Turn.{Turn}
-use Rattle.turns.specs.declared.Turn.the-variants.{Listens, Asked, Accepted, Begins, Follows}
+use Rattle.turns.specs.Credit.{Ledger, ledgerAfter, ledgersAfter, closed, toldBy}
+use Rattle.turns.specs.declared.Turn.the-variants.{Asked}
 use Rattle.turns.specs.declared.Device.{Device}
 use Rattle.turns.specs.declared.DeviceTaken.{DeviceTaken}
 use Rattle.turns.proofs.Spoken.{Spoken}
@@ -44,7 +41,7 @@ use Rattle.turns.proofs.DeviceTaking as DT
 use Rattle.turns.proofs.DeviceSpeaking.{Frames, an-ack, a-back, turnBehind}
 use Rattle.turns.proofs.Listening.{plain, plain-frame}
 use Rattle.turns.proofs.Phases.{OneOf, here, further, DeviceListens, Ready}
-use Rattle.turns.proofs.Beginning.{DevicePlace, inside, finished, DeviceSpeaks, DeviceHears}
+use Rattle.turns.proofs.Beginning.{DevicePlace, inside, finished}
 use Rattle.turns.proofs.CreditDevices.{DeviceOwes, Gives, Answerable, answering, device-owes, takes-owes, hears-owes, none-owed, accepted-asked, follows-asked, answers-asked, bursts-asked}
 
 -- ---- all devices
@@ -66,9 +63,6 @@ pub closed-ledgers : {gs : List Ledger} {xs : List DeviceSide} → Ledgers gs xs
 unfolding closed
 closed-ledgers no-ledger = no-ledger
 closed-ledgers (ledger-and a) = ledger-and (closed-ledgers a)
-
-abbrev OwesAfter : ℕ → Heard → DeviceSide → DeviceCall → Ledger → Type 0
-OwesAfter limit heard x c g = DeviceOwes (ledgerAfter c (deviceTick limit x heard c) g) (deviceTick limit x heard c .side .device) (deviceTick limit x heard c .side .frame)
 
 -- every device's ledger says what it has in hand behind the tick, if it did before
 pub owe-after : (limit : ℕ) (heard : Heard) {P : DeviceSide → Type 0} {gs : List Ledger} {xs : List DeviceSide} (calls : List DeviceCall)
@@ -187,12 +181,6 @@ same-frame e = cc
 
 module _ {g : Ledger} {d : Device} {frame : List ℕ} {w : List ℕ} {message : Whole} (k : Gives g d frame) (h : Holds frame (d .length) w message) where
   -- the same frame
-  abbrev sent : List ℕ
-  sent = frameBytes (d .preamble) (answerHeader (d .request) (k .flag)) (k .put)
-
-  abbrev is : Whole
-  is = wholeMessage (answerHeader (d .request) (k .flag)) (k .put)
-
   held : Holds frame (frameLength (d .preamble) (answerHeader (d .request) (k .flag)) (length (k .put))) (frameBytes (d .preamble) (answerHeader (d .request) (k .flag)) (k .put)) (wholeMessage (answerHeader (d .request) (k .flag)) (k .put))
   held = subst (λ (f : List ℕ). Holds f (frameLength (d .preamble) (answerHeader (d .request) (k .flag)) (length (k .put))) (frameBytes (d .preamble) (answerHeader (d .request) (k .flag)) (k .put)) (wholeMessage (answerHeader (d .request) (k .flag)) (k .put)))
       (sym (k .frame-is)) (holds (d .preamble) (answerHeader (d .request) (k .flag)) (k .put) (k .before) (k .fits) (k .room))

@@ -1,5 +1,5 @@
 -- Of "A device bursts from the first character of an ACK whose answer turned burst on until the first character of one whose answer turned it off": the field `burst` changes only in a tick in which the device sends the first character of the frame in its buffer, in any state, whatever is heard and called. That this frame is an ACK with the wished flag is said, for the states of a run, in Devices.antt (`Goes`, `answers`).
-use Prim.Native.Nat.{ℕ, _+_, _-_}
+use Prim.Native.Nat.{ℕ, _+_}
 use mathlib.Core.Path.{_≡_, refl}
 use mathlib.Core.Bool.{Bool, true, false}
 use mathlib.Core.List.{List}

@@ -1,18 +1,17 @@
 -- Beyond demand 3: every answer that a master reports was given by the host of the device of its message's address, to its message's STX, and is reported once.
-use Prim.Native.Nat.{ℕ, suc, _+_, _-_, _≤_, _<_}
+use Prim.Native.Nat.{ℕ, suc, _-_, _≤_, _<_}
 use native.Mathlib.Omega.{arith}
 use mathlib.Core.Path.{_≡_, refl, sym, ap, subst, _∙_}
 use mathlib.Core.Bool.{Bool, true, false}
 use mathlib.Core.List.{List, [], _∷_}
 use mathlib.Core.Logic.{_⊎_, inl, inr}
 use lib.ListN.{length, take, getD}
-use borrow.Author.Tests.{eq-eqb, eqb-true}
+use borrow.Author.Tests.{eqb-true}
 use Rattle.base.specs.Choice.{if_then_else_, _=?_}
 use Rattle.base.proofs.Choices.{true-false, if-is-true, if-is-false}
 use Rattle.frame.specs.Delimiter.{stx, ack, back}
 use Rattle.frame.specs.declared.Header.{Header}
 use Rattle.line.specs.Reader.{idle, tells, taken, takenData}
-use Rattle.line.specs.declared.Event.{Event}
 use Rattle.line.specs.declared.Event.the-variants.{Nothing, Frame}
 use Rattle.line.specs.declared.Heard.{Heard}
 use Rattle.line.specs.declared.Heard.the-variants.{Silence, Character}
@@ -20,15 +19,14 @@ use Rattle.line.specs.declared.Profile.{Profile}
 use Rattle.line.specs.declared.Receiver.{Receiver}
 use Rattle.line.specs.declared.Taken.{Taken}
 use Rattle.line.specs.declared.Whole.{Whole}
-use Rattle.line.proofs.Hearing.{wholeMessage}
 use Rattle.line.proofs.Leads.{readerAfter, dataAfter}
 use Rattle.turns.specs.Master.{toItself, sameBit, isAnswer}
 use Rattle.turns.specs.Device.{isOwn, answerHeader}
-use Rattle.turns.specs.Link.{MasterCall, DeviceCall, no-call, MasterSide, MasterStep, DeviceSide, DeviceStep, Link, LinkStep, Calls, masterTick, masterData, deviceTick, deviceTicks, linkTick, linkAfter, run, sides}
-use Rattle.turns.specs.Run.{All, none, and, Starts, EachTick, OneBursts}
+use Rattle.turns.specs.Link.{MasterCall, DeviceCall, no-call, MasterSide, MasterStep, DeviceSide, DeviceStep, Link, LinkStep, Calls, masterTick, deviceTick, deviceTicks, linkTick, linkAfter, run, sides}
+use Rattle.turns.specs.Run.{All, none, and, EachTick, OneBursts}
 use Rattle.turns.specs.Run as R1
-use Rattle.turns.specs.Demand3.{Premises, masterIn}
-use Rattle.turns.specs.Credit.{Ledger, blank, given, closed, closedBy, ledgerAfter, ledgersAfter, bookedBy, Gave, this-one, another, masterOf, Credited, EachCredited, no-tick, tick-and, blanks, CreditInARun}
+use Rattle.turns.specs.Demand3.{masterIn}
+use Rattle.turns.specs.Credit.{Ledger, given, closedBy, ledgerAfter, ledgersAfter, bookedBy, Gave, this-one, another, masterOf, Credited, EachCredited, no-tick, tick-and, blanks, CreditInARun}
 use Rattle.turns.specs.declared.Noted.{Noted}
 use Rattle.turns.specs.declared.Master.{Master}
 use Rattle.turns.specs.declared.Device.{Device}
@@ -38,14 +36,13 @@ use Rattle.turns.specs.declared.MasterTold.the-variants.{Answered, Given
 use Rattle.turns.specs.declared.Turn.the-variants.{Listens, Answers}
 use Rattle.turns.proofs.Spoken.{Spoken}
 use Rattle.turns.proofs.Masters.{Holds, left}
-use Rattle.turns.proofs.Devices.{SameDevice, own-kept, own-same}
+use Rattle.turns.proofs.Devices.{own-kept}
 use Rattle.turns.proofs.DeviceSpeaking.{Frames, an-ack, a-back, device-speaks}
 use Rattle.turns.proofs.Windows.{Valid}
-use Rattle.turns.proofs.Phases.{OneOf, here, further, MasterQuiet, DeviceQuiet, Ready}
+use Rattle.turns.proofs.Phases.{OneOf, here, further, DeviceQuiet, Ready}
 use Rattle.turns.proofs.Beginning as B
 use Rattle.turns.proofs.Beginning.{DevicePlace, inside, finished, DeviceSpeaks, DeviceHears, device-does}
-use Rattle.turns.proofs.Sending.{MasterHears, MasterSpeaks}
-use Rattle.turns.proofs.Quiet.{Asked, ClearLine, SetLine, SilentLine, clear, set}
+use Rattle.turns.proofs.Quiet.{Asked, SilentLine, clear, set}
 use Rattle.turns.proofs.Stx as X
 use Rattle.turns.proofs.Stx.{OneMasterSends, StxTick, stx-tick, device-hears-on}
 use Rattle.turns.proofs.SilentTick as T
@@ -53,10 +50,10 @@ use Rattle.turns.proofs.SilentTick.{FrameIs, is-ack, is-back, OneDevice
 use Rattle.turns.proofs.Silences.{clear-tick, set-tick}
 use Rattle.turns.proofs.AckBack as A
 use Rattle.turns.proofs.AckBack.{AckEnded, AckTick, BackTick, ack-tick, back-tick, place-of, spoken-of}
-use Rattle.turns.proofs.NoTwoSend.{carries, heardTick, tick-is, phase-first, stx-line, stx-line-secondary}
+use Rattle.turns.proofs.NoTwoSend.{carries, heardTick, tick-is, stx-line, stx-line-secondary}
 use Rattle.turns.proofs.Fresh.{valid, first-tick, master-is, device-is}
 use Rattle.turns.proofs.Kept.{header-kept}
-use Rattle.turns.proofs.CreditMasters.{Reports, reports, tick-bytes, bytes-length, data-next, hears-data}
+use Rattle.turns.proofs.CreditMasters.{reports, tick-bytes, bytes-length, data-next, hears-data}
 use Rattle.turns.proofs.CreditDevices.{DeviceOwes, Gives, answering, none-owed, ledger-same, same-gives}
 use Rattle.turns.proofs.Booked.{AllOwe, no-more, owe-and, Ledgers, no-ledger, ledger-and, owe-ledgers, closed-ledgers, owe-after, owe-anew, one-all, silent-owes, mid-owes, end-owes, speaks-owes, speaker-free, finished-owes, same-frame, frame-sent, message-sent, data-heard}
 

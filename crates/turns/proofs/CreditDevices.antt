@@ -3,14 +3,13 @@ use Prim.Native.Nat.{ℕ, _+_, _-_, _≤_}
 use native.Mathlib.Omega.{arith}
 use mathlib.Core.Path.{_≡_, refl, sym, ap, subst, _∙_}
 use mathlib.Core.Bool.{Bool, true, false}
-use mathlib.Core.List.{List, [], _∷_}
+use mathlib.Core.List.{List}
 use lib.ListN.{length}
-use borrow.Author.Tests.{le-ltb}
 use Rattle.base.specs.Choice.{if_then_else_, _<?_, _≤?_, _=?_}
 use Rattle.base.specs.Store.{stored}
 use Rattle.base.specs.declared.Refusal.the-variants.{NoRequest}
 use Rattle.base.proofs.Choices.{true-false, if-is-false}
-use Rattle.frame.specs.Delimiter.{stx, ack, isType}
+use Rattle.frame.specs.Delimiter.{stx, ack}
 use Rattle.frame.specs.Frame.{frameBytes, frameLength}
 use Rattle.frame.specs.declared.Header.{Header}
 use Rattle.frame.proofs.Taken.{Fits}
@@ -23,17 +22,15 @@ use Rattle.line.specs.declared.Heard.the-variants.{Silence, Character}
 use Rattle.line.specs.declared.Receiver.{Receiver}
 use Rattle.line.specs.declared.Whole.{Whole}
 use Rattle.turns.specs.Master.{Called, accepted, refused, isBroadcast}
-use Rattle.turns.specs.Device.{behind, isOwn, hasError, backDue, waited, answerHeader, wished, answersAt, onSilence, onCharacter, onHeard, deviceTakes, answeredBy, answered, answerFrame, withContent, contentGiven, backLength, behindAck, sendsBy, deviceSends, begunFrame, errorFrame}
+use Rattle.turns.specs.Device.{behind, isOwn, backDue, waited, answerHeader, wished, answersAt, onSilence, onCharacter, onHeard, deviceTakes, answeredBy, answered, answerFrame, withContent, contentGiven, backLength, behindAck, sendsBy, deviceSends, begunFrame, errorFrame}
 use Rattle.turns.specs.Link.{DeviceCall, no-call, gives-answer, gives-content, Answer, was-taken, was-refused, DeviceSide, DeviceStep, deviceData, heardFrame, deviceSent, answerCalled, contentCalled, deviceCalls, deviceTick}
 use Rattle.turns.specs.Credit.{Ledger, told, given, toldBy, calledBy, ledgerAfter, answeredWith}
 use Rattle.turns.specs.declared.Turn.{Turn}
 use Rattle.turns.specs.declared.Turn.the-variants.{Listens, Asked, Accepted, Begins, Answers, Follows, Bursts}
 use Rattle.turns.specs.declared.Wish.{Wish}
-use Rattle.turns.specs.declared.Wish.the-variants.{Same}
 use Rattle.turns.specs.declared.Device.{Device}
 use Rattle.turns.specs.declared.DeviceTaken.{DeviceTaken}
 use Rattle.turns.specs.declared.DeviceTold.{DeviceTold}
-use Rattle.turns.specs.declared.DeviceTold.the-variants.{Request, Broadcast}
 use Rattle.turns.specs.declared.DeviceSent.{DeviceSent}
 use Rattle.turns.proofs.Turns.{listens-asked}
 use Rattle.turns.proofs.Devices as D

@@ -1,17 +1,15 @@
 -- When a master reports its message as answered, and what then stands in its data buffer.
-use Prim.Native.Nat.{ℕ, zero, suc, _+_, _/_, _≤_, _<_}
+use Prim.Native.Nat.{ℕ, zero, suc, _/_, _<_}
 use native.Mathlib.Omega.{arith}
-use mathlib.Core.Path.{_≡_, refl, sym, ap, subst, _∙_}
+use mathlib.Core.Path.{_≡_, refl, sym, ap, _∙_}
 use mathlib.Core.Bool.{Bool, true, false}
 use mathlib.Core.List.{List, [], _∷_, _++_}
 use lib.ListN.{length, take, getD}
-use lib.Seq.{take-append-le, take-at}
 use Rattle.base.specs.Choice.{if_then_else_, _<?_, _≤?_, _=?_}
-use Rattle.base.specs.Store.{stored}
-use Rattle.base.proofs.Choices.{if-is-true, if-is-false}
-use Rattle.base.proofs.Stores.{length-stored, stored-front}
+use Rattle.base.proofs.Choices.{if-is-false}
+use Rattle.base.proofs.Stores.{length-stored}
 use Rattle.frame.specs.Address.{byteAt}
-use Rattle.line.specs.Reader.{taken, takenData, kept, keptByte}
+use Rattle.line.specs.Reader.{taken, takenData, kept}
 use Rattle.line.specs.declared.Event.{Event}
 use Rattle.line.specs.declared.Event.the-variants.{Nothing, PassedOver, Broken, Frame, Damaged}
 use Rattle.line.specs.declared.Heard.{Heard}
@@ -21,7 +19,7 @@ use Rattle.line.specs.declared.Place.the-variants.{Passing, Idle, Preamble, Fir
 use Rattle.line.specs.declared.Receiver.{Receiver}
 use Rattle.line.specs.declared.Whole.{Whole}
 use Rattle.line.proofs.Leads.{readerAfter, dataAfter}
-use Rattle.turns.specs.Master.{Called, accepted, refused, Ending, requested, requestHeader, isBroadcast, isAnswer, fails, ends, atFrame, atBreak, ifAwaiting, rt1Ends, counts, afterBreak, afterFrame, onSilence, onCharacter, onHeard, masterTakes, behind}
+use Rattle.turns.specs.Master.{Called, accepted, refused, Ending, requested, requestHeader, isBroadcast, isAnswer, fails, ends, atFrame, atBreak, ifAwaiting, rt1Ends, counts, afterBreak, onSilence, onCharacter, onHeard, masterTakes, behind}
 use Rattle.turns.specs.Link.{MasterCall, no-request, requests, MasterSide, masterCalled, masterTick, masterData}
 use Rattle.turns.specs.declared.Stage.{Stage}
 use Rattle.turns.specs.declared.Stage.the-variants.{Free, Waiting, Sending, Awaiting}

@@ -1,5 +1,5 @@
 -- Document 01's worked run, computed: the primary's STX goes out in ticks 33 to 42, and the device's ACK in ticks 44 to 55.
-use Prim.Native.Nat.{ℕ, _+_, _-_}
+use Prim.Native.Nat.{ℕ, _+_}
 use mathlib.Core.Path.{_≡_, refl}
 use mathlib.Core.Bool.{true, false}
 use mathlib.Core.List.{List, [], _∷_, _++_}

@@ -1,8 +1,8 @@
 -- What every tick of the link keeps, whatever is heard and called: no device's frame and no burst content is longer than the longest one. And so for all parties of a link.
 use Prim.Native.Nat.{ℕ, _+_, _≤_}
 use native.Mathlib.Omega.{arith}
-use mathlib.Core.Path.{_≡_, refl, sym, ap, subst, _∙_}
-use mathlib.Core.Bool.{Bool, true, false}
+use mathlib.Core.Path.{_≡_, refl, sym, subst}
+use mathlib.Core.Bool.{Bool}
 use mathlib.Core.List.{List, [], _∷_}
 use lib.ListN.{length}
 use Rattle.base.specs.Choice.{if_then_else_, _<?_, _=?_}
@@ -10,7 +10,6 @@ use Rattle.base.specs.Store.{stored}
 use Rattle.base.specs.declared.Refusal.the-variants.{NoRequest}
 use Rattle.base.proofs.Choices.{true-false}
 use Rattle.frame.specs.Delimiter.{stx}
-use Rattle.frame.specs.declared.Header.{Header}
 use Rattle.line.specs.Reader.{taken}
 use Rattle.line.specs.declared.Event.{Event}
 use Rattle.line.specs.declared.Event.the-variants.{Nothing, PassedOver, Broken, Frame, Damaged}
@@ -20,13 +19,11 @@ use Rattle.line.specs.declared.Profile.{Profile}
 use Rattle.line.specs.declared.Receiver.{Receiver}
 use Rattle.turns.specs.Master.{Called, isBroadcast}
 use Rattle.turns.specs.Device.{isOwn, hasError, backDue, answerHeader, wished, backHeader, backLength, onSilence, onCharacter, onHeard, deviceTakes, answeredBy, answered, answerFrame, contentGiven, sendsBy, deviceSends, begunFrame}
-use Rattle.turns.specs.Link.{DeviceCall, no-call, gives-answer, gives-content, Answer, was-taken, was-refused, MasterSide, DeviceSide, DeviceStep, deviceData, heardFrame, deviceSent, answerCalled, contentCalled, deviceTick, deviceTicks, Link, Calls, sides, linkTick, linkAfter}
+use Rattle.turns.specs.Link.{DeviceCall, no-call, gives-answer, gives-content, Answer, was-taken, was-refused, MasterSide, DeviceSide, deviceData, heardFrame, deviceSent, answerCalled, contentCalled, deviceTick, deviceTicks, Link, Calls, sides, linkTick, linkAfter}
 use Rattle.turns.specs.Run.{All, none, and, MasterStarts, DeviceStarts, Starts}
-use Rattle.turns.specs.declared.Sent.{Sent}
 use Rattle.turns.specs.declared.Turn.{Turn}
 use Rattle.turns.specs.declared.Turn.the-variants.{Listens, Asked, Accepted, Begins, Answers, Follows, Bursts}
 use Rattle.turns.specs.declared.Wish.{Wish}
-use Rattle.turns.specs.declared.Master.{Master}
 use Rattle.turns.specs.declared.Device.{Device}
 use Rattle.turns.specs.declared.DeviceTaken.{DeviceTaken}
 use Rattle.turns.specs.declared.DeviceTold.{DeviceTold}

@@ -3,6 +3,7 @@ pub mod AckBack
 pub mod Beginning
 pub mod Begun
 pub mod Booked
+pub mod BurstLogs
 pub mod Bursting
 pub mod Credit
 pub mod CreditDevices

@@ -1,7 +1,7 @@
 -- A tick of all devices: what is said of each, said of the list. Nothing here depends on how many devices there are.
 use Prim.Native.Nat.{ℕ}
 use mathlib.Core.Path.{_≡_, refl, sym, ap, ap₂, _∙_}
-use mathlib.Core.Bool.{Bool, true, false}
+use mathlib.Core.Bool.{Bool, false}
 use Rattle.base.proofs.Choices.{true-false}
 use mathlib.Core.List.{List, [], _∷_}
 use Rattle.line.specs.declared.Heard.{Heard}

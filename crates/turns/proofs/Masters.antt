@@ -1,5 +1,5 @@
 -- What a master does in a tick once it has taken what was heard: the host's request, and the character that it sends or not. Stated once for every state in which it is not sending, and for its frame being sent.
-use Prim.Native.Nat.{ℕ, _+_, _-_, _≤_, _<_}
+use Prim.Native.Nat.{ℕ, _+_, _≤_, _<_}
 use native.Mathlib.Omega.{arith}
 use mathlib.Core.Path.{_≡_, refl, sym, ap, subst, _∙_}
 use mathlib.Core.Bool.{Bool, true, false}

@@ -14,7 +14,7 @@ use Rattle.line.specs.declared.Profile.{Profile}
 use Rattle.line.specs.declared.Whole.{Whole}
 use Rattle.turns.specs.Link.{MasterSide, DeviceSide, DeviceStep, Link, LinkStep, Calls, masterTick, deviceTicks, linkTick, linkAfter, run, sides, carried, joins}
 use Rattle.turns.specs.Run.{Starts, count, deviceSenders, EachTick, no-tick, tick-and, OneBursts, NoTwoSend}
-use Rattle.turns.specs.Demand3.{Premises, NoTwoSendInARun}
+use Rattle.turns.specs.Demand3.{NoTwoSendInARun}
 use Rattle.turns.specs.declared.Noted.{Noted}
 use Rattle.turns.specs.declared.Sent.{Sent}
 use Rattle.turns.specs.declared.Sent.the-variants.{Silent}

@@ -1,5 +1,5 @@
 -- The premises of the theorem: runs that meet them, one with a bursting device, and for two of them a run that breaks the claim without it.
-use Prim.Native.Nat.{ℕ, _+_, _-_}
+use Prim.Native.Nat.{ℕ}
 use native.Mathlib.Omega.{arith}
 use mathlib.Core.Path.{_≡_, refl, sym, subst}
 use mathlib.Core.Bool.{true, false}

@@ -1,13 +1,13 @@
 -- How long a message can still wait: numbers of ticks, by what the timers and the other master's message say. In each silent tick in which the message goes on waiting they fall.
-use Prim.Native.Nat.{ℕ, suc, _+_, _-_, _*_, _≤_, _<_}
+use Prim.Native.Nat.{ℕ, _+_, _-_, _*_, _≤_, _<_}
 use native.Mathlib.Omega.{arith}
-use mathlib.Core.Path.{_≡_, refl, sym, ap, subst, _∙_}
+use mathlib.Core.Path.{_≡_, refl, ap, subst, _∙_}
 use mathlib.Core.Bool.{Bool, true, false}
 use mathlib.Core.Logic.{_⊎_, inl, inr}
 use borrow.Author.Tests.{leb-true, leb-false, eqb-true, eqb-false}
 use Rattle.base.specs.Choice.{if_then_else_, _≤?_, _=?_}
 use Rattle.line.specs.declared.Profile.{Profile}
-use Rattle.turns.specs.Master.{countClear, countBurst, opened, timerCounted}
+use Rattle.turns.specs.Master.{opened}
 use Rattle.turns.specs.Link.{MasterSide, MasterStep}
 use Rattle.turns.specs.declared.Noted.{Noted}
 use Rattle.turns.specs.declared.Timer.{Timer}

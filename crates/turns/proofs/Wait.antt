@@ -6,16 +6,15 @@ use mathlib.Core.Bool.{Bool, true, false}
 use mathlib.Core.List.{List, [], _∷_}
 use mathlib.Core.Logic.{_⊎_, inl, inr}
 use lib.ListN.{length, drop, getD}
-use Rattle.base.specs.Choice.{if_then_else_, _outside_to_}
-use Rattle.base.specs.declared.Refusal.the-variants.{BadRetries}
-use Rattle.base.proofs.Choices.{true-false, went-else, inside-low}
+use Rattle.base.specs.Choice.{if_then_else_}
+use Rattle.base.proofs.Choices.{true-false}
 use Rattle.line.specs.declared.Heard.the-variants.{Silence, Character}
 use Rattle.line.specs.declared.Profile.{Profile}
 use Rattle.line.specs.declared.Whole.{Whole}
-use Rattle.turns.specs.Master.{burstAfter, accepted, refused, freshMaster}
-use Rattle.turns.specs.Link.{MasterSide, DeviceSide, Link, LinkStep, Calls, linkTick, linkAfter, run, was-taken}
-use Rattle.turns.specs.Run.{All, and, Starts, EachTick, tick-and, OneBursts}
-use Rattle.turns.specs.Demand3.{Premises, masterIn, AcceptedIn, BeginsWithin, NoneBurstsIn, NoneBursts, until-the-end, until-it-begins, and-on, longestFrame, longestWait, longerWithBurst, dueWithin, WaitInARun, Demand3}
+use Rattle.turns.specs.Master.{burstAfter}
+use Rattle.turns.specs.Link.{MasterSide, DeviceSide, Link, LinkStep, Calls, linkTick, linkAfter, run}
+use Rattle.turns.specs.Run.{All, and, EachTick, tick-and, OneBursts}
+use Rattle.turns.specs.Demand3.{masterIn, AcceptedIn, BeginsWithin, NoneBurstsIn, NoneBursts, until-it-begins, and-on, longestWait, longerWithBurst, WaitInARun, Demand3}
 use Rattle.turns.specs.Demand3 as S
 use Rattle.turns.specs.declared.Sent.{Sent}
 use Rattle.turns.specs.declared.Noted.{Noted}

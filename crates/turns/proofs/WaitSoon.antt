@@ -1,42 +1,33 @@
 -- A message that begins soon, whatever the others do: its window comes first, or an ACK to the other master is being sent behind which it does.
-use Prim.Native.Nat.{ℕ, zero, suc, _+_, _-_, _*_, _≤_, _<_}
+use Prim.Native.Nat.{ℕ, suc, _+_, _-_, _≤_}
 use native.Mathlib.Omega.{arith}
-use mathlib.Core.Path.{_≡_, refl, sym, ap, subst, _∙_}
+use mathlib.Core.Path.{_≡_, sym, ap, subst, _∙_}
 use mathlib.Core.Bool.{Bool, true, false}
 use mathlib.Core.List.{List}
-use mathlib.Core.Logic.{_⊎_, inl, inr}
 use lib.ListN.{length, getD}
 use Rattle.base.specs.Choice.{if_then_else_}
 use Rattle.base.proofs.Choices.{true-false}
-use Rattle.frame.specs.declared.Header.{Header}
-use Rattle.line.specs.declared.Heard.{Heard}
 use Rattle.line.specs.declared.Heard.the-variants.{Silence, Character}
 use Rattle.line.specs.declared.Profile.{Profile}
 use Rattle.line.specs.declared.Whole.{Whole}
 use Rattle.turns.specs.Master.{burstAfter, timer}
-use Rattle.turns.specs.Link.{MasterSide, MasterStep, DeviceSide, DeviceStep, Link, LinkStep, Calls, masterTick, deviceTicks, linkTick, linkAfter, sides, carried}
+use Rattle.turns.specs.Link.{MasterSide, Link, LinkStep, Calls, linkAfter}
 use Rattle.turns.specs.Run.{OneBursts}
-use Rattle.turns.specs.declared.Sent.{Sent}
-use Rattle.turns.specs.declared.Sent.the-variants.{Silent}
 use Rattle.turns.specs.declared.Noted.{Noted}
 use Rattle.turns.specs.declared.Timer.{Timer}
 use Rattle.turns.proofs.Masters.{left}
-use Rattle.turns.proofs.DeviceSpeaking.{an-ack, a-back}
+use Rattle.turns.proofs.DeviceSpeaking.{an-ack}
 use Rattle.turns.proofs.Windows.{Valid}
-use Rattle.turns.proofs.Quiet.{NoSlot, ClearLine, SetLine, NobodyAwaits, itself, slotTimer, breakTimer}
-use Rattle.turns.proofs.Stx as X
-use Rattle.turns.proofs.Stx.{OneMasterSends, StxEnded, StxTick, WaitsOn, rt1Of, stx-tick}
-use Rattle.turns.proofs.SilentTick.{FrameIs, is-ack, is-back, OneDeviceSends, MasterRests, MasterTries}
-use Rattle.turns.proofs.Silences.{clear-tick, set-tick}
+use Rattle.turns.proofs.Quiet.{ClearLine, NobodyAwaits}
+use Rattle.turns.proofs.SilentTick.{OneDeviceSends}
+use Rattle.turns.proofs.Silences.{clear-tick}
 use Rattle.turns.proofs.AckBack as A
-use Rattle.turns.proofs.AckBack.{AckEnded, AckTick, BackTick, ack-tick, back-tick, noted-of}
-use Rattle.turns.proofs.NoTwoSend.{carries, heardTick, primary-set, primary-clear, secondary-set, secondary-clear}
-use Rattle.turns.proofs.KeptLink.{KeptSide, LinkKept, LinkSettled}
-use Rattle.turns.proofs.Rank as K
-use Rattle.turns.proofs.Rank.{Pending, First, ClearRank, ClearNext, SetRank, burstStx, ownBack, allRetries, pending-left, clear-rests, other-clear, begins-clear, set-rests, other-set, begins-set, first-next, first-alone, clear-next, set-next}
+use Rattle.turns.proofs.AckBack.{AckTick, ack-tick}
+use Rattle.turns.proofs.NoTwoSend.{carries, heardTick}
+use Rattle.turns.proofs.Rank.{Pending, First, clear-rests, other-clear, begins-clear, first-next, first-alone}
 use Rattle.turns.proofs.Waits as Ways
-use Rattle.turns.proofs.Waits.{waiter, other, waiterStep, otherStep, not, isOwn, ClearOf, clear-of, SetOf, set-of, SilentView, silent-view, answer-for, frame-length, Soon, Burst, Clear, Next, began, waits}
-use Rattle.turns.proofs.WaitSides.{after-waiter, after-other, before-other, after-both, still-pending, waits-of, silent-of, other-line, no-line, own-other, own-turned, off-is, burstGain, stx-length}
+use Rattle.turns.proofs.Waits.{waiter, other, waiterStep, otherStep, not, ClearOf, clear-of, SilentView, silent-view, answer-for, Soon, Next, began, waits}
+use Rattle.turns.proofs.WaitSides.{before-other, after-both, still-pending, waits-of, silent-of}
 
 module _ (limit : ℕ) (low : 2 ≤ limit) (high : limit ≤ 255) (p : Profile) (v : Valid p) (retries : ℕ) (bit : Bool) (l : Link) (c : Calls) where
   abbrev quiet : LinkStep

@@ -1,19 +1,17 @@
 -- A master with a message that waits for its first character, and the other one: what each phase says of the two, whichever of them is the primary, and for how many ticks the message can still wait.
-use Prim.Native.Nat.{ℕ, suc, _+_, _-_, _*_, _≤_, _<_}
+use Prim.Native.Nat.{ℕ, suc, _+_, _*_, _≤_, _<_}
 use native.Mathlib.Omega.{arith}
-use mathlib.Core.Path.{_≡_, refl, sym, ap, subst, _∙_}
+use mathlib.Core.Path.{_≡_, refl, ap}
 use mathlib.Core.Bool.{Bool, true, false}
 use mathlib.Core.List.{List}
-use mathlib.Core.Logic.{_⊎_, inl, inr}
 use lib.ListN.{length, getD}
 use Rattle.base.specs.Choice.{if_then_else_}
-use Rattle.base.proofs.Choices.{true-false}
 use Rattle.frame.specs.declared.Header.{Header}
 use Rattle.line.specs.declared.Heard.the-variants.{Silence, Character}
 use Rattle.line.specs.declared.Profile.{Profile}
 use Rattle.line.specs.declared.Whole.{Whole}
 use Rattle.turns.specs.Master.{burstAfter, timer}
-use Rattle.turns.specs.Link.{MasterSide, MasterStep, DeviceSide, Link, LinkStep, linkAfter, sides}
+use Rattle.turns.specs.Link.{MasterSide, MasterStep, DeviceSide, Link, LinkStep, linkAfter}
 use Rattle.turns.specs.Run.{All, and}
 use Rattle.turns.specs.declared.Sent.{Sent}
 use Rattle.turns.specs.declared.Sent.the-variants.{Silent}
@@ -22,14 +20,14 @@ use Rattle.turns.specs.declared.Timer.{Timer}
 use Rattle.turns.proofs.Masters.{left}
 use Rattle.turns.proofs.DeviceSpeaking.{Frames, an-ack, a-back}
 use Rattle.turns.proofs.Windows as W
-use Rattle.turns.proofs.Windows.{Valid, OneSlot}
-use Rattle.turns.proofs.Phases.{OneOf, here, further, Some, Bursting, MasterQuiet, ClearWindows}
+use Rattle.turns.proofs.Windows.{OneSlot}
+use Rattle.turns.proofs.Phases.{OneOf, here, further, MasterQuiet, ClearWindows}
 use Rattle.turns.proofs.Beginning.{DeviceSpeaks}
 use Rattle.turns.proofs.Begun.{nextAfter}
-use Rattle.turns.proofs.Quiet.{NoSlot, ClearLine, SetLine, NobodyAwaits, itself, slotTimer}
-use Rattle.turns.proofs.Stx.{OneMasterSends, WaitsOn}
+use Rattle.turns.proofs.Quiet.{NoSlot, ClearLine, SetLine}
+use Rattle.turns.proofs.Stx.{OneMasterSends}
 use Rattle.turns.proofs.SilentTick as T
-use Rattle.turns.proofs.SilentTick.{FrameIs, is-ack, is-back, OneDeviceSends, MasterRests, MasterTries, SilentTick}
+use Rattle.turns.proofs.SilentTick.{FrameIs, is-ack, OneDeviceSends, MasterRests, MasterTries, SilentTick}
 use Rattle.turns.proofs.Silences.{swapped}
 use Rattle.turns.proofs.NoTwoSend.{carries}
 use Rattle.turns.proofs.KeptLink.{KeptSide}
