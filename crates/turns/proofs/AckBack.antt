@@ -56,7 +56,7 @@ module _ {p : Profile} {f : Frames} {k : ℕ} {w : List ℕ} {message : Whole} {
       go (finished last t due) = inr last
   place-of (further q o) = place-of o
 
-  spoken-of : {xs : List DeviceSide} → OneOf (DeviceSpeaks p f k w message u on) Q xs → Spoken w message
+  pub spoken-of : {xs : List DeviceSide} → OneOf (DeviceSpeaks p f k w message u on) Q xs → Spoken w message
   spoken-of (here s a) = s .held .speaks
   spoken-of (further q o) = spoken-of o
 

@@ -92,6 +92,7 @@ pub record BeginsAck (p : Profile) (h : Header) (x : DeviceSide) (s : DeviceStep
   pub short-same : request .long ≡ false → burst ≡ x .device .burst
   pub asked : isOwn (x .device) h ≡ true
   pub request-is : request ≡ h
+  pub same-request : s .side .device .request ≡ request
   pub primary-is : s .side .device .primary ≡ firstFor (x .device)
 
 -- a device that begins its BACK
@@ -175,6 +176,7 @@ device-does limit low high p some g h n x call q = go (device-silence limit low 
           short-same = short;
           asked = q .asked-own nl;
           request-is = q .asked-for nl;
+          same-request = req;
           primary-is = first;
         })
     go (L.begins-back t b command same tb tp on one hd next) =

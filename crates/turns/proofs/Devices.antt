@@ -160,7 +160,7 @@ pub data Turned (d : Device) (frame : List ℕ) : Type 0 where
 -- ---- sending
 
 -- an ACK or BACK of at least 2 data bytes can be written
-device-enough : (frame count : ℕ) → 2 ≤ count → tooFew frame count ≡ false
+pub device-enough : (frame count : ℕ) → 2 ≤ count → tooFew frame count ≡ false
 unfolding if_then_else_
 device-enough frame count h = go (frame =? ack) (frame =? back)
   where
@@ -378,7 +378,7 @@ module _ (d e : Device) (frame bytes contents : List ℕ) (told : DeviceTold) (a
 -- ---- the answer
 
 -- a request for this device has one of its addresses; a short one has command 0
-own-address : (d : Device) (frame contents : List ℕ) (h : Header) → Sound d frame contents → isOwn d h ≡ true → h .address ≤ largestAddress (h .long)
+pub own-address : (d : Device) (frame contents : List ℕ) (h : Header) → Sound d frame contents → isOwn d h ≡ true → h .address ≤ largestAddress (h .long)
 unfolding if_then_else_
 own-address d frame contents h s own = go (h .long) own
   where
@@ -485,7 +485,7 @@ content-turned d c frame given (begins-now q p) =
     begins-now q (record { w = p .w; message = p .message; held = p .held; header-is = p .header-is; no-expansion = p .no-expansion; own = p .own; short-same = p .short-same; on-given = λ z. given })
 content-turned d c frame given (follows-now q on) = follows-now q on
 
-ack-typed : isType ack ≡ true
+pub ack-typed : isType ack ≡ true
 unfolding if_then_else_
 ack-typed = refl
 

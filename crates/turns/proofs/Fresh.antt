@@ -186,7 +186,7 @@ first-tick limit low high p v retries a b xs heard ca cb cs sa sb ds d =
       devices-silent = all-carried q;
       silent-line = behind-break-clear p v (p .rt1s) nobody true noHeader 0 _ _ _ (omega arith) (fa .quiet) (fb .quiet) (fa .timer-is) (fb .timer-is)
           (record {
-            asked = record { by-primary = λ z. absurd (omega arith); by-secondary = λ z. absurd (omega arith) };
+            asked = record { by-primary = λ z. absurd (omega arith); by-secondary = λ z. absurd (omega arith); primary-header = λ z. absurd (omega arith); secondary-header = λ z. absurd (omega arith) };
             primary-left = λ z. absurd (omega (arith, fa .gone));
             secondary-left = λ z. absurd (omega (arith, fb .gone));
             primary-next = λ z. absurd (true-false (sym z));

@@ -6,11 +6,11 @@ use mathlib.Core.Bool.{Bool, true, false}
 use mathlib.Core.List.{List, [], _∷_}
 use mathlib.Core.Logic.{_⊎_, inl, inr}
 use lib.ListN.{length}
-use borrow.Author.Tests.{ltb-false}
+use borrow.Author.Tests.{ltb-false, lt-ltb}
 use Rattle.base.specs.Choice.{if_then_else_, _<?_, _≤?_, _=?_}
 use Rattle.base.specs.Store.{stored}
 use Rattle.base.specs.declared.Refusal.{Refusal}
-use Rattle.base.proofs.Choices.{true-false}
+use Rattle.base.proofs.Choices.{true-false, if-is-true}
 use Rattle.frame.specs.Frame.{frameBytes, frameLength}
 use Rattle.frame.specs.declared.Header.{Header}
 use Rattle.frame.proofs.Longest.{address-at-most}
@@ -32,7 +32,7 @@ use Rattle.turns.specs.declared.Master.{Master}
 use Rattle.turns.specs.declared.MasterTold.{MasterTold}
 use Rattle.turns.specs.declared.MasterTaken.{MasterTaken}
 use Rattle.turns.specs.declared.MasterSent.{MasterSent}
-use Rattle.turns.proofs.Masters.{Asks, is-refused, is-taken, asks, newMessage, withMessage, free-waiting, awaiting-waiting, one-more-some}
+use Rattle.turns.proofs.Masters.{left, Asks, is-refused, is-taken, asks, newMessage, withMessage, free-waiting, awaiting-waiting, one-more-some}
 use Rattle.turns.proofs.Bursting.{if-both}
 
 -- ---- masters
@@ -53,6 +53,7 @@ pub record MasterKept (longest retries : ℕ) (m : Master) : Type 0 where
 record SameMessage (g h : Message) : Type 0 where
   same-length : h .length ≡ g .length
   same-attempts : h .attempts ≡ g .attempts
+  same-header : h .header ≡ g .header
   no-more : begun (h .stage) ≡ true → begun (g .stage) ≡ true
 
 record Same (m t : Master) : Type 0 where
@@ -60,24 +61,24 @@ record Same (m t : Master) : Type 0 where
   same-message : SameMessage (m .message) (t .message)
 
 itself : (g : Message) → SameMessage g g
-itself g = record { same-length = refl; same-attempts = refl; no-more = λ z. z }
+itself g = record { same-length = refl; same-attempts = refl; same-header = refl; no-more = λ z. z }
 
 -- the message is over, or waits for a retry
 ended : (retries : ℕ) (g : Message) → SameMessage g (fails retries g .message)
 ended retries g =
     if-both (λ (e : Ending). SameMessage g (e .message)) (g .attempts ≤? retries) _ _
-    (record { same-length = refl; same-attempts = refl; no-more = λ z. absurd (true-false (sym z)) })
-    (record { same-length = refl; same-attempts = refl; no-more = λ z. absurd (true-false (sym z)) })
+    (record { same-length = refl; same-attempts = refl; same-header = refl; no-more = λ z. absurd (true-false (sym z)) })
+    (record { same-length = refl; same-attempts = refl; same-header = refl; no-more = λ z. absurd (true-false (sym z)) })
 
 broken : (m : Master) → SameMessage (m .message) (atBreak m .message)
 broken m =
     if-both (λ (e : Ending). SameMessage (m .message) (e .message)) (isBroadcast (m .message .header)) _ _
-    (record { same-length = refl; same-attempts = refl; no-more = λ z. absurd (true-false (sym z)) })
+    (record { same-length = refl; same-attempts = refl; same-header = refl; no-more = λ z. absurd (true-false (sym z)) })
     (ended (m .retries) (m .message))
 
 framed : (m : Master) (w : Whole) (bytes : List ℕ) → SameMessage (m .message) (atFrame m w bytes .message)
 framed m w bytes =
-    let gone : (told : MasterTold) → SameMessage (m .message) (Rattle.turns.specs.Master.ends (m .message) told .message) = λ told. record { same-length = refl; same-attempts = refl; no-more = λ z. absurd (true-false (sym z)) } in
+    let gone : (told : MasterTold) → SameMessage (m .message) (Rattle.turns.specs.Master.ends (m .message) told .message) = λ told. record { same-length = refl; same-attempts = refl; same-header = refl; no-more = λ z. absurd (true-false (sym z)) } in
     if-both (λ (e : Ending). SameMessage (m .message) (e .message)) (isBroadcast (m .message .header)) _ _ (gone MasterTold.BroadcastSent)
     (if-both (λ (e : Ending). SameMessage (m .message) (e .message)) (isAnswer m (w .header)) _ _
     (if-both (λ (e : Ending). SameMessage (m .message) (e .message)) _ _ _ (ended (m .retries) (m .message)) (gone (MasterTold.Answered w)))
@@ -102,7 +103,7 @@ count : (m : Master) (told : MasterTold) (event : Event) → Same m (counts m to
 count m told event =
     if-both (λ (t : MasterTaken). Same m (t .master)) (rt1Ends (m .message .stage)) _ _
     (record { same-retries = refl; same-message = broken m })
-    (record { same-retries = refl; same-message = record { same-length = refl; same-attempts = refl; no-more = waits (m .message .stage) } })
+    (record { same-retries = refl; same-message = record { same-length = refl; same-attempts = refl; same-header = refl; no-more = waits (m .message .stage) } })
 
 both : {l m n : Master} → Same l m → Same m n → Same l n
 both a b = record {
@@ -110,6 +111,7 @@ both a b = record {
   same-message = record {
     same-length = b .same-message .same-length ∙ a .same-message .same-length;
     same-attempts = b .same-message .same-attempts ∙ a .same-message .same-attempts;
+    same-header = b .same-message .same-header ∙ a .same-message .same-header;
     no-more = λ z. a .same-message .no-more (b .same-message .no-more z);
   };
 }
@@ -206,6 +208,61 @@ master-kept limit retries small x heard (requests q put) k = go (asks limit t q 
         subst by (sym e)
         (sent-kept (limit + 29) retries (withMessage t (newMessage t q (length put))) (stored (x .frame) 0 put-in)
         (record { retries-is = now .retries-is; short = frame-short limit (q .preamble) (requestHeader t q) (length put) (fits .preamble-high) few; counted = λ z. absurd (true-false (sym z)) }))
+
+-- ---- the header of a message that is awaited
+
+-- a message that is awaited behind a tick was in hand before it
+module _ (m : Master) (frame : List ℕ) where
+  Kept : Master → Type 0
+  Kept t = 1 ≤ left (t .message .stage) → t .message .header ≡ m .message .header
+
+  kept-by : (s : Stage) → Kept (sendsBy m frame s .master)
+  unfolding Kept
+  kept-by Free = λ z. refl
+  kept-by Waiting =
+      if-both (λ (s : MasterSent). Kept (s .master)) (0 <? m .timer .window) _ _
+      (if-both (λ (s : MasterSent). Kept (s .master)) (0 + 1 <? m .message .length) _ _ (λ z. refl) (λ z. refl)) (λ z. refl)
+  kept-by (Sending n) = if-both (λ (s : MasterSent). Kept (s .master)) (n + 1 <? m .message .length) _ _ (λ z. refl) (λ z. refl)
+  kept-by (Awaiting n) = λ z. refl
+
+  sends-kept : Kept (masterSends m frame .master)
+  unfolding masterSends
+  sends-kept = kept-by (m .message .stage)
+
+-- a new message is longer than one character
+new-unawaited : (m : Master) (frame : List ℕ) → m .message .stage ≡ Waiting → 2 ≤ m .message .length → 1 ≤ left (masterSends m frame .master .message .stage) → ⊥
+unfolding masterSends
+new-unawaited m frame e long =
+    subst (λ (s : Stage). 1 ≤ left (sendsBy m frame s .master .message .stage) → ⊥) (sym e)
+    (if-both (λ (s : MasterSent). 1 ≤ left (s .master .message .stage) → ⊥) (0 <? m .timer .window) _ _
+    (subst (λ (s : MasterSent). 1 ≤ left (s .master .message .stage) → ⊥) (sym (if-is-true (0 + 1 <? m .message .length) _ _ (lt-ltb (0 + 1) (m .message .length) (omega arith)))) (λ z. omega arith))
+    (λ z. omega (arith, ap left e)))
+
+pub header-kept : (limit : ℕ) → limit ≤ 255 → (x : MasterSide) (heard : Heard) (call : MasterCall) → 1 ≤ left (masterTick limit x heard call .side .master .message .stage) → masterTick limit x heard call .side .master .message .header ≡ x .master .message .header
+unfolding masterTick Kept
+header-kept limit small x heard no-request = λ z.
+    sends-kept (masterTakes (x .master) heard (masterData x heard) .master) (x .frame) z ∙ takes-same (x .master) heard (masterData x heard) .same-message .same-header
+header-kept limit small x heard (requests q put) = go (asks limit t q (length put) small)
+  where
+    t : Master
+    t = masterTakes (x .master) heard (masterData x heard) .master
+
+    told : MasterTold
+    told = masterTakes (x .master) heard (masterData x heard) .told
+
+    same : t .message .header ≡ x .master .message .header
+    same = takes-same (x .master) heard (masterData x heard) .same-message .same-header
+
+    put-in : List ℕ
+    put-in = frameBytes (q .preamble) (requestHeader t q) put
+
+    by : Called Master → Type 0
+    by c = 1 ≤ left (masterCalled c t put-in (x .frame) (masterData x heard) told .side .master .message .stage) → masterCalled c t put-in (x .frame) (masterData x heard) told .side .master .message .header ≡ x .master .message .header
+
+    go : Asks limit t q (length put) → by (requested limit t q (length put))
+    go (is-refused why e) = subst by (sym e) (λ z. sends-kept t (x .frame) z ∙ same)
+    go (is-taken fits few free e) =
+        subst by (sym e) (λ z. absurd (new-unawaited (withMessage t (newMessage t q (length put))) (stored (x .frame) 0 put-in) refl (omega (arith, fits .preamble-low)) z))
 
 -- ---- "An accepted message is a master's request that was taken"
 

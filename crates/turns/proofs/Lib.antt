@@ -2,7 +2,11 @@
 pub mod AckBack
 pub mod Beginning
 pub mod Begun
+pub mod Booked
 pub mod Bursting
+pub mod Credit
+pub mod CreditDevices
+pub mod CreditMasters
 pub mod DeviceSpeaking
 pub mod DeviceTaking
 pub mod Devices

@@ -170,6 +170,7 @@ rested-as : {m t : Master} {g : Message} → t .message ≡ m .message → M.Res
 rested-as e r = record {
   same-left = r .same-left ∙ ap (λ (g : Message). left (g .stage)) e;
   same-attempts = λ z. r .same-attempts z ∙ ap (λ (g : Message). g .attempts) e;
+  same-header = λ z. r .same-header z ∙ ap (λ (g : Message). g .header) e;
   waits-on = λ z. let q = r .waits-on (ap (λ (g : Message). g .stage) e ∙ z) in (q .0, q .1 ∙ ap (λ (g : Message). g .attempts) e);
 }
 
@@ -242,6 +243,7 @@ module _ (limit : ℕ) (small : limit ≤ 255) (p : Profile) (primary : Bool) (x
     pub window-is : t .timer .window ≤ timerCounted (x .master) .window
     pub one-less : left (t .message .stage) ≡ left (x .master .message .stage) - 1
     pub same-attempts : t .message .attempts ≡ x .master .message .attempts
+    pub same-header : t .message .header ≡ x .master .message .header
     pub same-retries : t .retries ≡ x .master .retries
     pub retried : 1 ≤ left (x .master .message .stage) → t .message .stage ≡ Waiting → x .master .message .attempts ≤ x .master .retries
     pub free-shut : 1 ≤ left (x .master .message .stage) → t .message .stage ≡ Free → t .timer .window ≡ 0
@@ -262,6 +264,7 @@ module _ (limit : ℕ) (small : limit ≤ 255) (p : Profile) (primary : Bool) (x
           window-is = took .window-is;
           one-less = took .one-less;
           same-attempts = took .same-attempts;
+          same-header = took .same-header;
           same-retries = took .took .same-retries;
           retried = took .retried;
           free-shut = took .free-shut;
@@ -301,10 +304,10 @@ master-finished limit p primary x heard call small is deaf still formed shut =
 -- ---- devices
 
 -- without a damaged frame the frame buffer stays behind what was heard
-plain : (d : Device) (frame : List ℕ) (e : Event) → (e ≡ Nothing) → errorFrame d e frame ≡ frame
+pub plain : (d : Device) (frame : List ℕ) (e : Event) → (e ≡ Nothing) → errorFrame d e frame ≡ frame
 plain d frame e q = ap (λ (z : Event). errorFrame d z frame) q
 
-plain-frame : (d : Device) (frame : List ℕ) (e : Event) (w : Whole) → (e ≡ Frame w) → errorFrame d e frame ≡ frame
+pub plain-frame : (d : Device) (frame : List ℕ) (e : Event) (w : Whole) → (e ≡ Frame w) → errorFrame d e frame ≡ frame
 plain-frame d frame e w q = ap (λ (z : Event). errorFrame d z frame) q
 
 -- every tick of a device, from what it is behind what it heard

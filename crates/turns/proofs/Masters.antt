@@ -96,6 +96,7 @@ spokenOut m g = record { primary = m .primary; profile = m .profile; retries = m
 pub record Rested (m : Master) (g : Message) : Type 0 where
   pub same-left : left (g .stage) ≡ left (m .message .stage)
   pub same-attempts : 1 ≤ left (g .stage) → g .attempts ≡ m .message .attempts
+  pub same-header : 1 ≤ left (g .stage) → g .header ≡ m .message .header
   pub waits-on : m .message .stage ≡ Waiting → (g .stage ≡ Waiting) × (g .attempts ≡ m .message .attempts)
 
 -- the attempts of a master that begins its STX
@@ -128,7 +129,7 @@ still-at : {s t : Stage} → s ≡ t → Still t → Still s
 still-at e v = subst Still (sym e) v
 
 unmoved : (m : Master) → Rested m (m .message)
-unmoved m = record { same-left = refl; same-attempts = λ z. refl; waits-on = λ z. (z, refl) }
+unmoved m = record { same-left = refl; same-attempts = λ z. refl; same-header = λ z. refl; waits-on = λ z. (z, refl) }
 
 pub free-waiting : Free ≡ Waiting → ⊥
 free-waiting e = let z : _≡_ {A = ℕ} 0 1 = cc in omega arith
@@ -272,6 +273,7 @@ master-goes limit t (requests q put) frame bytes small room v f = go (asks limit
         rests g′ a b c d e (record {
           same-left = r .same-left ∙ ap left y ∙ ap left (sym z);
           same-attempts = λ k. absurd (omega (arith, r .same-left, ap left y));
+          same-header = λ k. absurd (omega (arith, r .same-left, ap left y));
           waits-on = λ k. absurd (free-waiting (sym z ∙ k));
         })
     other m g z y (begins g′ w′ x a b c d e f h i j k) = begins g′ w′ x a b c d e f h i j (record { some = k .some; again = λ q h. absurd (free-waiting (sym z ∙ q)); from = inr z })

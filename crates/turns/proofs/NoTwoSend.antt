@@ -53,7 +53,12 @@ carries s a b c = λ i. joins (a i) (joins (b i) (c i))
 primary-awaits : (p : Profile) → Valid p → (e : ℕ) {burst : Bool} {noted : Noted} {next : Bool} {h : Header} {a b : MasterSide} {xs : List DeviceSide} → StxEnded p true false burst noted next h a b xs → Awaits p e burst next h (p .sto) a b
 unfolding if_then_else_
 primary-awaits p v e x = record {
-  asked = record { by-primary = λ z q. omega (arith, x .sender-left, v .sto-short); by-secondary = λ z q. absurd (true-false (sym (x .bit-is) ∙ q)) };
+  asked = record {
+    by-primary = λ z q. omega (arith, x .sender-left, v .sto-short);
+    by-secondary = λ z q. absurd (true-false (sym (x .bit-is) ∙ q));
+    primary-header = λ z q. x .header-is;
+    secondary-header = λ z q. absurd (true-false (sym (x .bit-is) ∙ q));
+  };
   primary-left = λ z. x .sender-left;
   secondary-left = λ z. absurd (omega (arith, x .listener-left));
   primary-next = λ z q. x .turn-is z;
@@ -64,7 +69,12 @@ primary-awaits p v e x = record {
 secondary-awaits : (p : Profile) → Valid p → (e : ℕ) {burst : Bool} {noted : Noted} {next : Bool} {h : Header} {a b : MasterSide} {xs : List DeviceSide} → StxEnded p false true burst noted next h b a xs → Awaits p e burst next h (p .sto) a b
 unfolding if_then_else_
 secondary-awaits p v e x = record {
-  asked = record { by-primary = λ z q. absurd (true-false (sym q ∙ x .bit-is)); by-secondary = λ z q. omega (arith, x .sender-left, v .sto-short, v .secondary) };
+  asked = record {
+    by-primary = λ z q. absurd (true-false (sym q ∙ x .bit-is));
+    by-secondary = λ z q. omega (arith, x .sender-left, v .sto-short, v .secondary);
+    primary-header = λ z q. absurd (true-false (sym q ∙ x .bit-is));
+    secondary-header = λ z q. x .header-is;
+  };
   primary-left = λ z. absurd (omega (arith, x .listener-left));
   secondary-left = λ z. x .sender-left;
   primary-next = λ z q. absurd (omega (arith, x .listener-left));
@@ -85,11 +95,11 @@ module _ (p : Profile) (v : Valid p) (e : ℕ) {noted : Noted} {next : Bool} {h 
   pub secondary-clear : StxEnded p false true false noted next h b a xs → ClearLine p e a b xs
   secondary-clear x = behind-break-clear p v e noted next h (p .sto) a b xs (omega arith) (x .listener) (x .sender) (x .listener-timer) (x .sender-timer) (secondary-awaits p v e x) (x .devices) (x .distinct) (x .agreed)
 
-stx-line : (p : Profile) → Valid p → (e : ℕ) (burst : Bool) {noted : Noted} {next : Bool} {h : Header} {a b : MasterSide} {xs : List DeviceSide} → StxEnded p true false burst noted next h a b xs → SilentLine p e a b xs
+pub stx-line : (p : Profile) → Valid p → (e : ℕ) (burst : Bool) {noted : Noted} {next : Bool} {h : Header} {a b : MasterSide} {xs : List DeviceSide} → StxEnded p true false burst noted next h a b xs → SilentLine p e a b xs
 stx-line p v e true {next = next} x = set (p .rt1p) next (primary-set p v e x)
 stx-line p v e false x = clear (primary-clear p v e x)
 
-stx-line-secondary : (p : Profile) → Valid p → (e : ℕ) (burst : Bool) {noted : Noted} {next : Bool} {h : Header} {a b : MasterSide} {xs : List DeviceSide} → StxEnded p false true burst noted next h b a xs → SilentLine p e a b xs
+pub stx-line-secondary : (p : Profile) → Valid p → (e : ℕ) (burst : Bool) {noted : Noted} {next : Bool} {h : Header} {a b : MasterSide} {xs : List DeviceSide} → StxEnded p false true burst noted next h b a xs → SilentLine p e a b xs
 stx-line-secondary p v e true {next = next} x = set (p .rt1p) next (secondary-set p v e x)
 stx-line-secondary p v e false x = clear (secondary-clear p v e x)
 

@@ -30,6 +30,9 @@ pub record NoSlot (t : Timer) : Type 0 where
 pub record Asked (g : ℕ) (h : Header) (a b : MasterSide) : Type 0 where
   pub by-primary : 1 ≤ g → h .primary ≡ true → g < left (a .master .message .stage)
   pub by-secondary : 1 ≤ g → h .primary ≡ false → g < left (b .master .message .stage)
+  -- and it is that master's message
+  pub primary-header : 1 ≤ g → h .primary ≡ true → h ≡ a .master .message .header
+  pub secondary-header : 1 ≤ g → h .primary ≡ false → h ≡ b .master .message .header
 
 -- BURST clear: g ticks more an answer to h may begin, and within them no window opens. In e ticks it is tick RT1 secondary.
 pub record ClearLine (p : Profile) (e : ℕ) (a b : MasterSide) (xs : List DeviceSide) : Type 0 where
@@ -237,7 +240,7 @@ pub record NobodyAwaits (a b : MasterSide) : Type 0 where
   pub secondary-gone : left (b .master .message .stage) ≡ 0
 
 no-answer : (h : Header) (a b : MasterSide) → Asked 0 h a b
-no-answer h a b = record { by-primary = λ z. absurd (omega arith); by-secondary = λ z. absurd (omega arith) }
+no-answer h a b = record { by-primary = λ z. absurd (omega arith); by-secondary = λ z. absurd (omega arith); primary-header = λ z. absurd (omega arith); secondary-header = λ z. absurd (omega arith) }
 
 none-shut : {t : Timer} → ShutFor 0 t
 none-shut = record { shut = λ z. absurd (omega arith); later = λ z. absurd (omega arith) }

@@ -115,6 +115,7 @@ module _ (limit : ℕ) (small : limit ≤ 255) (p : Profile) (primary burst : Bo
   pub speaks-out : (k : ℕ) (x : MasterSide) (heard : Heard) (call : MasterCall) → x .master .timer ≡ brokenTimer (x .master) → Still (x .master .message .stage) → left (x .master .message .stage) ≡ ownRt1 (x .master) → MasterSpeaks p primary burst noted k w message x
       → (masterTick limit x heard call .sent ≡ Silent) × MasterQuiet p primary burst noted (masterTick limit x heard call .side) × (masterTick limit x heard call .side .master .timer ≡ brokenTimer (x .master))
       × (left (masterTick limit x heard call .side .master .message .stage) ≡ ownRt1 (x .master)) × (1 ≤ ownRt1 (x .master) → masterTick limit x heard call .side .master .message .attempts ≡ x .master .message .attempts)
+      × (1 ≤ ownRt1 (x .master) → masterTick limit x heard call .side .master .message .header ≡ x .master .message .header)
   speaks-out k x heard call t still l s =
       let formed : Formed (x .master .primary) (x .frame) (x .master .message) = stands w message (s .held) (s .header-is) (s .no-expansion) (ap (λ (h : Header). h .frame) (sym (s .header-is)) ∙ s .type-is)
       (ap (λ (h : Header). h .primary) (sym (s .header-is)) ∙ s .bit-is ∙ sym (s .is-it .primary-is)) in
@@ -124,6 +125,7 @@ module _ (limit : ℕ) (small : limit ≤ 255) (p : Profile) (primary burst : Bo
         f .same-timer ∙ t,
         f .rested .same-left ∙ l,
         λ z. f .rested .same-attempts (omega (arith, f .rested .same-left, l)),
+        λ z. f .rested .same-header (omega (arith, f .rested .same-left, l)),
       )
 
   -- the other master inside the frame

@@ -146,6 +146,8 @@ asked-next : {g : ℕ} {h : Header} {a b : MasterSide} {s t : MasterStep} → As
 asked-next k ra rb = record {
   by-primary = λ z e. omega (arith, ra .one-less, k .by-primary (omega arith) e);
   by-secondary = λ z e. omega (arith, rb .one-less, k .by-secondary (omega arith) e);
+  primary-header = λ z e. k .primary-header (omega arith) e ∙ sym (ra .same-header (omega (arith, ra .one-less, k .by-primary (omega arith) e)));
+  secondary-header = λ z e. k .secondary-header (omega arith) e ∙ sym (rb .same-header (omega (arith, rb .one-less, k .by-secondary (omega arith) e)));
 }
 
 module _ (limit : ℕ) (low : 2 ≤ limit) (high : limit ≤ 255) (p : Profile) (v : Valid p) (a b : MasterSide) (xs : List DeviceSide) (ca cb : MasterCall) (cs : List DeviceCall) where

@@ -59,6 +59,7 @@ pub record OneDeviceSends (p : Profile) (f : Frames) (burst : Bool) (noted : Not
 pub record MasterRests (x : MasterSide) (s : MasterStep) : Type 0 where
   pub one-less : left (s .side .master .message .stage) ≡ left (x .master .message .stage) - 1
   pub same-attempts : 1 ≤ left (s .side .master .message .stage) → s .side .master .message .attempts ≡ x .master .message .attempts
+  pub same-header : 1 ≤ left (s .side .master .message .stage) → s .side .master .message .header ≡ x .master .message .header
   pub waits-on : WaitsOn x s
   pub counts-on : x .master .message .stage ≡ Waiting → s .side .master .timer ≡ timerCounted (x .master)
   pub shut : s .side .master .message .stage ≡ Waiting → s .side .master .timer .window ≡ 0
@@ -137,6 +138,7 @@ master-tick limit small p primary burst noted C x call q bc f = go (m .1)
         (record {
           one-less = r .rested .same-left ∙ m .0 .one-less;
           same-attempts = λ z. r .rested .same-attempts z ∙ m .0 .same-attempts;
+          same-header = λ z. r .rested .same-header z ∙ m .0 .same-header;
           waits-on = λ z. let k = r .rested .waits-on (m .0 .waits-on z .0) in (k .0, k .1 ∙ m .0 .same-attempts);
           counts-on = λ z. r .same-timer ∙ m .0 .waits-on z .1;
           shut = λ z. ap (λ (u : Timer). u .window) (r .same-timer) ∙ r .shut z;

@@ -95,6 +95,7 @@ pub record StxEnded (p : Profile) (primary other burst : Bool) (noted : Noted) (
   pub sender-left : left (x .master .message .stage) ≡ rt1Of p primary
   pub listener-left : left (y .master .message .stage) ≡ 0
   pub bit-is : h .primary ≡ primary
+  pub header-is : h ≡ x .master .message .header
   pub devices : All (DeviceQuiet p (p .sto) h (p .rt1p)) xs
   pub distinct : Distinct xs
   pub agreed : Agreed burst noted next xs
@@ -157,6 +158,7 @@ stx-tick limit low high p v primary other burst noted next k w message x y xs cx
           sender-left = s .3 ∙ own;
           listener-left = t .gone;
           bit-is = o .speaks .bit-is;
+          header-is = o .speaks .header-is ∙ sym (s .5 (omega (arith, own, some primary)));
           devices = all-sides q;
           distinct = all-distinct q (o .distinct);
           agreed = agreed-same q (o .agreed);

@@ -46,19 +46,20 @@ record Ended (primary : Bool) (frame : List ℕ) (retries : ℕ) (g : Message) (
   formed : Formed primary frame (e .message)
   gone : left (e .message .stage) ≡ 0
   same-attempts : e .message .attempts ≡ g .attempts
+  same-header : e .message .header ≡ g .header
   -- one that waits again has a retry left
   retried : e .message .stage ≡ Waiting → g .attempts ≤ retries
   over : (e .message .stage ≡ Waiting) ⊎ (e .message .stage ≡ Free)
 
 ends-ended : {primary : Bool} (frame : List ℕ) (retries : ℕ) (g : Message) (told : MasterTold) → Ended primary frame retries g (ends g told)
-ends-ended frame retries g told = record { still = is-free; formed = no-message refl; gone = refl; same-attempts = refl; retried = λ z. absurd (free-waiting z); over = inr refl }
+ends-ended frame retries g told = record { still = is-free; formed = no-message refl; gone = refl; same-attempts = refl; same-header = refl; retried = λ z. absurd (free-waiting z); over = inr refl }
 
 fails-ended : {primary : Bool} (frame : List ℕ) (retries : ℕ) (g : Message) (n : ℕ) → g .stage ≡ Awaiting n → Formed primary frame g → Ended primary frame retries g (fails retries g)
 unfolding if_then_else_
 fails-ended {primary} frame retries g n e f = go (g .attempts ≤? retries) refl
   where
     go : (t : Bool) → (g .attempts ≤? retries) ≡ t → Ended primary frame retries g (if t then record { message = staged g Waiting; told = MasterTold.Nothing } else ends g (MasterTold.GivenUp (g .attempts)))
-    go true q = record { still = is-waiting; formed = formed-staged frame g Waiting (λ q. absurd (awaiting-free n (sym e ∙ q))) f; gone = refl; same-attempts = refl; retried = λ z. leb-true (g .attempts) retries q; over = inl refl }
+    go true q = record { still = is-waiting; formed = formed-staged frame g Waiting (λ q. absurd (awaiting-free n (sym e ∙ q))) f; gone = refl; same-attempts = refl; same-header = refl; retried = λ z. leb-true (g .attempts) retries q; over = inl refl }
     go false q = ends-ended frame retries g (MasterTold.GivenUp (g .attempts))
 
 either-ended : {primary : Bool} {frame : List ℕ} {retries : ℕ} {g : Message} (t : Bool) (a b : Ending) → Ended primary frame retries g a → Ended primary frame retries g b → Ended primary frame retries g (if t then a else b)
@@ -130,6 +131,7 @@ pub record TookSilence (frame : List ℕ) (m t : Master) : Type 0 where
   pub window-is : t .timer .window ≤ timerCounted m .window
   pub one-less : left (t .message .stage) ≡ left (m .message .stage) - 1
   pub same-attempts : t .message .attempts ≡ m .message .attempts
+  pub same-header : t .message .header ≡ m .message .header
   -- where RT1 ends, a message that waits again has a retry left, and one that is given up leaves the window unused
   pub retried : 1 ≤ left (m .message .stage) → t .message .stage ≡ Waiting → m .message .attempts ≤ m .retries
   pub free-shut : 1 ≤ left (m .message .stage) → t .message .stage ≡ Free → t .timer .window ≡ 0
@@ -240,6 +242,7 @@ module _ (frame bytes : List ℕ) (m : Master) (hears : m .deaf ≡ false) (stil
             window-is = lost-window (atBreak n .message .stage) (timerCounted n);
             one-less = done .gone ∙ over-now (m .message .stage) q;
             same-attempts = done .same-attempts;
+            same-header = done .same-header;
             retried = λ z w. done .retried w;
             free-shut = λ z f. ap (λ (s : Stage). unlessEnded s (timerCounted n) .window) f;
             over = λ z f. done .over;
@@ -265,6 +268,7 @@ module _ (frame bytes : List ℕ) (m : Master) (hears : m .deaf ≡ false) (stil
             window-is = omega arith;
             one-less = counted-one (m .message .stage);
             same-attempts = refl;
+            same-header = refl;
             retried = λ z w. absurd (still-awaits (m .message .stage) z (λ k e. awaiting-waiting k (sym e ∙ w)));
             free-shut = λ z w. absurd (still-awaits (m .message .stage) z (λ k e. awaiting-free k (sym e ∙ w)));
             over = λ z f. absurd (more-left (m .message .stage) q z f);

@@ -4,3 +4,4 @@ pub mod Demand3
 pub mod Device
 pub mod Link
 pub mod Run
+pub mod Credit
