@@ -40,7 +40,7 @@ fn put_bytes(part: &mut [u8], bytes: &[u8])
 }
 
 // A bit that is on or off.
-fn flag(on: bool, bit: u8) -> u8
+pub fn flag(on: bool, bit: u8) -> u8
     ensures { λ r. ⌜ (r ≡ (if on then bit else 0)) × (r ≤ bit) ⌝ }
 {
     if on {

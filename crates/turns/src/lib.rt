@@ -127,7 +127,7 @@ pub struct Content {
 
 pub struct Device {
     pub profile: Profile,
-    pub preamble: usize,
+    pub preamble: u8,
     pub polling: u8,
     pub unique: u64,
     pub receiver: Receiver,

@@ -1,0 +1,12 @@
+use borrow.Author.Needs.{needs}
+use Rattle.device.proofs.Puts.{took}
+use Rattle.device.proofs.take.Statement.{statement}
+use Rattle.device.proofs.take.Tie as tie
+
+pub take-spec : {M : Type 1} → statement M
+take-spec =
+    tie.close
+    (tie.spec
+    (λ c κs. search needs)
+    (λ c κs. search needs)
+    (λ c. search (needs, took)))

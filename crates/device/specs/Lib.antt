@@ -1,0 +1,4 @@
+-- What a device's functions promise, by the definitions of turns.
+pub mod Calls
+pub mod Buffers
+pub mod Promises

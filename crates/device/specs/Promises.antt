@@ -1,0 +1,35 @@
+-- What a device's functions promise: their answer, and the lent buffers. The last part of each says the frame buffer as turns does, for a device within its limits.
+use Prim.Native.Nat.{ℕ}
+use mathlib.Core.Bool.{true}
+use mathlib.Core.Path.{_≡_}
+use mathlib.Core.List.{List}
+use lib.ListN.{length}
+use Rattle.line.specs.declared.Heard.{Heard}
+use Rattle.turns.specs.Device.{isOwn, deviceTakes, errorFrame, answered, answerFrame, deviceSends, begunFrame}
+use Rattle.turns.specs.Link.{deviceData}
+use Rattle.turns.specs.declared.Device.{Device}
+use Rattle.turns.specs.declared.DeviceSent.{DeviceSent}
+use Rattle.turns.specs.declared.DeviceTaken.{DeviceTaken}
+use Rattle.turns.specs.declared.Wish.{Wish}
+use Rattle.device_heard.specs.Hearing.{lent}
+use Rattle.device.specs.declared.DeviceCalled.{DeviceCalled}
+use Rattle.device.specs.Calls.{calledAs}
+use Rattle.device.specs.Buffers.{Limits, ContentLimits, errorBuffer, answerBuffer, storedBy, begunBuffer}
+
+pub record TakeIs (d : Device) (heard : Heard) (bytes frame : List ℕ) (t : DeviceTaken) (bytes-after frame-after : List ℕ) : Type 0 where
+  pub taken : t ≡ deviceTakes d heard
+  pub data-is : bytes-after ≡ deviceData (lent d bytes) heard
+  pub frame-is : frame-after ≡ errorBuffer d (deviceTakes d heard .event) frame
+  pub within : Limits d frame → frame-after ≡ errorFrame d (deviceTakes d heard .event) frame
+
+-- an answer to a request that is in hand, and so was for this device
+pub record AnswerIs (d : Device) (wish : Wish) (bytes frame : List ℕ) (r : DeviceCalled) (frame-after : List ℕ) : Type 0 where
+  pub called : calledAs r ≡ answered 255 d wish (length bytes)
+  pub frame-is : frame-after ≡ answerBuffer (answered 255 d wish (length bytes)) d wish bytes frame
+  pub within : Limits d frame → isOwn d (d .request) ≡ true → frame-after ≡ storedBy (answered 255 d wish (length bytes)) (answerFrame d wish bytes) frame
+
+-- a BACK of content that was given, and so has two bytes or more
+pub record SendIs (d : Device) (contents frame : List ℕ) (s : DeviceSent) (frame-after : List ℕ) : Type 0 where
+  pub sent : s ≡ deviceSends d frame-after
+  pub frame-is : frame-after ≡ begunBuffer d (d .turn) contents frame
+  pub within : Limits d frame → ContentLimits d contents → frame-after ≡ begunFrame d (d .turn) contents frame

@@ -1,0 +1,527 @@
+// A HART device: a slave, with burst mode. Each function is a definition of crates/turns/specs/Device.antt.
+use base::Refusal;
+use frame::Header;
+use line::Event;
+use line::Harm;
+use line::Heard;
+use line::Profile;
+use line::Receiver;
+use line::Whole;
+use turns::Content;
+use turns::Device;
+use turns::DeviceSent;
+use turns::DeviceTaken;
+use turns::Sent;
+use turns::Turn;
+use turns::Wish;
+ghost use mathlib.Core.Path.{_≡_};
+ghost use mathlib.Core.Bool.{true, false};
+ghost use Prim.Native.Nat.{_+_, _-_, _≤_};
+ghost use lib.ListN.{length, take};
+ghost use Rattle.base.specs.Choice.{if_then_else_};
+ghost use Rattle.frame.specs.Address.{addressLength};
+ghost use Rattle.frame.specs.Write.{writeBuffer};
+ghost use Rattle.line.specs.Reader.{passing};
+ghost use Rattle.turns.specs.Device.{behind, errorStatus, errorData, answerHeader, wished, wishRefused, answersAt, answeredBy, answered, sends, backHeader, firstFor, behindAck, answersFrom, burstsFrom, backLength, sendsBy, deviceSends, freshDevice, deviceStarts};
+ghost use Rattle.device.specs.Calls.{startedAs, calledAs};
+ghost use Rattle.device.specs.Buffers.{errorBuffer, begunBuffer};
+ghost use Rattle.device.specs.Promises.{TakeIs, AnswerIs, SendIs};
+
+// What a start answers.
+pub enum DeviceStarted {
+    Started(Device),
+    Refused(Refusal),
+}
+
+// What a host's call answers.
+pub enum DeviceCalled {
+    Accepted(Device),
+    Refused(Refusal),
+}
+
+// The first data byte of an error answer.
+fn error_status(m: Harm) -> u8
+    ensures { λ r. ⌜ r ≡ errorStatus m ⌝ }
+{
+    0x80
+        + frame_write::flag(m.parity, 0x40)
+        + frame_write::flag(m.overrun, 0x20)
+        + frame_write::flag(m.framing, 0x10)
+        + frame_write::flag(m.check, 0x08)
+}
+
+fn error_data(m: Harm) -> [u8; 2]
+    ensures { λ r. ⌜ r ≡ errorData m ⌝ }
+{
+    [error_status(m), 0]
+}
+
+// An ACK to a request.
+fn answer_header(h: Header, burst: bool) -> Header
+    ensures { λ r. ⌜ r ≡ answerHeader h burst ⌝ }
+{
+    Header {
+        frame: frame::ACK,
+        long: h.long,
+        primary: h.primary,
+        burst: burst,
+        address: h.address,
+        command: h.command,
+    }
+}
+
+// An ACK or BACK into the lent frame buffer, where the frame writer takes it.
+fn put_frame(preamble: u8, h: Header, bytes: &[u8], frame: &mut [u8; 284])
+    ensures { λ _. ⌜ now (frame .exit) ≡ writeBuffer preamble h (now (bytes .entry)) (now (frame .entry)) 0 ⌝ }
+{
+    frame_write::write(preamble as usize, h, bytes, frame, 0);
+}
+
+// The same with the first bytes of a burst content.
+fn put_part(preamble: u8, h: Header, count: u8, contents: &[u8], frame: &mut [u8; 284])
+    requires { ⌜ 255 ≤ length (now contents) ⌝ }
+    ensures { λ _. ⌜ now (frame .exit) ≡ writeBuffer preamble h (take count (now (contents .entry))) (now (frame .entry)) 0 ⌝ }
+{
+    let end = count as usize;
+    put_frame(preamble, h, &contents[..end], frame);
+}
+
+// The error answer to a damaged frame, into the lent frame buffer.
+fn put_error(d: Device, w: Whole, m: Harm, frame: &mut [u8; 284])
+    ensures { λ _. ⌜ now (frame .exit) ≡ errorBuffer d (Event.Damaged w m) (now (frame .entry)) ⌝ }
+{
+    let h = w.header;
+    if device_heard::has_error(d, w, m) {
+        let bytes = error_data(m);
+        put_frame(d.preamble, answer_header(h, d.burst), &bytes, frame);
+    }
+}
+
+// The error answer, by what the reader tells.
+fn put_error_answer(d: Device, event: Event, frame: &mut [u8; 284])
+    ensures { λ _. ⌜ now (frame .exit) ≡ errorBuffer d event (now (frame .entry)) ⌝ }
+{
+    match event {
+        Event::Nothing => {}
+        Event::PassedOver => {}
+        Event::Broken => {}
+        Event::Frame(_) => {}
+        Event::Damaged(w, m) => put_error(d, w, m, frame),
+    }
+}
+
+// Takes what was heard: the device behind it, and what it tells its host. The data of the frame being heard are in the lent data buffer, and an error answer is put into the lent frame buffer.
+pub fn take(d: Device, heard: Heard, bytes: &mut [u8; 255], frame: &mut [u8; 284]) -> DeviceTaken
+    ensures { λ t. ⌜ TakeIs d heard (now (bytes .entry)) (now (frame .entry)) t (now (bytes .exit)) (now (frame .exit)) ⌝ }
+{
+    let taken = device_heard::take(d, heard, bytes);
+    let event = taken.event;
+    put_error_answer(d, event, frame);
+    taken
+}
+
+// Burst, from the ACK's first character on.
+fn wished_burst(burst: bool, wish: Wish) -> bool
+    ensures { λ r. ⌜ r ≡ wished burst wish ⌝ }
+{
+    match wish {
+        Wish::Same => burst,
+        Wish::On => true,
+        Wish::Off => false,
+    }
+}
+
+// Whether burst may not be turned on.
+fn on_refused(d: Device) -> bool
+    ensures { λ r. ⌜ r ≡ wishRefused d Wish.On ⌝ }
+{
+    let request = d.request;
+    let content = d.content;
+    if request.command == 0 {
+        return true;
+    }
+    if content.given {
+        return false;
+    }
+    true
+}
+
+fn wish_refused(d: Device, wish: Wish) -> bool
+    ensures { λ r. ⌜ r ≡ wishRefused d wish ⌝ }
+{
+    let request = d.request;
+    match wish {
+        Wish::Same => false,
+        Wish::On => on_refused(d),
+        Wish::Off => request.command == 0,
+    }
+}
+
+// The turn behind an answer, with so many ticks left of its request.
+fn answers_at(d: Device, left: u16) -> Turn
+    ensures { λ r. ⌜ r ≡ answersAt d left ⌝ }
+{
+    let profile = d.profile;
+    if left == profile.sto {
+        return Turn::Accepted;
+    }
+    Turn::Begins
+}
+
+// The device with an answer of so many data bytes.
+fn answering(d: Device, wish: Wish, count: u8, left: u16) -> Device
+    ensures { λ r. ⌜ r ≡ behind d (d .receiver) (answersAt d left) (d .request) wish (d .preamble + (addressLength (d .request .long) + 3 + count + 1)) (d .due) ⌝ }
+{
+    let receiver = d.receiver;
+    let request = d.request;
+    let length = device_heard::frame_length(d.preamble, request.long, count);
+    device_heard::with_parts(
+        d,
+        receiver,
+        answers_at(d, left),
+        request,
+        wish,
+        length,
+        d.due,
+    )
+}
+
+// An answer of so many data bytes to the request in hand.
+fn answer_request(d: Device, wish: Wish, count: usize, left: u16) -> DeviceCalled
+    ensures { λ r. ⌜ calledAs r ≡ answeredBy 255 d wish count (Turn.Asked left) ⌝ }
+{
+    if base::outside(count, 2, 255) {
+        return DeviceCalled::Refused(Refusal::DataLength);
+    }
+    if wish_refused(d, wish) {
+        return DeviceCalled::Refused(Refusal::BurstWish);
+    }
+    DeviceCalled::Accepted(answering(d, wish, count as u8, left))
+}
+
+fn answer_by(d: Device, wish: Wish, count: usize) -> DeviceCalled
+    ensures { λ r. ⌜ calledAs r ≡ answered 255 d wish count ⌝ }
+{
+    let turn = d.turn;
+    match turn {
+        Turn::Listens => DeviceCalled::Refused(Refusal::NoRequest),
+        Turn::Asked(left) => answer_request(d, wish, count, left),
+        Turn::Accepted => DeviceCalled::Refused(Refusal::NoRequest),
+        Turn::Begins => DeviceCalled::Refused(Refusal::NoRequest),
+        Turn::Answers(_) => DeviceCalled::Refused(Refusal::NoRequest),
+        Turn::Follows => DeviceCalled::Refused(Refusal::NoRequest),
+        Turn::Bursts(_) => DeviceCalled::Refused(Refusal::NoRequest),
+    }
+}
+
+// The host's answer, into the lent frame buffer.
+fn put_answer(d: Device, wish: Wish, bytes: &[u8], frame: &mut [u8; 284])
+    ensures { λ _. ⌜ now (frame .exit) ≡ writeBuffer (d .preamble) (answerHeader (d .request) (wished (d .burst) wish)) (now (bytes .entry)) (now (frame .entry)) 0 ⌝ }
+{
+    let request = d.request;
+    put_frame(
+        d.preamble,
+        answer_header(request, wished_burst(d.burst, wish)),
+        bytes,
+        frame,
+    );
+}
+
+// Takes the host's answer to the request in hand, or refuses it with 8, 9 or 10 and leaves the lent frame buffer as it was.
+pub fn answer(d: Device, wish: Wish, bytes: &[u8], frame: &mut [u8; 284]) -> DeviceCalled
+    ensures { λ r. ⌜ AnswerIs d wish (now (bytes .entry)) (now (frame .entry)) r (now (frame .exit)) ⌝ }
+{
+    let called = answer_by(d, wish, bytes.len());
+    match called {
+        DeviceCalled::Accepted(e) => {
+            put_answer(d, wish, bytes, frame);
+            DeviceCalled::Accepted(e)
+        }
+        DeviceCalled::Refused(why) => DeviceCalled::Refused(why),
+    }
+}
+
+// What a device sends, and the device behind it.
+fn with_sent(
+    d: Device,
+    deaf: bool,
+    turn: Turn,
+    length: u16,
+    burst: bool,
+    primary: bool,
+    due: u32,
+    r: Receiver,
+    sent: Sent,
+) -> DeviceSent
+    ensures { λ s. ⌜ s ≡ sends d deaf turn length burst primary due r sent ⌝ }
+{
+    let profile = d.profile;
+    let request = d.request;
+    let wish = d.wish;
+    let content = d.content;
+    let device = Device {
+        profile: profile,
+        preamble: d.preamble,
+        polling: d.polling,
+        unique: d.unique,
+        receiver: r,
+        deaf: deaf,
+        turn: turn,
+        request: request,
+        wish: wish,
+        length: length,
+        burst: burst,
+        primary: primary,
+        due: due,
+        content: content,
+    };
+    DeviceSent {
+        device: device,
+        sent: sent,
+    }
+}
+
+// A device that sends nothing.
+fn sends_nothing(d: Device, turn: Turn) -> DeviceSent
+    ensures { λ s. ⌜ s ≡ sends d false turn (d .length) (d .burst) (d .primary) (d .due) (d .receiver) Sent.Silent ⌝ }
+{
+    let receiver = d.receiver;
+    let burst = d.burst;
+    with_sent(
+        d,
+        false,
+        turn,
+        d.length,
+        burst,
+        d.primary,
+        d.due,
+        receiver,
+        Sent::Silent,
+    )
+}
+
+// A device that sends a character, and hears nothing.
+fn sends_character(
+    d: Device,
+    turn: Turn,
+    length: u16,
+    burst: bool,
+    primary: bool,
+    due: u32,
+    c: u8,
+) -> DeviceSent
+    ensures { λ s. ⌜ s ≡ sends d true turn length burst primary due passing (Sent.Character c) ⌝ }
+{
+    let receiver = tick_reader::passing_reader();
+    with_sent(
+        d,
+        true,
+        turn,
+        length,
+        burst,
+        primary,
+        due,
+        receiver,
+        Sent::Character(c),
+    )
+}
+
+// What a BACK says.
+fn back_header(d: Device) -> Header
+    ensures { λ r. ⌜ r ≡ backHeader d ⌝ }
+{
+    let content = d.content;
+    Header {
+        frame: frame::BACK,
+        long: true,
+        primary: d.primary,
+        burst: true,
+        address: d.unique,
+        command: content.command,
+    }
+}
+
+// Whether the next BACK is for the primary, from an ACK's first character on.
+fn first_for(d: Device) -> bool
+    ensures { λ r. ⌜ r ≡ firstFor d ⌝ }
+{
+    if d.burst {
+        return d.primary;
+    }
+    true
+}
+
+// The turn behind an ACK.
+fn behind_ack(burst: bool) -> Turn
+    ensures { λ r. ⌜ r ≡ behindAck burst ⌝ }
+{
+    if burst {
+        return Turn::Follows;
+    }
+    Turn::Listens
+}
+
+// One character of an ACK.
+fn answers_from(d: Device, frame: &[u8; 284], n: u16, burst: bool, primary: bool) -> DeviceSent
+    ensures { λ s. ⌜ s ≡ answersFrom d (now (frame .entry)) n burst primary ⌝ }
+{
+    let c = party::character_at(frame, n);
+    let length = d.length;
+    if (n as u32) + 1 < (length as u32) {
+        return sends_character(d, Turn::Answers(n + 1), length, burst, primary, 0, c);
+    }
+    sends_character(d, behind_ack(burst), length, burst, primary, 0, c)
+}
+
+// One character of a BACK of this length.
+fn bursts_from(d: Device, frame: &[u8; 284], n: u16, length: u16, primary: bool) -> DeviceSent
+    ensures { λ s. ⌜ s ≡ burstsFrom d (now (frame .entry)) n length primary ⌝ }
+{
+    let c = party::character_at(frame, n);
+    let profile = d.profile;
+    if (n as u32) + 1 < (length as u32) {
+        return sends_character(d, Turn::Bursts(n + 1), length, d.burst, primary, 0, c);
+    }
+    sends_character(
+        d,
+        Turn::Listens,
+        length,
+        d.burst,
+        primary,
+        profile.rt2 as u32,
+        c,
+    )
+}
+
+// How many characters the next BACK has.
+fn back_length(d: Device) -> u16
+    ensures { λ r. ⌜ r ≡ backLength d ⌝ }
+{
+    let content = d.content;
+    device_heard::frame_length(d.preamble, true, content.count)
+}
+
+// The other master.
+fn other(primary: bool) -> bool
+    ensures { λ r. ⌜ r ≡ (if primary then false else true) ⌝ }
+{
+    if primary {
+        return false;
+    }
+    true
+}
+
+// The first character of a BACK.
+fn begins_back(d: Device, frame: &[u8; 284]) -> DeviceSent
+    ensures { λ s. ⌜ s ≡ sendsBy d (now (frame .entry)) Turn.Follows ⌝ }
+{
+    bursts_from(d, frame, 0, back_length(d), other(d.primary))
+}
+
+// The first character of an ACK.
+fn begins_answer(d: Device, frame: &[u8; 284]) -> DeviceSent
+    ensures { λ s. ⌜ s ≡ sendsBy d (now (frame .entry)) Turn.Begins ⌝ }
+{
+    let wish = d.wish;
+    answers_from(d, frame, 0, wished_burst(d.burst, wish), first_for(d))
+}
+
+// A character or none, by the device's turn.
+fn sends_by(d: Device, frame: &[u8; 284]) -> DeviceSent
+    ensures { λ s. ⌜ s ≡ deviceSends d (now (frame .entry)) ⌝ }
+{
+    let turn = d.turn;
+    match turn {
+        Turn::Listens => sends_nothing(d, Turn::Listens),
+        Turn::Asked(n) => sends_nothing(d, Turn::Asked(n)),
+        Turn::Accepted => sends_nothing(d, Turn::Accepted),
+        Turn::Begins => begins_answer(d, frame),
+        Turn::Answers(n) => answers_from(d, frame, n, d.burst, d.primary),
+        Turn::Follows => begins_back(d, frame),
+        Turn::Bursts(n) => bursts_from(d, frame, n, d.length, d.primary),
+    }
+}
+
+// The next BACK, into the lent frame buffer.
+fn put_back(d: Device, contents: &[u8; 255], frame: &mut [u8; 284])
+    ensures { λ _. ⌜ now (frame .exit) ≡ begunBuffer d Turn.Follows (now (contents .entry)) (now (frame .entry)) ⌝ }
+{
+    let content = d.content;
+    put_part(d.preamble, back_header(d), content.count, contents, frame);
+}
+
+// The BACK that begins in this tick, if one does.
+fn put_begun(d: Device, contents: &[u8; 255], frame: &mut [u8; 284])
+    ensures { λ _. ⌜ now (frame .exit) ≡ begunBuffer d (d .turn) (now (contents .entry)) (now (frame .entry)) ⌝ }
+{
+    let turn = d.turn;
+    match turn {
+        Turn::Listens => {}
+        Turn::Asked(_) => {}
+        Turn::Accepted => {}
+        Turn::Begins => {}
+        Turn::Answers(_) => {}
+        Turn::Follows => put_back(d, contents, frame),
+        Turn::Bursts(_) => {}
+    }
+}
+
+// Sends a character of the frame in the lent frame buffer, or nothing. A BACK that begins is put there first, with what the host gave last.
+pub fn send(d: Device, contents: &[u8; 255], frame: &mut [u8; 284]) -> DeviceSent
+    ensures { λ s. ⌜ SendIs d (now (contents .entry)) (now (frame .entry)) s (now (frame .exit)) ⌝ }
+{
+    put_begun(d, contents, frame);
+    sends_by(d, frame)
+}
+
+// A device with burst off, no request in hand, and no burst content.
+fn fresh(profile: Profile, preamble: u8, polling: u8, unique: u64) -> Device
+    ensures { λ r. ⌜ r ≡ freshDevice profile preamble polling unique ⌝ }
+{
+    let receiver = tick_reader::passing_reader();
+    let request = Header {
+        frame: 0,
+        long: false,
+        primary: false,
+        burst: false,
+        address: 0,
+        command: 0,
+    };
+    let content = Content {
+        given: false,
+        command: 0,
+        count: 0,
+    };
+    Device {
+        profile: profile,
+        preamble: preamble,
+        polling: polling,
+        unique: unique,
+        receiver: receiver,
+        deaf: true,
+        turn: Turn::Listens,
+        request: request,
+        wish: Wish::Same,
+        length: 0,
+        burst: false,
+        primary: true,
+        due: profile.rt1p as u32,
+        content: content,
+    }
+}
+
+// A device of these addresses, or refusal 3 or 4.
+pub fn start(profile: Profile, preamble: usize, polling: u8, unique: u64) -> DeviceStarted
+    ensures { λ r. ⌜ startedAs r ≡ deviceStarts profile preamble polling unique ⌝ }
+{
+    if base::outside(preamble, 5, 20) {
+        return DeviceStarted::Refused(Refusal::PreambleLength);
+    }
+    if 63 < polling {
+        return DeviceStarted::Refused(Refusal::Address);
+    }
+    if base::outside(unique as usize, 1, 274877906943) {
+        return DeviceStarted::Refused(Refusal::Address);
+    }
+    DeviceStarted::Started(fresh(profile, preamble as u8, polling, unique))
+}

@@ -1,0 +1,14 @@
+use borrow.Author.Needs.{needs}
+use Rattle.base.proofs.Choices.{choices}
+use Rattle.device_heard.proofs.Parts.{parts}
+use Rattle.device_heard.proofs.is_own.Statement.{statement}
+use Rattle.device_heard.proofs.is_own.Tie as tie
+
+pub is-own-spec : {M : Type 1} → statement M
+is-own-spec =
+    tie.close
+    (tie.spec
+    (λ c. search (needs, choices, parts))
+    (λ c. search (needs, choices, parts))
+    (λ c. search (needs, choices, parts))
+    (λ c. search (needs, choices, parts)))

@@ -1,0 +1,25 @@
+use borrow.Author.Needs.{needs}
+use Rattle.device_heard.proofs.Parts.{character-at}
+use Rattle.device_heard.proofs.on_character.Statement.{statement}
+use Rattle.device_heard.proofs.on_character.Tie as tie
+
+pub on-character-spec : {M : Type 1} → statement M
+on-character-spec =
+    tie.close
+    (tie.spec
+    (λ c. search needs)
+    (λ c. search needs)
+    (λ c κs. search needs)
+    (λ c. search needs)
+    (λ c κs. search needs)
+    (λ c. search needs)
+    (λ c κs. search needs)
+    (λ c. search needs)
+    (λ c κs. search needs)
+    (λ c. search needs)
+    (λ c κs. search needs)
+    (λ c. search (needs, character-at))
+    (λ c. search (needs, character-at))
+    (λ c. search (needs, character-at))
+    (λ c. search (needs, character-at))
+    (λ c. search (needs, character-at)))

@@ -1,0 +1,2 @@
+-- What a device does behind what it heard, by the definitions of turns.
+pub mod Hearing
