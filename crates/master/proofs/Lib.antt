@@ -1,5 +1,5 @@
 -- The laws by which the master's functions are proved.
 pub mod Starts
-pub mod Takes
-pub mod Sends
 pub mod Requests
+pub mod Sends
+pub mod Ticks

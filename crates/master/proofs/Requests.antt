@@ -19,6 +19,7 @@ use Rattle.frame.specs.declared.Written.{Written}
 use Rattle.frame.specs.declared.Written.the-variants.{To, Refused}
 use Rattle.frame.proofs.Taken.{Fits, fits-taken}
 use Rattle.turns.specs.Master.{Called, accepted, refused, Request, requestHeader, hasMessage, requested}
+use Rattle.turns.proofs.Masters.{stx-enough, stx-typed}
 use Rattle.turns.specs.declared.Master.{Master}
 use Rattle.turns.specs.declared.Stage.{Stage}
 use Rattle.master.specs.Answers.{asked, askedFrame, RequestIs}
@@ -62,22 +63,14 @@ module _ (preamble : ℕ) (h : Header) (bytes frame after : List ℕ) (r : Writt
       absurd (omega arith)
 
 -- an STX that no test refuses can be written
-stx-enough : (frame count : ℕ) → frame ≡ stx → tooFew frame count ≡ false
-unfolding if_then_else_
-stx-enough frame count e = ap (λ (n : ℕ). tooFew n count) e
-
-stx-typed : (frame : ℕ) → frame ≡ stx → isType frame ≡ true
-unfolding if_then_else_
-stx-typed frame e = ap isType e
-
 pub stx-fits : (preamble : ℕ) (h : Header) (count : ℕ) (r s : Bool) → r ≡ (preamble outside 5 to 20) → r ≡ false → s ≡ addressTooLarge h → s ≡ false → count ≤ 255 → h .frame ≡ stx → Fits preamble h count
 stx-fits preamble h count r s p e q f n t = record {
   preamble-low = inside-low preamble 5 20 r p e;
   preamble-high = inside-high preamble 5 20 r p e;
   address-high = ltb-false (largestAddress (h .long)) (h .address) (sym q ∙ f);
   count-high = n;
-  enough = stx-enough (h .frame) count t;
-  typed = stx-typed (h .frame) t;
+  enough = ap (λ (n : ℕ). tooFew n count) t ∙ stx-enough count;
+  typed = ap isType t ∙ stx-typed;
 }
 
 -- answer and buffer together

@@ -1,16 +1,13 @@
--- What a master's functions promise, by the definitions of crates/turns.
+-- What a master's start and its host's request answer, by the definitions of crates/turns.
 use Prim.Native.Nat.{ℕ}
 use mathlib.Core.Path.{_≡_}
 use mathlib.Core.Bool.{Bool}
-use mathlib.Core.List.{List, []}
+use mathlib.Core.List.{List}
 use lib.ListN.{length}
 use Rattle.base.specs.Store.{stored}
 use Rattle.frame.specs.Frame.{frameBytes}
-use Rattle.line.specs.declared.Heard.{Heard}
-use Rattle.turns.specs.Link.{masterData}
-use Rattle.turns.specs.Master.{Called, accepted, refused, masterTakes, Request, requestHeader, requested}
+use Rattle.turns.specs.Master.{Called, accepted, refused, Request, requestHeader, requested}
 use Rattle.turns.specs.declared.Master.{Master}
-use Rattle.turns.specs.declared.MasterTaken.{MasterTaken}
 use Rattle.master.specs.declared.MasterStarted.{MasterStarted}
 use Rattle.master.specs.declared.MasterStarted.the-variants.{Started, Refused}
 use Rattle.master.specs.declared.MasterRequested.{MasterRequested}
@@ -19,15 +16,6 @@ use Rattle.master.specs.declared.MasterRequested.{MasterRequested}
 abbrev pub started : MasterStarted → Called Master
 started (Started m) = accepted m
 started (Refused why) = refused why
-
--- the lent data buffer behind what was heard
-abbrev pub heardBytes : Master → Heard → List ℕ → List ℕ
-heardBytes m heard bytes = masterData (record { master = m; frame = []; bytes = bytes }) heard
-
--- `after` is the lent data buffer behind the tick
-pub record TakeIs (m : Master) (heard : Heard) (bytes : List ℕ) (t : MasterTaken) (after : List ℕ) : Type 0 where
-  pub takes : t ≡ masterTakes m heard after
-  pub buffer : after ≡ heardBytes m heard bytes
 
 -- what a request says, its data aside
 abbrev pub asks : ℕ → Bool → ℕ → ℕ → Request

@@ -1,3 +1,4 @@
--- What a master's answers to its host say, and names for parts of its definitions.
+-- What a master's functions promise, and names for parts of its definitions.
 pub mod Answers
 pub mod Parts
+pub mod Tick

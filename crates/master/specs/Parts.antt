@@ -8,29 +8,13 @@ use Rattle.base.specs.Store.{stored}
 use Rattle.frame.specs.Frame.{frameBytes, frameLength}
 use Rattle.frame.specs.declared.Header.{Header}
 use Rattle.line.specs.Reader.{passing}
-use Rattle.line.specs.declared.Event.{Event}
-use Rattle.line.specs.declared.Receiver.{Receiver}
-use Rattle.turns.specs.Master.{behind, staged, timer, tells, burstCounted, timerCounted, unlessEnded, atBreak, waited, sends, attempted}
+use Rattle.turns.specs.Master.{behind, sends, attempted}
 use Rattle.turns.specs.declared.Master.{Master}
 use Rattle.turns.specs.declared.MasterSent.{MasterSent}
-use Rattle.turns.specs.declared.MasterTaken.{MasterTaken}
-use Rattle.turns.specs.declared.MasterTold.{MasterTold}
 use Rattle.turns.specs.declared.Sent.{Sent}
 use Rattle.turns.specs.declared.Stage.{Stage}
 use Rattle.turns.specs.declared.Stage.the-variants.{Waiting}
 use Rattle.turns.specs.declared.Timer.{Timer}
-
--- inside a frame
-abbrev pub insideFrame : Master → Receiver → MasterTaken
-insideFrame m r = tells (behind m r (m .burst) (m .noted) (timer 0) (m .message)) MasterTold.Nothing Event.Nothing
-
--- a silent tick with RT1's end, and another one
-abbrev pub rt1Ended : Master → Event → MasterTaken
-rt1Ended m event =
-    tells (behind m (m .receiver) (burstCounted m) (m .noted) (unlessEnded (atBreak m .message .stage) (timerCounted m)) (atBreak m .message)) (atBreak m .told) event
-
-abbrev pub countedOn : Master → MasterTold → Event → MasterTaken
-countedOn m told event = tells (behind m (m .receiver) (burstCounted m) (m .noted) (timerCounted m) (staged (m .message) (waited (m .message .stage)))) told event
 
 -- a master with a message that waits
 abbrev pub withMessage : Master → Header → ℕ → Master

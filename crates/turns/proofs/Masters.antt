@@ -185,11 +185,11 @@ newMessage m q count = record { stage = Waiting; header = requestHeader m q; len
 abbrev pub withMessage : Master → Message → Master
 withMessage m g = behind m (m .receiver) (m .burst) (m .noted) (m .timer) g
 
-stx-enough : (count : ℕ) → tooFew stx count ≡ false
+pub stx-enough : (count : ℕ) → tooFew stx count ≡ false
 unfolding if_then_else_
 stx-enough count = refl
 
-stx-typed : isType stx ≡ true
+pub stx-typed : isType stx ≡ true
 unfolding if_then_else_
 stx-typed = refl
 

@@ -1,2 +1,0 @@
--- The laws by which a master's tick is proved.
-pub mod Ticks

@@ -1,2 +1,0 @@
--- What a tick of a master promises.
-pub mod Tick
