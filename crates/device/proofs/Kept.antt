@@ -38,8 +38,15 @@ use Rattle.device.specs.Buffers.{Limits}
 
 -- ---- the start
 
-not-accepted : (why : Refusal) (d : Device) → refused why ≡ accepted d → ⊥
+pub not-accepted : (why : Refusal) (d : Device) → refused why ≡ accepted d → ⊥
 not-accepted why d e = let z : _≡_ {A = ℕ} 0 1 = cc in omega arith
+
+pub started-as : (p : Profile) (preamble polling unique : ℕ) (d : Device) → deviceStarts p preamble polling unique ≡ accepted d → freshDevice p preamble polling unique ≡ d
+started-as p preamble polling unique d e =
+    let a = went-else (preamble outside 5 to 20) (refused PreambleLength) _ (accepted d) e (not-accepted PreambleLength d) in
+    let b = went-else (largestAddress false <? polling) (refused Address) _ (accepted d) (a .1) (not-accepted Address d) in
+    let c = went-else (unique outside 1 to largestAddress true) (refused Address) (accepted (freshDevice p preamble polling unique)) (accepted d) (b .1) (not-accepted Address d) in
+    cc (c .1)
 
 pub start-within : (p : Profile) (preamble polling unique : ℕ) (d : Device) (frame : List ℕ) → deviceStarts p preamble polling unique ≡ accepted d → 284 ≤ length frame → Limits d frame
 unfolding if_then_else_
@@ -47,8 +54,7 @@ start-within p preamble polling unique d frame e room =
     let a = went-else (preamble outside 5 to 20) (refused PreambleLength) _ (accepted d) e (not-accepted PreambleLength d) in
     let b = went-else (largestAddress false <? polling) (refused Address) _ (accepted d) (a .1) (not-accepted Address d) in
     let c = went-else (unique outside 1 to largestAddress true) (refused Address) (accepted (freshDevice p preamble polling unique)) (accepted d) (b .1) (not-accepted Address d) in
-    let same : freshDevice p preamble polling unique ≡ d = cc (c .1) in
-    subst (λ (x : Device). Limits x frame) same
+    subst (λ (x : Device). Limits x frame) (started-as p preamble polling unique d e)
     (record {
       preamble-low = inside-low preamble 5 20 _ refl (a .0);
       preamble-high = inside-high preamble 5 20 _ refl (a .0);

@@ -5,3 +5,4 @@ pub mod Sends
 pub mod Limits
 pub mod Puts
 pub mod Kept
+pub mod Fit
