@@ -4,3 +4,5 @@ pub mod Starts
 pub mod Sends
 pub mod Limits
 pub mod Puts
+pub mod Kept
+pub mod Fit

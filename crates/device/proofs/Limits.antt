@@ -91,30 +91,30 @@ error-agrees d (Damaged w m) frame l = go (hasError d w m) refl
     go true e = written-stored (d .preamble) (answerHeader (w .header) (d .burst)) (errorData m) frame (ack-fits d frame (w .header) (d .burst) 2 l (has-own d w m e) (omega arith) (omega arith)) (l .room)
     go false e = refl
 
-pub answer-agrees : (d : Device) (wish : Wish) (bytes frame : List ℕ) → Limits d frame → isOwn d (d .request) ≡ true
+pub answer-agrees : (d : Device) (wish : Wish) (bytes frame : List ℕ) → Limits d frame → ((n : ℕ) → d .turn ≡ Asked n → isOwn d (d .request) ≡ true)
     → answerBuffer (answered 255 d wish (length bytes)) d wish bytes frame ≡ storedBy (answered 255 d wish (length bytes)) (answerFrame d wish bytes) frame
 unfolding answered
-answer-agrees d wish bytes frame l own = by (d .turn)
+answer-agrees d wish bytes frame l own = by (d .turn) refl
   where
     Case : Called Device → Type 0
     Case c = answerBuffer c d wish bytes frame ≡ storedBy c (answerFrame d wish bytes) frame
 
-    asked : (n : ℕ) → AnswerView 255 d wish (length bytes) n → Case (answeredBy 255 d wish (length bytes) (Asked n))
-    asked n (is-refused why e) = subst Case (sym e) refl
-    asked n (is-taken low high f e) =
+    asked : (n : ℕ) → isOwn d (d .request) ≡ true → AnswerView 255 d wish (length bytes) n → Case (answeredBy 255 d wish (length bytes) (Asked n))
+    asked n o (is-refused why e) = subst Case (sym e) refl
+    asked n o (is-taken low high f e) =
         subst Case (sym e)
-        (written-stored (d .preamble) (answerHeader (d .request) (wished (d .burst) wish)) bytes frame (ack-fits d frame (d .request) (wished (d .burst) wish) (length bytes) l own low high) (l .room))
+        (written-stored (d .preamble) (answerHeader (d .request) (wished (d .burst) wish)) bytes frame (ack-fits d frame (d .request) (wished (d .burst) wish) (length bytes) l o low high) (l .room))
 
-    by : (turn : Turn) → Case (answeredBy 255 d wish (length bytes) turn)
-    by Listens = refl
-    by (Asked n) = asked n (answer-view 255 d wish (length bytes) n)
-    by Accepted = refl
-    by Begins = refl
-    by (Answers n) = refl
-    by Follows = refl
-    by (Bursts n) = refl
+    by : (turn : Turn) → d .turn ≡ turn → Case (answeredBy 255 d wish (length bytes) turn)
+    by Listens e = refl
+    by (Asked n) e = asked n (own n e) (answer-view 255 d wish (length bytes) n)
+    by Accepted e = refl
+    by Begins e = refl
+    by (Answers n) e = refl
+    by Follows e = refl
+    by (Bursts n) e = refl
 
-pub begun-agrees : (d : Device) (turn : Turn) (contents frame : List ℕ) → Limits d frame → ContentLimits d contents → begunBuffer d turn contents frame ≡ begunFrame d turn contents frame
+pub begun-agrees : (d : Device) (turn : Turn) (contents frame : List ℕ) → Limits d frame → (turn ≡ Follows → ContentLimits d contents) → begunBuffer d turn contents frame ≡ begunFrame d turn contents frame
 unfolding if_then_else_
 begun-agrees d Listens contents frame l k = refl
 begun-agrees d (Asked n) contents frame l k = refl
@@ -122,14 +122,15 @@ begun-agrees d Accepted contents frame l k = refl
 begun-agrees d Begins contents frame l k = refl
 begun-agrees d (Answers n) contents frame l k = refl
 begun-agrees d Follows contents frame l k =
+    let c = k refl in
     let count = length-take (d .content .count) contents in
     written-stored (d .preamble) (backHeader d) (take (d .content .count) contents) frame
     (record {
       preamble-low = l .preamble-low;
       preamble-high = l .preamble-high;
       address-high = omega (arith, l .unique-high);
-      count-high = omega (arith, count, k .count-high);
-      enough = enough back (length (take (d .content .count) contents)) (omega (arith, count, k .count-low, k .room));
+      count-high = omega (arith, count, c .count-high);
+      enough = enough back (length (take (d .content .count) contents)) (omega (arith, count, c .count-low, c .room));
       typed = refl;
     })
     (l .room)

@@ -10,6 +10,7 @@ use Rattle.turns.specs.Link.{deviceData}
 use Rattle.turns.specs.declared.Device.{Device}
 use Rattle.turns.specs.declared.DeviceSent.{DeviceSent}
 use Rattle.turns.specs.declared.DeviceTaken.{DeviceTaken}
+use Rattle.turns.specs.declared.Turn.the-variants.{Asked, Follows}
 use Rattle.turns.specs.declared.Wish.{Wish}
 use Rattle.device_heard.specs.Hearing.{lent}
 use Rattle.device.specs.declared.DeviceCalled.{DeviceCalled}
@@ -22,14 +23,14 @@ pub record TakeIs (d : Device) (heard : Heard) (bytes frame : List ℕ) (t : Dev
   pub frame-is : frame-after ≡ errorBuffer d (deviceTakes d heard .event) frame
   pub within : Limits d frame → frame-after ≡ errorFrame d (deviceTakes d heard .event) frame
 
--- an answer to a request that is in hand, and so was for this device
+-- a request in hand is for this device
 pub record AnswerIs (d : Device) (wish : Wish) (bytes frame : List ℕ) (r : DeviceCalled) (frame-after : List ℕ) : Type 0 where
   pub called : calledAs r ≡ answered 255 d wish (length bytes)
   pub frame-is : frame-after ≡ answerBuffer (answered 255 d wish (length bytes)) d wish bytes frame
-  pub within : Limits d frame → isOwn d (d .request) ≡ true → frame-after ≡ storedBy (answered 255 d wish (length bytes)) (answerFrame d wish bytes) frame
+  pub within : Limits d frame → ((n : ℕ) → d .turn ≡ Asked n → isOwn d (d .request) ≡ true) → frame-after ≡ storedBy (answered 255 d wish (length bytes)) (answerFrame d wish bytes) frame
 
--- a BACK of content that was given, and so has two bytes or more
+-- a BACK has content that was given
 pub record SendIs (d : Device) (contents frame : List ℕ) (s : DeviceSent) (frame-after : List ℕ) : Type 0 where
   pub sent : s ≡ deviceSends d frame-after
   pub frame-is : frame-after ≡ begunBuffer d (d .turn) contents frame
-  pub within : Limits d frame → ContentLimits d contents → frame-after ≡ begunFrame d (d .turn) contents frame
+  pub within : Limits d frame → (d .turn ≡ Follows → ContentLimits d contents) → frame-after ≡ begunFrame d (d .turn) contents frame

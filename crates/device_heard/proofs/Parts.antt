@@ -65,5 +65,3 @@ silence-is d r event n t e f = f ∙ ap (λ (x : ℕ). counts d r x event) e ∙
 
 pub character-at : (d : Device) (r : Receiver) (p q : Event) (t : DeviceTaken) → p ≡ q → t ≡ onCharacter d r q → t ≡ onCharacter d r p
 character-at d r p q t e f = f ∙ ap (onCharacter d r) (sym e)
-
-pub ruleset parts = (refl, length-long, length-short, tells-same, listens-same, answers-same, counts-same, waited-at)

@@ -14,4 +14,4 @@ put-error-spec =
     (λ c. search needs)
     (λ c κs. search needs)
     (λ c. search (choices, written-same))
-    (λ c. search (choices, written-same)))
+    (λ c. search choices))

@@ -1,6 +1,6 @@
 use borrow.Author.Needs.{needs}
 use Rattle.base.proofs.Choices.{choices}
-use Rattle.device_heard.proofs.Parts.{parts}
+use Rattle.device_heard.proofs.Parts.{answers-same}
 use Rattle.device_heard.proofs.after_damage.Statement.{statement}
 use Rattle.device_heard.proofs.after_damage.Tie as tie
 
@@ -8,10 +8,10 @@ pub after-damage-spec : {M : Type 1} → statement M
 after-damage-spec =
     tie.close
     (tie.spec
-    (λ c. search (needs, choices, parts))
-    (λ c κs. search (needs, choices, parts))
-    (λ c κs. search (needs, choices, parts))
-    (λ c κs. search (needs, choices, parts))
-    (λ c. search (needs, choices, parts))
-    (λ c κs. search (needs, choices, parts))
-    (λ c. search (needs, choices, parts)))
+    (λ c. search needs)
+    (λ c κs. search needs)
+    (λ c κs. search needs)
+    (λ c κs. search needs)
+    (λ c. search (choices, answers-same))
+    (λ c κs. search needs)
+    (λ c. search (choices, answers-same)))

@@ -1,6 +1,6 @@
 use borrow.Author.Needs.{needs}
 use Rattle.base.proofs.Choices.{choices}
-use Rattle.device_heard.proofs.Parts.{parts}
+use Rattle.device_heard.proofs.Parts.{listens-same}
 use Rattle.device_heard.proofs.after_frame.Statement.{statement}
 use Rattle.device_heard.proofs.after_frame.Tie as tie
 
@@ -10,9 +10,9 @@ after-frame-spec =
     (tie.spec
     (λ c. search needs)
     (λ c κs. search needs)
-    (λ c. search (needs, choices, parts))
+    (λ c. search (choices, listens-same))
     (λ c κs. search needs)
-    (λ c. search (needs, choices, parts))
+    (λ c. search (choices, listens-same))
     (λ c κs. search needs)
     (λ c κs. search needs)
-    (λ c. search (needs, choices, parts)))
+    (λ c. search (choices, listens-same)))

@@ -1,6 +1,6 @@
 use borrow.Author.Needs.{needs}
 use Rattle.base.proofs.Choices.{choices}
-use Rattle.device_heard.proofs.Parts.{parts}
+use Rattle.device_heard.proofs.Parts.{tells-same}
 use Rattle.device_heard.proofs.after_request.Statement.{statement}
 use Rattle.device_heard.proofs.after_request.Tie as tie
 
@@ -8,12 +8,12 @@ pub after-request-spec : {M : Type 1} → statement M
 after-request-spec =
     tie.close
     (tie.spec
-    (λ c. search (needs, choices, parts))
-    (λ c κs. search (needs, choices, parts))
-    (λ c κs. search (needs, choices, parts))
-    (λ c. search (needs, choices, parts))
-    (λ c κs. search (needs, choices, parts))
-    (λ c κs. search (needs, choices, parts))
-    (λ c. search (needs, choices, parts))
-    (λ c κs. search (needs, choices, parts))
-    (λ c. search (needs, choices, parts)))
+    (λ c. search needs)
+    (λ c κs. search needs)
+    (λ c κs. search needs)
+    (λ c. search (choices, tells-same))
+    (λ c κs. search needs)
+    (λ c κs. search needs)
+    (λ c. search (choices, tells-same))
+    (λ c κs. search needs)
+    (λ c. search (choices, tells-same)))

@@ -1,6 +1,6 @@
 use borrow.Author.Needs.{needs}
 use Rattle.base.proofs.Choices.{choices}
-use Rattle.device_heard.proofs.Parts.{parts}
+use Rattle.device_heard.proofs.Parts.{tells-same, counts-same}
 use Rattle.device_heard.proofs.count_tick.Statement.{statement}
 use Rattle.device_heard.proofs.count_tick.Tie as tie
 
@@ -8,10 +8,10 @@ pub count-tick-spec : {M : Type 1} → statement M
 count-tick-spec =
     tie.close
     (tie.spec
-    (λ c κs. search (needs, choices, parts))
-    (λ c κs. search (needs, choices, parts))
-    (λ c. search (needs, choices, parts))
-    (λ c κs. search (needs, choices, parts))
-    (λ c κs. search (needs, choices, parts))
-    (λ c κs. search (needs, choices, parts))
-    (λ c. search (needs, choices, parts)))
+    (λ c κs. search needs)
+    (λ c κs. search needs)
+    (λ c. search (choices, tells-same, counts-same))
+    (λ c κs. search needs)
+    (λ c κs. search needs)
+    (λ c κs. search needs)
+    (λ c. search (choices, tells-same, counts-same)))

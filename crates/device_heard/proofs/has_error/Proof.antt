@@ -1,6 +1,5 @@
 use borrow.Author.Needs.{needs}
 use Rattle.base.proofs.Choices.{choices}
-use Rattle.device_heard.proofs.Parts.{parts}
 use Rattle.device_heard.proofs.has_error.Statement.{statement}
 use Rattle.device_heard.proofs.has_error.Tie as tie
 
@@ -8,7 +7,7 @@ pub has-error-spec : {M : Type 1} → statement M
 has-error-spec =
     tie.close
     (tie.spec
-    (λ c κs. search (needs, choices, parts))
-    (λ c. search (needs, choices, parts))
-    (λ c. search (needs, choices, parts))
-    (λ c. search (needs, choices, parts)))
+    (λ c κs. search needs)
+    (λ c. search choices)
+    (λ c. search choices)
+    (λ c. search choices))

@@ -1,6 +1,5 @@
 use borrow.Author.Needs.{needs}
 use Rattle.base.proofs.Choices.{choices}
-use Rattle.device_heard.proofs.Parts.{parts}
 use Rattle.device_heard.proofs.is_broadcast.Statement.{statement}
 use Rattle.device_heard.proofs.is_broadcast.Tie as tie
 
@@ -8,5 +7,5 @@ pub is-broadcast-spec : {M : Type 1} → statement M
 is-broadcast-spec =
     tie.close
     (tie.spec
-    (λ c. search (needs, choices, parts))
-    (λ c. search (needs, choices, parts)))
+    (λ c. search choices)
+    (λ c. search choices))

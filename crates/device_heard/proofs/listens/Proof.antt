@@ -1,6 +1,5 @@
 use borrow.Author.Needs.{needs}
-use Rattle.base.proofs.Choices.{choices}
-use Rattle.device_heard.proofs.Parts.{parts}
+use Rattle.device_heard.proofs.Parts.{tells-same}
 use Rattle.device_heard.proofs.listens.Statement.{statement}
 use Rattle.device_heard.proofs.listens.Tie as tie
 
@@ -8,5 +7,5 @@ pub listens-spec : {M : Type 1} → statement M
 listens-spec =
     tie.close
     (tie.spec
-    (λ c κs. search (needs, choices, parts))
-    (λ c. search (needs, choices, parts)))
+    (λ c κs. search needs)
+    (λ c. search tells-same))

@@ -1,6 +1,5 @@
 use borrow.Author.Needs.{needs}
 use Rattle.base.proofs.Choices.{choices}
-use Rattle.device_heard.proofs.Parts.{parts}
 use Rattle.device_heard.proofs.waits_for_answer.Statement.{statement}
 use Rattle.device_heard.proofs.waits_for_answer.Tie as tie
 
@@ -8,6 +7,6 @@ pub waits-for-answer-spec : {M : Type 1} → statement M
 waits-for-answer-spec =
     tie.close
     (tie.spec
-    (λ c. search (needs, choices, parts))
-    (λ c. search (needs, choices, parts))
-    (λ c. search (needs, choices, parts)))
+    (λ c. search choices)
+    (λ c. search needs)
+    (λ c. search choices))
