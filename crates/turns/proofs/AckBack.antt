@@ -6,7 +6,7 @@ use mathlib.Core.Bool.{Bool, true, false}
 use mathlib.Core.List.{List, [], _∷_}
 use mathlib.Core.Logic.{_⊎_, inl, inr}
 use lib.ListN.{length, getD, take}
-use borrow.Author.Tests.{eq-eqb}
+use borrow.Author.Tests.{eq-eqb, eqb-false}
 use Rattle.base.specs.Choice.{if_then_else_, _=?_}
 use Rattle.base.proofs.Choices.{true-false, if-is-true, if-is-false}
 use Rattle.frame.specs.Delimiter.{stx, ack, back}
@@ -29,7 +29,7 @@ use Rattle.turns.specs.declared.Turn.the-variants.{Listens, Follows}
 use Rattle.turns.specs.declared.Device.{Device}
 use Rattle.turns.proofs.Turns.{asked-listens, accepted-listens}
 use Rattle.turns.proofs.Spoken.{Spoken}
-use Rattle.turns.proofs.Masters.{Holds, left}
+use Rattle.turns.proofs.Masters.{Holds, left, if-cases}
 use Rattle.turns.proofs.Devices as D
 use Rattle.turns.proofs.Devices.{SameDevice, inHand}
 use Rattle.turns.proofs.DeviceSpeaking as DS
@@ -165,6 +165,10 @@ module _ (limit : ℕ) (low : 2 ≤ limit) (high : limit ≤ 255) (p : Profile) 
 
 -- ---- the others at the frame's end
 
+-- "after timer 1 behind another's ACK"
+due-ack : (d : Device) (h : Header) → h .frame ≡ ack → dueAfter d h ≡ 1
+due-ack d h e = if-cases (λ (n : ℕ). n ≡ 1) _ _ _ (λ q. refl) (λ q. absurd (eqb-false (h .frame) ack q e))
+
 ack-stx : (h : Header) → h .frame ≡ ack → h .frame ≡ stx → ⊥
 ack-stx h a e = let z : ack ≡ stx = sym a ∙ e in omega (arith, z)
 
@@ -212,7 +216,7 @@ module _ (limit : ℕ) (low : 2 ≤ limit) (high : limit ≤ 255) (p : Profile) 
   hears-ack : message .header .frame ≡ ack → (u : ℕ) (x : DeviceSide) (c : DeviceCall) → DeviceHears p (readerAfter idle (take k w)) u x → Quietly (DeviceQuiet p 0 (message .header) 1) x (deviceTick limit x (Character (getD w k 0)) c)
   hears-ack a u x c h =
       let q = hears-end x c h in
-      subst (λ (n : ℕ). Quietly (DeviceQuiet p 0 (message .header) n) x (deviceTick limit x (Character (getD w k 0)) c)) (if-is-true (message .header .frame =? ack) 1 (x .device .profile .rt1p) (eq-eqb (message .header .frame) ack a)) (q .0)
+      subst (λ (n : ℕ). Quietly (DeviceQuiet p 0 (message .header) n) x (deviceTick limit x (Character (getD w k 0)) c)) (due-ack (x .device) (message .header) a) (q .0)
 
   -- no other device bursts behind a BACK
   hears-back : (u : ℕ) (noted : Noted) (next : Bool) → noted .address ≡ u → (x : DeviceSide) (c : DeviceCall) → With (DeviceHears p (readerAfter idle (take k w)) u) (BurstIs true noted next) x

@@ -10,7 +10,8 @@ use Rattle.base.proofs.Choices.{true-false, if-is-true, if-is-false}
 use Rattle.frame.specs.Delimiter.{back}
 use Rattle.frame.specs.declared.Header.{Header}
 use Rattle.line.specs.declared.Profile.{Profile}
-use Rattle.turns.specs.Master.{burstAfter, notedAfter}
+use Rattle.turns.specs.Master.{isNoted, burstAfter, notedAfter}
+use Rattle.turns.proofs.Masters.{if-cases}
 use Rattle.turns.specs.Device.{answerHeader, firstFor}
 use Rattle.turns.specs.Link.{DeviceSide, DeviceStep, sides}
 use Rattle.turns.specs.Run.{All, none, and, Differ, Distinct, Sole, sole-and}
@@ -101,6 +102,13 @@ module _ {p : Profile} {g : ℕ} {h : Header} {n : ℕ} {B : DeviceSide → Devi
 
 -- ---- BURST behind the frame that begins
 
+-- an ACK of the noted address, and of another
+noted-is : (n : Noted) (h : Header) → isNoted n h ≡ true → n .address ≡ h .address
+noted-is n h = if-cases (λ (b : Bool). b ≡ true → n .address ≡ h .address) _ _ _ (λ l e. eqb-true (n .address) (h .address) e) (λ l e. absurd (true-false (sym e)))
+
+not-noted : (n : Noted) (h : Header) → isNoted n h ≡ false → n .long ≡ true → n .address ≡ h .address → ⊥
+not-noted n h = if-cases (λ (b : Bool). b ≡ false → n .long ≡ true → n .address ≡ h .address → ⊥) _ _ _ (λ l e m z. eqb-false (n .address) (h .address) e z) (λ l e m z. true-false (sym m ∙ l))
+
 -- "The first after burst goes from off to on is for the primary": whom the next BACK is for behind an ACK's first character
 abbrev pub nextAfter : Bool → Bool → Bool
 nextAfter burst next = if burst then next else true
@@ -172,10 +180,10 @@ module _ {p : Profile} {g : ℕ} {h : Header} {n : ℕ} {B : DeviceSide → Devi
   pub ack-agreed : (request : Header) (c : Bool) → y .device .burst ≡ c → y .device .unique ≡ x .device .unique → y .device .primary ≡ firstFor (x .device) → (request .long ≡ true → request .address ≡ x .device .unique) → (request .long ≡ false → c ≡ x .device .burst)
       → Agreed (burstAfter burst noted (answerHeader request c)) (notedAfter noted (answerHeader request c)) (nextAfter burst next) (sides ss)
   unfolding if_then_else_
-  ack-agreed request c is same first address short = go c refl (request .long) refl (noted .long) refl (noted .address =? request .address) refl
+  ack-agreed request c is same first address short = go c refl (request .long) refl (isNoted noted (answerHeader request c)) refl
     where
-      was : Bool → Bool → Bool → Bool → Bool
-      was c l m e = if c then true else (if l then (if (if m then e else false) then false else burst) else burst)
+      was : Bool → Bool → Bool → Bool
+      was c l n = if c then true else (if l then (if n then false else burst) else burst)
 
       new : Bool → Bool → Noted
       new c l = if c then (if l then record { long = l; address = request .address } else noted) else noted
@@ -203,10 +211,9 @@ module _ {p : Profile} {g : ℕ} {h : Header} {n : ℕ} {B : DeviceSide → Devi
       turned true {others} e g = subst (λ (z : Bool). Agreed z others next (sides ss) → Agreed z others (nextAfter z next) (sides ss)) (sym e) (λ k. k) g
       turned false {others} e g = subst (λ (z : Bool). Agreed z others next (sides ss) → Agreed z others (nextAfter z next) (sides ss)) (sym e) any-next g
 
-      go : (c′ : Bool) → c ≡ c′ → (l : Bool) → request .long ≡ l → (m : Bool) → noted .long ≡ m → (e : Bool) → (noted .address =? request .address) ≡ e → Agreed (was c′ l m e) (new c′ l) (nextAfter burst next) (sides ss)
-      go true q true r m u e v = noted-anew (record { long = true; address = request .address }) (nextAfter burst next) (is ∙ q) refl (address r ∙ sym same) (for-whom burst refl (is ∙ q))
-      go true q false r m u e v = subst (λ (z : Bool). Agreed z noted (nextAfter burst next) (sides ss)) (on-is false q r refl) (turned burst refl (kept-burst (is ∙ short r) same same-next))
-      go false q false r m u e v = turned burst refl (kept-burst (is ∙ short r) same same-next)
-      go false q true r true u true v = any-next (noted-off (is ∙ q) (eqb-true (noted .address) (request .address) v ∙ address r))
-      go false q true r true u false v = turned burst refl (others-stay (is ∙ q) (λ k z. eqb-false (noted .address) (request .address) v (z ∙ sym (address r))))
-      go false q true r false u e v = turned burst refl (others-stay (is ∙ q) (λ k z. true-false (sym k ∙ u)))
+      go : (c′ : Bool) → c ≡ c′ → (l : Bool) → request .long ≡ l → (n : Bool) → isNoted noted (answerHeader request c) ≡ n → Agreed (was c′ l n) (new c′ l) (nextAfter burst next) (sides ss)
+      go true q true r n u = noted-anew (record { long = true; address = request .address }) (nextAfter burst next) (is ∙ q) refl (address r ∙ sym same) (for-whom burst refl (is ∙ q))
+      go true q false r n u = subst (λ (z : Bool). Agreed z noted (nextAfter burst next) (sides ss)) (on-is false q r refl) (turned burst refl (kept-burst (is ∙ short r) same same-next))
+      go false q false r n u = turned burst refl (kept-burst (is ∙ short r) same same-next)
+      go false q true r true u = any-next (noted-off (is ∙ q) (noted-is noted (answerHeader request c) u ∙ address r))
+      go false q true r false u = turned burst refl (others-stay (is ∙ q) (λ k z. not-noted noted (answerHeader request c) u k (z ∙ sym (address r))))

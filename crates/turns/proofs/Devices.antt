@@ -185,6 +185,25 @@ back-fits d frame contents s given =
       typed = refl;
     }
 
+-- the same device with another burst, and the next BACK for another master
+abbrev pub turnOf : Device → Bool → Bool → Device
+turnOf e burst primary = record {
+  profile = e .profile;
+  preamble = e .preamble;
+  polling = e .polling;
+  unique = e .unique;
+  receiver = e .receiver;
+  deaf = e .deaf;
+  turn = e .turn;
+  request = e .request;
+  wish = e .wish;
+  length = e .length;
+  burst = burst;
+  primary = primary;
+  due = e .due;
+  content = e .content;
+}
+
 -- whose request it is depends on the addresses alone
 pub own-kept : {d e : Device} (h : Header) → SameDevice d e → isOwn d h ≡ true → isOwn e h ≡ true
 own-kept h sd o = (λ i. if h .long then sd .same-unique i =? h .address else (if sd .same-polling i =? h .address then h .command =? 0 else false)) ∙ o
@@ -270,7 +289,7 @@ module _ (d e : Device) (frame bytes contents : List ℕ) (told : DeviceTold) (a
           let there : by Begins ≡ record { side = record { device = sends e true (Answers 1) (e .length) burst (firstFor e) 0 passing Silent .device; frame = frame; bytes = bytes; contents = contents }; sent = Character (byteAt frame 0); told = told; answer = answer } =
           ap (λ (x : DeviceSent). record { side = record { device = x .device; frame = frame; bytes = bytes; contents = contents }; sent = x .sent; told = told; answer = answer }) first in
           subst (Goes d) (sym there)
-          (answers burst (λ i. if after .same-burst i then after .same-primary i else true)
+          (answers burst (λ i. firstFor (turnOf e (after .same-burst i) (after .same-primary i)))
           (record {
             w = p .w;
             message = p .message;

@@ -7,7 +7,7 @@ use mathlib.Core.List.{List}
 use mathlib.Core.Logic.{_⊎_, inl, inr}
 use lib.ListN.{length, getD, take}
 use lib.Seq.{getD-take}
-use borrow.Author.Tests.{ltb-true, ltb-false, lt-ltb, le-leb, leb-false}
+use borrow.Author.Tests.{ltb-true, ltb-false, le-leb, leb-false}
 use Rattle.base.specs.Choice.{if_then_else_, _<?_, _≤?_, _outside_to_}
 use Rattle.base.specs.Store.{stored}
 use Rattle.base.specs.declared.Refusal.{Refusal}
@@ -24,7 +24,7 @@ use Rattle.frame.proofs.Taken.{Fits}
 use Rattle.line.specs.Reader.{passing}
 use Rattle.line.specs.declared.Whole.{Whole}
 use Rattle.line.proofs.Hearing.{wholeMessage}
-use Rattle.turns.specs.Master.{Called, accepted, refused, Request, requested, requestHeader, hasMessage, commandRefused, behind, timer, brokenTimer, attempted, sends, sendsAt, oneMore, sendsBy, masterSends}
+use Rattle.turns.specs.Master.{Called, accepted, refused, Request, requested, requestHeader, hasMessage, commandRefused, behind, timer, brokenTimer, sendsAt, oneMore, sendsBy, masterSends}
 use Rattle.turns.specs.Link.{MasterCall, no-request, requests, Answer, none, was-taken, was-refused, MasterStep, masterCalls, masterCalled, masterSent}
 use Rattle.turns.specs.declared.Sent.the-variants.{Silent, Character}
 use Rattle.turns.specs.declared.Stage.{Stage}
@@ -125,6 +125,12 @@ pub data Goes (m : Master) (step : MasterStep) : Type 0 where
       → Holds (step .side .frame) (g .length) w message → message .header ≡ g .header → message .expansion ≡ 0 → g .header .frame ≡ stx → g .header .primary ≡ m .primary
       → 0 < m .timer .window → Counts m g → Goes m step
 
+-- what holds in each case of a choice holds of the choice
+pub if-cases : {A : Type 0} (P : A → Type 0) (t : Bool) (a b : A) → (t ≡ true → P a) → (t ≡ false → P b) → P (if t then a else b)
+unfolding if_then_else_
+if-cases P true a b f g = f refl
+if-cases P false a b f g = g refl
+
 still-at : {s t : Stage} → s ≡ t → Still t → Still s
 still-at e v = subst Still (sym e) v
 
@@ -144,28 +150,21 @@ module _ (m : Master) (frame bytes : List ℕ) (told : MasterTold) (answer : Ans
   Step : Stage → MasterStep
   Step stage = masterSent (sendsBy m frame stage) frame bytes told answer
 
-  -- a waiting message begins where a window is open
+  -- a waiting message begins in an open window
+  begins-open : m .message .stage ≡ Waiting → 0 < m .timer .window → Formed (m .primary) frame (m .message) → Goes m (masterSent (sendsAt m frame 0 (oneMore (m .retries) (m .message .attempts))) frame bytes told answer)
+  begins-open e z (no-message f) = absurd (waiting-free (sym e ∙ f))
+  begins-open e z (stands w message h a x t u) =
+      if-cases (λ (s : MasterSent). Goes m (masterSent s frame bytes told answer)) _ _ _
+      (λ q. begins _ w message refl refl (ap Character (h .same 0 (omega (arith, h .speaks .long)))) (record { speaks = h .speaks; sized = h .sized; same = h .same }) a x t u z
+      (record { some = one-more-some (m .retries) (m .message .attempts); again = λ y h. one-more-is (m .retries) (m .message .attempts) h; from = inl e }))
+      (λ q. absurd (omega (arith, h .sized, h .speaks .long, ltb-false (0 + 1) (m .message .length) q)))
+
   waiting-goes : m .message .stage ≡ Waiting → Goes m (Step Waiting)
   unfolding Step
-  waiting-goes e = open-or-not (0 <? m .timer .window) refl formed
-    where
-      by : Bool → MasterStep
-      by t = masterSent (if t then sendsAt m frame 0 (oneMore (m .retries) (m .message .attempts)) else sends m false (m .timer) (m .message) (m .receiver) Silent) frame bytes told answer
-
-      open-or-not : (t : Bool) → (0 <? m .timer .window) ≡ t → Formed (m .primary) frame (m .message) → Goes m (by (0 <? m .timer .window))
-      open-or-not true q (no-message f) = absurd (waiting-free (sym e ∙ f))
-      open-or-not true q (stands w message h a x t u) =
-          let g : Message = attempted (m .message) (Sending 1) (oneMore (m .retries) (m .message .attempts)) in
-          let more : (0 + 1 <? m .message .length) ≡ true = lt-ltb (0 + 1) (m .message .length) (omega (arith, h .sized, h .speaks .long)) in
-          let first : sendsAt m frame 0 (oneMore (m .retries) (m .message .attempts)) ≡ sends m true (timer 0) g passing (Character (byteAt frame 0)) = if-is-true (0 + 1 <? m .message .length) _ _ more in
-          let there : by (0 <? m .timer .window) ≡ masterSent (sends m true (timer 0) g passing (Character (byteAt frame 0))) frame bytes told answer =
-          ap (λ (s : MasterSent). masterSent s frame bytes told answer) (if-is-true (0 <? m .timer .window) _ _ q ∙ first) in
-          subst (Goes m) (sym there)
-          (begins g w message refl refl (ap Character (h .same 0 (omega (arith, h .speaks .long)))) (record { speaks = h .speaks; sized = h .sized; same = h .same }) a x t u (ltb-true 0 (m .timer .window) q) (record { some = one-more-some (m .retries) (m .message .attempts); again = λ z h. one-more-is (m .retries) (m .message .attempts) h; from = inl e }))
-      open-or-not false q f =
-          let shut : m .timer .window ≤ 0 = ltb-false 0 (m .timer .window) q in
-          subst (Goes m) (sym (ap (λ (s : MasterSent). masterSent s frame bytes told answer) (if-is-false (0 <? m .timer .window) _ _ q)))
-          (rests (m .message) refl refl (still-at e is-waiting) f (λ z. omega arith) (unmoved m))
+  waiting-goes e =
+      if-cases (λ (s : MasterSent). Goes m (masterSent s frame bytes told answer)) _ _ _
+      (λ q. begins-open e (ltb-true 0 (m .timer .window) q) formed)
+      (λ q. rests (m .message) refl refl (still-at e is-waiting) formed (λ z. omega (arith, ltb-false 0 (m .timer .window) q)) (unmoved m))
 
   sends-still : Still (m .message .stage) → Goes m (masterSent (masterSends m frame) frame bytes told answer)
   unfolding masterSends Step
