@@ -35,7 +35,7 @@ use Rattle.turns.specs.declared.DeviceTold.{DeviceTold}
 use Rattle.turns.specs.declared.DeviceTaken.{DeviceTaken}
 use Rattle.turns.specs.declared.DeviceSent.{DeviceSent}
 use Rattle.turns.proofs.Turns.{listens-follows, listens-begins, listens-asked, asked-follows, asked-begins, accepted-follows, accepted-begins, begins-follows}
-use Rattle.turns.proofs.Masters.{Holds, holds}
+use Rattle.turns.proofs.Masters.{Holds, holds, if-cases}
 
 -- ---- what holds of a device at any time
 
@@ -417,14 +417,10 @@ wish-short d On f c = absurd (true-false (sym (if-is-true (d .request .command =
 wish-short d Off f c = absurd (true-false (sym (eq-eqb (d .request .command) 0 c) ∙ f))
 
 wish-given : (d : Device) (wish : Wish) (frame contents : List ℕ) → Sound d frame contents → wishRefused d wish ≡ false → wished (d .burst) wish ≡ true → d .content .given ≡ true
-unfolding if_then_else_
 wish-given d Same frame contents s f on = s .bursts-given on
-wish-given d On frame contents s f on = go (d .request .command =? 0) (d .content .given) f
-  where
-    go : (t g : Bool) → (if t then true else (if g then false else true)) ≡ false → g ≡ true
-    go true g q = absurd (true-false q)
-    go false true q = refl
-    go false false q = absurd (true-false q)
+wish-given d On frame contents s f on =
+    if-cases (λ (b : Bool). b ≡ false → d .content .given ≡ true) _ _ _ (λ q z. absurd (true-false z))
+    (λ q. if-cases (λ (b : Bool). b ≡ false → d .content .given ≡ true) _ _ _ (λ g z. g) (λ g z. absurd (true-false z))) f
 wish-given d Off frame contents s f on = absurd (true-false (sym on))
 
 -- the device behind an answer that was taken

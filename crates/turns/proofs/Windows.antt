@@ -1,12 +1,11 @@
 -- The windows of the two masters while the line is silent: why they never are open together, and why none is open while an answer or a BACK may begin.
 use Prim.Native.Nat.{ℕ, _+_, _-_, _*_, _≤_, _<_}
 use native.Mathlib.Omega.{arith}
-use mathlib.Core.Path.{_≡_, refl}
-use mathlib.Core.Bool.{Bool, true, false}
+use mathlib.Core.Path.{_≡_}
 use borrow.Author.Tests.{leb-true, leb-false, eqb-true, eqb-false}
-use Rattle.base.specs.Choice.{if_then_else_, _≤?_, _=?_}
 use Rattle.line.specs.declared.Profile.{Profile}
-use Rattle.turns.specs.Master.{opened, countClear, countBurst}
+use Rattle.turns.proofs.Masters.{if-cases}
+use Rattle.turns.specs.Master.{countClear, countBurst}
 use Rattle.turns.specs.declared.Timer.{Timer}
 
 -- a profile that the check takes
@@ -43,15 +42,8 @@ pub data Counted (p : Profile) (t u : Timer) : Type 0 where
   goes : 1 < t .next → u .next ≡ t .next - 1 → u .window ≤ t .window - 1 → Counted p t u
 
 pub counted : (p : Profile) (t u : Timer) → u .next ≡ countClear p t .next → u .window ≤ countClear p t .window → Counted p t u
-unfolding if_then_else_
-counted p t u e w = go (t .next ≤? 1) refl e w
-  where
-    by : Bool → Timer
-    by b = if b then opened p else record { next = t .next - 1; window = t .window - 1; quiet = 0 }
-
-    go : (b : Bool) → (t .next ≤? 1) ≡ b → u .next ≡ by b .next → u .window ≤ by b .window → Counted p t u
-    go true q e w = opens (leb-true (t .next) 1 q) e w
-    go false q e w = goes (leb-false (t .next) 1 q) e w
+counted p t u =
+    if-cases (λ (x : Timer). u .next ≡ x .next → u .window ≤ x .window → Counted p t u) _ _ _ (λ q e w. opens (leb-true (t .next) 1 q) e w) (λ q e w. goes (leb-false (t .next) 1 q) e w)
 
 -- a window that closed, told apart from one that is open
 data OpenOrShut (p : Profile) (t : Timer) : Type 0 where
@@ -118,15 +110,8 @@ pub data CountedBurst (p : Profile) (t u : Timer) : Type 0 where
   goes : (t .next ≡ 1 → ⊥) → u .next ≡ t .next - 1 → u .window ≤ t .window - 1 → CountedBurst p t u
 
 pub counted-burst : (p : Profile) (t u : Timer) → u .next ≡ countBurst p t .next → u .window ≤ countBurst p t .window → CountedBurst p t u
-unfolding if_then_else_
-counted-burst p t u e w = go (t .next =? 1) refl e w
-  where
-    by : Bool → Timer
-    by b = if b then record { next = 0; window = p .hold; quiet = t .quiet - 1 } else record { next = t .next - 1; window = t .window - 1; quiet = t .quiet - 1 }
-
-    go : (b : Bool) → (t .next =? 1) ≡ b → u .next ≡ by b .next → u .window ≤ by b .window → CountedBurst p t u
-    go true q e w = opens (eqb-true (t .next) 1 q) e w
-    go false q e w = goes (eqb-false (t .next) 1 q) e w
+counted-burst p t u =
+    if-cases (λ (x : Timer). u .next ≡ x .next → u .window ≤ x .window → CountedBurst p t u) _ _ _ (λ q e w. opens (eqb-true (t .next) 1 q) e w) (λ q e w. goes (eqb-false (t .next) 1 q) e w)
 
 slot-next : (p : Profile) (n : ℕ) (t u : Timer) → CountedBurst p t u → Slot p n t → Slot p (n - 1) u
 slot-next p n t u (opens a b c) (shut e f) = absurd (omega arith)
