@@ -25,6 +25,7 @@ pub mod Quiet
 pub mod Rank
 pub mod Rules
 pub mod Sending
+pub mod Settled
 pub mod Silences
 pub mod SilentTick
 pub mod Spoken

@@ -6,3 +6,4 @@ pub mod Device
 pub mod Link
 pub mod Run
 pub mod Credit
+pub mod Settled

@@ -1,0 +1,96 @@
+-- Document 01, "Settled by proof": the ten questions M1 to M10, and what the definitions give for each. The table is proved as a whole in proofs/Settled.antt.
+use Prim.Native.Nat.{ℕ, _-_}
+use mathlib.Core.Path.{_≡_}
+use mathlib.Core.Bool.{true, false}
+use mathlib.Core.List.{List, [], _∷_, _++_}
+use lib.ListN.{replicate}
+use Rattle.base.specs.Refusal.{number}
+use Rattle.frame.specs.Check.{exclusiveOr}
+use Rattle.frame.specs.Delimiter.{stx, ack}
+use Rattle.frame.specs.Frame.{frameBytes, frameLength}
+use Rattle.frame.specs.declared.Header.{Header}
+use Rattle.line.specs.Profile.{fskProfile}
+use Rattle.line.specs.declared.Heard.{Heard}
+use Rattle.line.specs.declared.Heard.the-variants.{Silence, Character}
+use Rattle.turns.specs.Master.{Called, accepted, refused, freshMaster, requested}
+use Rattle.turns.specs.Device.{freshDevice}
+use Rattle.turns.specs.Link.{no-call, gives-answer, Answer, none, was-taken, was-refused, DeviceSide, deviceTick}
+use Rattle.turns.specs.declared.Wish.the-variants.{Same}
+
+pub data Question : Type 0 where
+  -- the check byte of a frame with these bytes, from the delimiter on
+  check-byte : List ℕ → Question
+  -- a master asks command 0 of this polling address
+  ask-polling : ℕ → Question
+  -- a master sends so many data bytes
+  ask-data : ℕ → Question
+  -- a host answers so many ticks behind the last character of the STX, with FSK
+  answer-at : ℕ → Question
+  -- the longest frame
+  longest : Question
+
+pub data Outcome : Type 0 where
+  gives : ℕ → Outcome
+  taken : Outcome
+  refuses : ℕ → Outcome
+
+abbrev pub outcome : {A : Type 0} → Called A → Outcome
+outcome (accepted x) = taken
+outcome (refused why) = refuses (number why)
+
+-- an STX with command 0 to polling address 0
+abbrev pub request : Header
+request = record { frame = stx; long = false; primary = true; burst = false; address = 0; command = 0 }
+
+unfoldable pub characters : List ℕ → List Heard
+characters [] = []
+characters (c ∷ cs) = Character c ∷ characters cs
+
+-- a device that hears all of this, one thing a tick, and whose host gives nothing
+unfoldable pub hearing : DeviceSide → List Heard → DeviceSide
+hearing x [] = x
+hearing x (h ∷ hs) = hearing (deviceTick 255 x h no-call .side) hs
+
+abbrev pub device : DeviceSide
+device = record { device = freshDevice fskProfile 5 0 2; frame = replicate 284 0; bytes = replicate 255 0; contents = replicate 255 0 }
+
+abbrev pub answer : Answer → Outcome
+answer none = taken
+answer was-taken = taken
+answer (was-refused why) = refuses (number why)
+
+-- the STX's last character goes out in tick T and is heard in T+1; each silent tick behind it is one more. The host answers in the last of these ticks.
+abbrev pub answerBehind : ℕ → Outcome
+answerBehind silent = answer (deviceTick 255 (hearing device (Silence ∷ Silence ∷ (characters (frameBytes 5 request []) ++ replicate silent Silence))) Silence (gives-answer Same (0 ∷ 0 ∷ [])) .answer)
+
+-- what the definitions give
+abbrev pub settle : Question → Outcome
+settle (check-byte bytes) = gives (exclusiveOr bytes)
+settle (ask-polling address) = outcome (requested 255 (freshMaster fskProfile true 3) (record { preamble = 5; long = false; address = address; command = 0 }) 0)
+settle (ask-data count) = outcome (requested 255 (freshMaster fskProfile true 3) (record { preamble = 5; long = true; address = 1; command = 1 }) count)
+settle (answer-at late) = answerBehind (late - 2)
+settle longest = gives (frameLength 20 (record { frame = ack; long = true; primary = true; burst = false; address = 1; command = 0 }) 255)
+
+-- a question with the outcome that document 01 states
+pub record Row : Type 0 where
+  pub asked : Question
+  pub stated : Outcome
+
+abbrev pub table : List Row
+table =
+    record { asked = check-byte (0x02 ∷ 0x80 ∷ 0x00 ∷ 0x00 ∷ []); stated = gives 0x82 }
+    ∷ record { asked = check-byte (0x82 ∷ 0x80 ∷ 0x00 ∷ 0x00 ∷ 0x00 ∷ 0x02 ∷ 0x03 ∷ 0x00 ∷ []); stated = gives 0x03 }
+    ∷ record { asked = check-byte (0x06 ∷ 0x80 ∷ 0x00 ∷ 0x02 ∷ 0x00 ∷ 0x00 ∷ []); stated = gives 0x84 }
+    ∷ record { asked = ask-polling 63; stated = taken }
+    ∷ record { asked = ask-polling 64; stated = refuses 4 }
+    ∷ record { asked = ask-data 255; stated = taken }
+    ∷ record { asked = ask-data 256; stated = refuses 6 }
+    ∷ record { asked = answer-at 28; stated = taken }
+    ∷ record { asked = answer-at 29; stated = refuses 8 }
+    ∷ record { asked = longest; stated = gives 284 }
+    ∷ []
+
+-- every row: the definitions give what is stated
+pub data AllSettled : List Row → Type 0 where
+  no-more : AllSettled []
+  row-and : {r : Row} {rs : List Row} → settle (r .asked) ≡ r .stated → AllSettled rs → AllSettled (r ∷ rs)
