@@ -1,6 +1,6 @@
 -- Document 01's example, computed: what the player prints for its input.
 use mathlib.Core.Path.{_≡_, refl}
-use mathlib.Core.List.{List, [], _∷_, _++_}
+use mathlib.Core.List.{[], _∷_, _++_}
 use Rattle.base.specs.Choice.{if_then_else_}
 use Rattle.base.specs.Store.{stored}
 use Rattle.frame.specs.Check.{xorFrom}

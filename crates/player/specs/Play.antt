@@ -1,5 +1,5 @@
 -- Document 01, "The player": the link that stands ready, and the listing.
-use Prim.Native.Nat.{ℕ, _+_, _-_, _*_, _/_, _%_, zero, suc}
+use Prim.Native.Nat.{ℕ, _+_, _-_, _/_, _%_, zero, suc}
 use mathlib.Core.Bool.{Bool, true, false}
 use mathlib.Core.List.{List, [], _∷_, _++_}
 use lib.ListN.{replicate}
@@ -10,11 +10,8 @@ use Rattle.line.specs.Profile.{fskProfile}
 use Rattle.line.specs.Reader.{idle, taken}
 use Rattle.line.specs.declared.Event.{Event}
 use Rattle.line.specs.declared.Event.the-variants.{Nothing, PassedOver, Broken, Frame, Damaged}
-use Rattle.line.specs.declared.Heard.{Heard}
 use Rattle.line.specs.declared.Heard.the-variants.{Silence, Character}
 use Rattle.line.specs.declared.Receiver.{Receiver}
-use Rattle.line.specs.declared.Taken.{Taken}
-use Rattle.line.specs.declared.Whole.{Whole}
 use Rattle.turns.specs.Master.{freshMaster}
 use Rattle.turns.specs.Device.{freshDevice}
 use Rattle.turns.specs.Link.{DeviceSide, DeviceStep, Link, LinkStep, run}

@@ -1,9 +1,9 @@
 -- Document 01, "The player", the script: its records, what makes it good, and the calls of each tick.
-use Prim.Native.Nat.{ℕ, _+_, _-_, _*_, _/_, _%_}
+use Prim.Native.Nat.{ℕ, _+_, _*_, _/_, _%_}
 use mathlib.Core.Bool.{Bool, true, false}
 use mathlib.Core.List.{List, [], _∷_}
 use lib.ListN.{replicate}
-use Rattle.base.specs.Choice.{if_then_else_, _<?_, _=?_, _outside_to_}
+use Rattle.base.specs.Choice.{if_then_else_, _<?_, _=?_}
 use Rattle.turns.specs.Link.{MasterCall, no-request, requests, DeviceCall, no-call, gives-answer, gives-content, Calls}
 use Rattle.turns.specs.declared.Wish.the-variants.{Same, On, Off}
 
