@@ -22,7 +22,7 @@ use Rattle.line.specs.declared.Heard.the-variants.{Silence, Character}
 use Rattle.line.specs.declared.Profile.{Profile}
 use Rattle.line.specs.declared.Receiver.{Receiver}
 use Rattle.turns.specs.Master.{Called, accepted, refused, isBroadcast}
-use Rattle.turns.specs.Device.{behind, isOwn, dueAfter, hasError, answerHeader, waited, backDue, counts, onSilence, onCharacter, onHeard, deviceTakes, wished, answersAt, answeredBy, answered, sends, firstFor, behindAck, answersFrom, burstsFrom, backLength, sendsBy, deviceSends, freshDevice, deviceStarts}
+use Rattle.turns.specs.Device.{behind, isOwn, dueAfter, hasError, answerHeader, waited, backDue, counts, onSilence, onCharacter, onHeard, deviceTakes, wished, answersAt, answeredBy, answered, withContent, contentGiven, sends, firstFor, behindAck, answersFrom, burstsFrom, backLength, sendsBy, deviceSends, freshDevice, deviceStarts}
 use Rattle.turns.specs.declared.Device.{Device}
 use Rattle.turns.specs.declared.DeviceSent.{DeviceSent}
 use Rattle.turns.specs.declared.DeviceTaken.{DeviceTaken}
@@ -33,7 +33,7 @@ use Rattle.turns.specs.declared.Sent.the-variants.{Silent}
 use Rattle.turns.specs.declared.Wish.{Wish}
 use Rattle.turns.specs.declared.Wish.the-variants.{Same}
 use Rattle.turns.proofs.Bursting.{if-both}
-use Rattle.turns.proofs.Devices.{AnswerView, is-refused, is-taken, answer-view}
+use Rattle.turns.proofs.Devices.{AnswerView, ContentView, answer-view, content-view}
 use Rattle.device.specs.Buffers.{Limits}
 
 -- ---- the start
@@ -130,8 +130,8 @@ module _ (d : Device) where
   answered-kept limit wish count e q = by (d .turn) q
     where
       asked : (n : ℕ) → AnswerView limit d wish count n → answeredBy limit d wish count (Asked n) ≡ accepted e → SameFields d e
-      asked n (is-refused why f) q = absurd (not-accepted why e (sym f ∙ q))
-      asked n (is-taken low high f g) q =
+      asked n (AnswerView.is-refused why f) q = absurd (not-accepted why e (sym f ∙ q))
+      asked n (AnswerView.is-taken low high f g) q =
           let next : Device = behind d (d .receiver) (answersAt d n) (d .request) wish (frameLength (d .preamble) (answerHeader (d .request) (wished (d .burst) wish)) count) (d .due) in
           let is : accepted next ≡ accepted e = sym g ∙ q in
           let same : next ≡ e = cc in
@@ -145,6 +145,17 @@ module _ (d : Device) where
       by (Answers n) q = absurd (not-accepted NoRequest e q)
       by Follows q = absurd (not-accepted NoRequest e q)
       by (Bursts n) q = absurd (not-accepted NoRequest e q)
+
+  pub content-kept : (limit command count : ℕ) (e : Device) → contentGiven limit d command count ≡ accepted e → SameFields d e
+  content-kept limit command count e q = go (content-view limit d command count) q
+    where
+      go : ContentView limit d command count → contentGiven limit d command count ≡ accepted e → SameFields d e
+      go (ContentView.is-refused why f) z = absurd (not-accepted why e (sym f ∙ z))
+      go (ContentView.is-taken low high f) z =
+          let next : Device = withContent d (record { given = true; command = command; count = count }) in
+          let is : accepted next ≡ accepted e = sym f ∙ z in
+          let same : next ≡ e = cc in
+          subst (SameFields d) same (record { same-preamble = refl; same-polling = refl; same-unique = refl })
 
   abbrev After : DeviceSent → Type 0
   After s = SameFields d (s .device)

@@ -6,3 +6,4 @@ pub mod Limits
 pub mod Puts
 pub mod Kept
 pub mod Fit
+pub mod Reached

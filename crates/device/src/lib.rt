@@ -1,4 +1,4 @@
-// A HART device: a slave, with burst mode. Each function is a definition of crates/turns/specs/Device.antt.
+// A HART device: a slave, with burst mode. The functions follow the definitions of crates/turns/specs/Device.antt, in their order.
 use base::Refusal;
 use frame::Header;
 use line::Event;

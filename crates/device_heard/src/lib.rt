@@ -1,4 +1,4 @@
-// What a device does behind what it heard. Each function is a definition of crates/turns/specs/Device.antt.
+// What a device does behind what it heard. The functions follow the definitions of crates/turns/specs/Device.antt, in their order.
 use frame::Header;
 use line::Event;
 use line::Harm;

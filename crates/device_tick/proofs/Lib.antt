@@ -1,0 +1,2 @@
+-- The laws by which a device's tick is proved.
+pub mod Ticks

@@ -1,0 +1,2 @@
+-- A tick of a device, by the definitions of turns.
+pub mod Tick
