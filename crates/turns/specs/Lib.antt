@@ -1,9 +1,9 @@
--- The rules of turns, from document 01: "Timers", "Master's turns", "Device's turns", "Runs of the link" and "Refusals".
+-- The rules of turns, from document 01: "Timers", "Master's turns", "Device's turns", "Runs of the link" and "Refusals"; then what is proved of whole runs, and "Settled by proof".
 pub mod Master
-pub mod Bursts
-pub mod Demand3
 pub mod Device
 pub mod Link
 pub mod Run
+pub mod Bursts
+pub mod Demand3
 pub mod Credit
 pub mod Settled
