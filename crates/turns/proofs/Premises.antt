@@ -1,5 +1,5 @@
 -- The premises of the theorem: runs that meet them, one with a bursting device, and for two of them a run that breaks the claim without it.
-use Prim.Native.Nat.{ℕ}
+use Prim.Native.Nat.{ℕ, _+_}
 use native.Mathlib.Omega.{arith}
 use mathlib.Core.Path.{_≡_, refl, sym, subst}
 use mathlib.Core.Bool.{true, false}
@@ -24,7 +24,9 @@ use Rattle.turns.specs.declared.Wish.the-variants.{Same, On}
 use Rattle.line.proofs.Profiles.{fsk-taken}
 use Rattle.turns.proofs.Example as E
 use Rattle.turns.proofs.Example.{fresh, quiet, asks, ticks}
+use Rattle.turns.specs.Demand3.{BeginsWithin, dueWithin, longerWithBurst}
 use Rattle.turns.proofs.NoTwoSend.{no-two-send}
+use Rattle.turns.proofs.Wait.{run-length, wait}
 
 -- ---- the worked run meets them
 
@@ -125,6 +127,25 @@ short-taken = refl
 pub one-device-alone : EachTick NoTwoSend (run 255 one-device both-ask)
 unfolding one-device
 one-device-alone = no-two-send 255 (omega arith) (omega arith) short 3 one-device both-ask (record { made = short-taken; starts = one-device-starts; one-bursts = lone 255 one-device _ both-ask refl })
+
+-- ---- a list that is long enough for the wait to be claimed
+
+-- with at most 2 data bytes a frame has 31 characters, and a message of tick 0 is due within 327 ticks, 134 of them for a device that bursts meanwhile
+pub rest : List Calls
+rest = replicate 340 quiet
+
+pub asked-twice : Calls
+asked-twice = record {
+  for-primary = requests (record { preamble = 5; long = true; address = 2; command = 3 }) [];
+  for-secondary = requests (record { preamble = 5; long = true; address = 2; command = 3 }) [];
+  for-devices = content ∷ [];
+}
+
+pub secondary-begins : BeginsWithin false (dueWithin 2 short 3 0 + longerWithBurst 2 short) (run 2 one-device (asked-twice ∷ rest))
+unfolding run rest asked-twice content quiet short one-device linkTick masterTick requested masterTakes masterSends if_then_else_
+secondary-begins =
+    wait 2 (omega arith) (omega arith) short 3 one-device (asked-twice ∷ rest) (record { made = short-taken; starts = one-device-starts; one-bursts = lone 2 one-device _ (asked-twice ∷ rest) refl }) false 0 _ _ refl refl .1
+    (omega (arith, run-length 2 (linkAfter (linkTick 2 one-device asked-twice)) rest))
 
 -- ---- two devices with one polling address: both answer the same STX
 

@@ -367,7 +367,7 @@ Claim limit p retries bit e ss =
     (NoneBursts bit ss → e + longestWait limit p retries < length ss → BeginsWithin bit (e + longestWait limit p retries) ss)
     × (e + longestWait limit p retries + longerWithBurst limit p < length ss → BeginsWithin bit (e + longestWait limit p retries + longerWithBurst limit p) ss)
 
-run-length : (limit : ℕ) (l : Link) (ticks : List Calls) → length (run limit l ticks) ≡ length ticks
+pub run-length : (limit : ℕ) (l : Link) (ticks : List Calls) → length (run limit l ticks) ≡ length ticks
 unfolding run
 run-length limit l [] = refl
 run-length limit l (c ∷ cs) = ap suc (run-length limit (linkAfter (linkTick limit l c)) cs)
