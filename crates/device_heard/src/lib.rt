@@ -16,7 +16,6 @@ ghost use mathlib.Core.Bool.{false};
 ghost use Prim.Native.Nat.{_+_, _-_};
 ghost use Rattle.base.specs.Choice.{if_then_else_};
 ghost use Rattle.frame.specs.Address.{addressLength};
-ghost use Rattle.turns.specs.Master.{isBroadcast};
 ghost use Rattle.turns.specs.Device.{behind, isOwn, dueAfter, hasError, tells, afterRequest, afterFrame, afterDamage, onCharacter, waited, backDue, counts, onSilence};
 ghost use Rattle.device_heard.specs.Hearing.{silentDue, afterHearing, HeardIs};
 
@@ -61,16 +60,6 @@ fn is_own(d: Device, h: Header) -> bool
     }
     if (d.polling as u64) == h.address {
         return h.command == 0;
-    }
-    false
-}
-
-// Whether a frame is to unique address 0.
-fn is_broadcast(h: Header) -> bool
-    ensures { λ r. ⌜ r ≡ isBroadcast h ⌝ }
-{
-    if h.long {
-        return h.address == 0;
     }
     false
 }
@@ -147,7 +136,7 @@ fn after_request(d: Device, r: Receiver, w: Whole) -> DeviceTaken
             event: Event::Frame(w),
         };
     }
-    if is_broadcast(h) {
+    if party::is_broadcast(h) {
         return listens(d, r, due, DeviceTold::Broadcast(w), Event::Frame(w));
     }
     listens(d, r, due, DeviceTold::Nothing, Event::Frame(w))

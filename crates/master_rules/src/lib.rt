@@ -13,7 +13,7 @@ use turns::Timer;
 ghost use mathlib.Core.Path.{_≡_};
 ghost use Rattle.base.specs.Choice.{if_then_else_};
 ghost use Prim.Native.Nat.{_-_};
-ghost use Rattle.turns.specs.Master.{ownRt1, quietTime, behind, staged, timer, burstTimer, opened, countClear, countBurst, timerCounted, burstCounted, addressOf, isNoted, burstAfter, notedAfter, toItself, clearTimer, setTimer, timerAfter, brokenTimer, ends, isBroadcast, fails, sameBit, isAnswer, atFrame, atBreak, ifAwaiting};
+ghost use Rattle.turns.specs.Master.{ownRt1, quietTime, behind, staged, timer, burstTimer, opened, countClear, countBurst, timerCounted, burstCounted, addressOf, isNoted, burstAfter, notedAfter, toItself, clearTimer, setTimer, timerAfter, brokenTimer, ends, fails, sameBit, isAnswer, atFrame, atBreak, ifAwaiting};
 ghost use Rattle.master_rules.specs.Parts.{sameRequest, unended};
 
 // RT1, by the master bit.
@@ -315,15 +315,6 @@ fn ended_with(g: Message, told: MasterTold) -> Ending
     }
 }
 
-fn is_broadcast(h: Header) -> bool
-    ensures { λ r. ⌜ r ≡ isBroadcast h ⌝ }
-{
-    if h.long {
-        return h.address == 0;
-    }
-    false
-}
-
 // A message whose attempt failed.
 fn failed(retries: u8, g: Message) -> Ending
     ensures { λ e. ⌜ e ≡ fails retries g ⌝ }
@@ -387,7 +378,7 @@ pub fn at_frame(m: Master, w: Whole, bytes: &[u8; 255]) -> Ending
     let h = w.header;
     let retries = m.retries;
     let first = bytes[0];
-    if is_broadcast(q) {
+    if party::is_broadcast(q) {
         return ended_with(g, MasterTold::BroadcastSent);
     }
     if is_answer(m, h) {
@@ -405,7 +396,7 @@ pub fn at_break(m: Master) -> Ending
 {
     let g = m.message;
     let q = g.header;
-    if is_broadcast(q) {
+    if party::is_broadcast(q) {
         return ended_with(g, MasterTold::BroadcastSent);
     }
     failed(m.retries, g)

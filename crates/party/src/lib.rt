@@ -1,10 +1,12 @@
-// What master and device have in common: hearing, and the characters of a frame that is sent.
+// What master and device have in common: hearing, the characters of a frame that is sent, and what a broadcast is.
+use frame::Header;
 use line::Event;
 use line::Heard;
 use line::Receiver;
 use line::Taken;
 ghost use mathlib.Core.Path.{_≡_};
 ghost use Rattle.frame.specs.Address.{byteAt};
+ghost use Rattle.turns.specs.Master.{isBroadcast};
 ghost use Rattle.party.specs.Hears.{HearIs};
 
 // A tick of a party's reader, with the buffer that holds the data of the frame being heard. A deaf party hears nothing.
@@ -35,4 +37,14 @@ pub fn character_at(frame: &[u8; 284], n: u16) -> u8
     ensures { λ r. ⌜ r ≡ byteAt (now (frame .entry)) n ⌝ }
 {
     byte_at(frame, n as usize)
+}
+
+// Whether a frame is to unique address 0.
+pub fn is_broadcast(h: Header) -> bool
+    ensures { λ r. ⌜ r ≡ isBroadcast h ⌝ }
+{
+    if h.long {
+        return h.address == 0;
+    }
+    false
 }
