@@ -135,7 +135,8 @@ fn put_frame(part: &mut [u8], preamble: usize, h: Header, bytes: &[u8])
     put_body(&mut part[preamble..], h, bytes);
 }
 
-fn address_too_large(h: Header) -> bool
+// Whether a polling address is above 63, or a unique one above 38 bits.
+pub fn address_too_large(h: Header) -> bool
     ensures { λ r. ⌜ r ≡ addressTooLarge h ⌝ }
 {
     if h.long {

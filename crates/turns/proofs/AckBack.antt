@@ -21,14 +21,15 @@ use Rattle.line.proofs.Leads.{readerAfter}
 use Rattle.turns.specs.Master.{burstAfter, notedAfter, timerAfter, timer}
 use Rattle.turns.specs.Device.{dueAfter}
 use Rattle.turns.specs.Link.{MasterCall, DeviceCall, no-call, MasterSide, MasterStep, DeviceSide, DeviceStep, masterTick, deviceTick, deviceTicks, sides, carried}
-use Rattle.turns.specs.Run.{All, none, and}
+use Rattle.turns.specs.Run.{All, none, and, Distinct}
 use Rattle.turns.specs.declared.Sent.the-variants.{Silent}
 use Rattle.turns.specs.declared.Noted.{Noted}
+use Rattle.turns.specs.declared.Timer.{Timer}
 use Rattle.turns.specs.declared.Turn.the-variants.{Listens, Follows}
 use Rattle.turns.specs.declared.Device.{Device}
 use Rattle.turns.proofs.Turns.{asked-listens, accepted-listens}
 use Rattle.turns.proofs.Spoken.{Spoken}
-use Rattle.turns.proofs.Masters.{Holds}
+use Rattle.turns.proofs.Masters.{Holds, left}
 use Rattle.turns.proofs.Devices as D
 use Rattle.turns.proofs.Devices.{SameDevice, inHand}
 use Rattle.turns.proofs.DeviceSpeaking as DS
@@ -36,18 +37,18 @@ use Rattle.turns.proofs.DeviceSpeaking.{Frames, an-ack, a-back, turnBeh
 use Rattle.turns.proofs.Windows.{Valid}
 use Rattle.turns.proofs.Listening as L
 use Rattle.turns.proofs.Listening.{master-frame, device-frame, device-finished, device-follows, hand-listens}
-use Rattle.turns.proofs.Lists.{Quietly, Loudly, AllQuiet, all-quiet, OneLoud, loud-here, loud-further, one-loud, one-rests, all-carried, all-sides, all-distinct, agreed-same, one-carried, one-sides, one-distinct, AllKept, kept-and, quiet-kept, one-kept, agreed-kept}
-use Rattle.turns.proofs.Phases.{OneOf, here, further, BurstIs, Agreed, MasterQuiet, DeviceQuiet, Ready, idle-ready, passing-ready}
+use Rattle.turns.proofs.Lists.{Quietly, Loudly, AllQuiet, no-more, quiet-and, all-quiet, OneLoud, loud-here, loud-further, one-loud, one-rests, all-carried, all-sides, all-distinct, agreed-same, one-carried, one-sides, one-distinct, one-kept, agreed-kept}
+use Rattle.turns.proofs.Phases.{OneOf, here, further, Some, this, later, Bursting, BurstIs, Agreed, MasterQuiet, DeviceQuiet, Ready, idle-ready, passing-ready}
 use Rattle.turns.proofs.Beginning.{DevicePlace, inside, finished, DeviceSpeaks, DeviceHears}
 use Rattle.turns.proofs.Sending.{MasterHears, hears-on}
-use Rattle.turns.proofs.Quiet.{SilentLine, itself, slotTimer, ack-clear-timer, ack-set-timer, back-timer, behind-ack, behind-back}
-use Rattle.turns.proofs.Stx.{device-hears-on}
+use Rattle.turns.proofs.Quiet.{NoSlot, ClearLine, SetLine, NobodyAwaits, itself, slotTimer, ack-clear-timer, ack-set-timer, back-timer, behind-ack-set, behind-ack-clear, behind-back}
+use Rattle.turns.proofs.Stx.{device-hears-on, WaitsOn}
 use Rattle.turns.proofs.SilentTick.{FrameIs, is-ack, is-back, OneDeviceSends, nothing-read}
 
 -- ---- the device that sends
 
 module _ {p : Profile} {f : Frames} {k : ℕ} {w : List ℕ} {message : Whole} {u : ℕ} {on : Bool} {Q : DeviceSide → Type 0} where
-  place-of : {xs : List DeviceSide} → OneOf (DeviceSpeaks p f k w message u on) Q xs → (suc k < length w) ⊎ (suc k ≡ length w)
+  pub place-of : {xs : List DeviceSide} → OneOf (DeviceSpeaks p f k w message u on) Q xs → (suc k < length w) ⊎ (suc k ≡ length w)
   place-of (here s a) = go (s .place)
     where
       go : {d : Device} → DevicePlace f k w d → (suc k < length w) ⊎ (suc k ≡ length w)
@@ -55,12 +56,12 @@ module _ {p : Profile} {f : Frames} {k : ℕ} {w : List ℕ} {message : Whole} {
       go (finished last t due) = inr last
   place-of (further q o) = place-of o
 
-  spoken-of : {xs : List DeviceSide} → OneOf (DeviceSpeaks p f k w message u on) Q xs → Spoken w message
+  pub spoken-of : {xs : List DeviceSide} → OneOf (DeviceSpeaks p f k w message u on) Q xs → Spoken w message
   spoken-of (here s a) = s .held .speaks
   spoken-of (further q o) = spoken-of o
 
   -- what BURST says of the device that sends
-  noted-of : {burst : Bool} {noted : Noted} {xs : List DeviceSide} → on ≡ true → OneOf (DeviceSpeaks p f k w message u on) Q xs → All (BurstIs burst noted) xs → (burst ≡ true) × (noted .long ≡ true) × (noted .address ≡ u)
+  pub noted-of : {burst : Bool} {noted : Noted} {next : Bool} {xs : List DeviceSide} → on ≡ true → OneOf (DeviceSpeaks p f k w message u on) Q xs → All (BurstIs burst noted next) xs → (burst ≡ true) × (noted .long ≡ true) × (noted .address ≡ u)
   noted-of e (here s a) (and b bs) = (b .burst-set (s .burst-is ∙ e), b .long-noted (s .burst-is ∙ e), b .unique-noted (s .burst-is ∙ e) ∙ s .unique-is)
   noted-of e (further q o) (and b bs) = noted-of e o bs
 
@@ -125,6 +126,14 @@ module _ (limit : ℕ) (low : 2 ≤ limit) (high : limit ≤ 255) (p : Profile) 
       go (inside more t) = put (device-speaks f x (suc k) w message t (s .held) below limit heard c high (s .deaf-is) (s .sound))
       go (finished last t due) = absurd (omega arith)
 
+  -- whom its next BACK is for stays
+  same-next : suc k < length w → (x : DeviceSide) (c : DeviceCall) → DeviceSpeaks p f k w message u on x → deviceTick limit x heard c .side .device .primary ≡ x .device .primary
+  same-next below x c s = go (s .place)
+    where
+      go : DevicePlace f k w (x .device) → deviceTick limit x heard c .side .device .primary ≡ x .device .primary
+      go (inside more t) = device-speaks f x (suc k) w message t (s .held) below limit heard c high (s .deaf-is) (s .sound) .same-primary
+      go (finished last t due) = absurd (omega arith)
+
   -- behind its last one it rests
   device-out : (h : Header) (n : ℕ) → suc k ≡ length w → turnBehind f on ≡ Listens → (on ≡ true → ticksBehind f p ≡ n)
       → (x : DeviceSide) (c : DeviceCall) → DeviceSpeaks p f k w message u on x → Quietly (DeviceQuiet p 0 h n) x (deviceTick limit x heard c)
@@ -143,11 +152,13 @@ module _ (limit : ℕ) (low : 2 ≤ limit) (high : limit ≤ 255) (p : Profile) 
             silent = r .silent;
             same = r .same;
             same-burst = r .same-burst;
+            same-primary = r .same-primary;
             good = record {
               listens = r .listens;
               ready = subst Ready (sym (r .same-receiver ∙ s .receiver-is)) passing-ready;
               in-time = omega (arith, r .less-in-hand, ap inHand turn);
               asked-own = λ z. absurd (z still);
+              asked-for = λ z. absurd (z still);
               back-due = λ z. r .same-due ∙ due ∙ ticks-is f (x .device) (s .profile-is) ∙ due-is (sym (s .burst-is) ∙ sym (r .same-burst) ∙ z);
             };
           }
@@ -169,11 +180,13 @@ module _ (limit : ℕ) (low : 2 ≤ limit) (high : limit ≤ 255) (p : Profile) 
       silent = e .silent;
       same = e .same;
       same-burst = e .same-burst;
+      same-primary = e .same-primary;
       good = record {
         listens = e .listens;
         ready = subst Ready (sym (e .receiver-is)) idle-ready;
         in-time = omega (arith, ap inHand (go (e .listens .hand)));
         asked-own = λ z. absurd (z (go (e .listens .hand)));
+        asked-for = λ z. absurd (z (go (e .listens .hand)));
         back-due = λ z. e .due-is ∙ if-is-false (message .header .frame =? stx) (p .rt1p) (dueAfter (x .device) (message .header)) (off (message .header .frame =? stx) refl);
       };
     },
@@ -202,19 +215,21 @@ module _ (limit : ℕ) (low : 2 ≤ limit) (high : limit ≤ 255) (p : Profile) 
       subst (λ (n : ℕ). Quietly (DeviceQuiet p 0 (message .header) n) x (deviceTick limit x (Character (getD w k 0)) c)) (if-is-true (message .header .frame =? ack) 1 (x .device .profile .rt1p) (eq-eqb (message .header .frame) ack a)) (q .0)
 
   -- no other device bursts behind a BACK
-  hears-back : (u : ℕ) (noted : Noted) → noted .address ≡ u → (x : DeviceSide) (c : DeviceCall) → With (DeviceHears p (readerAfter idle (take k w)) u) (BurstIs true noted) x
+  hears-back : (u : ℕ) (noted : Noted) (next : Bool) → noted .address ≡ u → (x : DeviceSide) (c : DeviceCall) → With (DeviceHears p (readerAfter idle (take k w)) u) (BurstIs true noted next) x
       → Quietly (DeviceQuiet p 0 (message .header) (p .rt2)) x (deviceTick limit x (Character (getD w k 0)) c)
-  hears-back u noted e x c h =
+  hears-back u noted next e x c h =
       let q = hears-end x c (h .is) in
       record {
         silent = q .0 .silent;
         same = q .0 .same;
         same-burst = q .0 .same-burst;
+        same-primary = q .0 .same-primary;
         good = record {
           listens = q .0 .good .listens;
           ready = q .0 .good .ready;
           in-time = q .0 .good .in-time;
           asked-own = q .0 .good .asked-own;
+          asked-for = q .0 .good .asked-for;
           back-due = λ z. absurd (h .is .another (sym (h .also .unique-noted (sym (q .0 .same-burst) ∙ z)) ∙ e));
         };
       }
@@ -227,6 +242,7 @@ module _ (limit : ℕ) (low : 2 ≤ limit) (high : limit ≤ 255) (p : Profile) 
         silent = q .0 .silent;
         same = q .0 .same;
         same-burst = q .0 .same-burst;
+        same-primary = q .0 .same-primary;
         good = record { listens = q .0 .good .listens; receiver-is = q .1; another = λ e. h .another (sym (q .0 .same .same-unique) ∙ e) };
       }
 
@@ -236,6 +252,8 @@ module _ (limit : ℕ) (low : 2 ≤ limit) (high : limit ≤ 255) (p : Profile) 
     pub quiet : MasterQuiet p primary (burstAfter burst noted (message .header)) (notedAfter noted (message .header)) (step .side)
     pub receiver-is : step .side .master .receiver ≡ idle
     pub timer-is : step .side .master .timer ≡ timerAfter (x .master) (burstAfter burst noted (message .header)) (message .header)
+    pub gone : left (step .side .master .message .stage) ≡ 0
+    pub waits-on : WaitsOn x step
 
   master-end : (primary burst : Bool) (noted : Noted) (x : MasterSide) (c : MasterCall) → MasterHears p primary burst noted (readerAfter idle (take k w)) x → MasterEnd primary burst noted x (masterTick limit x (Character (getD w k 0)) c)
   master-end primary burst noted x c h =
@@ -250,26 +268,62 @@ module _ (limit : ℕ) (low : 2 ≤ limit) (high : limit ≤ 255) (p : Profile) 
         };
         receiver-is = t .receiver-is;
         timer-is = t .timer-is ∙ (λ i. timerAfter (x .master) (burstAfter (h .burst-is i) (h .noted-is i) (message .header)) (message .header));
+        gone = t .gone;
+        waits-on = t .waits-on;
       }
 
 -- ---- a BACK directly behind an ACK
 
-record BackFollows (p : Profile) (u : ℕ) (xs : List DeviceSide) (ss : List DeviceStep) : Type 0 where
+-- every bursting device's next BACK is for the other master than before
+data AllTurned : List DeviceSide → List DeviceStep → Type 0 where
+  none-turned : AllTurned [] []
+  turned-and : {x : DeviceSide} {s : DeviceStep} {xs : List DeviceSide} {ss : List DeviceStep} → SameDevice (x .device) (s .side .device) → s .side .device .burst ≡ x .device .burst
+      → (x .device .burst ≡ true → s .side .device .primary ≡ (if x .device .primary then false else true)) → AllTurned xs ss → AllTurned (x ∷ xs) (s ∷ ss)
+
+-- those that do not burst have none
+quiet-turned : {R : DeviceSide → Type 0} {xs : List DeviceSide} {ss : List DeviceStep} → AllQuiet R xs ss → All (λ (x : DeviceSide). x .device .burst ≡ true → ⊥) xs → AllTurned xs ss
+quiet-turned no-more none = none-turned
+quiet-turned (quiet-and q a) (and f fs) = turned-and (q .same) (q .same-burst) (λ z. absurd (f z)) (quiet-turned a fs)
+
+each-turned : {burst : Bool} {noted : Noted} {next : Bool} {xs : List DeviceSide} {ss : List DeviceStep} → AllTurned xs ss → All (BurstIs burst noted next) xs → All (BurstIs burst noted (if next then false else true)) (sides ss)
+unfolding sides
+each-turned none-turned none = none
+each-turned (turned-and same e n qs) (and b bs) =
+    and
+    (record {
+      burst-set = λ z. b .burst-set (sym e ∙ z);
+      long-noted = λ z. b .long-noted (sym e ∙ z);
+      unique-noted = λ z. b .unique-noted (sym e ∙ z) ∙ sym (same .same-unique);
+      next-is = λ z. n (sym e ∙ z) ∙ ap (λ (k : Bool). if k then false else true) (b .next-is (sym e ∙ z));
+    })
+    (each-turned qs bs)
+
+some-turned : {xs : List DeviceSide} {ss : List DeviceStep} → AllTurned xs ss → Some Bursting xs → Some Bursting (sides ss)
+unfolding sides
+some-turned (turned-and same e n qs) (this b) = this (e ∙ b)
+some-turned (turned-and same e n qs) (later b) = later (some-turned qs b)
+
+agreed-turned : {burst : Bool} {noted : Noted} {next : Bool} {xs : List DeviceSide} {ss : List DeviceStep} → AllTurned xs ss → Agreed burst noted next xs → Agreed burst noted (if next then false else true) (sides ss)
+agreed-turned a g = record { each = each-turned a (g .each); one-bursts = λ z. some-turned a (g .one-bursts z) }
+
+record BackFollows (p : Profile) (u : ℕ) (next : Bool) (xs : List DeviceSide) (ss : List DeviceStep) : Type 0 where
   w : List ℕ
   message : Whole
   one : OneLoud (DeviceSpeaks p a-back 0 w message u true) (DeviceHears p idle u) (getD w 0 0) xs ss
   type-is : message .header .frame ≡ back
   long-is : message .header .long ≡ true
   address-is : message .header .address ≡ u
+  for-is : message .header .primary ≡ next
   no-expansion : message .expansion ≡ 0
-  kept : AllKept xs ss
+  turned : AllTurned xs ss
 
-module _ (limit : ℕ) (low : 2 ≤ limit) (high : limit ≤ 255) (p : Profile) (some : 1 ≤ p .sto) (heard : Heard) (k : ℕ) (w : List ℕ) (message : Whole) (last : suc k ≡ length w) (u : ℕ) where
-  follows-here : (x : DeviceSide) (c : DeviceCall) {xs : List DeviceSide} {ss : List DeviceStep} → DeviceSpeaks p an-ack k w message u true x → AllQuiet (DeviceHears p idle u) xs ss → BackFollows p u (x ∷ xs) (deviceTick limit x heard c ∷ ss)
+module _ (limit : ℕ) (low : 2 ≤ limit) (high : limit ≤ 255) (p : Profile) (some : 1 ≤ p .sto) (heard : Heard) (k : ℕ) (w : List ℕ) (message : Whole) (last : suc k ≡ length w) (u : ℕ) (next : Bool) where
+  follows-here : (x : DeviceSide) (c : DeviceCall) {xs : List DeviceSide} {ss : List DeviceStep} → DeviceSpeaks p an-ack k w message u true x → x .device .primary ≡ next → AllQuiet (DeviceHears p idle u) xs ss
+      → All (λ (x : DeviceSide). x .device .burst ≡ true → ⊥) xs → BackFollows p u next (x ∷ xs) (deviceTick limit x heard c ∷ ss)
   unfolding if_then_else_
-  follows-here x c {xs} {ss} s a = go (s .place)
+  follows-here x c {xs} {ss} s for a off = go (s .place)
     where
-      go : DevicePlace an-ack k w (x .device) → BackFollows p u (x ∷ xs) (deviceTick limit x heard c ∷ ss)
+      go : DevicePlace an-ack k w (x .device) → BackFollows p u next (x ∷ xs) (deviceTick limit x heard c ∷ ss)
       go (inside more t) = absurd (omega arith)
       go (finished last′ t due) =
           let turn : x .device .turn ≡ Follows = t ∙ ap (turnBehind an-ack) (s .burst-is) in
@@ -294,20 +348,35 @@ module _ (limit : ℕ) (low : 2 ≤ limit) (high : limit ≤ 255) (p : Profile) 
             type-is = ap (λ (h : Header). h .frame) (n .header-is);
             long-is = ap (λ (h : Header). h .long) (n .header-is);
             address-is = ap (λ (h : Header). h .address) (n .header-is) ∙ s .unique-is;
+            for-is = ap (λ (h : Header). h .primary) (n .header-is) ∙ for;
             no-expansion = n .begun .no-expansion;
-            kept = kept-and (n .begun .same) (n .begun .burst-is) (quiet-kept a);
+            turned = turned-and (n .begun .same) (n .begun .burst-is) (λ z. n .primary-is) (quiet-turned a off);
           }
 
-  further-on : {x : DeviceSide} {s : DeviceStep} {xs : List DeviceSide} {ss : List DeviceStep} → Quietly (DeviceHears p idle u) x s → BackFollows p u xs ss → BackFollows p u (x ∷ xs) (s ∷ ss)
-  further-on q r = record { w = r .w; message = r .message; one = loud-further q (r .one); type-is = r .type-is; long-is = r .long-is; address-is = r .address-is; no-expansion = r .no-expansion; kept = kept-and (q .same) (q .same-burst) (r .kept) }
+  further-on : {x : DeviceSide} {s : DeviceStep} {xs : List DeviceSide} {ss : List DeviceStep} → Quietly (DeviceHears p idle u) x s → (x .device .burst ≡ true → ⊥) → BackFollows p u next xs ss → BackFollows p u next (x ∷ xs) (s ∷ ss)
+  further-on q off r = record {
+    w = r .w;
+    message = r .message;
+    one = loud-further q (r .one);
+    type-is = r .type-is;
+    long-is = r .long-is;
+    address-is = r .address-is;
+    for-is = r .for-is;
+    no-expansion = r .no-expansion;
+    turned = turned-and (q .same) (q .same-burst) (λ z. absurd (off z)) (r .turned);
+  }
 
-  back-follows : {Q : DeviceSide → Type 0} {xs : List DeviceSide} (calls : List DeviceCall) → ((x : DeviceSide) (c : DeviceCall) → Q x → Quietly (DeviceHears p idle u) x (deviceTick limit x heard c))
-      → OneOf (DeviceSpeaks p an-ack k w message u true) Q xs → BackFollows p u xs (deviceTicks limit heard xs calls)
+  all-off : {Q : DeviceSide → Type 0} {xs : List DeviceSide} → ((x : DeviceSide) → Q x → x .device .burst ≡ true → ⊥) → All Q xs → All (λ (x : DeviceSide). x .device .burst ≡ true → ⊥) xs
+  all-off f none = none
+  all-off f (and {x = x} q qs) = and (f x q) (all-off f qs)
+
+  back-follows : {R Q : DeviceSide → Type 0} {xs : List DeviceSide} (calls : List DeviceCall) → ((x : DeviceSide) (c : DeviceCall) → Q x → Quietly (DeviceHears p idle u) x (deviceTick limit x heard c)) → ((x : DeviceSide) → Q x → x .device .burst ≡ true → ⊥)
+      → ((x : DeviceSide) → R x → DeviceSpeaks p an-ack k w message u true x × (x .device .primary ≡ next)) → OneOf R Q xs → BackFollows p u next xs (deviceTicks limit heard xs calls)
   unfolding deviceTicks
-  back-follows [] g (here {x = x} s qs) = follows-here x no-call s (all-quiet limit heard [] g qs)
-  back-follows (c ∷ cs) g (here {x = x} s qs) = follows-here x c s (all-quiet limit heard cs g qs)
-  back-follows [] g (further {x = x} q o) = further-on (g x no-call q) (back-follows [] g o)
-  back-follows (c ∷ cs) g (further {x = x} q o) = further-on (g x c q) (back-follows cs g o)
+  back-follows [] g off s (here {x = x} r qs) = follows-here x no-call (s x r .0) (s x r .1) (all-quiet limit heard [] g qs) (all-off off qs)
+  back-follows (c ∷ cs) g off s (here {x = x} r qs) = follows-here x c (s x r .0) (s x r .1) (all-quiet limit heard cs g qs) (all-off off qs)
+  back-follows [] g off s (further {x = x} q o) = further-on (g x no-call q) (off x q) (back-follows [] g off s o)
+  back-follows (c ∷ cs) g off s (further {x = x} q o) = further-on (g x c q) (off x q) (back-follows cs g off s o)
 
 -- ---- the tick
 
@@ -325,96 +394,183 @@ back-notes : (noted : Noted) (h : Header) (u : ℕ) → h .frame ≡ back → h 
 back-notes noted h u e l a nl na =
     if-is-true (h .frame =? back) _ _ (eq-eqb (h .frame) back e) ∙ (λ i. record { long = (l ∙ sym nl) i; address = (a ∙ sym na) i })
 
-pub data AckBackTick (p : Profile) (s t : MasterStep) (ss : List DeviceStep) : Type 0 where
-  sends : (f : Frames) (burst : Bool) (noted : Noted) (k : ℕ) (w : List ℕ) (message : Whole) (u : ℕ) (on : Bool) → s .sent ≡ Silent → t .sent ≡ Silent → carried ss ≡ Character (getD w k 0)
-      → OneDeviceSends p f burst noted k w message u on (s .side) (t .side) (sides ss) → AckBackTick p s t ss
-  ends : s .sent ≡ Silent → t .sent ≡ Silent → carried ss ≡ Silence → SilentLine p (s .side) (t .side) (sides ss) → AckBackTick p s t ss
+-- the silent line behind an ACK: with BURST clear the master that it is not for comes first; with BURST set a BACK is due in the next tick
+pub data AckEnded (p : Profile) (e : ℕ) (burst next : Bool) (h : Header) (a b : MasterSide) (xs : List DeviceSide) : Type 0 where
+  ended-clear : burst ≡ false → NobodyAwaits a b → ClearLine p e a b xs → a .master .timer ≡ (if itself true h then timer (p .rt2) else timer 1) → b .master .timer ≡ (if itself false h then timer (p .rt2) else timer 1) → AckEnded p e burst next h a b xs
+  ended-set : burst ≡ true → NobodyAwaits a b → SetLine p 1 next a b xs → NoSlot (a .master .timer) → NoSlot (b .master .timer) → AckEnded p e burst next h a b xs
 
-module _ (limit : ℕ) (low : 2 ≤ limit) (high : limit ≤ 255) (p : Profile) (v : Valid p) (burst : Bool) (noted : Noted) (k : ℕ) (w : List ℕ) (message : Whole) (u : ℕ) (a b : MasterSide) (xs : List DeviceSide) (ca cb : MasterCall) (cs : List DeviceCall) where
+pub data AckTick (p : Profile) (e : ℕ) (burst : Bool) (noted : Noted) (next : Bool) (k : ℕ) (w : List ℕ) (message : Whole) (u : ℕ) (on : Bool) (a b : MasterSide) (s t : MasterStep) (ss : List DeviceStep) : Type 0 where
+  ack-goes-on : suc k < length w → s .sent ≡ Silent → t .sent ≡ Silent → carried ss ≡ Character (getD w (suc k) 0)
+      → OneDeviceSends p an-ack burst noted next (suc k) w message u on (s .side) (t .side) (sides ss) → WaitsOn a s → WaitsOn b t → AckTick p e burst noted next k w message u on a b s t ss
+  ack-ends : suc k ≡ length w → on ≡ false → s .sent ≡ Silent → t .sent ≡ Silent → carried ss ≡ Silence
+      → AckEnded p e (burstAfter burst noted (message .header)) next (message .header) (s .side) (t .side) (sides ss) → WaitsOn a s → WaitsOn b t → AckTick p e burst noted next k w message u on a b s t ss
+  back-follows-it : suc k ≡ length w → on ≡ true → (who : Noted) (w′ : List ℕ) (message′ : Whole) → s .sent ≡ Silent → t .sent ≡ Silent → carried ss ≡ Character (getD w′ 0 0)
+      → OneDeviceSends p a-back true who (if next then false else true) 0 w′ message′ u true (s .side) (t .side) (sides ss) → WaitsOn a s → WaitsOn b t → AckTick p e burst noted next k w message u on a b s t ss
+
+pub data BackTick (p : Profile) (burst : Bool) (noted : Noted) (next : Bool) (k : ℕ) (w : List ℕ) (message : Whole) (u : ℕ) (a b : MasterSide) (s t : MasterStep) (ss : List DeviceStep) : Type 0 where
+  back-goes-on : suc k < length w → s .sent ≡ Silent → t .sent ≡ Silent → carried ss ≡ Character (getD w (suc k) 0)
+      → OneDeviceSends p a-back burst noted next (suc k) w message u true (s .side) (t .side) (sides ss) → WaitsOn a s → WaitsOn b t → BackTick p burst noted next k w message u a b s t ss
+  back-ends : suc k ≡ length w → s .sent ≡ Silent → t .sent ≡ Silent → carried ss ≡ Silence → SetLine p (p .rt2) next (s .side) (t .side) (sides ss)
+      → s .side .master .timer ≡ (if itself true (message .header) then slotTimer p true 0 else slotTimer p true 1) → t .side .master .timer ≡ (if itself false (message .header) then slotTimer p false 0 else slotTimer p false 1)
+      → NobodyAwaits (s .side) (t .side) → WaitsOn a s → WaitsOn b t → BackTick p burst noted next k w message u a b s t ss
+
+-- who sends what stays while the frame goes on
+frame-same : {f : Frames} {on burst next : Bool} {h : Header} {a b c d : MasterSide} → left (c .master .message .stage) ≡ left (a .master .message .stage) → left (d .master .message .stage) ≡ left (b .master .message .stage) → FrameIs on burst next h a b f → FrameIs on burst next h c d f
+frame-same x y (is-ack type pa pb) = is-ack type (λ z. omega (arith, x, pa z)) (λ z. omega (arith, y, pb z))
+frame-same x y (is-back type o q r) = is-back type o q r
+
+module _ (limit : ℕ) (low : 2 ≤ limit) (high : limit ≤ 255) (p : Profile) (v : Valid p) (burst : Bool) (noted : Noted) (next : Bool) (k : ℕ) (w : List ℕ) (message : Whole) (u : ℕ) (a b : MasterSide) (xs : List DeviceSide) (ca cb : MasterCall) (cs : List DeviceCall) where
   abbrev heard : Heard
   heard = Character (getD w k 0)
 
-  abbrev Tick : Type 0
-  Tick = AckBackTick p (masterTick limit a heard ca) (masterTick limit b heard cb) (deviceTicks limit heard xs cs)
+  record GoesOn (f : Frames) (on : Bool) : Type 0 where
+    primary-silent : masterTick limit a heard ca .sent ≡ Silent
+    secondary-silent : masterTick limit b heard cb .sent ≡ Silent
+    carries : carried (deviceTicks limit heard xs cs) ≡ Character (getD w (suc k) 0)
+    sends : OneDeviceSends p f burst noted next (suc k) w message u on (masterTick limit a heard ca .side) (masterTick limit b heard cb .side) (sides (deviceTicks limit heard xs cs))
+    primary-waits : WaitsOn a (masterTick limit a heard ca)
+    secondary-waits : WaitsOn b (masterTick limit b heard cb)
 
-  on-goes : (f : Frames) (on : Bool) → suc k < length w → OneDeviceSends p f burst noted k w message u on a b xs → Tick
+  on-goes : (f : Frames) (on : Bool) → suc k < length w → OneDeviceSends p f burst noted next k w message u on a b xs → GoesOn f on
   on-goes f on below o =
       let sp = spoken-of (o .devices) in
       let ha = hears-on limit high p true burst noted w message k a ca refl sp below (o .primary) in
       let hb = hears-on limit high p false burst noted w message k b cb refl sp below (o .secondary) in
       let speaks = device-goes-on limit low high p (v .some-sto) f k w message u on heard below in
+      let stays = same-next limit low high p (v .some-sto) f k w message u on heard below in
       let hears = device-hears-on limit low high p (v .some-sto) w message sp k u below in
       let one = one-loud limit heard (getD w (suc k) 0) cs speaks hears (o .devices) in
-      let kept = one-kept limit heard cs (λ x c s. (speaks x c s .same, speaks x c s .good .burst-is ∙ sym (s .burst-is))) hears (o .devices) in
-      sends f burst noted (suc k) w message u on (ha .0) (hb .0) (one-carried one)
-      (record { primary = ha .1; secondary = hb .1; devices = one-sides one; distinct = one-distinct one (o .distinct); agreed = agreed-kept kept (o .agreed); frame-is = o .frame-is; no-expansion = o .no-expansion })
+      let kept = one-kept limit heard cs (λ x c s. (speaks x c s .same, speaks x c s .good .burst-is ∙ sym (s .burst-is), stays x c s)) hears (o .devices) in
+      record {
+        primary-silent = ha .0;
+        secondary-silent = hb .0;
+        carries = one-carried one;
+        sends = record {
+          primary = ha .1;
+          secondary = hb .1;
+          devices = one-sides one;
+          distinct = one-distinct one (o .distinct);
+          agreed = agreed-kept kept (o .agreed);
+          frame-is = frame-same (ha .2 .same-left) (hb .2 .same-left) (o .frame-is);
+          no-expansion = o .no-expansion;
+        };
+        primary-waits = ha .2 .waits-on;
+        secondary-waits = hb .2 .waits-on;
+      }
 
-  ack-ends : suc k ≡ length w → message .header .frame ≡ ack → OneDeviceSends p an-ack burst noted k w message u false a b xs → Tick
+  abbrev AckTicks : ℕ → Bool → Type 0
+  AckTicks e on = AckTick p e burst noted next k w message u on a b (masterTick limit a heard ca) (masterTick limit b heard cb) (deviceTicks limit heard xs cs)
+
+  ack-off : (e : ℕ) → suc k ≡ length w → message .header .frame ≡ ack → OneDeviceSends p an-ack burst noted next k w message u false a b xs → AckTicks e false
   unfolding if_then_else_
-  ack-ends last type o =
+  ack-off e last type o =
       let sp = spoken-of (o .devices) in
       let h = message .header in
       let ea = master-end limit low high p (v .some-sto) w message sp k last (o .no-expansion) (ack-stx h type) true burst noted a ca (o .primary) in
       let eb = master-end limit low high p (v .some-sto) w message sp k last (o .no-expansion) (ack-stx h type) false burst noted b cb (o .secondary) in
       let q = one-rests limit heard cs (device-out limit low high p (v .some-sto) an-ack k w message u false heard h 1 last refl (λ z. absurd (true-false (sym z))))
       (hears-ack limit low high p (v .some-sto) w message sp k last (o .no-expansion) (ack-stx h type) type u) (o .devices) in
-      ends (ea .silent) (eb .silent) (all-carried q)
-      (behind-ack p v (burstAfter burst noted h) (notedAfter noted h) h h _ _ _ (ea .quiet) (eb .quiet)
+      let gone : NobodyAwaits (masterTick limit a heard ca .side) (masterTick limit b heard cb .side) = record { primary-gone = ea .gone; secondary-gone = eb .gone } in
+      ack-ends last refl (ea .silent) (eb .silent) (all-carried q)
+      (by (burstAfter burst noted h) (ea .quiet) (eb .quiet)
       (ea .timer-is ∙ ack-timer p true (burstAfter burst noted h) a h (o .primary .listens .is-it .profile-is) (o .primary .listens .is-it .primary-is) type)
       (eb .timer-is ∙ ack-timer p false (burstAfter burst noted h) b h (o .secondary .listens .is-it .profile-is) (o .secondary .listens .is-it .primary-is) type)
-      (all-sides q) (all-distinct q (o .distinct)) (agreed-same q (o .agreed)))
+      gone (all-sides q) (all-distinct q (o .distinct)) (agreed-same q (o .agreed)))
+      (ea .waits-on) (eb .waits-on)
+    where
+      h : Header
+      h = message .header
 
-  back-ends : suc k ≡ length w → message .header .frame ≡ back → OneDeviceSends p a-back burst noted k w message u true a b xs → Tick
-  back-ends last type o =
-      let sp = spoken-of (o .devices) in
-      let h = message .header in
-      let set = back-sets burst noted h type in
-      let ag = subst (λ (c : Bool). Agreed c (notedAfter noted h) xs) set (o .agreed) in
-      let noted-u = noted-of refl (o .devices) (ag .each) in
-      let ea = master-end limit low high p (v .some-sto) w message sp k last (o .no-expansion) (back-stx h type) true burst noted a ca (o .primary) in
-      let eb = master-end limit low high p (v .some-sto) w message sp k last (o .no-expansion) (back-stx h type) false burst noted b cb (o .secondary) in
-      let q = one-rests limit heard cs (λ x c s. device-out limit low high p (v .some-sto) a-back k w message u true heard h (p .rt2) last refl (λ z. refl) x c (s .is))
-      (hears-back limit low high p (v .some-sto) w message sp k last (o .no-expansion) (back-stx h type) u (notedAfter noted h) (noted-u .2)) (one-with (o .devices) (ag .each)) in
-      ends (ea .silent) (eb .silent) (all-carried q)
-      (behind-back p v (notedAfter noted h) h h _ _ _
-      (subst (λ (c : Bool). MasterQuiet p true c (notedAfter noted h) (masterTick limit a heard ca .side)) set (ea .quiet))
-      (subst (λ (c : Bool). MasterQuiet p false c (notedAfter noted h) (masterTick limit b heard cb .side)) set (eb .quiet))
-      (ea .timer-is ∙ ap (λ (c : Bool). timerAfter (a .master) c h) set ∙ back-timer p true (a .master) h (o .primary .listens .is-it .profile-is) (o .primary .listens .is-it .primary-is) type)
-      (eb .timer-is ∙ ap (λ (c : Bool). timerAfter (b .master) c h) set ∙ back-timer p false (b .master) h (o .secondary .listens .is-it .profile-is) (o .secondary .listens .is-it .primary-is) type)
-      (all-sides q) (all-distinct q (o .distinct)) (agreed-same q ag))
+      x : MasterSide
+      x = masterTick limit a heard ca .side
 
-  ack-follows : suc k ≡ length w → message .header .frame ≡ ack → OneDeviceSends p an-ack burst noted k w message u true a b xs → Tick
-  ack-follows last type o =
+      y : MasterSide
+      y = masterTick limit b heard cb .side
+
+      who : Noted
+      who = notedAfter noted (message .header)
+
+      no-slot : {t : Timer} (primary : Bool) → t ≡ slotTimer p primary 0 → NoSlot t
+      no-slot primary e = record { no-next = ap (λ (t : Timer). t .next) e; no-window = ap (λ (t : Timer). t .window) e }
+
+      by : (c : Bool) → MasterQuiet p true c who x → MasterQuiet p false c who y → x .master .timer ≡ (if c then slotTimer p true 0 else (if itself true h then timer (p .rt2) else timer 1))
+          → y .master .timer ≡ (if c then slotTimer p false 0 else (if itself false h then timer (p .rt2) else timer 1)) → NobodyAwaits x y → {zs : List DeviceSide} → All (DeviceQuiet p 0 h 1) zs → Distinct zs → Agreed c who next zs → AckEnded p e c next h x y zs
+      by true qa qb ta tb n qs d g = ended-set refl n (behind-ack-set p v who next h x y _ qa qb ta tb n qs d g) (no-slot true ta) (no-slot false tb)
+      by false qa qb ta tb n qs d g = ended-clear refl n (behind-ack-clear p v e who next h h x y _ qa qb ta tb n qs d g) ta tb
+
+  ack-on : (e : ℕ) → suc k ≡ length w → message .header .frame ≡ ack → OneDeviceSends p an-ack burst noted next k w message u true a b xs → AckTicks e true
+  unfolding if_then_else_
+  ack-on e last type o =
       let sp = spoken-of (o .devices) in
       let h = message .header in
       let noted-u = noted-of refl (o .devices) (o .agreed .each) in
       let ea = master-end limit low high p (v .some-sto) w message sp k last (o .no-expansion) (ack-stx h type) true burst noted a ca (o .primary) in
       let eb = master-end limit low high p (v .some-sto) w message sp k last (o .no-expansion) (ack-stx h type) false burst noted b cb (o .secondary) in
-      let r = back-follows limit low high p (v .some-sto) heard k w message last u cs (hears-next limit low high p (v .some-sto) w message sp k last (o .no-expansion) (ack-stx h type) u) (o .devices) in
-      let now = burstAfter burst noted h in
+      let r = back-follows limit low high p (v .some-sto) heard k w message last u next cs
+      (λ x c q. hears-next limit low high p (v .some-sto) w message sp k last (o .no-expansion) (ack-stx h type) u x c (q .is))
+      (λ x q z. q .is .another (sym (q .also .unique-noted z) ∙ noted-u .2))
+      (λ x q. (q .is, q .also .next-is (q .is .burst-is)))
+      (one-with (o .devices) (o .agreed .each)) in
       let who = notedAfter noted h in
-      sends a-back now who 0 (r .w) (r .message) u true (ea .silent) (eb .silent) (one-carried (r .one))
+      let now : burstAfter burst noted h ≡ true = noted-u .0 in
+      back-follows-it last refl who (r .w) (r .message) (ea .silent) (eb .silent) (one-carried (r .one))
       (record {
-        primary = record { listens = ea .quiet .listens; receiver-is = ea .receiver-is ∙ nothing-read (r .w); burst-is = ea .quiet .burst-is; noted-is = ea .quiet .noted-is };
-        secondary = record { listens = eb .quiet .listens; receiver-is = eb .receiver-is ∙ nothing-read (r .w); burst-is = eb .quiet .burst-is; noted-is = eb .quiet .noted-is };
+        primary = record { listens = ea .quiet .listens; receiver-is = ea .receiver-is ∙ nothing-read (r .w); burst-is = ea .quiet .burst-is ∙ now; noted-is = ea .quiet .noted-is };
+        secondary = record { listens = eb .quiet .listens; receiver-is = eb .receiver-is ∙ nothing-read (r .w); burst-is = eb .quiet .burst-is ∙ now; noted-is = eb .quiet .noted-is };
         devices = subst (λ (z : Receiver). OneOf (DeviceSpeaks p a-back 0 (r .w) (r .message) u true) (DeviceHears p z u) (sides (deviceTicks limit heard xs cs))) (nothing-read (r .w)) (one-sides (r .one));
         distinct = one-distinct (r .one) (o .distinct);
-        agreed = subst (λ (c : Bool). Agreed c (notedAfter who (r .message .header)) (sides (deviceTicks limit heard xs cs))) (noted-u .0 ∙ sym (back-sets now who (r .message .header) (r .type-is)))
-            (subst (λ (n : Noted). Agreed now n (sides (deviceTicks limit heard xs cs))) (sym (back-notes who (r .message .header) u (r .type-is) (r .long-is) (r .address-is) (noted-u .1) (noted-u .2)))
-            (agreed-kept (r .kept) (o .agreed)));
-        frame-is = is-back (r .type-is) refl;
+        agreed = subst (λ (c : Bool). Agreed c (notedAfter who (r .message .header)) (if next then false else true) (sides (deviceTicks limit heard xs cs))) (now ∙ sym (back-sets true who (r .message .header) (r .type-is)))
+            (subst (λ (n : Noted). Agreed (burstAfter burst noted h) n (if next then false else true) (sides (deviceTicks limit heard xs cs))) (sym (back-notes who (r .message .header) u (r .type-is) (r .long-is) (r .address-is) (noted-u .1) (noted-u .2)))
+            (agreed-turned (r .turned) (o .agreed)));
+        frame-is = is-back (r .type-is) refl refl (r .for-is ∙ twice next);
         no-expansion = r .no-expansion;
       })
-
-  ended : (f : Frames) (on : Bool) → suc k ≡ length w → FrameIs on (message .header) f → OneDeviceSends p f burst noted k w message u on a b xs → Tick
-  ended an-ack false last (is-ack type) o = ack-ends last type o
-  ended an-ack true last (is-ack type) o = ack-follows last type o
-  ended a-back true last (is-back type e) o = back-ends last type o
-  ended a-back false last (is-back type e) o = absurd (true-false (sym e))
-
-  pub ack-back-tick : (f : Frames) (on : Bool) → OneDeviceSends p f burst noted k w message u on a b xs → AckBackTick p (masterTick limit a (Character (getD w k 0)) ca) (masterTick limit b (Character (getD w k 0)) cb) (deviceTicks limit (Character (getD w k 0)) xs cs)
-  ack-back-tick f on o = go (place-of (o .devices))
+      (ea .waits-on) (eb .waits-on)
     where
-      go : (suc k < length w) ⊎ (suc k ≡ length w) → Tick
-      go (inl below) = on-goes f on below o
-      go (inr last) = ended f on last (o .frame-is) o
+      twice : (z : Bool) → z ≡ (if (if z then false else true) then false else true)
+      twice true = refl
+      twice false = refl
+
+  pub ack-tick : (e : ℕ) (on : Bool) → OneDeviceSends p an-ack burst noted next k w message u on a b xs
+      → AckTick p e burst noted next k w message u on a b (masterTick limit a (Character (getD w k 0)) ca) (masterTick limit b (Character (getD w k 0)) cb) (deviceTicks limit (Character (getD w k 0)) xs cs)
+  ack-tick e on o = go (place-of (o .devices))
+    where
+      ended : (z : Bool) → suc k ≡ length w → FrameIs z burst next (message .header) a b an-ack → OneDeviceSends p an-ack burst noted next k w message u z a b xs → AckTicks e z
+      ended false last (is-ack type pa pb) o = ack-off e last type o
+      ended true last (is-ack type pa pb) o = ack-on e last type o
+
+      go : (suc k < length w) ⊎ (suc k ≡ length w) → AckTicks e on
+      go (inl below) = let g = on-goes an-ack on below o in ack-goes-on below (g .primary-silent) (g .secondary-silent) (g .carries) (g .sends) (g .primary-waits) (g .secondary-waits)
+      go (inr last) = ended on last (o .frame-is) o
+
+  abbrev BackTicks : Type 0
+  BackTicks = BackTick p burst noted next k w message u a b (masterTick limit a heard ca) (masterTick limit b heard cb) (deviceTicks limit heard xs cs)
+
+  back-out : suc k ≡ length w → message .header .frame ≡ back → message .header .primary ≡ (if next then false else true) → OneDeviceSends p a-back burst noted next k w message u true a b xs → BackTicks
+  back-out last type for o =
+      let sp = spoken-of (o .devices) in
+      let h = message .header in
+      let set = back-sets burst noted h type in
+      let ag = subst (λ (c : Bool). Agreed c (notedAfter noted h) next xs) set (o .agreed) in
+      let noted-u = noted-of refl (o .devices) (ag .each) in
+      let ea = master-end limit low high p (v .some-sto) w message sp k last (o .no-expansion) (back-stx h type) true burst noted a ca (o .primary) in
+      let eb = master-end limit low high p (v .some-sto) w message sp k last (o .no-expansion) (back-stx h type) false burst noted b cb (o .secondary) in
+      let q = one-rests limit heard cs (λ x c s. device-out limit low high p (v .some-sto) a-back k w message u true heard h (p .rt2) last refl (λ z. refl) x c (s .is))
+      (hears-back limit low high p (v .some-sto) w message sp k last (o .no-expansion) (back-stx h type) u (notedAfter noted h) next (noted-u .2)) (one-with (o .devices) (ag .each)) in
+      let ta = ea .timer-is ∙ ap (λ (c : Bool). timerAfter (a .master) c h) set ∙ back-timer p true (a .master) h (o .primary .listens .is-it .profile-is) (o .primary .listens .is-it .primary-is) type in
+      let tb = eb .timer-is ∙ ap (λ (c : Bool). timerAfter (b .master) c h) set ∙ back-timer p false (b .master) h (o .secondary .listens .is-it .profile-is) (o .secondary .listens .is-it .primary-is) type in
+      back-ends last (ea .silent) (eb .silent) (all-carried q)
+      (behind-back p v (notedAfter noted h) next h h _ _ _ for
+      (subst (λ (c : Bool). MasterQuiet p true c (notedAfter noted h) (masterTick limit a heard ca .side)) set (ea .quiet))
+      (subst (λ (c : Bool). MasterQuiet p false c (notedAfter noted h) (masterTick limit b heard cb .side)) set (eb .quiet))
+      ta tb (record { primary-gone = ea .gone; secondary-gone = eb .gone })
+      (all-sides q) (all-distinct q (o .distinct)) (agreed-same q ag))
+      ta tb (record { primary-gone = ea .gone; secondary-gone = eb .gone }) (ea .waits-on) (eb .waits-on)
+
+  pub back-tick : OneDeviceSends p a-back burst noted next k w message u true a b xs
+      → BackTick p burst noted next k w message u a b (masterTick limit a (Character (getD w k 0)) ca) (masterTick limit b (Character (getD w k 0)) cb) (deviceTicks limit (Character (getD w k 0)) xs cs)
+  back-tick o = go (place-of (o .devices)) (o .frame-is)
+    where
+      go : (suc k < length w) ⊎ (suc k ≡ length w) → FrameIs true burst next (message .header) a b a-back → BackTicks
+      go (inl below) f = let g = on-goes a-back true below o in back-goes-on below (g .primary-silent) (g .secondary-silent) (g .carries) (g .sends) (g .primary-waits) (g .secondary-waits)
+      go (inr last) (is-back type z set for) = back-out last type for o

@@ -15,7 +15,7 @@ use Rattle.line.specs.declared.Heard.the-variants.{Silence}
 use Rattle.line.specs.declared.Profile.{Profile}
 use Rattle.line.specs.declared.Receiver.{Receiver}
 use Rattle.line.specs.declared.Whole.{Whole}
-use Rattle.turns.specs.Device.{isOwn, answerHeader}
+use Rattle.turns.specs.Device.{isOwn, answerHeader, firstFor}
 use Rattle.turns.specs.Link.{DeviceCall, no-call, DeviceSide, DeviceStep, deviceTick, deviceTicks}
 use Rattle.turns.specs.Run.{All, none, and, Differ, Distinct}
 use Rattle.turns.specs.declared.Sent.{Sent}
@@ -91,6 +91,9 @@ pub record BeginsAck (p : Profile) (h : Header) (x : DeviceSide) (s : DeviceStep
   pub own : isOwn (x .device) request ≡ true
   pub short-same : request .long ≡ false → burst ≡ x .device .burst
   pub asked : isOwn (x .device) h ≡ true
+  pub request-is : request ≡ h
+  pub same-request : s .side .device .request ≡ request
+  pub primary-is : s .side .device .primary ≡ firstFor (x .device)
 
 -- a device that begins its BACK
 pub record BeginsBack (p : Profile) (x : DeviceSide) (s : DeviceStep) : Type 0 where
@@ -105,6 +108,8 @@ pub record BeginsBack (p : Profile) (x : DeviceSide) (s : DeviceStep) : Type 0 w
   pub address-is : message .header .address ≡ x .device .unique
   pub no-expansion : message .expansion ≡ 0
   pub bursts : x .device .burst ≡ true
+  pub for-is : message .header .primary ≡ x .device .primary
+  pub primary-is : s .side .device .primary ≡ (if x .device .primary then false else true)
 
 pub data DeviceDoes (p : Profile) (g : ℕ) (h : Header) (n : ℕ) (x : DeviceSide) (s : DeviceStep) : Type 0 where
   does-rest : StillQuiet p g h n x s → DeviceDoes p g h n x s
@@ -127,24 +132,26 @@ device-does limit low high p some g h n x call q = go (device-silence limit low 
     one-more w message k = omega (arith, k .speaks .long)
 
     go : L.DeviceSilent limit low high p some x call (q .listens) s → DeviceDoes p g h n x s
-    go (L.stays-quiet listens sil same rec bur due nd less kept) =
+    go (L.stays-quiet listens sil same rec bur due nd less kept pri req) =
         does-rest (record {
           quietly = record {
             silent = sil;
             same = same;
             same-burst = bur;
+            same-primary = pri;
             good = record {
               listens = listens;
               ready = subst Ready (sym rec) idle-ready;
               in-time = omega (arith, q .in-time);
               asked-own = λ z. own-kept h same (q .asked-own (kept z));
+              asked-for = λ z. req ∙ q .asked-for (kept z);
               back-due = λ z. due ∙ ap (λ (m : ℕ). m - 1) (q .back-due (sym bur ∙ z));
             };
           };
           idle-is = rec;
           not-due = λ b e. nd b (q .back-due b ∙ e);
         })
-    go (L.begins-answer t burst b same tb hd own short nl req) =
+    go (L.begins-answer t burst b same tb hd own short nl req first) =
         does-answer (omega (arith, q .in-time, one-in-hand (x .device) (x .frame) (q .listens .hand) nl))
         (record {
           w = b .w;
@@ -168,8 +175,11 @@ device-does limit low high p some g h n x call q = go (device-silence limit low 
           own = own;
           short-same = short;
           asked = q .asked-own nl;
+          request-is = q .asked-for nl;
+          same-request = req;
+          primary-is = first;
         })
-    go (L.begins-back t b command same tb tp on one hd) =
+    go (L.begins-back t b command same tb tp on one hd next) =
         does-burst (sym (q .back-due on) ∙ one)
         (record {
           w = b .w;
@@ -192,6 +202,8 @@ device-does limit low high p some g h n x call q = go (device-silence limit low 
           address-is = ap (λ (z : Header). z .address) hd ∙ same .same-unique;
           no-expansion = b .no-expansion;
           bursts = on;
+          for-is = ap (λ (z : Header). z .primary) hd ∙ tp;
+          primary-is = next;
         })
 
 -- ---- all devices on the silent line
@@ -215,14 +227,14 @@ no-two-answers : (p : Profile) (g : ℕ) (h : Header) (n : ℕ) (x : DeviceSide)
 no-two-answers p g h n x o (and {x = y} d ds) (begins-here b a) = own-once x y h d o (b .asked)
 no-two-answers p g h n x o (and d ds) (begins-further q r) = no-two-answers p g h n x o ds r
 
-no-two-bursts : (p : Profile) (g : ℕ) (h : Header) (n : ℕ) (burst : Bool) (noted : Noted) (x : DeviceSide) {xs : List DeviceSide} {ss : List DeviceStep} → noted .address ≡ x .device .unique → All (Differ x) xs → All (BurstIs burst noted) xs
+no-two-bursts : (p : Profile) (g : ℕ) (h : Header) (n : ℕ) (burst : Bool) (noted : Noted) (next : Bool) (x : DeviceSide) {xs : List DeviceSide} {ss : List DeviceStep} → noted .address ≡ x .device .unique → All (Differ x) xs → All (BurstIs burst noted next) xs
     → OneBegins p g h n (BeginsBack p) xs ss → ⊥
-no-two-bursts p g h n burst noted x o (and d ds) (and i is) (begins-here b a) = d .unique-differs (sym o ∙ i .unique-noted (b .bursts))
-no-two-bursts p g h n burst noted x o (and d ds) (and i is) (begins-further q r) = no-two-bursts p g h n burst noted x o ds is r
+no-two-bursts p g h n burst noted next x o (and d ds) (and i is) (begins-here b a) = d .unique-differs (sym o ∙ i .unique-noted (b .bursts))
+no-two-bursts p g h n burst noted next x o (and d ds) (and i is) (begins-further q r) = no-two-bursts p g h n burst noted next x o ds is r
 
-module _ (limit : ℕ) (low : 2 ≤ limit) (high : limit ≤ 255) (p : Profile) (some : 1 ≤ p .sto) (g : ℕ) (h : Header) (n : ℕ) (calm : 1 ≤ g → n ≡ 1 → ⊥) (burst : Bool) (noted : Noted) where
+module _ (limit : ℕ) (low : 2 ≤ limit) (high : limit ≤ 255) (p : Profile) (some : 1 ≤ p .sto) (g : ℕ) (h : Header) (n : ℕ) (calm : 1 ≤ g → n ≡ 1 → ⊥) (burst : Bool) (noted : Noted) (next : Bool) where
   -- the head and the rest
-  both : {x : DeviceSide} {xs : List DeviceSide} {s : DeviceStep} {ss : List DeviceStep} → DeviceDoes p g h n x s → SilentDevices p g h n xs ss → BurstIs burst noted x → All (Differ x) xs → All (BurstIs burst noted) xs
+  both : {x : DeviceSide} {xs : List DeviceSide} {s : DeviceStep} {ss : List DeviceStep} → DeviceDoes p g h n x s → SilentDevices p g h n xs ss → BurstIs burst noted next x → All (Differ x) xs → All (BurstIs burst noted next) xs
       → SilentDevices p g h n (x ∷ xs) (s ∷ ss)
   both (does-rest q) (all-still a) i d is = all-still (still-and q a)
   both (does-rest q) (one-answers z o) i d is = one-answers z (begins-further q o)
@@ -232,9 +244,9 @@ module _ (limit : ℕ) (low : 2 ≤ limit) (high : limit ≤ 255) (p : Profile) 
   both (does-answer z b) (one-bursts y o) i d is = absurd (calm z y)
   both (does-burst z b) (all-still a) i d is = one-bursts z (begins-here b a)
   both (does-burst z b) (one-answers y o) i d is = absurd (calm y z)
-  both {x} (does-burst z b) (one-bursts y o) i d is = absurd (no-two-bursts p g h n burst noted x (i .unique-noted (b .bursts)) d is o)
+  both {x} (does-burst z b) (one-bursts y o) i d is = absurd (no-two-bursts p g h n burst noted next x (i .unique-noted (b .bursts)) d is o)
 
-  pub silent-devices : {xs : List DeviceSide} (calls : List DeviceCall) → All (DeviceQuiet p g h n) xs → Distinct xs → All (BurstIs burst noted) xs → SilentDevices p g h n xs (deviceTicks limit Silence xs calls)
+  pub silent-devices : {xs : List DeviceSide} (calls : List DeviceCall) → All (DeviceQuiet p g h n) xs → Distinct xs → All (BurstIs burst noted next) xs → SilentDevices p g h n xs (deviceTicks limit Silence xs calls)
   unfolding deviceTicks
   silent-devices calls none Distinct.none none = all-still nothing-still
   silent-devices [] (and {x = x} q qs) (Distinct.and d ds) (and i is) =

@@ -7,16 +7,16 @@ use mathlib.Core.List.{List}
 use mathlib.Core.Logic.{_⊎_, inl, inr, ⊎-elim}
 use borrow.Author.Tests.{eq-eqb, eqb-true, eqb-false}
 use Rattle.base.specs.Choice.{if_then_else_, _=?_}
-use Rattle.base.proofs.Choices.{true-false, if-is-true}
+use Rattle.base.proofs.Choices.{true-false, if-is-true, if-is-false}
 use Rattle.frame.specs.Delimiter.{back}
 use Rattle.frame.specs.declared.Header.{Header}
 use Rattle.line.specs.declared.Profile.{Profile}
 use Rattle.turns.specs.Master.{burstAfter, notedAfter}
-use Rattle.turns.specs.Device.{answerHeader}
+use Rattle.turns.specs.Device.{answerHeader, firstFor}
 use Rattle.turns.specs.Link.{DeviceSide, DeviceStep, sides}
 use Rattle.turns.specs.Run.{All, none, and, Differ, Distinct, Sole, sole-and}
 use Rattle.turns.specs.declared.Noted.{Noted}
-use Rattle.turns.proofs.Lists.{Quietly, Loudly, AllQuiet, no-more, quiet-and, OneLoud, loud-here, loud-further}
+use Rattle.turns.proofs.Lists.{Quietly, Loudly, AllQuiet, no-more, quiet-and, OneLoud, loud-here, loud-further, any-next}
 use Rattle.turns.proofs.Phases.{Some, this, later, BurstIs, Bursting, Agreed}
 use Rattle.turns.proofs.Beginning.{StillQuiet, AllStill, nothing-still, still-and, OneBegins, begins-here, begins-further}
 
@@ -33,9 +33,9 @@ module _ {p : Profile} {g : ℕ} {h : Header} {n : ℕ} where
   still-quiet f nothing-still none = no-more
   still-quiet f (still-and {x = z} {s = t} q a) (and d ds) = quiet-and (f z t q (λ e. d .unique-differs (sym e))) (still-quiet f a ds)
 
-  still-each : {Q : DeviceSide → Type 0} {burst : Bool} {noted : Noted} {y : DeviceSide} {xs : List DeviceSide} {ss : List DeviceStep}
-      → (u : DeviceSide) → ((z : DeviceSide) (t : DeviceStep) → StillQuiet p g h n z t → (z .device .unique ≡ y .device .unique → ⊥) → (t .side .device .burst ≡ true → u .device .burst ≡ true → ⊥) → BurstIs burst noted z → Q (t .side))
-      → AllStill p g h n xs ss → All (Differ y) xs → All (λ (v : DeviceSide). u .device .burst ≡ true → v .device .burst ≡ true → ⊥) (sides ss) → All (BurstIs burst noted) xs → All Q (sides ss)
+  still-each : {Q : DeviceSide → Type 0} {burst : Bool} {noted : Noted} {next : Bool} {y : DeviceSide} {xs : List DeviceSide} {ss : List DeviceStep}
+      → (u : DeviceSide) → ((z : DeviceSide) (t : DeviceStep) → StillQuiet p g h n z t → (z .device .unique ≡ y .device .unique → ⊥) → (t .side .device .burst ≡ true → u .device .burst ≡ true → ⊥) → BurstIs burst noted next z → Q (t .side))
+      → AllStill p g h n xs ss → All (Differ y) xs → All (λ (v : DeviceSide). u .device .burst ≡ true → v .device .burst ≡ true → ⊥) (sides ss) → All (BurstIs burst noted next) xs → All Q (sides ss)
   unfolding sides
   still-each u f nothing-still none none none = none
   still-each u f (still-and {x = z} {s = t} q a) (and d ds) (and c cs) (and b bs) = and (f z t q (λ e. d .unique-differs (sym e)) (λ e k. c k e) b) (still-each u f a ds cs bs)
@@ -44,6 +44,12 @@ module _ {p : Profile} {g : ℕ} {h : Header} {n : ℕ} where
   unfolding sides
   still-some (still-and q a) (this b) = this (q .quietly .same-burst ∙ b)
   still-some (still-and q a) (later m) = later (still-some a m)
+
+  -- a device that rests and bursts is no second one
+  still-alone : (u : DeviceSide) {xs : List DeviceSide} {ss : List DeviceStep} → AllStill p g h n xs ss → Some Bursting xs → All (λ (v : DeviceSide). u .device .burst ≡ true → v .device .burst ≡ true → ⊥) (sides ss) → u .device .burst ≡ true → ⊥
+  unfolding sides
+  still-alone u (still-and q a) (this b) (and c cs) on = c on (q .quietly .same-burst ∙ b)
+  still-alone u (still-and q a) (later m) (and c cs) on = still-alone u a m cs on
 
 module _ {p : Profile} {g : ℕ} {h : Header} {n : ℕ} {B : DeviceSide → DeviceStep → Type 0} where
   pub picked : {xs : List DeviceSide} {ss : List DeviceStep} → OneBegins p g h n B xs ss → Picked B
@@ -67,9 +73,9 @@ module _ {p : Profile} {g : ℕ} {h : Header} {n : ℕ} {B : DeviceSide → Devi
   one-from (begins-here b a) l f (Distinct.and d ds) = loud-here l (still-quiet f a d)
   one-from (begins-further {x = z} {s = t} q o) l f (Distinct.and d ds) = loud-further (f z t q (before o d .unique-differs)) (one-from o l f ds)
 
-  each-from : {Q : DeviceSide → Type 0} {burst : Bool} {noted : Noted} {xs : List DeviceSide} {ss : List DeviceStep} (o : OneBegins p g h n B xs ss) → Q (picked o .s .side)
-      → ((z : DeviceSide) (t : DeviceStep) → StillQuiet p g h n z t → (z .device .unique ≡ picked o .x .device .unique → ⊥) → (t .side .device .burst ≡ true → picked o .s .side .device .burst ≡ true → ⊥) → BurstIs burst noted z → Q (t .side))
-      → Distinct xs → Sole (sides ss) → All (BurstIs burst noted) xs → All Q (sides ss)
+  each-from : {Q : DeviceSide → Type 0} {burst : Bool} {noted : Noted} {next : Bool} {xs : List DeviceSide} {ss : List DeviceStep} (o : OneBegins p g h n B xs ss) → Q (picked o .s .side)
+      → ((z : DeviceSide) (t : DeviceStep) → StillQuiet p g h n z t → (z .device .unique ≡ picked o .x .device .unique → ⊥) → (t .side .device .burst ≡ true → picked o .s .side .device .burst ≡ true → ⊥) → BurstIs burst noted next z → Q (t .side))
+      → Distinct xs → Sole (sides ss) → All (BurstIs burst noted next) xs → All Q (sides ss)
   unfolding picked sides
   each-from (begins-here {s = s} b a) k f (Distinct.and d ds) (sole-and c cs) (and i is) = and k (still-each (s .side) f a d c is)
   each-from (begins-further {x = z} {s = t} q o) k f (Distinct.and d ds) (sole-and c cs) (and i is) = and (f z t q (before o d .unique-differs) (after o c) i) (each-from o k f ds cs is)
@@ -86,9 +92,21 @@ module _ {p : Profile} {g : ℕ} {h : Header} {n : ℕ} {B : DeviceSide → Devi
   some-of (begins-here b a) e = this e
   some-of (begins-further q o) e = later (some-of o e)
 
+  -- where a device bursts, no other turns burst on
+  alone : {xs : List DeviceSide} {ss : List DeviceStep} (o : OneBegins p g h n B xs ss) → Some Bursting xs → Sole (sides ss) → picked o .s .side .device .burst ≡ true → picked o .x .device .burst ≡ true
+  unfolding picked sides
+  alone (begins-here b a) (this e) (sole-and c cs) on = e
+  alone (begins-here {s = s} b a) (later m) (sole-and c cs) on = absurd (still-alone (s .side) a m c on)
+  alone (begins-further q o) (this e) (sole-and c cs) on = absurd (after o c (q .quietly .same-burst ∙ e) on)
+  alone (begins-further q o) (later m) (sole-and c cs) on = alone o m cs on
+
 -- ---- BURST behind the frame that begins
 
-module _ {p : Profile} {g : ℕ} {h : Header} {n : ℕ} {B : DeviceSide → DeviceStep → Type 0} {burst : Bool} {noted : Noted} {xs : List DeviceSide} {ss : List DeviceStep} (o : OneBegins p g h n B xs ss) (apart : Distinct xs) (sole : Sole (sides ss)) (a : Agreed burst noted xs) where
+-- "The first after burst goes from off to on is for the primary": whom the next BACK is for behind an ACK's first character
+abbrev pub nextAfter : Bool → Bool → Bool
+nextAfter burst next = if burst then next else true
+
+module _ {p : Profile} {g : ℕ} {h : Header} {n : ℕ} {B : DeviceSide → DeviceStep → Type 0} {burst : Bool} {noted : Noted} {next : Bool} {xs : List DeviceSide} {ss : List DeviceStep} (o : OneBegins p g h n B xs ss) (apart : Distinct xs) (sole : Sole (sides ss)) (a : Agreed burst noted next xs) where
   abbrev pub x : DeviceSide
   x = picked o .x
 
@@ -96,65 +114,66 @@ module _ {p : Profile} {g : ℕ} {h : Header} {n : ℕ} {B : DeviceSide → Devi
   y = picked o .s .side
 
   -- a device that rests is as it was noted
-  kept : (z : DeviceSide) (t : DeviceStep) → StillQuiet p g h n z t → BurstIs burst noted z → BurstIs burst noted (t .side)
+  kept : (z : DeviceSide) (t : DeviceStep) → StillQuiet p g h n z t → BurstIs burst noted next z → BurstIs burst noted next (t .side)
   kept z t q b = record {
     burst-set = λ e. b .burst-set (sym (q .quietly .same-burst) ∙ e);
     long-noted = λ e. b .long-noted (sym (q .quietly .same-burst) ∙ e);
     unique-noted = λ e. b .unique-noted (sym (q .quietly .same-burst) ∙ e) ∙ sym (q .quietly .same .same-unique);
+    next-is = λ e. q .quietly .same-primary ∙ b .next-is (sym (q .quietly .same-burst) ∙ e);
   }
 
   -- it bursts, and is noted anew: no other does
-  noted-anew : (new : Noted) → y .device .burst ≡ true → new .long ≡ true → new .address ≡ y .device .unique → Agreed true new (sides ss)
-  noted-anew new on l e = record {
-    each = each-from o (record { burst-set = λ z. refl; long-noted = λ z. l; unique-noted = λ z. e })
-        (λ z t q apart no b. record { burst-set = λ k. absurd (no k on); long-noted = λ k. absurd (no k on); unique-noted = λ k. absurd (no k on) }) apart sole (a .each);
+  noted-anew : (new : Noted) (for : Bool) → y .device .burst ≡ true → new .long ≡ true → new .address ≡ y .device .unique → y .device .primary ≡ for → Agreed true new for (sides ss)
+  noted-anew new for on l e f = record {
+    each = each-from o (record { burst-set = λ z. refl; long-noted = λ z. l; unique-noted = λ z. e; next-is = λ z. f })
+        (λ z t q apart no b. record { burst-set = λ k. absurd (no k on); long-noted = λ k. absurd (no k on); unique-noted = λ k. absurd (no k on); next-is = λ k. absurd (no k on) }) apart sole (a .each);
     one-bursts = λ z. some-of o on;
   }
 
   -- its burst is as it was
-  kept-burst : y .device .burst ≡ x .device .burst → y .device .unique ≡ x .device .unique → Agreed burst noted (sides ss)
-  kept-burst same same-unique = record {
-    each = each-from o (record { burst-set = λ z. b .burst-set (sym same ∙ z); long-noted = λ z. b .long-noted (sym same ∙ z); unique-noted = λ z. b .unique-noted (sym same ∙ z) ∙ sym same-unique })
+  kept-burst : y .device .burst ≡ x .device .burst → y .device .unique ≡ x .device .unique → (x .device .burst ≡ true → y .device .primary ≡ x .device .primary) → Agreed burst noted next (sides ss)
+  kept-burst same same-unique same-primary = record {
+    each = each-from o (record { burst-set = λ z. b .burst-set (sym same ∙ z); long-noted = λ z. b .long-noted (sym same ∙ z); unique-noted = λ z. b .unique-noted (sym same ∙ z) ∙ sym same-unique; next-is = λ z. same-primary (sym same ∙ z) ∙ b .next-is (sym same ∙ z) })
         (λ z t q apart no b. kept z t q b) apart sole (a .each);
     one-bursts = λ z. ⊎-elim (λ e. some-of o (same ∙ e)) (λ m. m) (some-from o (a .one-bursts z));
   }
     where
-      b : BurstIs burst noted (picked o .x)
+      b : BurstIs burst noted next (picked o .x)
       b = before o (a .each)
 
   -- it does not burst, and was noted: no other did
-  noted-off : y .device .burst ≡ false → noted .address ≡ x .device .unique → Agreed false noted (sides ss)
+  noted-off : y .device .burst ≡ false → noted .address ≡ x .device .unique → Agreed false noted next (sides ss)
   noted-off off e = record {
-    each = each-from o (record { burst-set = λ z. absurd (true-false (sym z ∙ off)); long-noted = λ z. absurd (true-false (sym z ∙ off)); unique-noted = λ z. absurd (true-false (sym z ∙ off)) })
+    each = each-from o (record { burst-set = λ z. absurd (true-false (sym z ∙ off)); long-noted = λ z. absurd (true-false (sym z ∙ off)); unique-noted = λ z. absurd (true-false (sym z ∙ off)); next-is = λ z. absurd (true-false (sym z ∙ off)) })
         (λ z t q apart no b. none-else z t q apart b) apart sole (a .each);
     one-bursts = λ z. absurd (true-false (sym z));
   }
     where
-      none-else : (z : DeviceSide) (t : DeviceStep) → StillQuiet p g h n z t → (z .device .unique ≡ picked o .x .device .unique → ⊥) → BurstIs burst noted z → BurstIs false noted (t .side)
+      none-else : (z : DeviceSide) (t : DeviceStep) → StillQuiet p g h n z t → (z .device .unique ≡ picked o .x .device .unique → ⊥) → BurstIs burst noted next z → BurstIs false noted next (t .side)
       none-else z t q apart b =
           let no : t .side .device .burst ≡ true → ⊥ = λ k. apart (sym (b .unique-noted (sym (q .quietly .same-burst) ∙ k)) ∙ e) in
-          record { burst-set = λ k. absurd (no k); long-noted = λ k. absurd (no k); unique-noted = λ k. absurd (no k) }
+          record { burst-set = λ k. absurd (no k); long-noted = λ k. absurd (no k); unique-noted = λ k. absurd (no k); next-is = λ k. absurd (no k) }
 
   -- it does not burst, and was not noted
-  others-stay : y .device .burst ≡ false → (noted .long ≡ true → noted .address ≡ x .device .unique → ⊥) → Agreed burst noted (sides ss)
+  others-stay : y .device .burst ≡ false → (noted .long ≡ true → noted .address ≡ x .device .unique → ⊥) → Agreed burst noted next (sides ss)
   others-stay off not = record {
-    each = each-from o (record { burst-set = λ z. absurd (true-false (sym z ∙ off)); long-noted = λ z. absurd (true-false (sym z ∙ off)); unique-noted = λ z. absurd (true-false (sym z ∙ off)) })
+    each = each-from o (record { burst-set = λ z. absurd (true-false (sym z ∙ off)); long-noted = λ z. absurd (true-false (sym z ∙ off)); unique-noted = λ z. absurd (true-false (sym z ∙ off)); next-is = λ z. absurd (true-false (sym z ∙ off)) })
         (λ z t q apart no b. kept z t q b) apart sole (a .each);
     one-bursts = λ z. ⊎-elim (λ e. absurd (not (before o (a .each) .long-noted e) (before o (a .each) .unique-noted e))) (λ m. m) (some-from o (a .one-bursts z));
   }
 
   -- behind a BACK
-  pub back-agreed : (header : Header) → header .frame ≡ back → header .long ≡ true → header .address ≡ y .device .unique → y .device .burst ≡ true → Agreed (burstAfter burst noted header) (notedAfter noted header) (sides ss)
-  back-agreed header f l e on =
-      subst (λ (c : Bool). Agreed c (notedAfter noted header) (sides ss)) (sym (if-is-true (header .frame =? back) _ _ (eq-eqb (header .frame) back f)))
-      (subst (λ (c : Noted). Agreed true c (sides ss)) (sym (if-is-true (header .frame =? back) _ _ (eq-eqb (header .frame) back f)))
-      (noted-anew (record { long = header .long; address = header .address }) on l e))
+  pub back-agreed : (header : Header) (for : Bool) → header .frame ≡ back → header .long ≡ true → header .address ≡ y .device .unique → y .device .burst ≡ true → y .device .primary ≡ for → Agreed (burstAfter burst noted header) (notedAfter noted header) for (sides ss)
+  back-agreed header for f l e on q =
+      subst (λ (c : Bool). Agreed c (notedAfter noted header) for (sides ss)) (sym (if-is-true (header .frame =? back) _ _ (eq-eqb (header .frame) back f)))
+      (subst (λ (c : Noted). Agreed true c for (sides ss)) (sym (if-is-true (header .frame =? back) _ _ (eq-eqb (header .frame) back f)))
+      (noted-anew (record { long = header .long; address = header .address }) for on l e q))
 
   -- behind an ACK
-  pub ack-agreed : (request : Header) (c : Bool) → y .device .burst ≡ c → y .device .unique ≡ x .device .unique → (request .long ≡ true → request .address ≡ x .device .unique) → (request .long ≡ false → c ≡ x .device .burst)
-      → Agreed (burstAfter burst noted (answerHeader request c)) (notedAfter noted (answerHeader request c)) (sides ss)
+  pub ack-agreed : (request : Header) (c : Bool) → y .device .burst ≡ c → y .device .unique ≡ x .device .unique → y .device .primary ≡ firstFor (x .device) → (request .long ≡ true → request .address ≡ x .device .unique) → (request .long ≡ false → c ≡ x .device .burst)
+      → Agreed (burstAfter burst noted (answerHeader request c)) (notedAfter noted (answerHeader request c)) (nextAfter burst next) (sides ss)
   unfolding if_then_else_
-  ack-agreed request c is same address short = go c refl (request .long) refl (noted .long) refl (noted .address =? request .address) refl
+  ack-agreed request c is same first address short = go c refl (request .long) refl (noted .long) refl (noted .address =? request .address) refl
     where
       was : Bool → Bool → Bool → Bool → Bool
       was c l m e = if c then true else (if l then (if (if m then e else false) then false else burst) else burst)
@@ -165,10 +184,30 @@ module _ {p : Profile} {g : ℕ} {h : Header} {n : ℕ} {B : DeviceSide → Devi
       on-is : (l : Bool) → c ≡ true → request .long ≡ l → l ≡ false → burst ≡ true
       on-is l q r f = before o (a .each) .burst-set (sym (short (r ∙ f)) ∙ q)
 
-      go : (c′ : Bool) → c ≡ c′ → (l : Bool) → request .long ≡ l → (m : Bool) → noted .long ≡ m → (e : Bool) → (noted .address =? request .address) ≡ e → Agreed (was c′ l m e) (new c′ l) (sides ss)
-      go true q true r m u e v = noted-anew (record { long = true; address = request .address }) (is ∙ q) refl (address r ∙ sym same)
-      go true q false r m u e v = subst (λ (z : Bool). Agreed z noted (sides ss)) (on-is false q r refl) (kept-burst (is ∙ short r) same)
-      go false q false r m u e v = kept-burst (is ∙ short r) same
-      go false q true r true u true v = noted-off (is ∙ q) (eqb-true (noted .address) (request .address) v ∙ address r)
-      go false q true r true u false v = others-stay (is ∙ q) (λ k z. eqb-false (noted .address) (request .address) v (z ∙ sym (address r)))
-      go false q true r false u e v = others-stay (is ∙ q) (λ k z. true-false (sym k ∙ u))
+      -- its next BACK is for the master that it was for, if it burst before
+      same-next : x .device .burst ≡ true → y .device .primary ≡ x .device .primary
+      same-next e = first ∙ if-is-true (x .device .burst) _ _ e
+
+      -- no device bursts, or none but the one that did
+      for-whom : (b : Bool) → burst ≡ b → y .device .burst ≡ true → y .device .primary ≡ nextAfter b next
+      for-whom true e on =
+          let was-on = alone o (a .one-bursts e) sole on in
+          same-next was-on ∙ before o (a .each) .next-is was-on
+      for-whom false e on = first ∙ off (x .device .burst) refl
+        where
+          off : (t : Bool) → x .device .burst ≡ t → firstFor (x .device) ≡ true
+          off true q = absurd (true-false (sym (before o (a .each) .burst-set q) ∙ e))
+          off false q = if-is-false (x .device .burst) _ _ q
+
+      -- whom the next BACK is for matters only where a device bursts
+      turned : (b : Bool) {others : Noted} → burst ≡ b → Agreed burst others next (sides ss) → Agreed burst others (nextAfter burst next) (sides ss)
+      turned true {others} e g = subst (λ (z : Bool). Agreed z others next (sides ss) → Agreed z others (nextAfter z next) (sides ss)) (sym e) (λ k. k) g
+      turned false {others} e g = subst (λ (z : Bool). Agreed z others next (sides ss) → Agreed z others (nextAfter z next) (sides ss)) (sym e) any-next g
+
+      go : (c′ : Bool) → c ≡ c′ → (l : Bool) → request .long ≡ l → (m : Bool) → noted .long ≡ m → (e : Bool) → (noted .address =? request .address) ≡ e → Agreed (was c′ l m e) (new c′ l) (nextAfter burst next) (sides ss)
+      go true q true r m u e v = noted-anew (record { long = true; address = request .address }) (nextAfter burst next) (is ∙ q) refl (address r ∙ sym same) (for-whom burst refl (is ∙ q))
+      go true q false r m u e v = subst (λ (z : Bool). Agreed z noted (nextAfter burst next) (sides ss)) (on-is false q r refl) (turned burst refl (kept-burst (is ∙ short r) same same-next))
+      go false q false r m u e v = turned burst refl (kept-burst (is ∙ short r) same same-next)
+      go false q true r true u true v = any-next (noted-off (is ∙ q) (eqb-true (noted .address) (request .address) v ∙ address r))
+      go false q true r true u false v = turned burst refl (others-stay (is ∙ q) (λ k z. eqb-false (noted .address) (request .address) v (z ∙ sym (address r))))
+      go false q true r false u e v = turned burst refl (others-stay (is ∙ q) (λ k z. true-false (sym k ∙ u)))

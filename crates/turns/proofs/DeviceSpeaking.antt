@@ -61,6 +61,7 @@ pub record SpeaksAt (f : Frames) (x : DeviceSide) (n : ℕ) (w : List ℕ) (step
   pub same : SameDevice (x .device) (step .side .device)
   pub same-burst : step .side .device .burst ≡ x .device .burst
   pub same-primary : step .side .device .primary ≡ x .device .primary
+  pub same-request : step .side .device .request ≡ x .device .request
   pub deaf-is : step .side .device .deaf ≡ true
   pub receiver-is : step .side .device .receiver ≡ passing
   pub sound : Sound (step .side .device) (step .side .frame) (step .side .contents)
@@ -97,6 +98,7 @@ module _ (f : Frames) (x : DeviceSide) (n : ℕ) (w : List ℕ) (message : Whole
       same = record { same-profile = refl; same-preamble = refl; same-polling = refl; same-unique = refl };
       same-burst = refl;
       same-primary = refl;
+      same-request = refl;
       deaf-is = refl;
       receiver-is = refl;
       sound = record {

@@ -110,7 +110,7 @@ pub data Goes (d : Device) (step : DeviceStep) : Type 0 where
       → step .side .device .burst ≡ d .burst → step .side .device .primary ≡ d .primary → step .side .device .due ≡ d .due → step .side .device .request ≡ d .request
       → inHand (step .side .device .turn) ≤ inHand (d .turn) → Hand (step .side .device) (step .side .frame) → Sound (step .side .device) (step .side .frame) (step .side .contents) → (d .turn ≡ Follows → ⊥) → Goes d step
   -- it begins its ACK: from a request that was in hand, with burst as the host wishes
-  answers : (burst primary : Bool) (b : Begun d step Answers burst) → b .message .header ≡ answerHeader (d .request) burst → step .side .device .request ≡ d .request → isOwn d (d .request) ≡ true
+  answers : (burst : Bool) → step .side .device .primary ≡ firstFor d → (b : Begun d step Answers burst) → b .message .header ≡ answerHeader (d .request) burst → step .side .device .request ≡ d .request → isOwn d (d .request) ≡ true
       → (d .request .long ≡ false → burst ≡ d .burst) → (d .turn ≡ Listens → ⊥) → (d .turn ≡ Asked (d .profile .sto) → ⊥) → (d .turn ≡ Follows → ⊥) → Goes d step
   -- it begins its BACK
   bursts : (b : Begun d step Bursts (d .burst)) (command : ℕ) → d .turn ≡ Follows → b .message .header ≡ backFor d command
@@ -160,7 +160,7 @@ pub data Turned (d : Device) (frame : List ℕ) : Type 0 where
 -- ---- sending
 
 -- an ACK or BACK of at least 2 data bytes can be written
-device-enough : (frame count : ℕ) → 2 ≤ count → tooFew frame count ≡ false
+pub device-enough : (frame count : ℕ) → 2 ≤ count → tooFew frame count ≡ false
 unfolding if_then_else_
 device-enough frame count h = go (frame =? ack) (frame =? back)
   where
@@ -270,7 +270,7 @@ module _ (d e : Device) (frame bytes contents : List ℕ) (told : DeviceTold) (a
           let there : by Begins ≡ record { side = record { device = sends e true (Answers 1) (e .length) burst (firstFor e) 0 passing Silent .device; frame = frame; bytes = bytes; contents = contents }; sent = Character (byteAt frame 0); told = told; answer = answer } =
           ap (λ (x : DeviceSent). record { side = record { device = x .device; frame = frame; bytes = bytes; contents = contents }; sent = x .sent; told = told; answer = answer }) first in
           subst (Goes d) (sym there)
-          (answers burst (firstFor e)
+          (answers burst (λ i. if after .same-burst i then after .same-primary i else true)
           (record {
             w = p .w;
             message = p .message;
@@ -378,7 +378,7 @@ module _ (d e : Device) (frame bytes contents : List ℕ) (told : DeviceTold) (a
 -- ---- the answer
 
 -- a request for this device has one of its addresses; a short one has command 0
-own-address : (d : Device) (frame contents : List ℕ) (h : Header) → Sound d frame contents → isOwn d h ≡ true → h .address ≤ largestAddress (h .long)
+pub own-address : (d : Device) (frame contents : List ℕ) (h : Header) → Sound d frame contents → isOwn d h ≡ true → h .address ≤ largestAddress (h .long)
 unfolding if_then_else_
 own-address d frame contents h s own = go (h .long) own
   where
@@ -485,7 +485,7 @@ content-turned d c frame given (begins-now q p) =
     begins-now q (record { w = p .w; message = p .message; held = p .held; header-is = p .header-is; no-expansion = p .no-expansion; own = p .own; short-same = p .short-same; on-given = λ z. given })
 content-turned d c frame given (follows-now q on) = follows-now q on
 
-ack-typed : isType ack ≡ true
+pub ack-typed : isType ack ≡ true
 unfolding if_then_else_
 ack-typed = refl
 

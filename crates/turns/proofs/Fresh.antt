@@ -28,10 +28,11 @@ use Rattle.turns.specs.declared.Device.{Device}
 use Rattle.turns.proofs.Masters.{Still, is-free, no-message}
 use Rattle.turns.proofs.Devices.{Sound, inHand}
 use Rattle.turns.proofs.Windows.{Valid}
+use Rattle.turns.proofs.Masters.{left}
 use Rattle.turns.proofs.Listening.{master-finished, device-finished, hand-listens}
 use Rattle.turns.proofs.Lists.{Quietly, all-quiet, all-carried, all-sides, all-distinct, agreed-same}
 use Rattle.turns.proofs.Phases.{BurstIs, MasterQuiet, DeviceQuiet, Ready, passing-ready}
-use Rattle.turns.proofs.Quiet.{SilentLine, breakTimer, behind-break}
+use Rattle.turns.proofs.Quiet.{ClearLine, breakTimer, behind-break-clear}
 
 -- ---- what a start that was accepted tells
 
@@ -65,19 +66,19 @@ valid p e =
     }
 
 -- a master that started is the fresh one
-master-is : (p : Profile) (primary : Bool) (retries : ℕ) (m : Master) → masterStarts p primary retries ≡ accepted m → m ≡ freshMaster p primary retries
+pub master-is : (p : Profile) (primary : Bool) (retries : ℕ) (m : Master) → masterStarts p primary retries ≡ accepted m → m ≡ freshMaster p primary retries
 master-is p primary retries m e = sym (ap (got m) (went-else (retries outside 3 to 15) (refused BadRetries) (accepted (freshMaster p primary retries)) (accepted m) e refused-accepted .1))
 
 -- and a device, with its addresses in range
-record FreshDevice (p : Profile) (preamble polling unique : ℕ) (d : Device) : Type 0 where
-  preamble-low : 5 ≤ preamble
-  preamble-high : preamble ≤ 20
-  polling-high : polling ≤ largestAddress false
-  unique-low : 1 ≤ unique
-  unique-high : unique ≤ largestAddress true
-  is : d ≡ freshDevice p preamble polling unique
+pub record FreshDevice (p : Profile) (preamble polling unique : ℕ) (d : Device) : Type 0 where
+  pub preamble-low : 5 ≤ preamble
+  pub preamble-high : preamble ≤ 20
+  pub polling-high : polling ≤ largestAddress false
+  pub unique-low : 1 ≤ unique
+  pub unique-high : unique ≤ largestAddress true
+  pub is : d ≡ freshDevice p preamble polling unique
 
-device-is : (p : Profile) (preamble polling unique : ℕ) (d : Device) → deviceStarts p preamble polling unique ≡ accepted d → FreshDevice p preamble polling unique d
+pub device-is : (p : Profile) (preamble polling unique : ℕ) (d : Device) → deviceStarts p preamble polling unique ≡ accepted d → FreshDevice p preamble polling unique d
 device-is p preamble polling unique d e =
     let a = went-else (preamble outside 5 to 20) (refused PreambleLength) _ (accepted d) e refused-accepted in
     let b = went-else (largestAddress false <? polling) (refused Address) _ (accepted d) (a .1) refused-accepted in
@@ -100,6 +101,7 @@ record FreshTick (p : Profile) (primary : Bool) (step : MasterStep) : Type 0 whe
   silent : step .sent ≡ Silent
   quiet : MasterQuiet p primary false nobody (step .side)
   timer-is : step .side .master .timer ≡ breakTimer p primary false
+  gone : left (step .side .master .message .stage) ≡ 0
 
 fresh-master : (limit : ℕ) → limit ≤ 255 → (p : Profile) (primary : Bool) (retries : ℕ) (x : MasterSide) (heard : Heard) (call : MasterCall) → MasterStarts p primary retries x → FreshTick p primary (masterTick limit x heard call)
 unfolding if_then_else_
@@ -116,10 +118,11 @@ fresh-master limit small p primary retries x heard call s =
         noted-is = f .same-noted ∙ ap (λ (m : Master). m .noted) e;
       };
       timer-is = f .same-timer ∙ ap (λ (m : Master). m .timer) e;
+      gone = f .rested .same-left ∙ ap (λ (m : Master). left (m .message .stage)) e;
     }
 
 fresh-device : (limit : ℕ) → 2 ≤ limit → limit ≤ 255 → (p : Profile) → Valid p → (heard : Heard) (x : DeviceSide) (call : DeviceCall) → DeviceStarts p x
-    → Quietly (DeviceQuiet p (p .sto) noHeader (p .rt1p)) x (deviceTick limit x heard call)
+    → Quietly (DeviceQuiet p 0 noHeader (p .rt1p)) x (deviceTick limit x heard call)
 unfolding if_then_else_
 fresh-device limit low high p v heard x call s =
     let n = device-is p (s .preamble) (s .polling) (s .unique) (x .device) (s .starts) in
@@ -145,19 +148,21 @@ fresh-device limit low high p v heard x call s =
       silent = r .silent;
       same = r .same;
       same-burst = r .same-burst;
+      same-primary = r .same-primary;
       good = record {
         listens = r .listens;
         ready = subst Ready (sym (r .same-receiver ∙ ap (λ (d : Device). d .receiver) e)) passing-ready;
         in-time = omega (arith, r .less-in-hand, ap inHand turn);
         asked-own = λ z. absurd (z (hand-listens (deviceTick limit x heard call .side .device) (deviceTick limit x heard call .side .frame) (r .listens .hand) (omega (arith, r .less-in-hand, ap inHand turn))));
+        asked-for = λ z. absurd (z (hand-listens (deviceTick limit x heard call .side .device) (deviceTick limit x heard call .side .frame) (r .listens .hand) (omega (arith, r .less-in-hand, ap inHand turn))));
         back-due = λ z. r .same-due ∙ ap (λ (d : Device). d .due) e;
       };
     }
 
 -- burst is off
-fresh-agreed : {p : Profile} {xs : List DeviceSide} → All (DeviceStarts p) xs → All (BurstIs false nobody) xs
+fresh-agreed : {p : Profile} {xs : List DeviceSide} → All (DeviceStarts p) xs → All (BurstIs false nobody true) xs
 fresh-agreed none = none
-fresh-agreed {p} (and {x = x} s a) = and (record { burst-set = λ z. absurd (off z); long-noted = λ z. absurd (off z); unique-noted = λ z. absurd (off z) }) (fresh-agreed a)
+fresh-agreed {p} (and {x = x} s a) = and (record { burst-set = λ z. absurd (off z); long-noted = λ z. absurd (off z); unique-noted = λ z. absurd (off z); next-is = λ z. absurd (off z) }) (fresh-agreed a)
   where
     off : x .device .burst ≡ true → ⊥
     off z = true-false (sym z ∙ ap (λ (d : Device). d .burst) (device-is p (s .preamble) (s .polling) (s .unique) (x .device) (s .starts) .is))
@@ -166,7 +171,7 @@ pub record FirstTick (p : Profile) (s t : MasterStep) (ss : List DeviceStep) : T
   pub primary-silent : s .sent ≡ Silent
   pub secondary-silent : t .sent ≡ Silent
   pub devices-silent : carried ss ≡ Silence
-  pub silent-line : SilentLine p (s .side) (t .side) (sides ss)
+  pub silent-line : ClearLine p (p .rt1s) (s .side) (t .side) (sides ss)
 
 pub first-tick : (limit : ℕ) → 2 ≤ limit → limit ≤ 255 → (p : Profile) → Valid p → (retries : ℕ) (a b : MasterSide) (xs : List DeviceSide) (heard : Heard) (ca cb : MasterCall) (cs : List DeviceCall)
     → MasterStarts p true retries a → MasterStarts p false retries b → All (DeviceStarts p) xs → Distinct xs
@@ -179,6 +184,15 @@ first-tick limit low high p v retries a b xs heard ca cb cs sa sb ds d =
       primary-silent = fa .silent;
       secondary-silent = fb .silent;
       devices-silent = all-carried q;
-      silent-line = behind-break p v false nobody noHeader _ _ _ (fa .quiet) (fb .quiet) (fa .timer-is) (fb .timer-is) (all-sides q) (all-distinct q d)
+      silent-line = behind-break-clear p v (p .rt1s) nobody true noHeader 0 _ _ _ (omega arith) (fa .quiet) (fb .quiet) (fa .timer-is) (fb .timer-is)
+          (record {
+            asked = record { by-primary = λ z. absurd (omega arith); by-secondary = λ z. absurd (omega arith); primary-header = λ z. absurd (omega arith); secondary-header = λ z. absurd (omega arith) };
+            primary-left = λ z. absurd (omega (arith, fa .gone));
+            secondary-left = λ z. absurd (omega (arith, fb .gone));
+            primary-next = λ z. absurd (true-false (sym z));
+            secondary-next = λ z. absurd (true-false (sym z));
+            nobody = λ x y. omega arith;
+          })
+          (all-sides q) (all-distinct q d)
           (agreed-same q (record { each = fresh-agreed ds; one-bursts = λ z. absurd (true-false (sym z)) }));
     }

@@ -4,6 +4,7 @@ use native.Mathlib.Omega.{arith}
 use mathlib.Core.Path.{_≡_, refl, sym, ap, subst, _∙_}
 use mathlib.Core.Bool.{Bool, true, false}
 use mathlib.Core.List.{List}
+use mathlib.Core.Logic.{_⊎_}
 use lib.ListN.{length, getD, take}
 use Rattle.base.specs.Choice.{if_then_else_, _=?_}
 use Rattle.base.proofs.Choices.{if-is-true}
@@ -22,13 +23,14 @@ use Rattle.line.specs.declared.Receiver.{Receiver}
 use Rattle.line.specs.declared.Whole.{Whole}
 use Rattle.line.proofs.Leads.{readerAfter}
 use Rattle.turns.specs.Master.{Called, accepted, refused, burstAfter, notedAfter, timerAfter, timer, timerCounted, burstCounted, masterTakes, toItself, requested, requestHeader}
-use Rattle.turns.specs.Device.{isOwn, dueAfter, errorFrame, deviceTakes, answerHeader}
+use Rattle.turns.specs.Device.{isOwn, dueAfter, errorFrame, deviceTakes, answerHeader, firstFor}
 use Rattle.turns.specs.Link.{MasterCall, no-request, requests, DeviceCall, MasterSide, MasterStep, masterCalled, masterTick, masterData, DeviceSide, DeviceStep, deviceCalls, deviceTick, deviceData, heardFrame}
 use Rattle.turns.specs.declared.Sent.{Sent}
 use Rattle.turns.specs.declared.Sent.the-variants.{Silent}
-use Rattle.turns.specs.declared.Stage.the-variants.{Sending}
+use Rattle.turns.specs.declared.Stage.the-variants.{Free, Waiting, Sending}
 use Rattle.turns.specs.declared.Turn.the-variants.{Listens, Asked, Answers, Follows, Bursts}
 use Rattle.turns.specs.declared.Timer.{Timer}
+use Rattle.turns.specs.declared.Message.{Message}
 use Rattle.turns.specs.declared.Master.{Master}
 use Rattle.turns.specs.declared.MasterTaken.{MasterTaken}
 use Rattle.turns.specs.declared.Device.{Device}
@@ -37,7 +39,7 @@ use Rattle.turns.specs.declared.DeviceTold.{DeviceTold}
 use Rattle.turns.proofs.Turns.{listens-follows, asked-follows}
 use Rattle.turns.proofs.Spoken.{Spoken}
 use Rattle.turns.proofs.Masters as M
-use Rattle.turns.proofs.Masters.{Holds, Formed, Still, master-goes}
+use Rattle.turns.proofs.Masters.{Holds, Formed, left, Still, master-goes}
 use Rattle.turns.proofs.Taking as T
 use Rattle.turns.proofs.Devices as D
 use Rattle.turns.proofs.Devices.{Sound, Hand, SameDevice, inHand, device-goes}
@@ -67,6 +69,8 @@ pub record Rests (p : Profile) (primary : Bool) (t : Master) (step : MasterStep)
   pub same-burst : step .side .master .burst ≡ t .burst
   pub same-noted : step .side .master .noted ≡ t .noted
   pub same-timer : step .side .master .timer ≡ t .timer
+  pub rested : M.Rested t (step .side .master .message)
+  pub shut : step .side .master .message .stage ≡ Waiting → t .timer .window ≡ 0
 
 -- a master that begins its STX behind what it heard
 pub record Starts (p : Profile) (primary : Bool) (t : Master) (step : MasterStep) : Type 0 where
@@ -81,9 +85,11 @@ pub record Starts (p : Profile) (primary : Bool) (t : Master) (step : MasterStep
   pub header-is : message .header ≡ step .side .master .message .header
   pub no-expansion : message .expansion ≡ 0
   pub type-is : message .header .frame ≡ stx
+  pub bit-is : message .header .primary ≡ primary
   pub same-burst : step .side .master .burst ≡ t .burst
   pub same-noted : step .side .master .noted ≡ t .noted
   pub in-window : 0 < t .timer .window
+  pub counts : M.Counts t (step .side .master .message)
 
 pub data Does (p : Profile) (primary : Bool) (t : Master) (step : MasterStep) : Type 0 where
   does-rest : Rests p primary t step → Does p primary t step
@@ -106,7 +112,7 @@ master-does limit p primary x heard call small is took = go (master-goes limit t
     room = omega (arith, is .room, frame-room limit x heard call)
 
     go : M.Goes (t .master) step → Does p primary (t .master) step
-    go (M.rests g e s v f z) =
+    go (M.rests g e s v f z y) =
         does-rest (record {
           listens = record {
             is-it = record {
@@ -116,15 +122,17 @@ master-does limit p primary x heard call small is took = go (master-goes limit t
             };
             hears = ap (λ (m : Master). m .deaf) e;
             still = subst (λ (m : Master). Still (m .message .stage)) (sym e) v;
-            formed = subst (λ (m : Master). Formed (step .side .frame) (m .message)) (sym e) f;
+            formed = subst (λ (m : Master). Formed (m .primary) (step .side .frame) (m .message)) (sym e) f;
           };
           silent = s;
           same-receiver = ap (λ (m : Master). m .receiver) e;
           same-burst = ap (λ (m : Master). m .burst) e;
           same-noted = ap (λ (m : Master). m .noted) e;
           same-timer = ap (λ (m : Master). m .timer) e;
+          rested = subst (λ (m : Master). M.Rested (t .master) (m .message)) (sym e) y;
+          shut = λ q. z (ap (λ (m : Master). m .message .stage) (sym e) ∙ q);
         })
-    go (M.begins g w message e s c h a y k z) =
+    go (M.begins g w message e s c h a y k u z n) =
         does-start (record {
           w = w;
           message = message;
@@ -141,9 +149,11 @@ master-does limit p primary x heard call small is took = go (master-goes limit t
           header-is = a ∙ ap (λ (m : Master). m .message .header) (sym e);
           no-expansion = y;
           type-is = ap (λ (h : Header). h .frame) a ∙ k;
+          bit-is = ap (λ (h : Header). h .primary) a ∙ u ∙ took .same-primary ∙ is .primary-is;
           same-burst = ap (λ (m : Master). m .burst) e;
           same-noted = ap (λ (m : Master). m .noted) e;
           in-window = z;
+          counts = subst (λ (m : Master). M.Counts (t .master) (m .message)) (sym e) n;
         })
 
 -- a timer that has just been set has no open window
@@ -154,6 +164,15 @@ if-shut false a b p q = q
 
 shut-timer : (m : Master) (burst : Bool) (h : Header) → timerAfter m burst h .window ≡ 0
 shut-timer m burst h = if-shut burst _ _ (if-shut (h .frame =? back) _ _ (if-shut (toItself m h) _ _ refl refl) refl) (if-shut (h .frame =? ack) _ _ (if-shut (toItself m h) _ _ refl refl) refl)
+
+-- the message is as it was before what was heard
+rested-as : {m t : Master} {g : Message} → t .message ≡ m .message → M.Rested t g → M.Rested m g
+rested-as e r = record {
+  same-left = r .same-left ∙ ap (λ (g : Message). left (g .stage)) e;
+  same-attempts = λ z. r .same-attempts z ∙ ap (λ (g : Message). g .attempts) e;
+  same-header = λ z. r .same-header z ∙ ap (λ (g : Message). g .header) e;
+  waits-on = λ z. let q = r .waits-on (ap (λ (g : Message). g .stage) e ∙ z) in (q .0, q .1 ∙ ap (λ (g : Message). g .attempts) e);
+}
 
 -- with no open window it rests
 rests-shut : {p : Profile} {primary : Bool} {t : Master} {step : MasterStep} → t .timer .window ≡ 0 → Does p primary t step → Rests p primary t step
@@ -168,6 +187,7 @@ module _ (limit : ℕ) (small : limit ≤ 255) (p : Profile) (primary : Bool) (x
     pub receiver-is : step .side .master .receiver ≡ r
     pub same-burst : step .side .master .burst ≡ x .master .burst
     pub same-noted : step .side .master .noted ≡ x .master .noted
+    pub rested : M.Rested (x .master) (step .side .master .message)
 
   pub master-mid : (w : List ℕ) (message : Whole) (k : ℕ) → Spoken w message → suc k < length w → x .master .receiver ≡ readerAfter idle (take k w)
       → HeardMid (readerAfter idle (take (suc k) w)) (masterTick limit x (Character (getD w k 0)) call)
@@ -181,6 +201,7 @@ module _ (limit : ℕ) (small : limit ≤ 255) (p : Profile) (primary : Bool) (x
         receiver-is = rest .same-receiver ∙ took .receiver-is;
         same-burst = rest .same-burst ∙ took .burst-is;
         same-noted = rest .same-noted ∙ took .noted-is;
+        rested = rested-as (took .same-message) (rest .rested);
       }
 
   -- at a frame's end
@@ -191,6 +212,8 @@ module _ (limit : ℕ) (small : limit ≤ 255) (p : Profile) (primary : Bool) (x
     pub burst-is : step .side .master .burst ≡ burstAfter (x .master .burst) (x .master .noted) (message .header)
     pub noted-is : step .side .master .noted ≡ notedAfter (x .master .noted) (message .header)
     pub timer-is : step .side .master .timer ≡ timerAfter (x .master) (burstAfter (x .master .burst) (x .master .noted) (message .header)) (message .header)
+    pub gone : left (step .side .master .message .stage) ≡ 0
+    pub waits-on : x .master .message .stage ≡ Waiting → (step .side .master .message .stage ≡ Waiting) × (step .side .master .message .attempts ≡ x .master .message .attempts)
 
   pub master-frame : (w : List ℕ) (message : Whole) (k : ℕ) → Spoken w message → suc k ≡ length w → x .master .receiver ≡ readerAfter idle (take k w)
       → HeardFrame message (masterTick limit x (Character (getD w k 0)) call)
@@ -206,6 +229,8 @@ module _ (limit : ℕ) (small : limit ≤ 255) (p : Profile) (primary : Bool) (x
         burst-is = rest .same-burst ∙ took .burst-is;
         noted-is = rest .same-noted ∙ took .noted-is;
         timer-is = rest .same-timer ∙ took .timer-is;
+        gone = rest .rested .same-left ∙ took .gone;
+        waits-on = λ z. let q = took .waits-on z in let r = rest .rested .waits-on (q .0) in (r .0, r .1 ∙ q .1);
       }
 
   -- on the silent line
@@ -216,6 +241,14 @@ module _ (limit : ℕ) (small : limit ≤ 255) (p : Profile) (primary : Bool) (x
     pub next-is : t .timer .next ≡ timerCounted (x .master) .next
     pub quiet-is : t .timer .quiet ≡ timerCounted (x .master) .quiet
     pub window-is : t .timer .window ≤ timerCounted (x .master) .window
+    pub one-less : left (t .message .stage) ≡ left (x .master .message .stage) - 1
+    pub same-attempts : t .message .attempts ≡ x .master .message .attempts
+    pub same-header : t .message .header ≡ x .master .message .header
+    pub same-retries : t .retries ≡ x .master .retries
+    pub retried : 1 ≤ left (x .master .message .stage) → t .message .stage ≡ Waiting → x .master .message .attempts ≤ x .master .retries
+    pub free-shut : 1 ≤ left (x .master .message .stage) → t .message .stage ≡ Free → t .timer .window ≡ 0
+    pub over : 1 ≤ left (x .master .message .stage) → left (t .message .stage) ≡ 0 → (t .message .stage ≡ Waiting) ⊎ (t .message .stage ≡ Free)
+    pub waits-on : x .master .message .stage ≡ Waiting → (t .message .stage ≡ Waiting) × (t .timer ≡ timerCounted (x .master))
 
   pub master-silence : Ready (x .master .receiver)
       → SilentIs (masterTakes (x .master) Silence (masterData x Silence) .master) × Does p primary (masterTakes (x .master) Silence (masterData x Silence) .master) (masterTick limit x Silence call)
@@ -229,6 +262,14 @@ module _ (limit : ℕ) (small : limit ≤ 255) (p : Profile) (primary : Bool) (x
           next-is = took .next-is;
           quiet-is = took .quiet-is;
           window-is = took .window-is;
+          one-less = took .one-less;
+          same-attempts = took .same-attempts;
+          same-header = took .same-header;
+          same-retries = took .took .same-retries;
+          retried = took .retried;
+          free-shut = took .free-shut;
+          over = took .over;
+          waits-on = took .waits-on;
         },
         master-does limit p primary x Silence call small (l .is-it) (took .took),
       )
@@ -241,9 +282,10 @@ pub record Finished (p : Profile) (primary : Bool) (x : MasterSide) (step : Mast
   pub same-burst : step .side .master .burst ≡ x .master .burst
   pub same-noted : step .side .master .noted ≡ x .master .noted
   pub same-timer : step .side .master .timer ≡ x .master .timer
+  pub rested : M.Rested (x .master) (step .side .master .message)
 
 pub master-finished : (limit : ℕ) (p : Profile) (primary : Bool) (x : MasterSide) (heard : Heard) (call : MasterCall) → limit ≤ 255 → MasterIs p primary x → x .master .deaf ≡ true
-    → Still (x .master .message .stage) → Formed (x .frame) (x .master .message) → x .master .timer .window ≡ 0 → Finished p primary x (masterTick limit x heard call)
+    → Still (x .master .message .stage) → Formed (x .master .primary) (x .frame) (x .master .message) → x .master .timer .window ≡ 0 → Finished p primary x (masterTick limit x heard call)
 master-finished limit p primary x heard call small is deaf still formed shut =
     let e : masterTakes (x .master) heard (masterData x heard) .master ≡ x .master = ap (λ (t : MasterTaken). t .master) (T.takes-nothing (x .master) heard (masterData x heard) deaf) in
     let took : T.Took (x .frame) (x .master) (masterTakes (x .master) heard (masterData x heard) .master) =
@@ -256,15 +298,16 @@ master-finished limit p primary x heard call small is deaf still formed shut =
       same-burst = rest .same-burst ∙ ap (λ (m : Master). m .burst) e;
       same-noted = rest .same-noted ∙ ap (λ (m : Master). m .noted) e;
       same-timer = rest .same-timer ∙ ap (λ (m : Master). m .timer) e;
+      rested = rested-as (ap (λ (m : Master). m .message) e) (rest .rested);
     }
 
 -- ---- devices
 
 -- without a damaged frame the frame buffer stays behind what was heard
-plain : (d : Device) (frame : List ℕ) (e : Event) → (e ≡ Nothing) → errorFrame d e frame ≡ frame
+pub plain : (d : Device) (frame : List ℕ) (e : Event) → (e ≡ Nothing) → errorFrame d e frame ≡ frame
 plain d frame e q = ap (λ (z : Event). errorFrame d z frame) q
 
-plain-frame : (d : Device) (frame : List ℕ) (e : Event) (w : Whole) → (e ≡ Frame w) → errorFrame d e frame ≡ frame
+pub plain-frame : (d : Device) (frame : List ℕ) (e : Event) (w : Whole) → (e ≡ Frame w) → errorFrame d e frame ≡ frame
 plain-frame d frame e w q = ap (λ (z : Event). errorFrame d z frame) q
 
 -- every tick of a device, from what it is behind what it heard
@@ -302,6 +345,7 @@ pub record DeviceRests (p : Profile) (x : DeviceSide) (t : Device) (step : Devic
   pub same : SameDevice (x .device) (step .side .device)
   pub same-receiver : step .side .device .receiver ≡ t .receiver
   pub same-burst : step .side .device .burst ≡ t .burst
+  pub same-primary : step .side .device .primary ≡ t .primary
   pub same-due : step .side .device .due ≡ t .due
   pub same-request : step .side .device .request ≡ t .request
   pub less-in-hand : inHand (step .side .device .turn) ≤ inHand (t .turn)
@@ -315,6 +359,7 @@ rests-from p x t step q same (D.rests sd sil deaf rec bur pri due req less hand 
   same = joined same sd;
   same-receiver = rec;
   same-burst = bur;
+  same-primary = pri;
   same-due = due;
   same-request = req;
   less-in-hand = less;
@@ -344,6 +389,7 @@ pub record FollowsOn (x : DeviceSide) (step : DeviceStep) : Type 0 where
   pub begun : D.Begun (x .device) step Bursts (x .device .burst)
   pub command : ℕ
   pub header-is : begun .message .header ≡ D.backFor (x .device) command
+  pub primary-is : step .side .device .primary ≡ (if x .device .primary then false else true)
 
 pub device-follows : (limit : ℕ) (x : DeviceSide) (heard : Heard) (call : DeviceCall) → 2 ≤ limit → limit ≤ 255 → 1 ≤ x .device .profile .sto → x .device .deaf ≡ true
     → Sound (x .device) (x .frame) (x .contents) → x .device .turn ≡ Follows → x .device .burst ≡ true → FollowsOn x (deviceTick limit x heard call)
@@ -352,7 +398,7 @@ device-follows limit x heard call low high some deaf sound turn on = go (deaf-do
     go : D.Goes (x .device) (deviceTick limit x heard call) → FollowsOn x (deviceTick limit x heard call)
     go (D.rests sd sil deaf′ rec bur pri due req less hand sound′ nb) = absurd (nb turn)
     go (D.answers burst primary b hd req own short nl nf nb) = absurd (nb turn)
-    go (D.bursts b command f hd pr) = record { begun = b; command = command; header-is = hd }
+    go (D.bursts b command f hd pr) = record { begun = b; command = command; header-is = hd; primary-is = pr }
 
 module _ (limit : ℕ) (low : 2 ≤ limit) (high : limit ≤ 255) (p : Profile) (some : 1 ≤ p .sto) (x : DeviceSide) (call : DeviceCall) (l : DeviceListens p x) where
   some-own : 1 ≤ x .device .profile .sto
@@ -365,6 +411,7 @@ module _ (limit : ℕ) (low : 2 ≤ limit) (high : limit ≤ 255) (p : Profile) 
     pub same : SameDevice (x .device) (step .side .device)
     pub receiver-is : step .side .device .receiver ≡ r
     pub same-burst : step .side .device .burst ≡ x .device .burst
+    pub same-primary : step .side .device .primary ≡ x .device .primary
 
   pub device-mid : (w : List ℕ) (message : Whole) (k : ℕ) → Spoken w message → suc k < length w → x .device .receiver ≡ readerAfter idle (take k w)
       → DeviceMid (readerAfter idle (take (suc k) w)) (deviceTick limit x (Character (getD w k 0)) call)
@@ -379,6 +426,7 @@ module _ (limit : ℕ) (low : 2 ≤ limit) (high : limit ≤ 255) (p : Profile) 
         same = rest .same;
         receiver-is = rest .same-receiver ∙ took .receiver-is;
         same-burst = rest .same-burst ∙ took .took .same-burst;
+        same-primary = rest .same-primary ∙ took .took .same-primary;
       }
 
   -- at a frame's end
@@ -388,10 +436,12 @@ module _ (limit : ℕ) (low : 2 ≤ limit) (high : limit ≤ 255) (p : Profile) 
     pub same : SameDevice (x .device) (step .side .device)
     pub receiver-is : step .side .device .receiver ≡ idle
     pub same-burst : step .side .device .burst ≡ x .device .burst
+    pub same-primary : step .side .device .primary ≡ x .device .primary
     pub due-is : step .side .device .due ≡ (if message .header .frame =? stx then p .rt1p else dueAfter (x .device) (message .header))
     pub in-time : inHand (step .side .device .turn) ≤ p .sto
     pub asked-own : (step .side .device .turn ≡ Listens → ⊥) → isOwn (x .device) (message .header) ≡ true
     pub only-stx : (step .side .device .turn ≡ Listens → ⊥) → message .header .frame ≡ stx
+    pub request-is : (step .side .device .turn ≡ Listens → ⊥) → step .side .device .request ≡ message .header
 
   pub device-frame : (w : List ℕ) (message : Whole) (k : ℕ) → Spoken w message → suc k ≡ length w → x .device .receiver ≡ readerAfter idle (take k w) → message .expansion ≡ 0
       → DeviceFrame message (deviceTick limit x (Character (getD w k 0)) call)
@@ -427,10 +477,12 @@ module _ (limit : ℕ) (low : 2 ≤ limit) (high : limit ≤ 255) (p : Profile) 
             same = rest .same;
             receiver-is = rest .same-receiver ∙ took .receiver-is;
             same-burst = rest .same-burst ∙ took .took .same-burst;
+            same-primary = rest .same-primary ∙ took .took .same-primary;
             due-is = rest .same-due ∙ due ∙ rt1p-is ∙ sym (if-is-true (message .header .frame =? stx) (p .rt1p) (dueAfter (x .device) (message .header)) (eq-eqb (message .header .frame) stx type));
             in-time = omega (arith, rest .less-in-hand, ap inHand turn, ap (λ (q : Profile). q .sto) (l .profile-is));
             asked-own = λ z. own;
             only-stx = λ z. type;
+            request-is = λ z. rest .same-request ∙ req;
           }
       by-turn (DT.listens-on turn due) =
           let rest = rests-from p x t step (l .profile-is) (took .took .same) goes (λ a b. a turn) (λ f. listens-follows (sym turn ∙ f)) in
@@ -441,21 +493,23 @@ module _ (limit : ℕ) (low : 2 ≤ limit) (high : limit ≤ 255) (p : Profile) 
             same = rest .same;
             receiver-is = rest .same-receiver ∙ took .receiver-is;
             same-burst = rest .same-burst ∙ took .took .same-burst;
+            same-primary = rest .same-primary ∙ took .took .same-primary;
             due-is = rest .same-due ∙ due ∙ ap (λ (n : ℕ). if message .header .frame =? stx then n else dueAfter (x .device) (message .header)) rt1p-is;
             in-time = omega (arith, rest .less-in-hand, ap inHand turn);
             asked-own = λ z. absurd (z still);
             only-stx = λ z. absurd (z still);
+            request-is = λ z. absurd (z still);
           }
 
   -- on the silent line
   pub data DeviceSilent (step : DeviceStep) : Type 0 where
     stays-quiet : DeviceListens p (step .side) → step .sent ≡ Silent → SameDevice (x .device) (step .side .device) → step .side .device .receiver ≡ idle → step .side .device .burst ≡ x .device .burst
         → step .side .device .due ≡ x .device .due - 1 → (x .device .burst ≡ true → x .device .due ≡ 1 → ⊥) → inHand (step .side .device .turn) ≤ inHand (x .device .turn) - 1
-        → ((step .side .device .turn ≡ Listens → ⊥) → x .device .turn ≡ Listens → ⊥) → DeviceSilent step
+        → ((step .side .device .turn ≡ Listens → ⊥) → x .device .turn ≡ Listens → ⊥) → step .side .device .primary ≡ x .device .primary → step .side .device .request ≡ x .device .request → DeviceSilent step
     begins-answer : (t : Device) (burst : Bool) (b : D.Begun t step Answers burst) → SameDevice (x .device) t → t .burst ≡ x .device .burst → b .message .header ≡ answerHeader (x .device .request) burst
-        → isOwn (x .device) (x .device .request) ≡ true → (x .device .request .long ≡ false → burst ≡ x .device .burst) → (x .device .turn ≡ Listens → ⊥) → step .side .device .request ≡ x .device .request → DeviceSilent step
+        → isOwn (x .device) (x .device .request) ≡ true → (x .device .request .long ≡ false → burst ≡ x .device .burst) → (x .device .turn ≡ Listens → ⊥) → step .side .device .request ≡ x .device .request → step .side .device .primary ≡ firstFor (x .device) → DeviceSilent step
     begins-back : (t : Device) (b : D.Begun t step Bursts (t .burst)) (command : ℕ) → SameDevice (x .device) t → t .burst ≡ x .device .burst → t .primary ≡ x .device .primary
-        → x .device .burst ≡ true → x .device .due ≡ 1 → b .message .header ≡ D.backFor t command → DeviceSilent step
+        → x .device .burst ≡ true → x .device .due ≡ 1 → b .message .header ≡ D.backFor t command → step .side .device .primary ≡ (if x .device .primary then false else true) → DeviceSilent step
 
   pub device-silence : Ready (x .device .receiver) → DeviceSilent (deviceTick limit x Silence call)
   unfolding Ready
@@ -479,7 +533,7 @@ module _ (limit : ℕ) (low : 2 ≤ limit) (high : limit ≤ 255) (p : Profile) 
       by-turn : DT.SilentTurn (x .device) (deviceTakes (x .device) Silence) → D.Goes t step → DeviceSilent step
       by-turn (DT.back-is-due on one f) (D.rests sd sil deaf rec bur pri due req less hand sound nb) = absurd (nb f)
       by-turn (DT.back-is-due on one f) (D.answers burst primary b hd req own short nl nf nb) = absurd (nb f)
-      by-turn (DT.back-is-due on one f) (D.bursts b command g hd pr) = begins-back t b command same (took .took .same-burst) (took .took .same-primary) on one hd
+      by-turn (DT.back-is-due on one f) (D.bursts b command g hd pr) = begins-back t b command same (took .took .same-burst) (took .took .same-primary) on one hd (pr ∙ ap (λ (b : Bool). if b then false else true) (took .took .same-primary))
       by-turn (DT.counts-on nd due req nf less ll) (D.rests sd sil deaf rec bur pri due′ req′ less′ hand sound nb) =
           stays-quiet
           (record { profile-is = sd .same-profile ∙ same .same-profile ∙ l .profile-is; hears = deaf; hand = hand; sound = sound })
@@ -491,6 +545,8 @@ module _ (limit : ℕ) (low : 2 ≤ limit) (high : limit ≤ 255) (p : Profile) 
           nd
           (omega arith)
           (λ z q. z (hand-listens (step .side .device) (step .side .frame) hand (omega (arith, ap inHand (ll q)))))
+          (pri ∙ took .took .same-primary)
+          (req′ ∙ req)
       by-turn (DT.counts-on nd due req nf less ll) (D.answers burst primary b hd req′ own short nl nq nb) =
           begins-answer t burst b same (took .took .same-burst)
           (hd ∙ ap (λ (h : Header). answerHeader h burst) req)
@@ -498,4 +554,5 @@ module _ (limit : ℕ) (low : 2 ≤ limit) (high : limit ≤ 255) (p : Profile) 
           (λ q. short (ap (λ (h : Header). h .long) req ∙ q) ∙ took .took .same-burst)
           (λ q. nl (ll q))
           (req′ ∙ req)
+          (primary ∙ (λ i. if took .took .same-burst i then took .took .same-primary i else true))
       by-turn (DT.counts-on nd due req nf less ll) (D.bursts b command g hd pr) = absurd (nf g)

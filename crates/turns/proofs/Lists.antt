@@ -1,7 +1,8 @@
 -- A tick of all devices: what is said of each, said of the list. Nothing here depends on how many devices there are.
 use Prim.Native.Nat.{ℕ}
 use mathlib.Core.Path.{_≡_, refl, sym, ap, ap₂, _∙_}
-use mathlib.Core.Bool.{Bool}
+use mathlib.Core.Bool.{Bool, true, false}
+use Rattle.base.proofs.Choices.{true-false}
 use mathlib.Core.List.{List, [], _∷_}
 use Rattle.line.specs.declared.Heard.{Heard}
 use Rattle.line.specs.declared.Heard.the-variants.{Silence, Character}
@@ -18,6 +19,7 @@ pub record Quietly (R : DeviceSide → Type 0) (x : DeviceSide) (s : DeviceStep)
   pub silent : s .sent ≡ Silent
   pub same : SameDevice (x .device) (s .side .device)
   pub same-burst : s .side .device .burst ≡ x .device .burst
+  pub same-primary : s .side .device .primary ≡ x .device .primary
   pub good : R (s .side)
 
 -- a device that sends c in a tick, and of which L holds behind it
@@ -92,42 +94,50 @@ module _ {R : DeviceSide → Type 0} where
 
 -- ---- BURST and the devices
 
--- every device bursts behind the tick just if it did before
+-- every device bursts behind the tick just if it did before, and its next BACK is for the same master
 pub data AllKept : List DeviceSide → List DeviceStep → Type 0 where
   none-kept : AllKept [] []
-  kept-and : {x : DeviceSide} {s : DeviceStep} {xs : List DeviceSide} {ss : List DeviceStep} → SameDevice (x .device) (s .side .device) → s .side .device .burst ≡ x .device .burst → AllKept xs ss → AllKept (x ∷ xs) (s ∷ ss)
+  kept-and : {x : DeviceSide} {s : DeviceStep} {xs : List DeviceSide} {ss : List DeviceStep} → SameDevice (x .device) (s .side .device) → s .side .device .burst ≡ x .device .burst → s .side .device .primary ≡ x .device .primary → AllKept xs ss → AllKept (x ∷ xs) (s ∷ ss)
 
 pub quiet-kept : {R : DeviceSide → Type 0} {xs : List DeviceSide} {ss : List DeviceStep} → AllQuiet R xs ss → AllKept xs ss
 quiet-kept no-more = none-kept
-quiet-kept (quiet-and q a) = kept-and (q .same) (q .same-burst) (quiet-kept a)
+quiet-kept (quiet-and q a) = kept-and (q .same) (q .same-burst) (q .same-primary) (quiet-kept a)
 
 pub one-kept : (limit : ℕ) (heard : Heard) {P Q R : DeviceSide → Type 0} {xs : List DeviceSide} (calls : List DeviceCall)
-    → ((x : DeviceSide) (c : DeviceCall) → P x → SameDevice (x .device) (deviceTick limit x heard c .side .device) × (deviceTick limit x heard c .side .device .burst ≡ x .device .burst))
+    → ((x : DeviceSide) (c : DeviceCall) → P x → SameDevice (x .device) (deviceTick limit x heard c .side .device) × (deviceTick limit x heard c .side .device .burst ≡ x .device .burst) × (deviceTick limit x heard c .side .device .primary ≡ x .device .primary))
     → ((x : DeviceSide) (c : DeviceCall) → Q x → Quietly R x (deviceTick limit x heard c)) → OneOf P Q xs → AllKept xs (deviceTicks limit heard xs calls)
 unfolding deviceTicks
-one-kept limit heard [] f g (here {x = x} p qs) = kept-and (f x no-call p .0) (f x no-call p .1) (quiet-kept (all-quiet limit heard [] g qs))
-one-kept limit heard (c ∷ cs) f g (here {x = x} p qs) = kept-and (f x c p .0) (f x c p .1) (quiet-kept (all-quiet limit heard cs g qs))
-one-kept limit heard [] f g (further {x = x} q o) = kept-and (g x no-call q .same) (g x no-call q .same-burst) (one-kept limit heard [] f g o)
-one-kept limit heard (c ∷ cs) f g (further {x = x} q o) = kept-and (g x c q .same) (g x c q .same-burst) (one-kept limit heard cs f g o)
+one-kept limit heard [] f g (here {x = x} p qs) = kept-and (f x no-call p .0) (f x no-call p .1) (f x no-call p .2) (quiet-kept (all-quiet limit heard [] g qs))
+one-kept limit heard (c ∷ cs) f g (here {x = x} p qs) = kept-and (f x c p .0) (f x c p .1) (f x c p .2) (quiet-kept (all-quiet limit heard cs g qs))
+one-kept limit heard [] f g (further {x = x} q o) = kept-and (g x no-call q .same) (g x no-call q .same-burst) (g x no-call q .same-primary) (one-kept limit heard [] f g o)
+one-kept limit heard (c ∷ cs) f g (further {x = x} q o) = kept-and (g x c q .same) (g x c q .same-burst) (g x c q .same-primary) (one-kept limit heard cs f g o)
 
-each-kept : {burst : Bool} {noted : Noted} {xs : List DeviceSide} {ss : List DeviceStep} → AllKept xs ss → All (BurstIs burst noted) xs → All (BurstIs burst noted) (sides ss)
+each-kept : {burst : Bool} {noted : Noted} {next : Bool} {xs : List DeviceSide} {ss : List DeviceStep} → AllKept xs ss → All (BurstIs burst noted next) xs → All (BurstIs burst noted next) (sides ss)
 unfolding sides
 each-kept none-kept none = none
-each-kept (kept-and same e qs) (and b bs) =
+each-kept (kept-and same e n qs) (and b bs) =
     and
-    (record { burst-set = λ z. b .burst-set (sym e ∙ z); long-noted = λ z. b .long-noted (sym e ∙ z); unique-noted = λ z. b .unique-noted (sym e ∙ z) ∙ sym (same .same-unique) })
+    (record { burst-set = λ z. b .burst-set (sym e ∙ z); long-noted = λ z. b .long-noted (sym e ∙ z); unique-noted = λ z. b .unique-noted (sym e ∙ z) ∙ sym (same .same-unique); next-is = λ z. n ∙ b .next-is (sym e ∙ z) })
     (each-kept qs bs)
 
 some-kept : {xs : List DeviceSide} {ss : List DeviceStep} → AllKept xs ss → Some Bursting xs → Some Bursting (sides ss)
 unfolding sides
-some-kept (kept-and same e qs) (this b) = this (e ∙ b)
-some-kept (kept-and same e qs) (later b) = later (some-kept qs b)
+some-kept (kept-and same e n qs) (this b) = this (e ∙ b)
+some-kept (kept-and same e n qs) (later b) = later (some-kept qs b)
 
-pub agreed-kept : {burst : Bool} {noted : Noted} {xs : List DeviceSide} {ss : List DeviceStep} → AllKept xs ss → Agreed burst noted xs → Agreed burst noted (sides ss)
+pub agreed-kept : {burst : Bool} {noted : Noted} {next : Bool} {xs : List DeviceSide} {ss : List DeviceStep} → AllKept xs ss → Agreed burst noted next xs → Agreed burst noted next (sides ss)
 agreed-kept a g = record { each = each-kept a (g .each); one-bursts = λ z. some-kept a (g .one-bursts z) }
 
-pub agreed-same : {R : DeviceSide → Type 0} {burst : Bool} {noted : Noted} {xs : List DeviceSide} {ss : List DeviceStep} → AllQuiet R xs ss → Agreed burst noted xs → Agreed burst noted (sides ss)
+pub agreed-same : {R : DeviceSide → Type 0} {burst : Bool} {noted : Noted} {next : Bool} {xs : List DeviceSide} {ss : List DeviceStep} → AllQuiet R xs ss → Agreed burst noted next xs → Agreed burst noted next (sides ss)
 agreed-same a g = agreed-kept (quiet-kept a) g
+
+-- with BURST clear no device bursts, and it does not matter whom the next BACK would be for
+pub any-next : {noted : Noted} {next other : Bool} {xs : List DeviceSide} → Agreed false noted next xs → Agreed false noted other xs
+any-next {noted} {next} {other} a = record { each = go (a .each); one-bursts = a .one-bursts }
+  where
+    go : {ys : List DeviceSide} → All (BurstIs false noted next) ys → All (BurstIs false noted other) ys
+    go none = none
+    go (and b bs) = and (record { burst-set = b .burst-set; long-noted = b .long-noted; unique-noted = b .unique-noted; next-is = λ z. absurd (true-false (sym (b .burst-set z))) }) (go bs)
 
 module _ {L R : DeviceSide → Type 0} {c : ℕ} where
   pub one-carried : {xs : List DeviceSide} {ss : List DeviceStep} → OneLoud L R c xs ss → carried ss ≡ Character c

@@ -4,10 +4,11 @@ use native.Mathlib.Omega.{arith}
 use mathlib.Core.Path.{_≡_, refl, sym, ap, subst, _∙_}
 use mathlib.Core.Bool.{Bool, true, false}
 use mathlib.Core.List.{List}
+use mathlib.Core.Logic.{_⊎_, inl, inr}
 use lib.ListN.{length, getD, take}
 use lib.Seq.{getD-take}
-use borrow.Author.Tests.{ltb-true, ltb-false, lt-ltb}
-use Rattle.base.specs.Choice.{if_then_else_, _<?_, _outside_to_}
+use borrow.Author.Tests.{ltb-true, ltb-false, lt-ltb, le-leb, leb-false}
+use Rattle.base.specs.Choice.{if_then_else_, _<?_, _≤?_, _outside_to_}
 use Rattle.base.specs.Store.{stored}
 use Rattle.base.specs.declared.Refusal.{Refusal}
 use Rattle.base.specs.declared.Refusal.the-variants.{PreambleLength, Address, Command, DataLong, MessageInHand}
@@ -23,7 +24,7 @@ use Rattle.frame.proofs.Taken.{Fits}
 use Rattle.line.specs.Reader.{passing}
 use Rattle.line.specs.declared.Whole.{Whole}
 use Rattle.line.proofs.Hearing.{wholeMessage}
-use Rattle.turns.specs.Master.{Called, accepted, refused, Request, requested, requestHeader, hasMessage, commandRefused, behind, timer, brokenTimer, attempted, sends, sendsAt, sendsBy, masterSends}
+use Rattle.turns.specs.Master.{Called, accepted, refused, Request, requested, requestHeader, hasMessage, commandRefused, behind, timer, brokenTimer, attempted, sends, sendsAt, oneMore, sendsBy, masterSends}
 use Rattle.turns.specs.Link.{MasterCall, no-request, requests, Answer, none, was-taken, was-refused, MasterStep, masterCalls, masterCalled, masterSent}
 use Rattle.turns.specs.declared.Sent.the-variants.{Silent, Character}
 use Rattle.turns.specs.declared.Stage.{Stage}
@@ -59,10 +60,17 @@ holds preamble h bytes frame fits room =
 
 -- ---- the message in hand
 
--- the master's message, if it has one, stands in its frame buffer as an STX
-pub data Formed (frame : List ℕ) (g : Message) : Type 0 where
-  no-message : g .stage ≡ Free → Formed frame g
-  stands : (w : List ℕ) (message : Whole) → Holds frame (g .length) w message → message .header ≡ g .header → message .expansion ≡ 0 → g .header .frame ≡ stx → Formed frame g
+-- the master's message, if it has one, stands in its frame buffer as an STX with its own master bit
+pub data Formed (primary : Bool) (frame : List ℕ) (g : Message) : Type 0 where
+  no-message : g .stage ≡ Free → Formed primary frame g
+  stands : (w : List ℕ) (message : Whole) → Holds frame (g .length) w message → message .header ≡ g .header → message .expansion ≡ 0 → g .header .frame ≡ stx → g .header .primary ≡ primary → Formed primary frame g
+
+-- the silent ticks left for the ACK; 0 where none is awaited
+abbrev pub left : Stage → ℕ
+left Free = 0
+left Waiting = 0
+left (Sending n) = 0
+left (Awaiting n) = n
 
 -- not sending
 pub data Still : Stage → Type 0 where
@@ -84,28 +92,55 @@ speaking m g = record { primary = m .primary; profile = m .profile; retries = m 
 abbrev pub spokenOut : Master → Message → Master
 spokenOut m g = record { primary = m .primary; profile = m .profile; retries = m .retries; receiver = passing; deaf = true; burst = m .burst; noted = m .noted; timer = brokenTimer m; message = g }
 
+-- the message of a master that rests: what is awaited stays, and so does a message that waits
+pub record Rested (m : Master) (g : Message) : Type 0 where
+  pub same-left : left (g .stage) ≡ left (m .message .stage)
+  pub same-attempts : 1 ≤ left (g .stage) → g .attempts ≡ m .message .attempts
+  pub same-header : 1 ≤ left (g .stage) → g .header ≡ m .message .header
+  pub waits-on : m .message .stage ≡ Waiting → (g .stage ≡ Waiting) × (g .attempts ≡ m .message .attempts)
+
+-- the attempts of a master that begins its STX
+pub record Counts (m : Master) (g : Message) : Type 0 where
+  pub some : 1 ≤ g .attempts
+  pub again : m .message .stage ≡ Waiting → m .message .attempts ≤ m .retries → g .attempts ≡ m .message .attempts + 1
+  pub from : (m .message .stage ≡ Waiting) ⊎ (m .message .stage ≡ Free)
+
+pub one-more-some : (retries n : ℕ) → 1 ≤ oneMore retries n
+unfolding if_then_else_
+one-more-some retries n = go (n ≤? retries) refl
+  where
+    go : (t : Bool) → (n ≤? retries) ≡ t → 1 ≤ (if t then n + 1 else n)
+    go true e = omega arith
+    go false e = omega (arith, leb-false n retries e)
+
+one-more-is : (retries n : ℕ) → n ≤ retries → oneMore retries n ≡ n + 1
+one-more-is retries n h = if-is-true (n ≤? retries) (n + 1) n (le-leb n retries h)
+
 pub data Goes (m : Master) (step : MasterStep) : Type 0 where
   -- it sends nothing: then no message waits in an open window
-  rests : (g : Message) → step .side .master ≡ resting m g → step .sent ≡ Silent → Still (g .stage) → Formed (step .side .frame) g
-      → (g .stage ≡ Waiting → m .timer .window ≡ 0) → Goes m step
+  rests : (g : Message) → step .side .master ≡ resting m g → step .sent ≡ Silent → Still (g .stage) → Formed (m .primary) (step .side .frame) g
+      → (g .stage ≡ Waiting → m .timer .window ≡ 0) → Rested m g → Goes m step
   -- it begins its STX in an open window
   begins : (g : Message) (w : List ℕ) (message : Whole) → step .side .master ≡ speaking m g → g .stage ≡ Sending 1 → step .sent ≡ Character (getD w 0 0)
-      → Holds (step .side .frame) (g .length) w message → message .header ≡ g .header → message .expansion ≡ 0 → g .header .frame ≡ stx
-      → 0 < m .timer .window → Goes m step
+      → Holds (step .side .frame) (g .length) w message → message .header ≡ g .header → message .expansion ≡ 0 → g .header .frame ≡ stx → g .header .primary ≡ m .primary
+      → 0 < m .timer .window → Counts m g → Goes m step
 
 still-at : {s t : Stage} → s ≡ t → Still t → Still s
 still-at e v = subst Still (sym e) v
 
-free-waiting : Free ≡ Waiting → ⊥
+unmoved : (m : Master) → Rested m (m .message)
+unmoved m = record { same-left = refl; same-attempts = λ z. refl; same-header = λ z. refl; waits-on = λ z. (z, refl) }
+
+pub free-waiting : Free ≡ Waiting → ⊥
 free-waiting e = let z : _≡_ {A = ℕ} 0 1 = cc in omega arith
 
-awaiting-waiting : (n : ℕ) → Awaiting n ≡ Waiting → ⊥
+pub awaiting-waiting : (n : ℕ) → Awaiting n ≡ Waiting → ⊥
 awaiting-waiting n e = let z : _≡_ {A = ℕ} 0 1 = cc in omega arith
 
 waiting-free : Waiting ≡ Free → ⊥
 waiting-free e = free-waiting (sym e)
 
-module _ (m : Master) (frame bytes : List ℕ) (told : MasterTold) (answer : Answer) (formed : Formed frame (m .message)) where
+module _ (m : Master) (frame bytes : List ℕ) (told : MasterTold) (answer : Answer) (formed : Formed (m .primary) frame (m .message)) where
   Step : Stage → MasterStep
   Step stage = masterSent (sendsBy m frame stage) frame bytes told answer
 
@@ -115,31 +150,31 @@ module _ (m : Master) (frame bytes : List ℕ) (told : MasterTold) (answer : Ans
   waiting-goes e = open-or-not (0 <? m .timer .window) refl formed
     where
       by : Bool → MasterStep
-      by t = masterSent (if t then sendsAt m frame 0 (m .message .attempts + 1) else sends m false (m .timer) (m .message) (m .receiver) Silent) frame bytes told answer
+      by t = masterSent (if t then sendsAt m frame 0 (oneMore (m .retries) (m .message .attempts)) else sends m false (m .timer) (m .message) (m .receiver) Silent) frame bytes told answer
 
-      open-or-not : (t : Bool) → (0 <? m .timer .window) ≡ t → Formed frame (m .message) → Goes m (by (0 <? m .timer .window))
+      open-or-not : (t : Bool) → (0 <? m .timer .window) ≡ t → Formed (m .primary) frame (m .message) → Goes m (by (0 <? m .timer .window))
       open-or-not true q (no-message f) = absurd (waiting-free (sym e ∙ f))
-      open-or-not true q (stands w message h a x t) =
-          let g : Message = attempted (m .message) (Sending 1) (m .message .attempts + 1) in
+      open-or-not true q (stands w message h a x t u) =
+          let g : Message = attempted (m .message) (Sending 1) (oneMore (m .retries) (m .message .attempts)) in
           let more : (0 + 1 <? m .message .length) ≡ true = lt-ltb (0 + 1) (m .message .length) (omega (arith, h .sized, h .speaks .long)) in
-          let first : sendsAt m frame 0 (m .message .attempts + 1) ≡ sends m true (timer 0) g passing (Character (byteAt frame 0)) = if-is-true (0 + 1 <? m .message .length) _ _ more in
+          let first : sendsAt m frame 0 (oneMore (m .retries) (m .message .attempts)) ≡ sends m true (timer 0) g passing (Character (byteAt frame 0)) = if-is-true (0 + 1 <? m .message .length) _ _ more in
           let there : by (0 <? m .timer .window) ≡ masterSent (sends m true (timer 0) g passing (Character (byteAt frame 0))) frame bytes told answer =
           ap (λ (s : MasterSent). masterSent s frame bytes told answer) (if-is-true (0 <? m .timer .window) _ _ q ∙ first) in
           subst (Goes m) (sym there)
-          (begins g w message refl refl (ap Character (h .same 0 (omega (arith, h .speaks .long)))) (record { speaks = h .speaks; sized = h .sized; same = h .same }) a x t (ltb-true 0 (m .timer .window) q))
+          (begins g w message refl refl (ap Character (h .same 0 (omega (arith, h .speaks .long)))) (record { speaks = h .speaks; sized = h .sized; same = h .same }) a x t u (ltb-true 0 (m .timer .window) q) (record { some = one-more-some (m .retries) (m .message .attempts); again = λ z h. one-more-is (m .retries) (m .message .attempts) h; from = inl e }))
       open-or-not false q f =
           let shut : m .timer .window ≤ 0 = ltb-false 0 (m .timer .window) q in
           subst (Goes m) (sym (ap (λ (s : MasterSent). masterSent s frame bytes told answer) (if-is-false (0 <? m .timer .window) _ _ q)))
-          (rests (m .message) refl refl (still-at e is-waiting) f (λ z. omega arith))
+          (rests (m .message) refl refl (still-at e is-waiting) f (λ z. omega arith) (unmoved m))
 
   sends-still : Still (m .message .stage) → Goes m (masterSent (masterSends m frame) frame bytes told answer)
   unfolding masterSends Step
   sends-still v = go (m .message .stage) refl v
     where
       go : (s : Stage) → m .message .stage ≡ s → Still s → Goes m (Step (m .message .stage))
-      go Free e is-free = subst (λ (z : Stage). Goes m (Step z)) (sym e) (rests (m .message) refl refl (still-at e is-free) formed (λ z. absurd (free-waiting (sym e ∙ z))))
+      go Free e is-free = subst (λ (z : Stage). Goes m (Step z)) (sym e) (rests (m .message) refl refl (still-at e is-free) formed (λ z. absurd (free-waiting (sym e ∙ z))) (unmoved m))
       go Waiting e is-waiting = subst (λ (z : Stage). Goes m (Step z)) (sym e) (waiting-goes e)
-      go (Awaiting n) e (is-awaiting k) = subst (λ (z : Stage). Goes m (Step z)) (sym e) (rests (m .message) refl refl (still-at e (is-awaiting n)) formed (λ z. absurd (awaiting-waiting n (sym e ∙ z))))
+      go (Awaiting n) e (is-awaiting k) = subst (λ (z : Stage). Goes m (Step z)) (sym e) (rests (m .message) refl refl (still-at e (is-awaiting n)) formed (λ z. absurd (awaiting-waiting n (sym e ∙ z))) (unmoved m))
 
 -- ---- the host's request
 
@@ -150,18 +185,18 @@ newMessage m q count = record { stage = Waiting; header = requestHeader m q; len
 abbrev pub withMessage : Master → Message → Master
 withMessage m g = behind m (m .receiver) (m .burst) (m .noted) (m .timer) g
 
-stx-enough : (count : ℕ) → tooFew stx count ≡ false
+pub stx-enough : (count : ℕ) → tooFew stx count ≡ false
 unfolding if_then_else_
 stx-enough count = refl
 
-stx-typed : isType stx ≡ true
+pub stx-typed : isType stx ≡ true
 unfolding if_then_else_
 stx-typed = refl
 
 -- a request is refused, or it can be written and the master had no message
 pub data Asks (limit : ℕ) (m : Master) (q : Request) (count : ℕ) : Type 0 where
   is-refused : (why : Refusal) → requested limit m q count ≡ refused why → Asks limit m q count
-  is-taken : Fits (q .preamble) (requestHeader m q) count → m .message .stage ≡ Free → requested limit m q count ≡ accepted (withMessage m (newMessage m q count)) → Asks limit m q count
+  is-taken : Fits (q .preamble) (requestHeader m q) count → count ≤ limit → m .message .stage ≡ Free → requested limit m q count ≡ accepted (withMessage m (newMessage m q count)) → Asks limit m q count
 
 pub asks : (limit : ℕ) (m : Master) (q : Request) (count : ℕ) → limit ≤ 255 → Asks limit m q count
 unfolding requested
@@ -198,7 +233,7 @@ asks limit m q count small = first (q .preamble outside 5 to 20) refl
           count-high = omega (arith, ltb-false limit count d);
           enough = stx-enough count;
           typed = stx-typed;
-        }) (free (m .message .stage) e) (if-is-false A _ _ a ∙ if-is-false B _ _ b ∙ if-is-false C _ _ c ∙ if-is-false D _ _ d ∙ if-is-false E _ _ e)
+        }) (ltb-false limit count d) (free (m .message .stage) e) (if-is-false A _ _ a ∙ if-is-false B _ _ b ∙ if-is-false C _ _ c ∙ if-is-false D _ _ d ∙ if-is-false E _ _ e)
 
     fourth : (t : Bool) → D ≡ t → A ≡ false → B ≡ false → C ≡ false → Asks limit m q count
     fourth true d a b c = is-refused DataLong (if-is-false A _ _ a ∙ if-is-false B _ _ b ∙ if-is-false C _ _ c ∙ if-is-true D _ _ d)
@@ -218,7 +253,7 @@ asks limit m q count small = first (q .preamble outside 5 to 20) refl
 
 -- ---- the tick behind what was heard, for every call
 
-pub master-goes : (limit : ℕ) (t : MasterTaken) (call : MasterCall) (frame bytes : List ℕ) → limit ≤ 255 → 284 ≤ length frame → Still (t .master .message .stage) → Formed frame (t .master .message)
+pub master-goes : (limit : ℕ) (t : MasterTaken) (call : MasterCall) (frame bytes : List ℕ) → limit ≤ 255 → 284 ≤ length frame → Still (t .master .message .stage) → Formed (t .master .primary) frame (t .master .message)
     → Goes (t .master) (masterCalls limit t call frame bytes)
 master-goes limit t no-request frame bytes small room v f = sends-still (t .master) frame bytes (t .told) none f v
 master-goes limit t (requests q put) frame bytes small room v f = go (asks limit (t .master) q (length put) small)
@@ -232,14 +267,21 @@ master-goes limit t (requests q put) frame bytes small room v f = go (asks limit
     by : Called Master → MasterStep
     by c = masterCalled c m w frame bytes (t .told)
 
-    other : (m : Master) (g : Message) → {step : MasterStep} → Goes (withMessage m g) step → Goes m step
-    other m g (rests g′ a b c d e) = rests g′ a b c d e
-    other m g (begins g′ w′ x a b c d e f h i) = begins g′ w′ x a b c d e f h i
+    -- the new message of a master that had none
+    other : (m : Master) (g : Message) → {step : MasterStep} → m .message .stage ≡ Free → g .stage ≡ Waiting → Goes (withMessage m g) step → Goes m step
+    other m g z y (rests g′ a b c d e r) =
+        rests g′ a b c d e (record {
+          same-left = r .same-left ∙ ap left y ∙ ap left (sym z);
+          same-attempts = λ k. absurd (omega (arith, r .same-left, ap left y));
+          same-header = λ k. absurd (omega (arith, r .same-left, ap left y));
+          waits-on = λ k. absurd (free-waiting (sym z ∙ k));
+        })
+    other m g z y (begins g′ w′ x a b c d e f h i j k) = begins g′ w′ x a b c d e f h i j (record { some = k .some; again = λ q h. absurd (free-waiting (sym z ∙ q)); from = inr z })
 
     go : Asks limit m q (length put) → Goes m (by (requested limit m q (length put)))
     go (is-refused why e) = subst (λ (c : Called Master). Goes m (by c)) (sym e) (sends-still m frame bytes (t .told) (was-refused why) f v)
-    go (is-taken fits e p) =
+    go (is-taken fits few e p) =
         let g : Message = newMessage m q (length put) in
         let h : Holds (stored frame 0 w) (g .length) w (wholeMessage (requestHeader m q) put) = holds (q .preamble) (requestHeader m q) put frame fits room in
         subst (λ (c : Called Master). Goes m (by c)) (sym p)
-        (other m g (sends-still (withMessage m g) (stored frame 0 w) bytes (t .told) was-taken (stands w (wholeMessage (requestHeader m q) put) h refl refl refl) is-waiting))
+        (other m g e refl (sends-still (withMessage m g) (stored frame 0 w) bytes (t .told) was-taken (stands w (wholeMessage (requestHeader m q) put) h refl refl refl refl) is-waiting))

@@ -55,7 +55,7 @@ pub record MasterListens (p : Profile) (primary : Bool) (x : MasterSide) : Type 
   pub is-it : MasterIs p primary x
   pub hears : x .master .deaf ≡ false
   pub still : Still (x .master .message .stage)
-  pub formed : Formed (x .frame) (x .master .message)
+  pub formed : Formed (x .master .primary) (x .frame) (x .master .message)
 
 pub record DeviceListens (p : Profile) (x : DeviceSide) : Type 0 where
   pub profile-is : x .device .profile ≡ p
@@ -65,16 +65,18 @@ pub record DeviceListens (p : Profile) (x : DeviceSide) : Type 0 where
 
 -- ---- BURST and the devices: the masters' BURST, and whom they noted
 
-pub record BurstIs (burst : Bool) (noted : Noted) (x : DeviceSide) : Type 0 where
+-- `next` says whether the next BACK is for the primary
+pub record BurstIs (burst : Bool) (noted : Noted) (next : Bool) (x : DeviceSide) : Type 0 where
   pub burst-set : x .device .burst ≡ true → burst ≡ true
   pub long-noted : x .device .burst ≡ true → noted .long ≡ true
   pub unique-noted : x .device .burst ≡ true → noted .address ≡ x .device .unique
+  pub next-is : x .device .burst ≡ true → x .device .primary ≡ next
 
 abbrev pub Bursting : DeviceSide → Type 0
 Bursting x = x .device .burst ≡ true
 
-pub record Agreed (burst : Bool) (noted : Noted) (xs : List DeviceSide) : Type 0 where
-  pub each : All (BurstIs burst noted) xs
+pub record Agreed (burst : Bool) (noted : Noted) (next : Bool) (xs : List DeviceSide) : Type 0 where
+  pub each : All (BurstIs burst noted next) xs
   pub one-bursts : burst ≡ true → Some Bursting xs
 
 -- ---- the silent line
@@ -85,6 +87,7 @@ pub record DeviceQuiet (p : Profile) (g : ℕ) (h : Header) (n : ℕ) (x : Devic
   pub ready : Ready (x .device .receiver)
   pub in-time : inHand (x .device .turn) ≤ g
   pub asked-own : (x .device .turn ≡ Listens → ⊥) → isOwn (x .device) h ≡ true
+  pub asked-for : (x .device .turn ≡ Listens → ⊥) → x .device .request ≡ h
   pub back-due : x .device .burst ≡ true → x .device .due ≡ n
 
 pub record MasterQuiet (p : Profile) (primary burst : Bool) (noted : Noted) (x : MasterSide) : Type 0 where

@@ -64,7 +64,7 @@ lone limit l x (c ∷ cs) e =
 -- so the worked run does, and no two send in it
 pub worked-alone : EachTick NoTwoSend (run 255 fresh ticks)
 unfolding fresh
-worked-alone = no-two-send 255 (omega arith) (omega arith) fskProfile 3 fresh ticks fsk-taken fresh-starts (lone 255 fresh _ ticks refl)
+worked-alone = no-two-send 255 (omega arith) (omega arith) fskProfile 3 fresh ticks (record { made = fsk-taken; starts = fresh-starts; one-bursts = lone 255 fresh _ ticks refl })
 
 -- ---- both masters' messages go out while the device bursts
 
@@ -124,7 +124,7 @@ short-taken = refl
 
 pub one-device-alone : EachTick NoTwoSend (run 255 one-device both-ask)
 unfolding one-device
-one-device-alone = no-two-send 255 (omega arith) (omega arith) short 3 one-device both-ask short-taken one-device-starts (lone 255 one-device _ both-ask refl)
+one-device-alone = no-two-send 255 (omega arith) (omega arith) short 3 one-device both-ask (record { made = short-taken; starts = one-device-starts; one-bursts = lone 255 one-device _ both-ask refl })
 
 -- ---- two devices with one polling address: both answer the same STX
 

@@ -1,7 +1,7 @@
 -- The silent line: what holds of everyone while nobody sends, with BURST clear and with BURST set, and that it holds behind an STX and at the start.
 use Prim.Native.Nat.{ℕ, _+_, _-_, _*_, _≤_, _<_}
 use native.Mathlib.Omega.{arith}
-use mathlib.Core.Path.{_≡_, sym, ap, _∙_}
+use mathlib.Core.Path.{_≡_, refl, sym, ap, _∙_}
 use mathlib.Core.Bool.{Bool, true, false}
 use mathlib.Core.List.{List}
 use borrow.Author.Tests.{eq-eqb}
@@ -16,6 +16,8 @@ use Rattle.turns.specs.Run.{All, none, and, Distinct}
 use Rattle.turns.specs.declared.Timer.{Timer}
 use Rattle.turns.specs.declared.Noted.{Noted}
 use Rattle.turns.specs.declared.Master.{Master}
+use Rattle.turns.proofs.Masters.{left}
+use Rattle.turns.proofs.Lists.{any-next}
 use Rattle.turns.proofs.Windows.{Valid, waiting, Gap, shut, coming, OneSlot}
 use Rattle.turns.proofs.Phases.{BurstIs, Agreed, MasterQuiet, DeviceQuiet, ClearWindows, primary-first, secondary-first, ShutFor}
 
@@ -24,20 +26,71 @@ pub record NoSlot (t : Timer) : Type 0 where
   pub no-next : t .next ≡ 0
   pub no-window : t .window ≡ 0
 
-pub data SilentLine (p : Profile) (a b : MasterSide) (xs : List DeviceSide) : Type 0 where
-  -- BURST clear: g ticks more an answer to h may begin, and within them no window opens
-  clear : (g : ℕ) (h : Header) (noted : Noted) → MasterQuiet p true false noted a → MasterQuiet p false false noted b → ClearWindows p (a .master .timer) (b .master .timer)
-      → ShutFor g (a .master .timer) → ShutFor g (b .master .timer) → All (DeviceQuiet p g h 0) xs → Distinct xs → Agreed false noted xs → SilentLine p a b xs
-  -- BURST set: a BACK is due in n ticks, before the quiet times end
-  set : (g : ℕ) (h : Header) (n : ℕ) (noted : Noted) → MasterQuiet p true true noted a → MasterQuiet p false true noted b → OneSlot p n (a .master .timer) (b .master .timer)
-      → 1 ≤ n → n < a .master .timer .quiet → n < b .master .timer .quiet → g < n → (1 ≤ g → NoSlot (a .master .timer)) → (1 ≤ g → NoSlot (b .master .timer))
-      → All (DeviceQuiet p g h n) xs → Distinct xs → Agreed true noted xs → SilentLine p a b xs
+-- while an answer to the STX with the header h may begin, the master that sent it awaits it for longer
+pub record Asked (g : ℕ) (h : Header) (a b : MasterSide) : Type 0 where
+  pub by-primary : 1 ≤ g → h .primary ≡ true → g < left (a .master .message .stage)
+  pub by-secondary : 1 ≤ g → h .primary ≡ false → g < left (b .master .message .stage)
+  -- and it is that master's message
+  pub primary-header : 1 ≤ g → h .primary ≡ true → h ≡ a .master .message .header
+  pub secondary-header : 1 ≤ g → h .primary ≡ false → h ≡ b .master .message .header
+
+-- BURST clear: g ticks more an answer to h may begin, and within them no window opens. In e ticks it is tick RT1 secondary.
+pub record ClearLine (p : Profile) (e : ℕ) (a b : MasterSide) (xs : List DeviceSide) : Type 0 where
+  pub g : ℕ
+  pub h : Header
+  pub noted : Noted
+  pub primary : MasterQuiet p true false noted a
+  pub secondary : MasterQuiet p false false noted b
+  pub windows : ClearWindows p (a .master .timer) (b .master .timer)
+  pub primary-shut : ShutFor g (a .master .timer)
+  pub secondary-shut : ShutFor g (b .master .timer)
+  pub devices : All (DeviceQuiet p g h 0) xs
+  pub distinct : Distinct xs
+  pub agreed : Agreed false noted true xs
+  pub asked : Asked g h a b
+  -- a master that awaits its ACK has its next window where RT1 ends
+  pub primary-awaits : 1 ≤ left (a .master .message .stage) → a .master .timer .next ≡ left (a .master .message .stage)
+  pub secondary-awaits : 1 ≤ left (b .master .message .stage) → b .master .timer .next ≡ left (b .master .message .stage)
+  pub primary-most : left (a .master .message .stage) ≤ p .rt1s
+  pub secondary-most : left (b .master .message .stage) ≤ p .rt1s
+  -- where nobody awaits, the next windows are near
+  pub near : left (a .master .message .stage) ≡ 0 → left (b .master .message .stage) ≡ 0 → (a .master .timer .next ≤ 2 * p .rt2 + e) × (b .master .timer .next ≤ 2 * p .rt2 + e)
+
+-- BURST set: a BACK is due in n ticks, before the quiet times end; `next` says whether it is for the primary
+pub record SetLine (p : Profile) (n : ℕ) (next : Bool) (a b : MasterSide) (xs : List DeviceSide) : Type 0 where
+  pub g : ℕ
+  pub h : Header
+  pub noted : Noted
+  pub primary : MasterQuiet p true true noted a
+  pub secondary : MasterQuiet p false true noted b
+  pub slot : OneSlot p n (a .master .timer) (b .master .timer)
+  pub some : 1 ≤ n
+  pub most : n ≤ p .rt1p
+  pub primary-quiet : n < a .master .timer .quiet
+  pub secondary-quiet : n < b .master .timer .quiet
+  pub before : g < n
+  pub primary-shut : 1 ≤ g → NoSlot (a .master .timer)
+  pub secondary-shut : 1 ≤ g → NoSlot (b .master .timer)
+  pub devices : All (DeviceQuiet p g h n) xs
+  pub distinct : Distinct xs
+  pub agreed : Agreed true noted next xs
+  pub asked : Asked g h a b
+  -- only the master that the next BACK is for has a window before it
+  pub primary-slot : next ≡ false → NoSlot (a .master .timer)
+  pub secondary-slot : next ≡ true → NoSlot (b .master .timer)
+  -- and only that one awaits its ACK, and then has none
+  pub primary-awaits : 1 ≤ left (a .master .message .stage) → (next ≡ true) × NoSlot (a .master .timer)
+  pub secondary-awaits : 1 ≤ left (b .master .message .stage) → (next ≡ false) × NoSlot (b .master .timer)
+
+pub data SilentLine (p : Profile) (e : ℕ) (a b : MasterSide) (xs : List DeviceSide) : Type 0 where
+  clear : ClearLine p e a b xs → SilentLine p e a b xs
+  set : (n : ℕ) (next : Bool) → SetLine p n next a b xs → SilentLine p e a b xs
 
 -- with BURST clear no device bursts, so no BACK is due
-pub none-due : {p : Profile} {g : ℕ} {h : Header} {n : ℕ} {noted : Noted} {xs : List DeviceSide} → All (BurstIs false noted) xs → All (DeviceQuiet p g h n) xs → All (DeviceQuiet p g h 0) xs
+pub none-due : {p : Profile} {g : ℕ} {h : Header} {n : ℕ} {noted : Noted} {next : Bool} {xs : List DeviceSide} → All (BurstIs false noted next) xs → All (DeviceQuiet p g h n) xs → All (DeviceQuiet p g h 0) xs
 none-due none none = none
 none-due (and b bs) (and q qs) =
-    and (record { listens = q .listens; ready = q .ready; in-time = q .in-time; asked-own = q .asked-own; back-due = λ z. absurd (true-false (sym (b .burst-set z))) }) (none-due bs qs)
+    and (record { listens = q .listens; ready = q .ready; in-time = q .in-time; asked-own = q .asked-own; asked-for = q .asked-for; back-due = λ z. absurd (true-false (sym (b .burst-set z))) }) (none-due bs qs)
 
 -- ---- behind a break, behind an STX and at the start
 
@@ -72,33 +125,83 @@ stx-timer p primary true m h a b e =
 stx-timer p primary false m h a b e =
     if-is-false (h .frame =? ack) _ _ (stx-ack h e) ∙ (λ i. timer (if b i then a i .rt1p else a i .rt1s))
 
-pub behind-break : (p : Profile) → Valid p → (burst : Bool) (noted : Noted) (h : Header) (a b : MasterSide) (xs : List DeviceSide) → MasterQuiet p true burst noted a → MasterQuiet p false burst noted b
-    → a .master .timer ≡ breakTimer p true burst → b .master .timer ≡ breakTimer p false burst → All (DeviceQuiet p (p .sto) h (p .rt1p)) xs → Distinct xs → Agreed burst noted xs → SilentLine p a b xs
+-- who awaits an ACK behind an STX or at the start: the sender of the STX, for RT1
+pub record Awaits (p : Profile) (e : ℕ) (burst next : Bool) (h : Header) (g : ℕ) (a b : MasterSide) : Type 0 where
+  pub asked : Asked g h a b
+  pub primary-left : 1 ≤ left (a .master .message .stage) → left (a .master .message .stage) ≡ p .rt1p
+  pub secondary-left : 1 ≤ left (b .master .message .stage) → left (b .master .message .stage) ≡ p .rt1s
+  pub primary-next : burst ≡ true → 1 ≤ left (a .master .message .stage) → next ≡ true
+  pub secondary-next : burst ≡ true → 1 ≤ left (b .master .message .stage) → next ≡ false
+  pub nobody : left (a .master .message .stage) ≡ 0 → left (b .master .message .stage) ≡ 0 → p .rt1s ≤ 2 * p .rt2 + e
+
+pub behind-break-set : (p : Profile) → Valid p → (e : ℕ) (noted : Noted) (next : Bool) (h : Header) (g : ℕ) (a b : MasterSide) (xs : List DeviceSide) → g ≤ p .sto → MasterQuiet p true true noted a → MasterQuiet p false true noted b
+    → a .master .timer ≡ breakTimer p true true → b .master .timer ≡ breakTimer p false true → Awaits p e true next h g a b → All (DeviceQuiet p g h (p .rt1p)) xs → Distinct xs → Agreed true noted next xs → SetLine p (p .rt1p) next a b xs
 unfolding if_then_else_
-behind-break p v true noted h a b xs qa qb ta tb qs d g =
+behind-break-set p v e noted next h g a b xs short qa qb ta tb w qs d ag =
     let sa = no-slot a true ta in
     let sb = no-slot b false tb in
-    set (p .sto) h (p .rt1p) noted qa qb (OneSlot.first-shut (sa .no-next) (sa .no-window) (shut (sb .no-next) (sb .no-window)))
-    (omega (arith, v .rt2-short))
-    (omega (arith, v .rt2-short, ap (λ (t : Timer). t .quiet) ta))
-    (omega (arith, v .rt2-short, ap (λ (t : Timer). t .quiet) tb))
-    (v .sto-short)
-    (λ z. sa)
-    (λ z. sb)
-    qs d g
+    record {
+      g = g;
+      h = h;
+      noted = noted;
+      primary = qa;
+      secondary = qb;
+      slot = OneSlot.first-shut (sa .no-next) (sa .no-window) (shut (sb .no-next) (sb .no-window));
+      some = omega (arith, v .rt2-short);
+      most = omega arith;
+      primary-quiet = omega (arith, v .rt2-short, ap (λ (t : Timer). t .quiet) ta);
+      secondary-quiet = omega (arith, v .rt2-short, ap (λ (t : Timer). t .quiet) tb);
+      before = omega (arith, v .sto-short);
+      primary-shut = λ z. sa;
+      secondary-shut = λ z. sb;
+      devices = qs;
+      distinct = d;
+      agreed = ag;
+      asked = w .asked;
+      primary-slot = λ z. sa;
+      secondary-slot = λ z. sb;
+      primary-awaits = λ z. (w .primary-next refl z, sa);
+      secondary-awaits = λ z. (w .secondary-next refl z, sb);
+    }
   where
     no-slot : (x : MasterSide) (primary : Bool) → x .master .timer ≡ breakTimer p primary true → NoSlot (x .master .timer)
     no-slot x primary e = record { no-next = ap (λ (t : Timer). t .next) e; no-window = ap (λ (t : Timer). t .window) e }
-behind-break p v false noted h a b xs qa qb ta tb qs d g =
+
+-- a number that is n or 0
+most : (k n : ℕ) → (1 ≤ k → k ≡ n) → {m : ℕ} → n ≤ m → k ≤ m
+most k n f {m} z = go (native.Mathlib.Decide.decLe 1 k)
+  where
+    go : Dec (1 ≤ k) → k ≤ m
+    go (yes q) = omega (arith, f q)
+    go (no q) = omega arith
+
+pub behind-break-clear : (p : Profile) → Valid p → (e : ℕ) (noted : Noted) (next : Bool) (h : Header) (g : ℕ) (a b : MasterSide) (xs : List DeviceSide) → g ≤ p .sto → MasterQuiet p true false noted a → MasterQuiet p false false noted b
+    → a .master .timer ≡ breakTimer p true false → b .master .timer ≡ breakTimer p false false → Awaits p e false next h g a b → All (DeviceQuiet p g h (p .rt1p)) xs → Distinct xs → Agreed false noted next xs → ClearLine p e a b xs
+unfolding if_then_else_
+behind-break-clear p v e noted next h g a b xs short qa qb ta tb w qs d ag =
     let na : a .master .timer .next ≡ p .rt1p = ap (λ (t : Timer). t .next) ta in
     let nb : b .master .timer .next ≡ p .rt1s = ap (λ (t : Timer). t .next) tb in
     let wa : a .master .timer .window ≡ 0 = ap (λ (t : Timer). t .window) ta in
     let wb : b .master .timer .window ≡ 0 = ap (λ (t : Timer). t .window) tb in
-    clear (p .sto) h noted qa qb
-    (primary-first (p .rt2) (record { least = omega arith; most = omega arith }) (waiting (omega (arith, v .rt2-short)) (omega (arith, v .secondary)) wa wb))
-    (record { shut = λ z. wa; later = λ z. omega (arith, v .sto-short) })
-    (record { shut = λ z. wb; later = λ z. omega (arith, v .sto-short, v .secondary) })
-    (none-due (g .each) qs) d g
+    record {
+      g = g;
+      h = h;
+      noted = noted;
+      primary = qa;
+      secondary = qb;
+      windows = primary-first (p .rt2) (record { least = omega arith; most = omega arith }) (waiting (omega (arith, v .rt2-short)) (omega (arith, v .secondary)) wa wb);
+      primary-shut = record { shut = λ z. wa; later = λ z. omega (arith, v .sto-short) };
+      secondary-shut = record { shut = λ z. wb; later = λ z. omega (arith, v .sto-short, v .secondary) };
+      devices = none-due (ag .each) qs;
+      distinct = d;
+      agreed = any-next ag;
+      asked = w .asked;
+      primary-awaits = λ z. na ∙ sym (w .primary-left z);
+      secondary-awaits = λ z. nb ∙ sym (w .secondary-left z);
+      primary-most = most (left (a .master .message .stage)) (p .rt1p) (w .primary-left) (omega (arith, v .secondary));
+      secondary-most = most (left (b .master .message .stage)) (p .rt1s) (w .secondary-left) (omega arith);
+      near = λ x y. (omega (arith, w .nobody x y, v .secondary), omega (arith, w .nobody x y));
+    }
 
 -- ---- behind an ACK and behind a BACK
 
@@ -131,47 +234,132 @@ back-timer p primary m h a b e =
     if-is-true (h .frame =? back) _ _ (eq-eqb (h .frame) back e)
     ∙ (λ i. if itself-is primary m h b i then slot-is p primary m 0 a b i else slot-is p primary m 1 a b i)
 
-pub behind-ack : (p : Profile) → Valid p → (burst : Bool) (noted : Noted) (h k : Header) (a b : MasterSide) (xs : List DeviceSide) → MasterQuiet p true burst noted a → MasterQuiet p false burst noted b
-    → a .master .timer ≡ (if burst then slotTimer p true 0 else (if itself true h then timer (p .rt2) else timer 1)) → b .master .timer ≡ (if burst then slotTimer p false 0 else (if itself false h then timer (p .rt2) else timer 1))
-    → All (DeviceQuiet p 0 k 1) xs → Distinct xs → Agreed burst noted xs → SilentLine p a b xs
-unfolding if_then_else_
-behind-ack p v true noted h k a b xs qa qb ta tb qs d g =
-    set 0 k 1 noted qa qb
-    (OneSlot.first-shut (ap (λ (t : Timer). t .next) ta) (ap (λ (t : Timer). t .window) ta) (shut (ap (λ (t : Timer). t .next) tb) (ap (λ (t : Timer). t .window) tb)))
-    (omega arith)
-    (omega (arith, v .rt2-short, v .hold-short, ap (λ (t : Timer). t .quiet) ta))
-    (omega (arith, v .rt2-short, v .hold-short, ap (λ (t : Timer). t .quiet) tb))
-    (omega arith) (λ z. absurd (omega arith)) (λ z. absurd (omega arith)) qs d g
-behind-ack p v false noted h k a b xs qa qb ta tb qs d g = clear 0 k noted qa qb (go (h .primary) ta tb) none-shut none-shut (none-due (g .each) qs) d g
-  where
-    none-shut : {t : Timer} → ShutFor 0 t
-    none-shut = record { shut = λ z. absurd (omega arith); later = λ z. absurd (omega arith) }
+-- behind a frame that is no STX nobody awaits an ACK
+pub record NobodyAwaits (a b : MasterSide) : Type 0 where
+  pub primary-gone : left (a .master .message .stage) ≡ 0
+  pub secondary-gone : left (b .master .message .stage) ≡ 0
 
+no-answer : (h : Header) (a b : MasterSide) → Asked 0 h a b
+no-answer h a b = record { by-primary = λ z. absurd (omega arith); by-secondary = λ z. absurd (omega arith); primary-header = λ z. absurd (omega arith); secondary-header = λ z. absurd (omega arith) }
+
+none-shut : {t : Timer} → ShutFor 0 t
+none-shut = record { shut = λ z. absurd (omega arith); later = λ z. absurd (omega arith) }
+
+pub behind-ack-set : (p : Profile) → Valid p → (noted : Noted) (next : Bool) (k : Header) (a b : MasterSide) (xs : List DeviceSide) → MasterQuiet p true true noted a → MasterQuiet p false true noted b
+    → a .master .timer ≡ slotTimer p true 0 → b .master .timer ≡ slotTimer p false 0 → NobodyAwaits a b
+    → All (DeviceQuiet p 0 k 1) xs → Distinct xs → Agreed true noted next xs → SetLine p 1 next a b xs
+unfolding if_then_else_
+behind-ack-set p v noted next k a b xs qa qb ta tb n qs d g =
+    let sa : NoSlot (a .master .timer) = record { no-next = ap (λ (t : Timer). t .next) ta; no-window = ap (λ (t : Timer). t .window) ta } in
+    let sb : NoSlot (b .master .timer) = record { no-next = ap (λ (t : Timer). t .next) tb; no-window = ap (λ (t : Timer). t .window) tb } in
+    record {
+      g = 0;
+      h = k;
+      noted = noted;
+      primary = qa;
+      secondary = qb;
+      slot = OneSlot.first-shut (sa .no-next) (sa .no-window) (shut (sb .no-next) (sb .no-window));
+      some = omega arith;
+      most = omega (arith, v .rt2-short);
+      primary-quiet = omega (arith, v .rt2-short, v .hold-short, ap (λ (t : Timer). t .quiet) ta);
+      secondary-quiet = omega (arith, v .rt2-short, v .hold-short, ap (λ (t : Timer). t .quiet) tb);
+      before = omega arith;
+      primary-shut = λ z. sa;
+      secondary-shut = λ z. sb;
+      devices = qs;
+      distinct = d;
+      agreed = g;
+      asked = no-answer k a b;
+      primary-slot = λ z. sa;
+      secondary-slot = λ z. sb;
+      primary-awaits = λ z. absurd (omega (arith, n .primary-gone));
+      secondary-awaits = λ z. absurd (omega (arith, n .secondary-gone));
+    }
+
+pub behind-ack-clear : (p : Profile) → Valid p → (e : ℕ) (noted : Noted) (next : Bool) (h k : Header) (a b : MasterSide) (xs : List DeviceSide) → MasterQuiet p true false noted a → MasterQuiet p false false noted b
+    → a .master .timer ≡ (if itself true h then timer (p .rt2) else timer 1) → b .master .timer ≡ (if itself false h then timer (p .rt2) else timer 1) → NobodyAwaits a b
+    → All (DeviceQuiet p 0 k 1) xs → Distinct xs → Agreed false noted next xs → ClearLine p e a b xs
+unfolding if_then_else_
+behind-ack-clear p v e noted next h k a b xs qa qb ta tb n qs d g = go (h .primary) ta tb
+  where
     gap : Gap p (p .rt2 - 1)
     gap = record { least = omega arith; most = omega arith }
 
-    go : (bit : Bool) → a .master .timer ≡ (if bit then timer (p .rt2) else timer 1) → b .master .timer ≡ (if (if bit then false else true) then timer (p .rt2) else timer 1) → ClearWindows p (a .master .timer) (b .master .timer)
-    go true ta tb =
-        secondary-first (p .rt2 - 1) gap
-        (waiting (omega (arith, ap (λ (t : Timer). t .next) tb)) (omega (arith, v .hold-short, ap (λ (t : Timer). t .next) ta, ap (λ (t : Timer). t .next) tb)) (ap (λ (t : Timer). t .window) tb) (ap (λ (t : Timer). t .window) ta))
-    go false ta tb =
-        primary-first (p .rt2 - 1) gap
-        (waiting (omega (arith, ap (λ (t : Timer). t .next) ta)) (omega (arith, v .hold-short, ap (λ (t : Timer). t .next) ta, ap (λ (t : Timer). t .next) tb)) (ap (λ (t : Timer). t .window) ta) (ap (λ (t : Timer). t .window) tb))
+    by : ClearWindows p (a .master .timer) (b .master .timer) → a .master .timer .next ≤ p .rt2 → b .master .timer .next ≤ p .rt2 → ClearLine p e a b xs
+    by w na nb = record {
+      g = 0;
+      h = k;
+      noted = noted;
+      primary = qa;
+      secondary = qb;
+      windows = w;
+      primary-shut = none-shut;
+      secondary-shut = none-shut;
+      devices = none-due (g .each) qs;
+      distinct = d;
+      agreed = any-next g;
+      asked = no-answer k a b;
+      primary-awaits = λ z. absurd (omega (arith, n .primary-gone));
+      secondary-awaits = λ z. absurd (omega (arith, n .secondary-gone));
+      primary-most = omega (arith, n .primary-gone);
+      secondary-most = omega (arith, n .secondary-gone);
+      near = λ x y. (omega arith, omega arith);
+    }
 
-pub behind-back : (p : Profile) → Valid p → (noted : Noted) (h k : Header) (a b : MasterSide) (xs : List DeviceSide) → MasterQuiet p true true noted a → MasterQuiet p false true noted b
-    → a .master .timer ≡ (if itself true h then slotTimer p true 0 else slotTimer p true 1) → b .master .timer ≡ (if itself false h then slotTimer p false 0 else slotTimer p false 1)
-    → All (DeviceQuiet p 0 k (p .rt2)) xs → Distinct xs → Agreed true noted xs → SilentLine p a b xs
+    go : (bit : Bool) → a .master .timer ≡ (if bit then timer (p .rt2) else timer 1) → b .master .timer ≡ (if (if bit then false else true) then timer (p .rt2) else timer 1) → ClearLine p e a b xs
+    go true ta tb =
+        by (secondary-first (p .rt2 - 1) gap
+        (waiting (omega (arith, ap (λ (t : Timer). t .next) tb)) (omega (arith, v .hold-short, ap (λ (t : Timer). t .next) ta, ap (λ (t : Timer). t .next) tb)) (ap (λ (t : Timer). t .window) tb) (ap (λ (t : Timer). t .window) ta)))
+        (omega (arith, ap (λ (t : Timer). t .next) ta)) (omega (arith, v .hold-short, ap (λ (t : Timer). t .next) tb))
+    go false ta tb =
+        by (primary-first (p .rt2 - 1) gap
+        (waiting (omega (arith, ap (λ (t : Timer). t .next) ta)) (omega (arith, v .hold-short, ap (λ (t : Timer). t .next) ta, ap (λ (t : Timer). t .next) tb)) (ap (λ (t : Timer). t .window) ta) (ap (λ (t : Timer). t .window) tb)))
+        (omega (arith, v .hold-short, ap (λ (t : Timer). t .next) ta)) (omega (arith, ap (λ (t : Timer). t .next) tb))
+
+pub behind-back : (p : Profile) → Valid p → (noted : Noted) (next : Bool) (h k : Header) (a b : MasterSide) (xs : List DeviceSide) → h .primary ≡ (if next then false else true) → MasterQuiet p true true noted a → MasterQuiet p false true noted b
+    → a .master .timer ≡ (if itself true h then slotTimer p true 0 else slotTimer p true 1) → b .master .timer ≡ (if itself false h then slotTimer p false 0 else slotTimer p false 1) → NobodyAwaits a b
+    → All (DeviceQuiet p 0 k (p .rt2)) xs → Distinct xs → Agreed true noted next xs → SetLine p (p .rt2) next a b xs
 unfolding if_then_else_
-behind-back p v noted h k a b xs qa qb ta tb qs d g = go (h .primary) ta tb
+behind-back p v noted next h k a b xs f qa qb ta tb n qs d g = go next (h .primary) f ta tb g
   where
-    by : OneSlot p (p .rt2) (a .master .timer) (b .master .timer) → a .master .timer .quiet ≡ 2 * p .rt1p → b .master .timer .quiet ≡ 2 * p .rt1p + p .rt2 → SilentLine p a b xs
-    by o ya yb =
-        set 0 k (p .rt2) noted qa qb o (omega (arith, v .hold-short)) (omega (arith, v .rt2-short)) (omega (arith, v .rt2-short)) (omega (arith, v .hold-short)) (λ z. absurd (omega arith)) (λ z. absurd (omega arith)) qs d g
+    by : (next : Bool) → OneSlot p (p .rt2) (a .master .timer) (b .master .timer) → (next ≡ false → NoSlot (a .master .timer)) → (next ≡ true → NoSlot (b .master .timer)) → a .master .timer .quiet ≡ 2 * p .rt1p → b .master .timer .quiet ≡ 2 * p .rt1p + p .rt2
+        → Agreed true noted next xs → SetLine p (p .rt2) next a b xs
+    by next o sa sb ya yb g = record {
+      g = 0;
+      h = k;
+      noted = noted;
+      primary = qa;
+      secondary = qb;
+      slot = o;
+      some = omega (arith, v .hold-short);
+      most = omega (arith, v .rt2-short);
+      primary-quiet = omega (arith, v .rt2-short);
+      secondary-quiet = omega (arith, v .rt2-short);
+      before = omega (arith, v .hold-short);
+      primary-shut = λ z. absurd (omega arith);
+      secondary-shut = λ z. absurd (omega arith);
+      devices = qs;
+      distinct = d;
+      agreed = g;
+      asked = no-answer k a b;
+      primary-slot = sa;
+      secondary-slot = sb;
+      primary-awaits = λ z. absurd (omega (arith, n .primary-gone));
+      secondary-awaits = λ z. absurd (omega (arith, n .secondary-gone));
+    }
 
-    go : (bit : Bool) → a .master .timer ≡ (if bit then slotTimer p true 0 else slotTimer p true 1) → b .master .timer ≡ (if (if bit then false else true) then slotTimer p false 0 else slotTimer p false 1) → SilentLine p a b xs
-    go true ta tb =
-        by (OneSlot.first-shut (ap (λ (t : Timer). t .next) ta) (ap (λ (t : Timer). t .window) ta) (coming (ap (λ (t : Timer). t .next) tb) (ap (λ (t : Timer). t .window) tb) (v .hold-short)))
-        (ap (λ (t : Timer). t .quiet) ta) (ap (λ (t : Timer). t .quiet) tb)
-    go false ta tb =
-        by (OneSlot.second-shut (ap (λ (t : Timer). t .next) tb) (ap (λ (t : Timer). t .window) tb) (coming (ap (λ (t : Timer). t .next) ta) (ap (λ (t : Timer). t .window) ta) (v .hold-short)))
-        (ap (λ (t : Timer). t .quiet) ta) (ap (λ (t : Timer). t .quiet) tb)
+    no-slot : {t u : Timer} → t ≡ u → u .next ≡ 0 → u .window ≡ 0 → NoSlot t
+    no-slot e x y = record { no-next = ap (λ (t : Timer). t .next) e ∙ x; no-window = ap (λ (t : Timer). t .window) e ∙ y }
+
+    go : (next bit : Bool) → bit ≡ (if next then false else true) → a .master .timer ≡ (if bit then slotTimer p true 0 else slotTimer p true 1) → b .master .timer ≡ (if (if bit then false else true) then slotTimer p false 0 else slotTimer p false 1)
+        → Agreed true noted next xs → SetLine p (p .rt2) next a b xs
+    go false true f ta tb g =
+        by false (OneSlot.first-shut (ap (λ (t : Timer). t .next) ta) (ap (λ (t : Timer). t .window) ta) (coming (ap (λ (t : Timer). t .next) tb) (ap (λ (t : Timer). t .window) tb) (v .hold-short)))
+        (λ z. no-slot ta refl refl) (λ z. absurd (true-false (sym z)))
+        (ap (λ (t : Timer). t .quiet) ta) (ap (λ (t : Timer). t .quiet) tb) g
+    go true false f ta tb g =
+        by true (OneSlot.second-shut (ap (λ (t : Timer). t .next) tb) (ap (λ (t : Timer). t .window) tb) (coming (ap (λ (t : Timer). t .next) ta) (ap (λ (t : Timer). t .window) ta) (v .hold-short)))
+        (λ z. absurd (true-false z)) (λ z. no-slot tb refl refl)
+        (ap (λ (t : Timer). t .quiet) ta) (ap (λ (t : Timer). t .quiet) tb) g
+    go true true f ta tb g = absurd (true-false f)
+    go false false f ta tb g = absurd (true-false (sym f))

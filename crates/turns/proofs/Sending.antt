@@ -24,7 +24,7 @@ use Rattle.turns.specs.declared.Timer.{Timer}
 use Rattle.turns.specs.declared.Noted.{Noted}
 use Rattle.turns.specs.declared.Message.{Message}
 use Rattle.turns.specs.declared.Master.{Master}
-use Rattle.turns.proofs.Masters.{Holds, Formed, stands, Still, is-awaiting}
+use Rattle.turns.proofs.Masters.{Holds, Formed, stands, left, Rested, Still, is-awaiting}
 use Rattle.turns.proofs.Taking as T
 use Rattle.turns.proofs.Taking.{master-speaks}
 use Rattle.turns.proofs.Listening.{master-mid, master-finished}
@@ -35,7 +35,7 @@ use Rattle.turns.proofs.Phases.{MasterIs, MasterListens, MasterQuiet, R
 -- behind k + 1 characters of its STX w
 pub data MasterPlace (k : ℕ) (w : List ℕ) (x : MasterSide) : Type 0 where
   inside : suc k < length w → x .master .message .stage ≡ Sending (suc k) → MasterPlace k w x
-  finished : suc k ≡ length w → x .master .timer ≡ brokenTimer (x .master) → Still (x .master .message .stage) → MasterPlace k w x
+  finished : suc k ≡ length w → x .master .timer ≡ brokenTimer (x .master) → Still (x .master .message .stage) → left (x .master .message .stage) ≡ ownRt1 (x .master) → MasterPlace k w x
 
 pub record MasterSpeaks (p : Profile) (primary burst : Bool) (noted : Noted) (k : ℕ) (w : List ℕ) (message : Whole) (x : MasterSide) : Type 0 where
   pub is-it : MasterIs p primary x
@@ -47,6 +47,7 @@ pub record MasterSpeaks (p : Profile) (primary burst : Bool) (noted : Noted) (k 
   pub header-is : message .header ≡ x .master .message .header
   pub no-expansion : message .expansion ≡ 0
   pub type-is : message .header .frame ≡ stx
+  pub bit-is : message .header .primary ≡ primary
   pub place : MasterPlace k w x
 
 -- the other one
@@ -69,7 +70,8 @@ module _ (limit : ℕ) (small : limit ≤ 255) (p : Profile) (primary burst : Bo
   -- the next character of the STX
   pub speaks-on : (k : ℕ) (x : MasterSide) (heard : Heard) (call : MasterCall) → suc k < length w → x .master .message .stage ≡ Sending (suc k) → MasterSpeaks p primary burst noted k w message x
       → (masterTick limit x heard call .sent ≡ Sent.Character (getD w (suc k) 0)) × MasterSpeaks p primary burst noted (suc k) w message (masterTick limit x heard call .side)
-  speaks-on k x heard call below stage s = (at .character, go (at .speaks))
+      × (masterTick limit x heard call .side .master .message .attempts ≡ x .master .message .attempts)
+  speaks-on k x heard call below stage s = (at .character, go (at .speaks), tried (at .speaks))
     where
       step : MasterStep
       step = masterTick limit x heard call
@@ -94,29 +96,42 @@ module _ (limit : ℕ) (small : limit ≤ 255) (p : Profile) (primary burst : Bo
         header-is = s .header-is ∙ sym (ap (λ (m : Master). m .message .header) e ∙ hd);
         no-expansion = s .no-expansion;
         type-is = s .type-is;
+        bit-is = s .bit-is;
         place = place;
       }
 
+      tried : T.Speaks (x .master) (suc k) w step → step .side .master .message .attempts ≡ x .master .message .attempts
+      tried (T.goes-on g more e st hd len n) = ap (λ (m : Master). m .message .attempts) e ∙ n
+      tried (T.is-out g last e st hd len n) = ap (λ (m : Master). m .message .attempts) e ∙ n
+
       go : T.Speaks (x .master) (suc k) w step → MasterSpeaks p primary burst noted (suc k) w message (step .side)
-      go (T.goes-on g more e st hd len) = put g _ e refl refl refl refl refl refl hd len (inside more (ap (λ (m : Master). m .message .stage) e ∙ st))
-      go (T.is-out g last e st hd len) =
+      go (T.goes-on g more e st hd len n) = put g _ e refl refl refl refl refl refl hd len (inside more (ap (λ (m : Master). m .message .stage) e ∙ st))
+      go (T.is-out g last e st hd len n) =
           put g _ e refl refl refl refl refl refl hd len
-          (finished last (ap (λ (m : Master). m .timer) e ∙ sym (ap brokenTimer e)) (subst Still (sym (ap (λ (m : Master). m .message .stage) e ∙ st)) (is-awaiting (ownRt1 (x .master)))))
+          (finished last (ap (λ (m : Master). m .timer) e ∙ sym (ap brokenTimer e)) (subst Still (sym (ap (λ (m : Master). m .message .stage) e ∙ st)) (is-awaiting (ownRt1 (x .master))))
+          (ap left (ap (λ (m : Master). m .message .stage) e ∙ st) ∙ (λ i. ownRt1 (sym e i))))
 
   -- behind its last one
-  pub speaks-out : (k : ℕ) (x : MasterSide) (heard : Heard) (call : MasterCall) → x .master .timer ≡ brokenTimer (x .master) → Still (x .master .message .stage) → MasterSpeaks p primary burst noted k w message x
+  pub speaks-out : (k : ℕ) (x : MasterSide) (heard : Heard) (call : MasterCall) → x .master .timer ≡ brokenTimer (x .master) → Still (x .master .message .stage) → left (x .master .message .stage) ≡ ownRt1 (x .master) → MasterSpeaks p primary burst noted k w message x
       → (masterTick limit x heard call .sent ≡ Silent) × MasterQuiet p primary burst noted (masterTick limit x heard call .side) × (masterTick limit x heard call .side .master .timer ≡ brokenTimer (x .master))
-  speaks-out k x heard call t still s =
-      let formed : Formed (x .frame) (x .master .message) = stands w message (s .held) (s .header-is) (s .no-expansion) (ap (λ (h : Header). h .frame) (sym (s .header-is)) ∙ s .type-is) in
+      × (left (masterTick limit x heard call .side .master .message .stage) ≡ ownRt1 (x .master)) × (1 ≤ ownRt1 (x .master) → masterTick limit x heard call .side .master .message .attempts ≡ x .master .message .attempts)
+      × (1 ≤ ownRt1 (x .master) → masterTick limit x heard call .side .master .message .header ≡ x .master .message .header)
+  speaks-out k x heard call t still l s =
+      let formed : Formed (x .master .primary) (x .frame) (x .master .message) = stands w message (s .held) (s .header-is) (s .no-expansion) (ap (λ (h : Header). h .frame) (sym (s .header-is)) ∙ s .type-is)
+      (ap (λ (h : Header). h .primary) (sym (s .header-is)) ∙ s .bit-is ∙ sym (s .is-it .primary-is)) in
       let f = master-finished limit p primary x heard call small (s .is-it) (s .deaf-is) still formed (ap (λ (t : Timer). t .window) t ∙ broken-shut (x .master)) in (
         f .silent,
         record { listens = f .listens; ready = subst Ready (sym (f .same-receiver ∙ s .receiver-is)) passing-ready; burst-is = f .same-burst ∙ s .burst-is; noted-is = f .same-noted ∙ s .noted-is },
         f .same-timer ∙ t,
+        f .rested .same-left ∙ l,
+        λ z. f .rested .same-attempts (omega (arith, f .rested .same-left, l)),
+        λ z. f .rested .same-header (omega (arith, f .rested .same-left, l)),
       )
 
   -- the other master inside the frame
   pub hears-on : (k : ℕ) (x : MasterSide) (call : MasterCall) {r : Receiver} → r ≡ readerAfter idle (take k w) → Rattle.turns.proofs.Spoken.Spoken w message → suc k < length w → MasterHears p primary burst noted r x
       → (masterTick limit x (Character (getD w k 0)) call .sent ≡ Silent) × MasterHears p primary burst noted (readerAfter idle (take (suc k) w)) (masterTick limit x (Character (getD w k 0)) call .side)
+      × Rested (x .master) (masterTick limit x (Character (getD w k 0)) call .side .master .message)
   hears-on k x call e sp below s =
       let m = master-mid limit small p primary x call (s .listens) w message k sp below (s .receiver-is ∙ e) in
-      (m .silent, record { listens = m .listens; receiver-is = m .receiver-is; burst-is = m .same-burst ∙ s .burst-is; noted-is = m .same-noted ∙ s .noted-is })
+      (m .silent, record { listens = m .listens; receiver-is = m .receiver-is; burst-is = m .same-burst ∙ s .burst-is; noted-is = m .same-noted ∙ s .noted-is }, m .rested)

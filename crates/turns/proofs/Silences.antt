@@ -1,17 +1,18 @@
 -- The silent line goes on: a silent tick with BURST clear, and one with BURST set.
-use Prim.Native.Nat.{ℕ, _-_, _≤_, _<_}
+use Prim.Native.Nat.{ℕ, _+_, _-_, _*_, _≤_, _<_}
 use native.Mathlib.Omega.{arith}
-use mathlib.Core.Path.{_≡_, refl, ap, subst, _∙_}
+use mathlib.Core.Path.{_≡_, refl, sym, ap, subst, _∙_}
 use mathlib.Core.Bool.{Bool, true, false}
 use mathlib.Core.List.{List}
 use mathlib.Core.Logic.{_⊎_, inl, inr}
 use borrow.Author.Tests.{lt-leb}
 use Rattle.base.specs.Choice.{if_then_else_, _≤?_, _=?_}
-use Rattle.base.proofs.Choices.{if-is-true, if-is-false}
+use Rattle.base.proofs.Choices.{true-false, if-is-true, if-is-false}
+use Rattle.frame.specs.declared.Header.{Header}
 use Rattle.line.specs.declared.Heard.the-variants.{Silence}
 use Rattle.line.specs.declared.Profile.{Profile}
 use Rattle.turns.specs.Master.{countClear, countBurst, timerCounted, burstCounted}
-use Rattle.turns.specs.Link.{MasterCall, DeviceCall, MasterSide, DeviceSide, masterTick, deviceTicks, sides}
+use Rattle.turns.specs.Link.{MasterCall, DeviceCall, MasterSide, MasterStep, DeviceSide, masterTick, deviceTicks, sides}
 use Rattle.turns.specs.Run.{Sole}
 use Rattle.turns.specs.declared.Timer.{Timer}
 use Rattle.turns.proofs.Windows as W
@@ -19,12 +20,12 @@ use Rattle.turns.proofs.Windows.{Valid, Counted, CountedBurst, counted,
 use Rattle.turns.proofs.Lists.{all-sides, all-distinct, agreed-same}
 use Rattle.turns.proofs.Phases.{ClearWindows, primary-first, secondary-first, ShutFor}
 use Rattle.turns.proofs.Beginning.{silent-devices}
-use Rattle.turns.proofs.Quiet.{SilentLine, clear, set, none-due, NoSlot}
-use Rattle.turns.proofs.SilentTick.{SilentTick, master-tick, silent-tick, still-all}
+use Rattle.turns.proofs.Quiet.{Asked, ClearLine, SetLine, none-due, NoSlot}
+use Rattle.turns.proofs.SilentTick.{MasterRests, SilentTick, master-tick, silent-tick, still-all}
 
 -- ---- BURST clear
 
-clear-timer : (p : Profile) (x : MasterSide) → x .master .profile ≡ p → x .master .burst ≡ false → timerCounted (x .master) ≡ countClear p (x .master .timer)
+pub clear-timer : (p : Profile) (x : MasterSide) → x .master .profile ≡ p → x .master .burst ≡ false → timerCounted (x .master) ≡ countClear p (x .master .timer)
 clear-timer p x e b = if-is-false (x .master .burst) _ _ b ∙ ap (λ (q : Profile). countClear q (x .master .timer)) e
 
 clear-counts : (p : Profile) (x : MasterSide) → x .master .profile ≡ p → x .master .burst ≡ false → (t : Timer) → t .next ≡ timerCounted (x .master) .next → t .window ≤ timerCounted (x .master) .window → Counted p (x .master .timer) t
@@ -67,7 +68,7 @@ count-quiet p t = go (t .next =? 1)
     go true = refl
     go false = refl
 
-set-timer : (p : Profile) (x : MasterSide) → x .master .profile ≡ p → x .master .burst ≡ true → 1 < x .master .timer .quiet → timerCounted (x .master) ≡ countBurst p (x .master .timer)
+pub set-timer : (p : Profile) (x : MasterSide) → x .master .profile ≡ p → x .master .burst ≡ true → 1 < x .master .timer .quiet → timerCounted (x .master) ≡ countBurst p (x .master .timer)
 set-timer p x e b q =
     if-is-true (x .master .burst) _ _ b ∙ if-is-false (x .master .timer .quiet ≤? 1) _ _ (lt-leb (x .master .timer .quiet) 1 q) ∙ ap (λ (r : Profile). countBurst r (x .master .timer)) e
 
@@ -99,46 +100,156 @@ slot-shut : (p : Profile) (g n : ℕ) (t u : Timer) → 1 ≤ p .hold → Counte
 slot-shut p g n t u h c s k (inl z) = no-slot-next p t u c (s z) .no-window
 slot-shut p g n t u h c s k (inr e) = slot-last p t u h c (subst (λ (i : ℕ). Slot p i t) e k)
 
--- ---- the tick
+-- ---- the tick with BURST clear
 
-pub silence-tick : (limit : ℕ) → 2 ≤ limit → limit ≤ 255 → (p : Profile) → Valid p → (a b : MasterSide) (xs : List DeviceSide) (ca cb : MasterCall) (cs : List DeviceCall) → SilentLine p a b xs → Sole (sides (deviceTicks limit Silence xs cs))
-    → SilentTick p (masterTick limit a Silence ca) (masterTick limit b Silence cb) (deviceTicks limit Silence xs cs)
-silence-tick limit low high p v a b xs ca cb cs (clear g h noted qa qb w sa sb qs d ag) sole =
-    silent-tick p g h 0 false noted (Counted p (a .master .timer)) (Counted p (b .master .timer)) d ag sole
-    (λ c e x y. not-both p c e (windows-next p v (a .master .timer) (b .master .timer) c e x y w))
-    (λ z c x. shut-now z c (shut-on p g (a .master .timer) c x sa))
-    (λ z c x. shut-now z c (shut-on p g (b .master .timer) c x sb))
-    (λ x y na nb no still.
-    let all = still-all still in
-    let ag′ = agreed-same all ag in
-    clear (g - 1) h noted na nb (windows-next p v _ _ _ _ x y w) (shut-for p g _ _ x sa) (shut-for p g _ _ y sb) (none-due (ag′ .each) (all-sides all)) (all-distinct all d) ag′)
-    (master-tick limit high p true false noted (Counted p (a .master .timer)) a ca qa (if-is-false (a .master .burst) _ _ (qa .burst-is)) (λ t n k m. clear-counts p a (qa .listens .is-it .profile-is) (qa .burst-is) t n m))
-    (master-tick limit high p false false noted (Counted p (b .master .timer)) b cb qb (if-is-false (b .master .burst) _ _ (qb .burst-is)) (λ t n k m. clear-counts p b (qb .listens .is-it .profile-is) (qb .burst-is) t n m))
-    (silent-devices limit low high p (v .some-sto) g h 0 (λ x e. omega (arith, e)) false noted cs qs d (ag .each))
-  where
-    shut-now : (1 ≤ g) ⊎ (_≡_ {A = ℕ} 0 1) → (c : Timer) → (1 ≤ g → c .window ≡ 0) → c .window ≡ 0
-    shut-now (inl z) c f = f z
-    shut-now (inr e) c f = absurd (omega (arith, e))
-silence-tick limit low high p v a b xs ca cb cs (set g h n noted qa qb o some la lb gn sa sb qs d ag) sole =
-    silent-tick p g h n true noted (SetCounts p (a .master .timer)) (SetCounts p (b .master .timer)) d ag sole
-    (λ c e x y. one-slot-window p (n - 1) c e (one-slot-next p n (a .master .timer) (b .master .timer) c e (x .counts) (y .counts) o))
-    (λ z c x. slot-shut p g n (a .master .timer) c (v .some-hold) (x .counts) sa (first-slot o) z)
-    (λ z c x. slot-shut p g n (b .master .timer) c (v .some-hold) (x .counts) sb (second-slot o) z)
-    (λ x y na nb no still.
-    let all = still-all still in
-    let more : 1 < n = more-than-one (no-one no) in
-    set (g - 1) h (n - 1) noted na nb (one-slot-next p n _ _ _ _ (x .counts) (y .counts) o) (omega arith) (omega (arith, x .quiet-is)) (omega (arith, y .quiet-is)) (omega arith)
-    (λ z. no-slot-next p _ _ (x .counts) (sa (omega arith))) (λ z. no-slot-next p _ _ (y .counts) (sb (omega arith))) (all-sides all) (all-distinct all d) (agreed-same all ag))
-    (master-tick limit high p true true noted (SetCounts p (a .master .timer)) a ca qa (set-burst a (qa .burst-is) (omega arith)) (set-counts p a (qa .listens .is-it .profile-is) (qa .burst-is) (omega arith)))
-    (master-tick limit high p false true noted (SetCounts p (b .master .timer)) b cb qb (set-burst b (qb .burst-is) (omega arith)) (set-counts p b (qb .listens .is-it .profile-is) (qb .burst-is) (omega arith)))
-    (silent-devices limit low high p (v .some-sto) g h n (λ x e. omega arith) true noted cs qs d (ag .each))
-  where
-    no-one : (n ≡ 1 → true ≡ true → ⊥) → n ≡ 1 → ⊥
-    no-one f e = f e refl
+-- where one master's window is about to open, the other's is not far
+pub near-other : (p : Profile) → Valid p → (a b : Timer) → ClearWindows p a b → a .next ≤ 1 → b .next ≤ p .rt2 + 2
+near-other p v a b (primary-first gap g (W.waiting e f h i)) z = omega (arith, g .most)
+near-other p v a b (primary-first gap g (W.first-open e f h i j)) z = omega (arith, g .most)
+near-other p v a b (primary-first gap g (W.first-shut e f h i j)) z = omega (arith, g .most)
+near-other p v a b (primary-first gap g (W.second-open e f h i j)) z = omega (arith, g .most)
+near-other p v a b (primary-first gap g (W.second-shut e f h i j)) z = omega (arith, g .most)
+near-other p v a b (secondary-first gap g (W.waiting e f h i)) z = omega (arith, g .most)
+near-other p v a b (secondary-first gap g (W.first-open e f h i j)) z = omega (arith, g .least)
+near-other p v a b (secondary-first gap g (W.first-shut e f h i j)) z = omega (arith, g .least)
+near-other p v a b (secondary-first gap g (W.second-open e f h i j)) z = omega (arith, g .most)
+near-other p v a b (secondary-first gap g (W.second-shut e f h i j)) z = omega (arith, g .most)
 
-    more-than-one : (n ≡ 1 → ⊥) → 1 < n
-    more-than-one f = go (native.Mathlib.Decide.decLe n 1)
-      where
-        go : Dec (n ≤ 1) → 1 < n
-        go (yes z) = absurd (f (omega arith))
-        go (no z) = omega arith
+pub swapped : {p : Profile} {a b : Timer} → ClearWindows p a b → ClearWindows p b a
+swapped (primary-first gap g w) = secondary-first gap g w
+swapped (secondary-first gap g w) = primary-first gap g w
+
+-- a timer that opens, or counts, stays near
+near-next : (p : Profile) → Valid p → (e : ℕ) (t u : Timer) → Counted p t u → t .next ≤ 2 * p .rt2 + e → u .next ≤ 2 * p .rt2 + (e - 1)
+near-next p v e t u (W.Counted.opens a b c) z = omega arith
+near-next p v e t u (W.Counted.goes a b c) z = omega arith
+
+-- RT1 ends where the window opens
+awaits-next : (p : Profile) (k : ℕ) (t u : Timer) → Counted p t u → (1 ≤ k → t .next ≡ k) → 1 ≤ k - 1 → u .next ≡ k - 1
+awaits-next p k t u (W.Counted.opens a b c) f z = absurd (omega (arith, f (omega arith)))
+awaits-next p k t u (W.Counted.goes a b c) f z = omega (arith, f (omega arith))
+
+near-both : (p : Profile) → Valid p → (e j k : ℕ) (a b c d : Timer) → Counted p a c → Counted p b d → ClearWindows p a b → (1 ≤ j → a .next ≡ j) → (1 ≤ k → b .next ≡ k)
+    → (j ≡ 0 → k ≡ 0 → (a .next ≤ 2 * p .rt2 + e) × (b .next ≤ 2 * p .rt2 + e)) → j - 1 ≡ 0 → k - 1 ≡ 0 → (c .next ≤ 2 * p .rt2 + (e - 1)) × (d .next ≤ 2 * p .rt2 + (e - 1))
+near-both p v e j k a b c d x y w fa fb near zj zk = go (native.Mathlib.Decide.decLe 1 j) (native.Mathlib.Decide.decLe 1 k)
+  where
+    by : a .next ≤ 2 * p .rt2 + e → b .next ≤ 2 * p .rt2 + e → (c .next ≤ 2 * p .rt2 + (e - 1)) × (d .next ≤ 2 * p .rt2 + (e - 1))
+    by na nb = (near-next p v e a c x na, near-next p v e b d y nb)
+
+    go : Dec (1 ≤ j) → Dec (1 ≤ k) → (c .next ≤ 2 * p .rt2 + (e - 1)) × (d .next ≤ 2 * p .rt2 + (e - 1))
+    go (yes q) r = by (omega (arith, fa q, v .hold-short)) (omega (arith, near-other p v a b w (omega (arith, fa q)), v .hold-short, v .some-hold))
+    go (no q) (yes r) = by (omega (arith, near-other p v b a (swapped w) (omega (arith, fb r)), v .hold-short, v .some-hold)) (omega (arith, fb r, v .hold-short))
+    go (no q) (no r) = let n = near (omega arith) (omega arith) in by (n .0) (n .1)
+
+-- the time for an answer is one tick shorter, and so is the time for which it is awaited
+asked-next : {g : ℕ} {h : Header} {a b : MasterSide} {s t : MasterStep} → Asked g h a b → MasterRests a s → MasterRests b t → Asked (g - 1) h (s .side) (t .side)
+asked-next k ra rb = record {
+  by-primary = λ z e. omega (arith, ra .one-less, k .by-primary (omega arith) e);
+  by-secondary = λ z e. omega (arith, rb .one-less, k .by-secondary (omega arith) e);
+  primary-header = λ z e. k .primary-header (omega arith) e ∙ sym (ra .same-header (omega (arith, ra .one-less, k .by-primary (omega arith) e)));
+  secondary-header = λ z e. k .secondary-header (omega arith) e ∙ sym (rb .same-header (omega (arith, rb .one-less, k .by-secondary (omega arith) e)));
+}
+
+module _ (limit : ℕ) (low : 2 ≤ limit) (high : limit ≤ 255) (p : Profile) (v : Valid p) (a b : MasterSide) (xs : List DeviceSide) (ca cb : MasterCall) (cs : List DeviceCall) where
+  pub clear-tick : (e : ℕ) (l : ClearLine p e a b xs) → Sole (sides (deviceTicks limit Silence xs cs))
+      → SilentTick p 0 false (l .noted) true a b (masterTick limit a Silence ca) (masterTick limit b Silence cb) (deviceTicks limit Silence xs cs)
+      (ClearLine p (e - 1) (masterTick limit a Silence ca .side) (masterTick limit b Silence cb .side) (sides (deviceTicks limit Silence xs cs)))
+  clear-tick e l sole =
+      let w = l .windows in
+      silent-tick p (l .g) (l .h) 0 false (l .noted) true (Counted p (a .master .timer)) (Counted p (b .master .timer)) _ (l .distinct) (l .agreed) sole (l .asked)
+      (λ c d x y. not-both p c d (windows-next p v (a .master .timer) (b .master .timer) c d x y w))
+      (λ z c x. shut-now z c (shut-on p (l .g) (a .master .timer) c x (l .primary-shut)))
+      (λ z c x. shut-now z c (shut-on p (l .g) (b .master .timer) c x (l .secondary-shut)))
+      (λ c x z off. refl)
+      (λ c x z off. absurd (true-false (sym off)))
+      (λ x y na nb no ra rb still.
+      let all = still-all still in
+      let ag = agreed-same all (l .agreed) in
+      record {
+        g = l .g - 1;
+        h = l .h;
+        noted = l .noted;
+        primary = na;
+        secondary = nb;
+        windows = windows-next p v _ _ _ _ x y w;
+        primary-shut = shut-for p (l .g) _ _ x (l .primary-shut);
+        secondary-shut = shut-for p (l .g) _ _ y (l .secondary-shut);
+        devices = none-due (ag .each) (all-sides all);
+        distinct = all-distinct all (l .distinct);
+        agreed = ag;
+        asked = asked-next (l .asked) ra rb;
+        primary-awaits = λ z. awaits-next p _ _ _ x (l .primary-awaits) (omega (arith, ra .one-less)) ∙ sym (ra .one-less);
+        secondary-awaits = λ z. awaits-next p _ _ _ y (l .secondary-awaits) (omega (arith, rb .one-less)) ∙ sym (rb .one-less);
+        primary-most = omega (arith, ra .one-less, l .primary-most);
+        secondary-most = omega (arith, rb .one-less, l .secondary-most);
+        near = λ j k. near-both p v e _ _ _ _ _ _ x y w (l .primary-awaits) (l .secondary-awaits) (l .near) (sym (ra .one-less) ∙ j) (sym (rb .one-less) ∙ k);
+      })
+      (master-tick limit high p true false (l .noted) (Counted p (a .master .timer)) a ca (l .primary) (if-is-false (a .master .burst) _ _ (l .primary .burst-is)) (λ t n k m. clear-counts p a (l .primary .listens .is-it .profile-is) (l .primary .burst-is) t n m))
+      (master-tick limit high p false false (l .noted) (Counted p (b .master .timer)) b cb (l .secondary) (if-is-false (b .master .burst) _ _ (l .secondary .burst-is)) (λ t n k m. clear-counts p b (l .secondary .listens .is-it .profile-is) (l .secondary .burst-is) t n m))
+      (silent-devices limit low high p (v .some-sto) (l .g) (l .h) 0 (λ x e. omega (arith, e)) false (l .noted) true cs (l .devices) (l .distinct) (l .agreed .each))
+    where
+      shut-now : (1 ≤ l .g) ⊎ (_≡_ {A = ℕ} 0 1) → (c : Timer) → (1 ≤ l .g → c .window ≡ 0) → c .window ≡ 0
+      shut-now (inl z) c f = f z
+      shut-now (inr e) c f = absurd (omega (arith, e))
+
+  -- ---- and with BURST set
+
+  pub set-tick : (n : ℕ) (next : Bool) (l : SetLine p n next a b xs) → Sole (sides (deviceTicks limit Silence xs cs))
+      → SilentTick p n true (l .noted) next a b (masterTick limit a Silence ca) (masterTick limit b Silence cb) (deviceTicks limit Silence xs cs)
+      (SetLine p (n - 1) next (masterTick limit a Silence ca .side) (masterTick limit b Silence cb .side) (sides (deviceTicks limit Silence xs cs)))
+  set-tick n next l sole =
+      silent-tick p (l .g) (l .h) n true (l .noted) next (SetCounts p (a .master .timer)) (SetCounts p (b .master .timer)) _ (l .distinct) (l .agreed) sole (l .asked)
+      (λ c e x y. one-slot-window p (n - 1) c e (one-slot-next p n (a .master .timer) (b .master .timer) c e (x .counts) (y .counts) (l .slot)))
+      (λ z c x. slot-shut p (l .g) n (a .master .timer) c (v .some-hold) (x .counts) (l .primary-shut) (first-slot (l .slot)) z)
+      (λ z c x. slot-shut p (l .g) n (b .master .timer) c (v .some-hold) (x .counts) (l .secondary-shut) (second-slot (l .slot)) z)
+      (λ c x z on. its-turn next refl c x z)
+      (λ c x z on. others-turn next refl c x z)
+      (λ x y na nb no ra rb still.
+      let all = still-all still in
+      let more : 1 < n = more-than-one (no-one no) in
+      record {
+        g = l .g - 1;
+        h = l .h;
+        noted = l .noted;
+        primary = na;
+        secondary = nb;
+        slot = one-slot-next p n _ _ _ _ (x .counts) (y .counts) (l .slot);
+        some = omega arith;
+        most = omega (arith, l .most);
+        primary-quiet = omega (arith, x .quiet-is, l .primary-quiet);
+        secondary-quiet = omega (arith, y .quiet-is, l .secondary-quiet);
+        before = omega (arith, l .before);
+        primary-shut = λ z. no-slot-next p _ _ (x .counts) (l .primary-shut (omega arith));
+        secondary-shut = λ z. no-slot-next p _ _ (y .counts) (l .secondary-shut (omega arith));
+        devices = all-sides all;
+        distinct = all-distinct all (l .distinct);
+        agreed = agreed-same all (l .agreed);
+        asked = asked-next (l .asked) ra rb;
+        primary-slot = λ z. no-slot-next p _ _ (x .counts) (l .primary-slot z);
+        secondary-slot = λ z. no-slot-next p _ _ (y .counts) (l .secondary-slot z);
+        primary-awaits = λ z. let w = l .primary-awaits (omega (arith, ra .one-less)) in (w .0, no-slot-next p _ _ (x .counts) (w .1));
+        secondary-awaits = λ z. let w = l .secondary-awaits (omega (arith, rb .one-less)) in (w .0, no-slot-next p _ _ (y .counts) (w .1));
+      })
+      (master-tick limit high p true true (l .noted) (SetCounts p (a .master .timer)) a ca (l .primary) (set-burst a (l .primary .burst-is) (omega (arith, l .some, l .primary-quiet)))
+      (set-counts p a (l .primary .listens .is-it .profile-is) (l .primary .burst-is) (omega (arith, l .some, l .primary-quiet))))
+      (master-tick limit high p false true (l .noted) (SetCounts p (b .master .timer)) b cb (l .secondary) (set-burst b (l .secondary .burst-is) (omega (arith, l .some, l .secondary-quiet)))
+      (set-counts p b (l .secondary .listens .is-it .profile-is) (l .secondary .burst-is) (omega (arith, l .some, l .secondary-quiet))))
+      (silent-devices limit low high p (v .some-sto) (l .g) (l .h) n (λ x e. omega (arith, l .before)) true (l .noted) next cs (l .devices) (l .distinct) (l .agreed .each))
+    where
+      its-turn : (z : Bool) → next ≡ z → (c : Timer) → SetCounts p (a .master .timer) c → 0 < c .window → next ≡ true
+      its-turn true e c x w = e
+      its-turn false e c x w = absurd (omega (arith, no-slot-next p _ _ (x .counts) (l .primary-slot e) .no-window))
+
+      others-turn : (z : Bool) → next ≡ z → (c : Timer) → SetCounts p (b .master .timer) c → 0 < c .window → next ≡ false
+      others-turn true e c x w = absurd (omega (arith, no-slot-next p _ _ (x .counts) (l .secondary-slot e) .no-window))
+      others-turn false e c x w = e
+
+      no-one : (n ≡ 1 → true ≡ true → ⊥) → n ≡ 1 → ⊥
+      no-one f e = f e refl
+
+      more-than-one : (n ≡ 1 → ⊥) → 1 < n
+      more-than-one f = go (native.Mathlib.Decide.decLe n 1)
+        where
+          go : Dec (n ≤ 1) → 1 < n
+          go (yes z) = absurd (f (omega (arith, l .some)))
+          go (no z) = omega arith

@@ -28,6 +28,7 @@ use Rattle.turns.specs.declared.Noted.{Noted}
 use Rattle.turns.specs.declared.Master.{Master}
 use Rattle.turns.specs.declared.MasterTold.{MasterTold}
 use Rattle.turns.specs.declared.MasterTold.the-variants.{Answered, GivenUp, BroadcastSent}
+pub use Rattle.turns.specs.declared.Ending.{Ending}
 use Rattle.turns.specs.declared.MasterTaken.{MasterTaken}
 use Rattle.turns.specs.declared.MasterSent.{MasterSent}
 
@@ -135,11 +136,6 @@ abbrev pub brokenTimer : Master → Timer
 brokenTimer m = if m .burst then burstTimer m 0 else timer (ownRt1 m)
 
 -- ---- the message's end
-
--- what became of a message, and what the host is told
-pub record Ending : Type 0 where
-  pub message : Message
-  pub told : MasterTold
 
 abbrev pub ends : Message → MasterTold → Ending
 ends g told = record { message = staged g Free; told = told }
@@ -327,10 +323,14 @@ sendsAt m frame n attempts =
     else
     sends m true (brokenTimer m) (attempted (m .message) (Awaiting (ownRt1 m)) attempts) passing (Sent.Character (byteAt frame n))
 
+-- one attempt more: a message that waits has a retry left, and its attempts are at most R
+abbrev pub oneMore : ℕ → ℕ → ℕ
+oneMore retries attempts = if attempts ≤? retries then attempts + 1 else attempts
+
 -- "A waiting message, or a retry that is due, begins there."
 abbrev pub sendsBy : Master → List ℕ → Stage → MasterSent
 sendsBy m frame Free = sends m false (m .timer) (m .message) (m .receiver) Silent
-sendsBy m frame Waiting = if 0 <? m .timer .window then sendsAt m frame 0 (m .message .attempts + 1) else sends m false (m .timer) (m .message) (m .receiver) Silent
+sendsBy m frame Waiting = if 0 <? m .timer .window then sendsAt m frame 0 (oneMore (m .retries) (m .message .attempts)) else sends m false (m .timer) (m .message) (m .receiver) Silent
 sendsBy m frame (Sending n) = sendsAt m frame n (m .message .attempts)
 sendsBy m frame (Awaiting n) = sends m false (m .timer) (m .message) (m .receiver) Silent
 

@@ -4,12 +4,10 @@ use mathlib.Core.Path.{_≡_}
 use mathlib.Core.Bool.{Bool, true, false}
 use mathlib.Core.List.{List, [], _∷_}
 use lib.ListN.{length}
-use Rattle.line.specs.Profile.{profileMade}
-use Rattle.line.specs.declared.MadeProfile.the-variants.{Made}
 use Rattle.line.specs.declared.Profile.{Profile}
 use Rattle.turns.specs.Master.{accepted, masterStarts}
 use Rattle.turns.specs.Device.{deviceStarts}
-use Rattle.turns.specs.Link.{MasterSide, DeviceSide, DeviceStep, Link, LinkStep, Calls, sides, run}
+use Rattle.turns.specs.Link.{MasterSide, DeviceSide, DeviceStep, Link, LinkStep, sides}
 use Rattle.turns.specs.declared.Sent.{Sent}
 use Rattle.turns.specs.declared.Sent.the-variants.{Silent, Character}
 
@@ -85,9 +83,3 @@ OneBursts s = Sole (sides (s .for-devices))
 -- "no two send in one tick"
 abbrev pub NoTwoSend : LinkStep → Type 0
 NoTwoSend s = senders s ≤ 1
-
--- ---- demand 3, "no two send in one tick"
-
--- For every profile that the check takes and every retry limit that a start accepts, for parties that all start in one tick, and for every list of ticks from there, whatever calls its ticks have: if at most one device bursts at a time, no two send in one tick. That no character is damaged or lost is how the line is defined, and a run has no restart. `limit` is the longest data, 255.
-abbrev pub NoTwoSendInARun : ℕ → Type 0
-NoTwoSendInARun limit = (p : Profile) (retries : ℕ) (l : Link) (ticks : List Calls) → profileMade p ≡ Made p → Starts p retries l → EachTick OneBursts (run limit l ticks) → EachTick NoTwoSend (run limit l ticks)

@@ -40,7 +40,7 @@ pub struct Message {
     // how many characters its STX has
     pub length: u16,
     // how many STX frames were begun for it
-    pub attempts: u8,
+    pub attempts: u16,
 }
 
 // The address that BURST was set by.
@@ -70,9 +70,15 @@ pub enum MasterTold {
     // answered with this ACK, whose data are in the lent data buffer
     Answered(Whole),
     // given up after so many STX frames
-    GivenUp(u8),
+    GivenUp(u16),
     // a broadcast, sent once
     BroadcastSent,
+}
+
+// What became of a master's message, and what its host is told.
+pub struct Ending {
+    pub message: Message,
+    pub told: MasterTold,
 }
 
 // A master behind what it heard, and what it tells.

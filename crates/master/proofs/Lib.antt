@@ -1,0 +1,5 @@
+-- The laws by which the master's functions are proved.
+pub mod Starts
+pub mod Requests
+pub mod Sends
+pub mod Ticks

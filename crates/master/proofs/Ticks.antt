@@ -1,0 +1,85 @@
+-- Laws of a master's tick: take, call and send, one behind the other.
+use Prim.Native.Nat.{ℕ}
+use mathlib.Core.List.{List}
+use mathlib.Core.Path.{_≡_, refl, sym, ap, _∙_}
+use lib.ListN.{length}
+use Rattle.base.specs.Store.{stored}
+use Rattle.base.specs.declared.Refusal.{Refusal}
+use Rattle.frame.specs.Frame.{frameBytes}
+use Rattle.line.specs.declared.Event.{Event}
+use Rattle.line.specs.declared.Heard.{Heard}
+use Rattle.turns.specs.Master.{Called, accepted, refused, Request, requestHeader, requested, tells, masterTakes, masterSends}
+use Rattle.turns.specs.Link.{Answer, MasterCall, MasterStep, was-taken, was-refused, masterData, masterSent, masterCalled, masterCalls, masterTick}
+use Rattle.turns.specs.declared.Master.{Master}
+use Rattle.turns.specs.declared.MasterSent.{MasterSent}
+use Rattle.turns.specs.declared.MasterTaken.{MasterTaken}
+use Rattle.turns.specs.declared.MasterTold.{MasterTold}
+use Rattle.master_heard.specs.Takes.{TakeIs}
+use Rattle.master.specs.Answers.{asks, asked, askedFrame, RequestIs}
+use Rattle.master.specs.declared.MasterRequested.{MasterRequested}
+use Rattle.master.specs.Tick.{callOf, answerOf, sideOf, stepOf, uncalled, CallIs, TickIs}
+use Rattle.master.specs.declared.CallAnswer.{CallAnswer}
+use Rattle.master.specs.declared.CallTaken.{CallTaken}
+use Rattle.master.specs.declared.HostCall.{HostCall}
+use Rattle.master.specs.declared.MasterTicked.{MasterTicked}
+use Rattle.master.specs.declared.Wanted.{Wanted}
+
+-- a request that was answered
+module _ (m : Master) (w : Wanted) (put frame after : List ℕ) (r : MasterRequested) where
+  q : Request
+  q = asks (w .preamble) (w .long) (w .address) (w .command)
+
+  stx : List ℕ
+  stx = frameBytes (q .preamble) (requestHeader m q) put
+
+  module _ (is : RequestIs m (asks (w .preamble) (w .long) (w .address) (w .command)) put frame r after) where
+    pub call-accepted : (n : Master) → r ≡ MasterRequested.Accepted n → CallIs m (HostCall.Requests w) put frame (record { master = n; answer = CallAnswer.Taken }) after
+    unfolding q stx
+    call-accepted n e =
+        let called : requested 255 m q (length put) ≡ accepted n = sym (is .answer) ∙ ap asked e in
+        let buffer : stored frame 0 stx ≡ after = sym (is .buffer ∙ ap (λ (c : Called Master). askedFrame c frame stx) called) in
+        record {
+          goes = λ told event bytes.
+              ap (λ (c : Called Master). masterCalled c m stx frame bytes told) called
+              ∙ ap (λ (f : List ℕ). masterSent (masterSends n f) f bytes told was-taken) buffer;
+        }
+
+    pub call-refused : (why : Refusal) → r ≡ MasterRequested.Refused why → CallIs m (HostCall.Requests w) put frame (record { master = m; answer = CallAnswer.Refused why }) after
+    unfolding q stx
+    call-refused why e =
+        let called : requested 255 m q (length put) ≡ refused why = sym (is .answer) ∙ ap asked e in
+        let buffer : frame ≡ after = sym (is .buffer ∙ ap (λ (c : Called Master). askedFrame c frame stx) called) in
+        record {
+          goes = λ told event bytes.
+              ap (λ (c : Called Master). masterCalled c m stx frame bytes told) called
+              ∙ ap (λ (f : List ℕ). masterSent (masterSends m f) f bytes told (was-refused why)) buffer;
+        }
+
+-- by the call
+pub call-none : (m : Master) (call : HostCall) (put frame : List ℕ) (r : CallTaken) → call ≡ HostCall.Nothing → r ≡ uncalled m → CallIs m call put frame r frame
+call-none m call put frame r e p = record {
+  goes = λ told event bytes.
+      ap (λ (c : HostCall). masterCalls 255 (tells m told event) (callOf c put) frame bytes) e
+      ∙ ap (λ (x : CallTaken). masterSent (masterSends (x .master) frame) frame bytes told (answerOf (x .answer))) (sym p);
+}
+
+pub call-some : (m : Master) (call : HostCall) (w : Wanted) (put frame after : List ℕ) (r : CallTaken) → call ≡ HostCall.Requests w → CallIs m (HostCall.Requests w) put frame r after → CallIs m call put frame r after
+call-some m call w put frame after r e p = record {
+  goes = λ told event bytes. ap (λ (c : HostCall). masterCalls 255 (tells m told event) (callOf c put) frame bytes) e ∙ p .goes told event bytes;
+}
+
+-- the whole tick
+pub tick-is : (m : Master) (heard : Heard) (call : HostCall) (put frame bytes frame-after bytes-after : List ℕ) (t : MasterTaken) (c : CallTaken) (s : MasterSent)
+    → TakeIs m heard bytes t bytes-after → CallIs (t .master) call put frame c frame-after → s ≡ masterSends (c .master) frame-after
+    → TickIs m heard call put frame bytes (record { master = s .master; sent = s .sent; told = t .told; event = t .event; answer = c .answer }) frame-after bytes-after
+unfolding masterTick
+tick-is m heard call put frame bytes frame-after bytes-after t c s p q e = record {
+  step =
+      ap (λ (x : MasterSent). masterSent x frame-after bytes-after (t .told) (answerOf (c .answer))) e
+      ∙ sym (q .goes (t .told) (t .event) bytes-after)
+      ∙ ap (λ (x : MasterTaken). masterCalls 255 x (callOf call put) frame bytes-after) (p .takes)
+      ∙ ap (λ (b : List ℕ). masterCalls 255 (masterTakes m heard b) (callOf call put) frame b) (p .buffer);
+  found = ap (λ (x : MasterTaken). x .event) (p .takes);
+}
+
+pub ruleset ticks = (refl, call-accepted, call-refused, call-none, call-some, tick-is)

@@ -1,0 +1,21 @@
+use borrow.Author.Needs.{needs}
+use Rattle.base.proofs.Choices.{choices}
+use Rattle.master.proofs.Sends.{sendings}
+use Rattle.master.proofs.sends_at.Statement.{statement}
+use Rattle.master.proofs.sends_at.Tie as tie
+
+pub sends-at-spec : {M : Type 1} → statement M
+sends-at-spec =
+    tie.close
+    (tie.spec
+    (λ c κs. search needs)
+    (λ c. search needs)
+    (λ c. search needs)
+    (λ c κs. search needs)
+    (λ c. search needs)
+    (λ c κs. search needs)
+    (λ c. search (needs, choices, sendings))
+    (λ c κs. search needs)
+    (λ c κs. search needs)
+    (λ c κs. search needs)
+    (λ c. search (needs, choices, sendings)))

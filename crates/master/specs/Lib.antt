@@ -1,0 +1,4 @@
+-- What a master's functions promise, and names for parts of its definitions.
+pub mod Answers
+pub mod Parts
+pub mod Tick

@@ -1,0 +1,46 @@
+-- A tick of a master, by `masterTick` of crates/turns/specs/Link.antt.
+use Prim.Native.Nat.{ℕ}
+use mathlib.Core.List.{List}
+use mathlib.Core.Path.{_≡_}
+use Rattle.line.specs.declared.Event.{Event}
+use Rattle.line.specs.declared.Heard.{Heard}
+use Rattle.turns.specs.Master.{tells, masterTakes, masterSends}
+use Rattle.turns.specs.Link.{MasterCall, no-request, requests, Answer, none, was-taken, was-refused, MasterSide, MasterStep, masterSent, masterCalls, masterTick}
+use Rattle.turns.specs.declared.Master.{Master}
+use Rattle.turns.specs.declared.MasterTold.{MasterTold}
+use Rattle.master.specs.Answers.{asks}
+use Rattle.master.specs.declared.HostCall.{HostCall}
+use Rattle.master.specs.declared.CallAnswer.{CallAnswer}
+use Rattle.master.specs.declared.CallTaken.{CallTaken}
+use Rattle.master.specs.declared.MasterTicked.{MasterTicked}
+
+-- the call, with the data that are lent beside it
+abbrev pub callOf : HostCall → List ℕ → MasterCall
+callOf HostCall.Nothing put = no-request
+callOf (HostCall.Requests q) put = requests (asks (q .preamble) (q .long) (q .address) (q .command)) put
+
+-- what became of it: none, taken, or refused with its number in document 01's table
+abbrev pub answerOf : CallAnswer → Answer
+answerOf CallAnswer.Nothing = none
+answerOf CallAnswer.Taken = was-taken
+answerOf (CallAnswer.Refused why) = was-refused why
+
+-- a master with its lent buffers
+abbrev pub sideOf : Master → List ℕ → List ℕ → MasterSide
+sideOf m frame bytes = record { master = m; frame = frame; bytes = bytes }
+
+abbrev pub stepOf : MasterTicked → List ℕ → List ℕ → MasterStep
+stepOf r frame bytes = record { side = sideOf (r .master) frame bytes; sent = r .sent; told = r .told; answer = answerOf (r .answer) }
+
+abbrev pub uncalled : Master → CallTaken
+uncalled m = record { master = m; answer = CallAnswer.Nothing }
+
+-- a call, whatever the tick told before it and whatever data it heard: `after` is the frame buffer behind the call
+pub record CallIs (m : Master) (call : HostCall) (put frame : List ℕ) (r : CallTaken) (after : List ℕ) : Type 0 where
+  pub goes : (told : MasterTold) (event : Event) (bytes : List ℕ)
+      → masterCalls 255 (tells m told event) (callOf call put) frame bytes ≡ masterSent (masterSends (r .master) after) after bytes told (answerOf (r .answer))
+
+-- a tick: what is sent, told and answered, the state and both lent buffers behind it; and each frame that its reader found
+pub record TickIs (m : Master) (heard : Heard) (call : HostCall) (put frame bytes : List ℕ) (r : MasterTicked) (frame-after bytes-after : List ℕ) : Type 0 where
+  pub step : stepOf r frame-after bytes-after ≡ masterTick 255 (sideOf m frame bytes) heard (callOf call put)
+  pub found : r .event ≡ masterTakes m heard bytes-after .event

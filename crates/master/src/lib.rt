@@ -1,0 +1,400 @@
+// A master: its start, its host's requests, what it sends, and its tick: it takes what was heard, then a request, then sends a character or none.
+use base::Refusal;
+use frame::Header;
+use frame::Written;
+use line::Event;
+use line::Heard;
+use line::Profile;
+use line::Receiver;
+use turns::Master;
+use turns::MasterSent;
+use turns::MasterTold;
+use turns::Message;
+use turns::Noted;
+use turns::Sent;
+use turns::Stage;
+use turns::Timer;
+ghost use mathlib.Core.Path.{_≡_};
+ghost use mathlib.Core.Bool.{true, false};
+ghost use lib.ListN.{length};
+ghost use Rattle.base.specs.Choice.{if_then_else_, _=?_};
+ghost use Rattle.frame.proofs.Taken.{Fits};
+ghost use Rattle.turns.specs.Master.{hasMessage, sends, sendsAt, oneMore, sendsBy, masterSends, noMessage, freshMaster, masterStarts};
+ghost use Rattle.master.specs.Answers.{started, asks, RequestIs};
+ghost use Rattle.master.specs.Parts.{withMessage, PutIs, sendsNothing, sendsCharacter};
+ghost use Rattle.master.specs.Tick.{uncalled, CallIs, TickIs};
+
+// What a start answers.
+pub enum MasterStarted {
+    Started(Master),
+    Refused(Refusal),
+}
+
+// What a request answers.
+pub enum MasterRequested {
+    Accepted(Master),
+    Refused(Refusal),
+}
+
+// A host's request, its data aside.
+pub struct Wanted {
+    pub preamble: usize,
+    pub long: bool,
+    pub address: u64,
+    pub command: u8,
+}
+
+// A host's call in a tick.
+pub enum HostCall {
+    Nothing,
+    Requests(Wanted),
+}
+
+// What became of it.
+pub enum CallAnswer {
+    Nothing,
+    Taken,
+    Refused(Refusal),
+}
+
+// A master behind its host's call.
+pub struct CallTaken {
+    pub master: Master,
+    pub answer: CallAnswer,
+}
+
+// A master behind a tick, what it sends, and what it tells its host.
+pub struct MasterTicked {
+    pub master: Master,
+    pub sent: Sent,
+    pub told: MasterTold,
+    pub event: Event,
+    pub answer: CallAnswer,
+}
+
+// Refusal 5: command 254, or a short address with a command but 0.
+fn command_refused(long: bool, command: u8) -> bool
+    ensures { λ r. ⌜ r ≡ (if command =? 254 then true else if long then false else (if command =? 0 then false else true)) ⌝ }
+{
+    if command == 254 {
+        return true;
+    }
+    if long {
+        return false;
+    }
+    if command == 0 {
+        return false;
+    }
+    true
+}
+
+fn has_message(stage: Stage) -> bool
+    ensures { λ r. ⌜ r ≡ hasMessage stage ⌝ }
+{
+    match stage {
+        Stage::Free => false,
+        Stage::Waiting => true,
+        Stage::Sending(_) => true,
+        Stage::Awaiting(_) => true,
+    }
+}
+
+// A master with a message that waits.
+fn with_message(m: Master, h: Header, length: u16) -> Master
+    ensures { λ n. ⌜ n ≡ withMessage m h length ⌝ }
+{
+    let r = m.receiver;
+    let noted = m.noted;
+    let t = m.timer;
+    let message = Message {
+        stage: Stage::Waiting,
+        header: h,
+        length: length,
+        attempts: 0,
+    };
+    master_rules::with_parts(m, r, m.burst, noted, t, message)
+}
+
+// Puts an STX that can be written into the lent frame buffer; how many characters it has.
+fn put_stx(preamble: usize, h: Header, bytes: &[u8], frame: &mut [u8; 284]) -> u16
+    requires { ⌜ Fits preamble h (length (now bytes)) ⌝ }
+    ensures { λ r. ⌜ PutIs preamble h (now (bytes .entry)) (now (frame .entry)) r (now (frame .exit)) ⌝ }
+{
+    let written = frame_write::write(preamble, h, bytes, frame, 0);
+    match written {
+        Written::To(end) => end as u16,
+        Written::Refused(_) => 0,
+    }
+}
+
+// A host's request: its STX is put into the lent frame buffer, or it is refused and the buffer stays as it was.
+pub fn request(
+    m: Master,
+    preamble: usize,
+    long: bool,
+    address: u64,
+    command: u8,
+    bytes: &[u8],
+    frame: &mut [u8; 284],
+) -> MasterRequested
+    ensures { λ r. ⌜ RequestIs m (asks preamble long address command) (now (bytes .entry)) (now (frame .entry)) r (now (frame .exit)) ⌝ }
+{
+    let g = m.message;
+    let stage = g.stage;
+    let h = Header {
+        frame: frame::STX,
+        long: long,
+        primary: m.primary,
+        burst: false,
+        address: address,
+        command: command,
+    };
+    if base::outside(preamble, 5, 20) {
+        return MasterRequested::Refused(Refusal::PreambleLength);
+    }
+    if frame_write::address_too_large(h) {
+        return MasterRequested::Refused(Refusal::Address);
+    }
+    if command_refused(long, command) {
+        return MasterRequested::Refused(Refusal::Command);
+    }
+    if 255 < bytes.len() {
+        return MasterRequested::Refused(Refusal::DataLong);
+    }
+    if has_message(stage) {
+        return MasterRequested::Refused(Refusal::MessageInHand);
+    }
+    let length = put_stx(preamble, h, bytes, frame);
+    MasterRequested::Accepted(with_message(m, h, length))
+}
+
+// What a master sends, and the master behind it.
+fn sends_as(m: Master, deaf: bool, t: Timer, g: Message, r: Receiver, sent: Sent) -> MasterSent
+    ensures { λ x. ⌜ x ≡ sends m deaf t g r sent ⌝ }
+{
+    let profile = m.profile;
+    let noted = m.noted;
+    let master = Master {
+        primary: m.primary,
+        profile: profile,
+        retries: m.retries,
+        receiver: r,
+        deaf: deaf,
+        burst: m.burst,
+        noted: noted,
+        timer: t,
+        message: g,
+    };
+    MasterSent {
+        master: master,
+        sent: sent,
+    }
+}
+
+fn stays_silent(m: Master) -> MasterSent
+    ensures { λ x. ⌜ x ≡ sendsNothing m ⌝ }
+{
+    let t = m.timer;
+    let g = m.message;
+    let r = m.receiver;
+    sends_as(m, false, t, g, r, Sent::Silent)
+}
+
+// One attempt more, while there are at most R.
+fn one_more(retries: u8, attempts: u16) -> u16
+    ensures { λ r. ⌜ r ≡ oneMore retries attempts ⌝ }
+{
+    if attempts <= (retries as u16) {
+        return attempts + 1;
+    }
+    attempts
+}
+
+// A character of the STX, with the timer and the stage behind it.
+fn sends_character(m: Master, t: Timer, stage: Stage, attempts: u16, c: u8) -> MasterSent
+    ensures { λ x. ⌜ x ≡ sendsCharacter m t stage attempts c ⌝ }
+{
+    let g = m.message;
+    let header = g.header;
+    let message = Message {
+        stage: stage,
+        header: header,
+        length: g.length,
+        attempts: attempts,
+    };
+    sends_as(
+        m,
+        true,
+        t,
+        message,
+        tick_reader::passing_reader(),
+        Sent::Character(c),
+    )
+}
+
+// The character with this number of the STX.
+fn sends_at(m: Master, frame: &[u8; 284], n: u16, attempts: u16) -> MasterSent
+    ensures { λ x. ⌜ x ≡ sendsAt m (now (frame .entry)) n attempts ⌝ }
+{
+    let g = m.message;
+    let c = party::character_at(frame, n);
+    if (n as u32) + 1 < (g.length as u32) {
+        return sends_character(
+            m,
+            master_rules::timer_of(0),
+            Stage::Sending(n + 1),
+            attempts,
+            c,
+        );
+    }
+    let rt1 = master_rules::own_rt1(m);
+    sends_character(
+        m,
+        master_rules::broken_timer(m),
+        Stage::Awaiting(rt1),
+        attempts,
+        c,
+    )
+}
+
+// A waiting message begins where a window is open.
+fn sends_waiting(m: Master, frame: &[u8; 284]) -> MasterSent
+    ensures { λ x. ⌜ x ≡ sendsBy m (now (frame .entry)) Stage.Waiting ⌝ }
+{
+    let t = m.timer;
+    let g = m.message;
+    if 0 < t.window {
+        return sends_at(m, frame, 0, one_more(m.retries, g.attempts));
+    }
+    stays_silent(m)
+}
+
+// Sends a character of the STX that stands in the lent frame buffer, or none.
+pub fn send(m: Master, frame: &[u8; 284]) -> MasterSent
+    ensures { λ x. ⌜ x ≡ masterSends m (now (frame .entry)) ⌝ }
+{
+    let g = m.message;
+    let stage = g.stage;
+    match stage {
+        Stage::Free => stays_silent(m),
+        Stage::Waiting => sends_waiting(m, frame),
+        Stage::Sending(n) => sends_at(m, frame, n, g.attempts),
+        Stage::Awaiting(_) => stays_silent(m),
+    }
+}
+
+fn no_message() -> Message
+    ensures { λ g. ⌜ g ≡ noMessage ⌝ }
+{
+    let header = Header {
+        frame: 0,
+        long: false,
+        primary: false,
+        burst: false,
+        address: 0,
+        command: 0,
+    };
+    Message {
+        stage: Stage::Free,
+        header: header,
+        length: 0,
+        attempts: 0,
+    }
+}
+
+fn fresh_master(p: Profile, primary: bool, retries: u8) -> Master
+    ensures { λ m. ⌜ m ≡ freshMaster p primary retries ⌝ }
+{
+    let receiver = tick_reader::passing_reader();
+    let timer = master_rules::timer_of(master_rules::rt1_of(p, primary) as u32);
+    let message = no_message();
+    let noted = Noted {
+        long: false,
+        address: 0,
+    };
+    Master {
+        primary: primary,
+        profile: p,
+        retries: retries,
+        receiver: receiver,
+        deaf: true,
+        burst: false,
+        noted: noted,
+        timer: timer,
+        message: message,
+    }
+}
+
+// A fresh master, or refusal 2.
+pub fn start(profile: Profile, primary: bool, retries: u8) -> MasterStarted
+    ensures { λ r. ⌜ started r ≡ masterStarts profile primary retries ⌝ }
+{
+    if base::outside(retries as usize, 3, 15) {
+        return MasterStarted::Refused(Refusal::BadRetries);
+    }
+    MasterStarted::Started(fresh_master(profile, primary, retries))
+}
+
+fn request_by(m: Master, q: Wanted, put: &[u8], frame: &mut [u8; 284]) -> CallTaken
+    ensures { λ r. ⌜ CallIs m (HostCall.Requests q) (now (put .entry)) (now (frame .entry)) r (now (frame .exit)) ⌝ }
+{
+    let r = request(m, q.preamble, q.long, q.address, q.command, put, frame);
+    match r {
+        MasterRequested::Accepted(n) => CallTaken {
+            master: n,
+            answer: CallAnswer::Taken,
+        },
+        MasterRequested::Refused(why) => CallTaken {
+            master: m,
+            answer: CallAnswer::Refused(why),
+        },
+    }
+}
+
+fn no_call(m: Master) -> CallTaken
+    ensures { λ r. ⌜ r ≡ uncalled m ⌝ }
+{
+    CallTaken {
+        master: m,
+        answer: CallAnswer::Nothing,
+    }
+}
+
+fn take_call(m: Master, call: HostCall, put: &[u8], frame: &mut [u8; 284]) -> CallTaken
+    ensures { λ r. ⌜ CallIs m call (now (put .entry)) (now (frame .entry)) r (now (frame .exit)) ⌝ }
+{
+    match call {
+        HostCall::Nothing => no_call(m),
+        HostCall::Requests(q) => request_by(m, q, put, frame),
+    }
+}
+
+// A tick. Lent are the data of a request, the buffer that holds the master's STX and the one for the data of the frame that it hears.
+pub fn tick(
+    m: Master,
+    heard: Heard,
+    call: HostCall,
+    put: &[u8],
+    frame: &mut [u8; 284],
+    bytes: &mut [u8; 255],
+) -> MasterTicked
+    ensures { λ r. ⌜ TickIs m heard call (now (put .entry)) (now (frame .entry)) (now (bytes .entry)) r (now (frame .exit)) (now (bytes .exit)) ⌝ }
+{
+    let t = master_heard::take(m, heard, bytes);
+    let taken = t.master;
+    let told = t.told;
+    let event = t.event;
+    let c = take_call(taken, call, put, frame);
+    let called = c.master;
+    let answer = c.answer;
+    let s = send(called, frame);
+    let next = s.master;
+    let sent = s.sent;
+    MasterTicked {
+        master: next,
+        sent: sent,
+        told: told,
+        event: event,
+        answer: answer,
+    }
+}

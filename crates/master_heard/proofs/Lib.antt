@@ -1,0 +1,2 @@
+-- The laws by which these functions are proved.
+pub mod Takes

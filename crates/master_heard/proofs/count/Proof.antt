@@ -1,0 +1,15 @@
+use borrow.Author.Needs.{needs}
+use Rattle.base.proofs.Choices.{choices}
+use Rattle.master_heard.proofs.Takes.{events}
+use Rattle.master_heard.proofs.count.Statement.{statement}
+use Rattle.master_heard.proofs.count.Tie as tie
+
+pub count-spec : {M : Type 1} → statement M
+count-spec =
+    tie.close
+    (tie.spec
+    (λ c κs. search needs)
+    (λ c κs. search needs)
+    (λ c. search (needs, choices, events))
+    (λ c κs. search needs)
+    (λ c. search (needs, choices, events)))

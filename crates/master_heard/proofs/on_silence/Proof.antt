@@ -1,0 +1,24 @@
+use borrow.Author.Needs.{needs}
+use Rattle.master_heard.proofs.Takes.{events}
+use Rattle.master_heard.proofs.on_silence.Statement.{statement}
+use Rattle.master_heard.proofs.on_silence.Tie as tie
+
+pub on-silence-spec : {M : Type 1} → statement M
+on-silence-spec =
+    tie.close
+    (tie.spec
+    (λ c. search needs)
+    (λ c κs. search needs)
+    (λ c. search needs)
+    (λ c κs. search needs)
+    (λ c. search needs)
+    (λ c κs. search needs)
+    (λ c. search needs)
+    (λ c κs. search needs)
+    (λ c. search needs)
+    (λ c κs. search needs)
+    (λ c. search (needs, events))
+    (λ c. search (needs, events))
+    (λ c. search (needs, events))
+    (λ c. search (needs, events))
+    (λ c. search (needs, events)))

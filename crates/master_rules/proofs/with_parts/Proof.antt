@@ -1,0 +1,9 @@
+use borrow.Author.Needs.{needs}
+use Rattle.master_rules.proofs.with_parts.Statement.{statement}
+use Rattle.master_rules.proofs.with_parts.Tie as tie
+
+pub with-parts-spec : {M : Type 1} → statement M
+with-parts-spec =
+    tie.close
+    (tie.spec
+    (λ c. search needs))

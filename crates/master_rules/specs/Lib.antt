@@ -1,0 +1,2 @@
+-- Names for parts of a master's definitions.
+pub mod Parts

@@ -1,0 +1,433 @@
+// What a master works out: its timers and windows, BURST, and what becomes of its message.
+use frame::Header;
+use line::Profile;
+use line::Receiver;
+use line::Whole;
+use turns::Ending;
+use turns::Master;
+use turns::MasterTold;
+use turns::Message;
+use turns::Noted;
+use turns::Stage;
+use turns::Timer;
+ghost use mathlib.Core.Path.{_≡_};
+ghost use Rattle.base.specs.Choice.{if_then_else_};
+ghost use Prim.Native.Nat.{_-_};
+ghost use Rattle.turns.specs.Master.{ownRt1, quietTime, behind, staged, timer, burstTimer, opened, countClear, countBurst, timerCounted, burstCounted, addressOf, isNoted, burstAfter, notedAfter, toItself, clearTimer, setTimer, timerAfter, brokenTimer, ends, isBroadcast, fails, sameBit, isAnswer, atFrame, atBreak, ifAwaiting};
+ghost use Rattle.master_rules.specs.Parts.{sameRequest, unended};
+
+// RT1, by the master bit.
+pub fn rt1_of(p: Profile, primary: bool) -> u16
+    ensures { λ r. ⌜ r ≡ (if primary then p .rt1p else p .rt1s) ⌝ }
+{
+    if primary {
+        return p.rt1p;
+    }
+    p.rt1s
+}
+
+// Its own RT1.
+pub fn own_rt1(m: Master) -> u16
+    ensures { λ r. ⌜ r ≡ ownRt1 m ⌝ }
+{
+    let p = m.profile;
+    rt1_of(p, m.primary)
+}
+
+fn quiet_time(m: Master) -> u32
+    ensures { λ r. ⌜ r ≡ quietTime m ⌝ }
+{
+    let p = m.profile;
+    let twice = 2 * (p.rt1p as u32);
+    if m.primary {
+        return twice;
+    }
+    twice + (p.rt2 as u32)
+}
+
+// The same master with other parts.
+pub fn with_parts(m: Master, r: Receiver, burst: bool, noted: Noted, t: Timer, g: Message) -> Master
+    ensures { λ n. ⌜ n ≡ behind m r burst noted t g ⌝ }
+{
+    let profile = m.profile;
+    Master {
+        primary: m.primary,
+        profile: profile,
+        retries: m.retries,
+        receiver: r,
+        deaf: m.deaf,
+        burst: burst,
+        noted: noted,
+        timer: t,
+        message: g,
+    }
+}
+
+// The same message at another stage.
+pub fn at_stage(g: Message, stage: Stage) -> Message
+    ensures { λ r. ⌜ r ≡ staged g stage ⌝ }
+{
+    let header = g.header;
+    Message {
+        stage: stage,
+        header: header,
+        length: g.length,
+        attempts: g.attempts,
+    }
+}
+
+// A timer n, with no window and no quiet time.
+pub fn timer_of(n: u32) -> Timer
+    ensures { λ t. ⌜ t ≡ timer n ⌝ }
+{
+    Timer {
+        next: n,
+        window: 0,
+        quiet: 0,
+    }
+}
+
+// A timer n, or none where n is 0, and the quiet time.
+fn burst_timer(m: Master, n: u32) -> Timer
+    ensures { λ t. ⌜ t ≡ burstTimer m n ⌝ }
+{
+    let quiet = quiet_time(m);
+    Timer {
+        next: n,
+        window: 0,
+        quiet: quiet,
+    }
+}
+
+// A window that opens now.
+fn open_window(p: Profile) -> Timer
+    ensures { λ t. ⌜ t ≡ opened p ⌝ }
+{
+    Timer {
+        next: 2 * (p.rt2 as u32),
+        window: p.hold as u32,
+        quiet: 0,
+    }
+}
+
+// One less, down to 0.
+fn less_one(n: u32) -> u32
+    ensures { λ r. ⌜ r ≡ n - 1 ⌝ }
+{
+    if 0 < n {
+        return n - 1;
+    }
+    0
+}
+
+// A silent tick with BURST clear.
+fn count_clear(p: Profile, t: Timer) -> Timer
+    ensures { λ r. ⌜ r ≡ countClear p t ⌝ }
+{
+    if t.next <= 1 {
+        return open_window(p);
+    }
+    let window = less_one(t.window);
+    Timer {
+        next: t.next - 1,
+        window: window,
+        quiet: 0,
+    }
+}
+
+// A silent tick with BURST set, before the quiet time's end.
+fn count_burst(p: Profile, t: Timer) -> Timer
+    ensures { λ r. ⌜ r ≡ countBurst p t ⌝ }
+{
+    let quiet = less_one(t.quiet);
+    if t.next == 1 {
+        return Timer {
+            next: 0,
+            window: p.hold as u32,
+            quiet: quiet,
+        };
+    }
+    let next = less_one(t.next);
+    let window = less_one(t.window);
+    Timer {
+        next: next,
+        window: window,
+        quiet: quiet,
+    }
+}
+
+// The timer behind a silent tick.
+pub fn timer_counted(m: Master) -> Timer
+    ensures { λ t. ⌜ t ≡ timerCounted m ⌝ }
+{
+    let p = m.profile;
+    let t = m.timer;
+    if m.burst {
+        if t.quiet <= 1 {
+            return open_window(p);
+        }
+        return count_burst(p, t);
+    }
+    count_clear(p, t)
+}
+
+// BURST behind a silent tick.
+pub fn burst_counted(m: Master) -> bool
+    ensures { λ r. ⌜ r ≡ burstCounted m ⌝ }
+{
+    let t = m.timer;
+    if m.burst {
+        if t.quiet <= 1 {
+            return false;
+        }
+        return true;
+    }
+    false
+}
+
+// The address that a frame notes.
+fn address_of(h: Header) -> Noted
+    ensures { λ n. ⌜ n ≡ addressOf h ⌝ }
+{
+    Noted {
+        long: h.long,
+        address: h.address,
+    }
+}
+
+fn is_noted(n: Noted, h: Header) -> bool
+    ensures { λ r. ⌜ r ≡ isNoted n h ⌝ }
+{
+    if n.long {
+        return n.address == h.address;
+    }
+    false
+}
+
+// BURST behind a frame.
+pub fn burst_after(burst: bool, noted: Noted, h: Header) -> bool
+    ensures { λ r. ⌜ r ≡ burstAfter burst noted h ⌝ }
+{
+    if h.frame == frame::BACK {
+        return true;
+    }
+    if h.frame == frame::ACK {
+        if h.burst {
+            return true;
+        }
+        if h.long {
+            if is_noted(noted, h) {
+                return false;
+            }
+            return burst;
+        }
+        return burst;
+    }
+    burst
+}
+
+// The noted address behind a frame.
+pub fn noted_after(noted: Noted, h: Header) -> Noted
+    ensures { λ n. ⌜ n ≡ notedAfter noted h ⌝ }
+{
+    if h.frame == frame::BACK {
+        return address_of(h);
+    }
+    if h.frame == frame::ACK {
+        if h.burst {
+            if h.long {
+                return address_of(h);
+            }
+            return noted;
+        }
+        return noted;
+    }
+    noted
+}
+
+// Whether a frame's master bit is its own.
+fn to_itself(m: Master, h: Header) -> bool
+    ensures { λ r. ⌜ r ≡ toItself m h ⌝ }
+{
+    if m.primary {
+        return h.primary;
+    }
+    if h.primary {
+        return false;
+    }
+    true
+}
+
+// The timer behind a frame that leaves BURST clear.
+fn clear_timer(m: Master, h: Header) -> Timer
+    ensures { λ t. ⌜ t ≡ clearTimer m h ⌝ }
+{
+    let p = m.profile;
+    if h.frame == frame::ACK {
+        if to_itself(m, h) {
+            return timer_of(p.rt2 as u32);
+        }
+        return timer_of(1);
+    }
+    timer_of(own_rt1(m) as u32)
+}
+
+// The timer behind a frame that leaves BURST set.
+fn set_timer(m: Master, h: Header) -> Timer
+    ensures { λ t. ⌜ t ≡ setTimer m h ⌝ }
+{
+    if h.frame == frame::BACK {
+        if to_itself(m, h) {
+            return burst_timer(m, 0);
+        }
+        return burst_timer(m, 1);
+    }
+    burst_timer(m, 0)
+}
+
+pub fn timer_after(m: Master, burst: bool, h: Header) -> Timer
+    ensures { λ t. ⌜ t ≡ timerAfter m burst h ⌝ }
+{
+    if burst {
+        return set_timer(m, h);
+    }
+    clear_timer(m, h)
+}
+
+// The timer behind a broken or damaged frame, and behind its own STX.
+pub fn broken_timer(m: Master) -> Timer
+    ensures { λ t. ⌜ t ≡ brokenTimer m ⌝ }
+{
+    if m.burst {
+        return burst_timer(m, 0);
+    }
+    timer_of(own_rt1(m) as u32)
+}
+
+// A message that has come to its end.
+fn ended_with(g: Message, told: MasterTold) -> Ending
+    ensures { λ e. ⌜ e ≡ ends g told ⌝ }
+{
+    let message = at_stage(g, Stage::Free);
+    Ending {
+        message: message,
+        told: told,
+    }
+}
+
+fn is_broadcast(h: Header) -> bool
+    ensures { λ r. ⌜ r ≡ isBroadcast h ⌝ }
+{
+    if h.long {
+        return h.address == 0;
+    }
+    false
+}
+
+// A message whose attempt failed.
+fn failed(retries: u8, g: Message) -> Ending
+    ensures { λ e. ⌜ e ≡ fails retries g ⌝ }
+{
+    if g.attempts <= (retries as u16) {
+        let message = at_stage(g, Stage::Waiting);
+        return Ending {
+            message: message,
+            told: MasterTold::Nothing,
+        };
+    }
+    ended_with(g, MasterTold::GivenUp(g.attempts))
+}
+
+fn same_bit(a: bool, b: bool) -> bool
+    ensures { λ r. ⌜ r ≡ sameBit a b ⌝ }
+{
+    if a {
+        return b;
+    }
+    if b {
+        return false;
+    }
+    true
+}
+
+// Whether address and command of a frame are those of a request.
+fn same_request(q: Header, h: Header) -> bool
+    ensures { λ r. ⌜ r ≡ sameRequest q h ⌝ }
+{
+    if same_bit(q.long, h.long) {
+        if q.address == h.address {
+            return q.command == h.command;
+        }
+        return false;
+    }
+    false
+}
+
+// Whether a frame is the ACK to its message.
+fn is_answer(m: Master, h: Header) -> bool
+    ensures { λ r. ⌜ r ≡ isAnswer m h ⌝ }
+{
+    let g = m.message;
+    let q = g.header;
+    if h.frame == frame::ACK {
+        if to_itself(m, h) {
+            return same_request(q, h);
+        }
+        return false;
+    }
+    false
+}
+
+// What a whole frame makes of a message whose ACK is awaited.
+pub fn at_frame(m: Master, w: Whole, bytes: &[u8; 255]) -> Ending
+    ensures { λ e. ⌜ e ≡ atFrame m w (now (bytes .entry)) ⌝ }
+{
+    let g = m.message;
+    let q = g.header;
+    let h = w.header;
+    let retries = m.retries;
+    let first = bytes[0];
+    if is_broadcast(q) {
+        return ended_with(g, MasterTold::BroadcastSent);
+    }
+    if is_answer(m, h) {
+        if first / 128 == 1 {
+            return failed(retries, g);
+        }
+        return ended_with(g, MasterTold::Answered(w));
+    }
+    failed(retries, g)
+}
+
+// What a broken frame, or RT1's end, makes of it.
+pub fn at_break(m: Master) -> Ending
+    ensures { λ e. ⌜ e ≡ atBreak m ⌝ }
+{
+    let g = m.message;
+    let q = g.header;
+    if is_broadcast(q) {
+        return ended_with(g, MasterTold::BroadcastSent);
+    }
+    failed(m.retries, g)
+}
+
+// A message that goes on as it is.
+fn goes_on(g: Message) -> Ending
+    ensures { λ e. ⌜ e ≡ unended g ⌝ }
+{
+    Ending {
+        message: g,
+        told: MasterTold::Nothing,
+    }
+}
+
+pub fn if_awaiting(stage: Stage, g: Message, e: Ending) -> Ending
+    ensures { λ r. ⌜ r ≡ ifAwaiting stage g e ⌝ }
+{
+    match stage {
+        Stage::Free => goes_on(g),
+        Stage::Waiting => goes_on(g),
+        Stage::Sending(_) => goes_on(g),
+        Stage::Awaiting(_) => e,
+    }
+}

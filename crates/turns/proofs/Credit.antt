@@ -1,0 +1,622 @@
+-- Beyond demand 3: every answer that a master reports was given by the host of the device of its message's address, to its message's STX, and is reported once.
+use Prim.Native.Nat.{ℕ, suc, _+_, _-_, _≤_, _<_}
+use native.Mathlib.Omega.{arith}
+use mathlib.Core.Path.{_≡_, refl, sym, ap, subst, _∙_}
+use mathlib.Core.Bool.{Bool, true, false}
+use mathlib.Core.List.{List, [], _∷_}
+use mathlib.Core.Logic.{_⊎_, inl, inr}
+use lib.ListN.{length, take, getD}
+use borrow.Author.Tests.{eq-eqb, eqb-true}
+use Rattle.base.specs.Choice.{if_then_else_, _=?_}
+use Rattle.base.proofs.Choices.{true-false, if-is-true, if-is-false}
+use Rattle.frame.specs.Delimiter.{stx, ack, back}
+use Rattle.frame.specs.declared.Header.{Header}
+use Rattle.line.specs.Reader.{idle, tells, taken, takenData}
+use Rattle.line.specs.declared.Event.{Event}
+use Rattle.line.specs.declared.Event.the-variants.{Nothing, Frame}
+use Rattle.line.specs.declared.Heard.{Heard}
+use Rattle.line.specs.declared.Heard.the-variants.{Silence, Character}
+use Rattle.line.specs.declared.Profile.{Profile}
+use Rattle.line.specs.declared.Receiver.{Receiver}
+use Rattle.line.specs.declared.Taken.{Taken}
+use Rattle.line.specs.declared.Whole.{Whole}
+use Rattle.line.proofs.Hearing.{wholeMessage}
+use Rattle.line.proofs.Leads.{readerAfter, dataAfter}
+use Rattle.turns.specs.Master.{toItself, sameBit, isAnswer}
+use Rattle.turns.specs.Device.{isOwn, answerHeader}
+use Rattle.turns.specs.Link.{MasterCall, DeviceCall, no-call, MasterSide, MasterStep, DeviceSide, DeviceStep, Link, LinkStep, Calls, masterTick, masterData, deviceTick, deviceTicks, linkTick, linkAfter, run, sides}
+use Rattle.turns.specs.Run.{All, none, and, Starts, EachTick, OneBursts}
+use Rattle.turns.specs.Run as R1
+use Rattle.turns.specs.Demand3.{Premises, masterIn}
+use Rattle.turns.specs.Credit.{Ledger, blank, given, closed, closedBy, ledgerAfter, ledgersAfter, bookedBy, Gave, this-one, another, masterOf, Credited, EachCredited, no-tick, tick-and, blanks, CreditInARun}
+use Rattle.turns.specs.declared.Noted.{Noted}
+use Rattle.turns.specs.declared.Master.{Master}
+use Rattle.turns.specs.declared.Device.{Device}
+use Rattle.turns.proofs.Turns.{listens-asked}
+use Rattle.turns.specs.declared.MasterTold.{MasterTold}
+use Rattle.turns.specs.declared.MasterTold.the-variants.{Answered, GivenUp, BroadcastSent}
+use Rattle.turns.specs.declared.Turn.the-variants.{Listens, Answers}
+use Rattle.turns.proofs.Spoken.{Spoken}
+use Rattle.turns.proofs.Masters.{Holds, left}
+use Rattle.turns.proofs.Devices.{SameDevice, own-kept, own-same}
+use Rattle.turns.proofs.DeviceSpeaking.{Frames, an-ack, a-back, device-speaks}
+use Rattle.turns.proofs.Windows.{Valid}
+use Rattle.turns.proofs.Phases.{OneOf, here, further, MasterQuiet, DeviceQuiet, Ready}
+use Rattle.turns.proofs.Beginning as B
+use Rattle.turns.proofs.Beginning.{DevicePlace, inside, finished, DeviceSpeaks, DeviceHears, device-does}
+use Rattle.turns.proofs.Sending.{MasterHears, MasterSpeaks}
+use Rattle.turns.proofs.Quiet.{Asked, ClearLine, SetLine, SilentLine, clear, set}
+use Rattle.turns.proofs.Stx as X
+use Rattle.turns.proofs.Stx.{OneMasterSends, StxTick, stx-tick, device-hears-on}
+use Rattle.turns.proofs.SilentTick as T
+use Rattle.turns.proofs.SilentTick.{FrameIs, is-ack, is-back, OneDeviceSends, MasterRests, SilentTick}
+use Rattle.turns.proofs.Silences.{clear-tick, set-tick}
+use Rattle.turns.proofs.AckBack as A
+use Rattle.turns.proofs.AckBack.{AckEnded, AckTick, BackTick, ack-tick, back-tick, place-of, spoken-of}
+use Rattle.turns.proofs.NoTwoSend.{carries, heardTick, tick-is, phase-first, stx-line, stx-line-secondary}
+use Rattle.turns.proofs.Fresh.{valid, first-tick, master-is, device-is}
+use Rattle.turns.proofs.Kept.{header-kept}
+use Rattle.turns.proofs.CreditMasters.{Reports, reports, tick-bytes, bytes-length, data-next, hears-data}
+use Rattle.turns.proofs.CreditDevices.{DeviceOwes, Gives, answering, none-owed, ledger-same, same-gives}
+use Rattle.turns.proofs.Booked.{AllOwe, no-more, owe-and, Ledgers, no-ledger, ledger-and, owe-ledgers, closed-ledgers, owe-after, owe-anew, one-all, silent-owes, mid-owes, end-owes, speaks-owes, speaker-free, finished-owes, same-frame, frame-sent, message-sent, data-heard}
+
+-- ---- who reports an answer
+
+-- nobody: the ledgers stay open
+closed-same : (t : MasterTold) (gs : List Ledger) → ((w : Whole) → t ≡ Answered w → ⊥) → closedBy t gs ≡ gs
+closed-same MasterTold.Nothing gs f = refl
+closed-same (Answered w) gs f = absurd (f w refl)
+closed-same (GivenUp n) gs f = refl
+closed-same BroadcastSent gs f = refl
+
+nothing-frame : {w : Whole} → Nothing ≡ Frame w → ⊥
+nothing-frame e = let z : _≡_ {A = ℕ} 0 1 = cc in omega arith
+
+NoReport : MasterStep → Type 0
+NoReport s = (w : Whole) → s .told ≡ Answered w → ⊥
+
+module _ (limit : ℕ) (x : MasterSide) (call : MasterCall) where
+  -- not on the silent line
+  quiet-reports : Ready (x .master .receiver) → NoReport (masterTick limit x Silence call)
+  unfolding Ready NoReport
+  quiet-reports ready w e = let r = reports limit x Silence call w e in nothing-frame (sym (ap (λ (t : Taken). t .event) ready) ∙ r .event-is)
+
+  -- not where it sends
+  deaf-reports : (heard : Heard) → x .master .deaf ≡ true → NoReport (masterTick limit x heard call)
+  unfolding NoReport
+  deaf-reports heard deaf w e = let r = reports limit x heard call w e in true-false (sym deaf ∙ r .hears)
+
+  -- not inside a frame
+  mid-reports : (w : List ℕ) (message : Whole) (k : ℕ) → Spoken w message → suc k < length w → x .master .receiver ≡ readerAfter idle (take k w) → NoReport (masterTick limit x (Character (getD w k 0)) call)
+  unfolding NoReport
+  mid-reports w message k s below q v e =
+      let r = reports limit x (Character (getD w k 0)) call v e in
+      nothing-frame (sym (ap (λ (t : Taken). t .event) (subst (λ (z : Receiver). taken z (Character (getD w k 0)) ≡ tells (readerAfter idle (take (suc k) w)) Nothing) (sym q) (s .mid k below))) ∙ r .event-is)
+
+  -- at its end: that frame
+  end-reports : (w : List ℕ) (message : Whole) (k : ℕ) → Spoken w message → suc k ≡ length w → x .master .receiver ≡ readerAfter idle (take k w) → (v : Whole) → masterTick limit x (Character (getD w k 0)) call .told ≡ Answered v
+      → (v ≡ message) × (isAnswer (x .master) (v .header) ≡ true) × (x .master .deaf ≡ false)
+  end-reports w message k s last q v e =
+      let r = reports limit x (Character (getD w k 0)) call v e in (
+        same-frame (sym (r .event-is) ∙ ap (λ (t : Taken). t .event) (subst (λ (z : Receiver). taken z (Character (getD w k 0)) ≡ tells idle (Frame message)) (sym q) (s .end k last))),
+        r .answer-is,
+        r .hears,
+      )
+
+-- an answer is an ACK with the master's own bit
+answer-ack : (m : Master) (h : Header) → isAnswer m h ≡ true → (h .frame ≡ ack) × (toItself m h ≡ true)
+unfolding if_then_else_
+answer-ack m h e = go (h .frame =? ack) refl (toItself m h) refl e
+  where
+    by : Bool → Bool → Bool
+    by a b = if a then (if b then (if sameBit (m .message .header .long) (h .long) then (if m .message .header .address =? h .address then m .message .header .command =? h .command else false) else false) else false) else false
+
+    go : (a : Bool) → (h .frame =? ack) ≡ a → (b : Bool) → toItself m h ≡ b → by a b ≡ true → (h .frame ≡ ack) × (toItself m h ≡ true)
+    go true p true q z = (eqb-true (h .frame) ack p, q)
+    go true p false q z = absurd (true-false (sym z))
+    go false p b q z = absurd (true-false (sym z))
+
+-- not at the end of another frame
+other-reports : (limit : ℕ) (x : MasterSide) (call : MasterCall) (w : List ℕ) (message : Whole) (k : ℕ) → Spoken w message → suc k ≡ length w → x .master .receiver ≡ readerAfter idle (take k w) → (message .header .frame ≡ ack → ⊥)
+    → NoReport (masterTick limit x (Character (getD w k 0)) call)
+unfolding NoReport
+other-reports limit x call w message k s last q f v e =
+    let r = end-reports limit x call w message k s last q v e in
+    f (ap (λ (z : Whole). z .header .frame) (sym (r .0)) ∙ answer-ack (x .master) (v .header) (r .1) .0)
+
+-- ---- the device that answers, and what the masters have heard of its ACK
+
+-- its ACK carries what its host gave as the answer to the message of the master with its bit
+record SenderOwes (g : Ledger) (x : DeviceSide) (a b : MasterSide) : Type 0 where
+  gives : Gives g (x .device) (x .frame)
+  own : isOwn (x .device) (x .device .request) ≡ true
+  primary-asked : x .device .request .primary ≡ true → x .device .request ≡ a .master .message .header
+  secondary-asked : x .device .request .primary ≡ false → x .device .request ≡ b .master .message .header
+
+-- the device with the unique address u
+data SenderGives (u : ℕ) (a b : MasterSide) : List Ledger → List DeviceSide → Type 0 where
+  no-sender : SenderGives u a b [] []
+  sender-and : {g : Ledger} {x : DeviceSide} {gs : List Ledger} {xs : List DeviceSide} → (x .device .unique ≡ u → SenderOwes g x a b) → SenderGives u a b gs xs → SenderGives u a b (g ∷ gs) (x ∷ xs)
+
+-- a master's data buffer behind the first k characters of w
+record HearsData (k : ℕ) (w : List ℕ) (x : MasterSide) : Type 0 where
+  before : List ℕ
+  bytes-are : x .bytes ≡ dataAfter idle (take k w) before
+  room : 255 ≤ length before
+
+record Rooms (l : Link) : Type 0 where
+  primary-room : 255 ≤ length (l .primary .bytes)
+  secondary-room : 255 ≤ length (l .secondary .bytes)
+
+-- the phases, with the ledgers
+data Booked (p : Profile) (gs : List Ledger) (l : Link) : Type 0 where
+  in-silence : (e : ℕ) → l .line ≡ Silence → SilentLine p e (l .primary) (l .secondary) (l .devices) → AllOwe gs (l .devices) → Booked p gs l
+  in-primary : (burst : Bool) (noted : Noted) (next : Bool) (k : ℕ) (w : List ℕ) (message : Whole) → l .line ≡ Character (getD w k 0)
+      → OneMasterSends p true false burst noted next k w message (l .primary) (l .secondary) (l .devices) → AllOwe gs (l .devices) → Booked p gs l
+  in-secondary : (burst : Bool) (noted : Noted) (next : Bool) (k : ℕ) (w : List ℕ) (message : Whole) → l .line ≡ Character (getD w k 0)
+      → OneMasterSends p false true burst noted next k w message (l .secondary) (l .primary) (l .devices) → AllOwe gs (l .devices) → Booked p gs l
+  in-ack : (burst : Bool) (noted : Noted) (next : Bool) (k : ℕ) (w : List ℕ) (message : Whole) (u : ℕ) (on : Bool) → l .line ≡ Character (getD w k 0)
+      → OneDeviceSends p an-ack burst noted next k w message u on (l .primary) (l .secondary) (l .devices) → AllOwe gs (l .devices)
+      → SenderGives u (l .primary) (l .secondary) gs (l .devices) → HearsData k w (l .primary) → HearsData k w (l .secondary) → Booked p gs l
+  in-back : (burst : Bool) (noted : Noted) (next : Bool) (k : ℕ) (w : List ℕ) (message : Whole) (u : ℕ) → l .line ≡ Character (getD w k 0)
+      → OneDeviceSends p a-back burst noted next k w message u true (l .primary) (l .secondary) (l .devices) → AllOwe gs (l .devices) → Booked p gs l
+
+-- what a tick gives: every report is credited, and the ledgers go on
+record Ticked (p : Profile) (gs : List Ledger) (l : Link) (c : Calls) (s : LinkStep) : Type 0 where
+  credited : (primary : Bool) (w : Whole) → masterIn primary s .told ≡ Answered w → Credited primary gs l s w
+  next : Booked p (bookedBy c s gs) (linkAfter s)
+
+-- a tick in which nobody reports
+unreported : (p : Profile) (gs : List Ledger) (l : Link) (c : Calls) (s : LinkStep) → NoReport (s .for-primary) → NoReport (s .for-secondary) → Booked p (ledgersAfter (c .for-devices) (s .for-devices) gs) (linkAfter s) → Ticked p gs l c s
+unfolding NoReport
+unreported p gs l c s na nb n = record {
+  credited = none-credited;
+  next = subst (λ (z : List Ledger). Booked p (ledgersAfter (c .for-devices) (s .for-devices) z) (linkAfter s))
+      (sym (closed-same (s .for-primary .told) (closedBy (s .for-secondary .told) gs) na ∙ closed-same (s .for-secondary .told) gs nb)) n;
+}
+  where
+    none-credited : (primary : Bool) (w : Whole) → masterIn primary s .told ≡ Answered w → Credited primary gs l s w
+    none-credited true w e = absurd (na w e)
+    none-credited false w e = absurd (nb w e)
+
+-- ---- the silent line
+
+answers-listens : (n : ℕ) → Answers n ≡ Listens → ⊥
+answers-listens n e = let z : _≡_ {A = ℕ} 0 1 = cc in omega arith
+
+module _ (limit : ℕ) (low : 2 ≤ limit) (high : limit ≤ 255) (p : Profile) (v : Valid p) where
+  sender-begins : (g : ℕ) (h : Header) (n : ℕ) (w : List ℕ) (message : Whole) (u : ℕ) (on : Bool) (r : Receiver) (a b : MasterSide) {k : Ledger} (x : DeviceSide) (c : DeviceCall) → 2 ≤ length w
+      → (1 ≤ g → h .primary ≡ true → h ≡ a .master .message .header) → (1 ≤ g → h .primary ≡ false → h ≡ b .master .message .header) → DeviceQuiet p g h n x
+      → DeviceOwes k (deviceTick limit x Silence c .side .device) (deviceTick limit x Silence c .side .frame) → DeviceSpeaks p an-ack 0 w message u on (deviceTick limit x Silence c .side) ⊎ DeviceHears p r u (deviceTick limit x Silence c .side)
+      → deviceTick limit x Silence c .side .device .unique ≡ u → SenderOwes k (deviceTick limit x Silence c .side) a b
+  sender-begins g h n w message u on r a b x c long ha hb q o (inr y) e = absurd (y .another e)
+  sender-begins g h n w message u on r a b {k} x c long ha hb q o (inl y) e = at (y .place)
+    where
+      s : DeviceStep
+      s = deviceTick limit x Silence c
+
+      by : s .side .device .turn ≡ Answers 1 → B.DeviceDoes p g h n x (deviceTick limit x Silence c) → SenderOwes k (deviceTick limit x Silence c .side) a b
+      by t (B.does-rest z) = absurd (resting (z .quietly .good .listens .hand))
+        where
+          resting : Rattle.turns.proofs.Devices.Hand (s .side .device) (s .side .frame) → ⊥
+          resting (Rattle.turns.proofs.Devices.nothing-in-hand q) = answers-listens 1 (sym t ∙ q)
+          resting (Rattle.turns.proofs.Devices.is-asked m q some own) = Rattle.turns.proofs.CreditDevices.answers-asked 1 m (sym t ∙ q)
+          resting (Rattle.turns.proofs.Devices.is-accepted q z) = answers-accepted 1 (sym t ∙ q)
+            where
+              answers-accepted : (n : ℕ) → Answers n ≡ Rattle.turns.specs.declared.Turn.the-variants.Accepted → ⊥
+              answers-accepted n e = let z : _≡_ {A = ℕ} 0 1 = cc in omega arith
+      by t (B.does-answer z m) =
+          let is : s .side .device .request ≡ h = m .same-request ∙ m .request-is in
+          record {
+            gives = o .gives (ap Rattle.turns.proofs.CreditDevices.answering t);
+            own = own-kept (s .side .device .request) (m .same) (subst (λ (i : Header). isOwn (x .device) i ≡ true) (sym (m .same-request)) (m .own));
+            primary-asked = λ i. is ∙ ha z (ap (λ (j : Header). j .primary) (sym is) ∙ i);
+            secondary-asked = λ i. is ∙ hb z (ap (λ (j : Header). j .primary) (sym is) ∙ i);
+          }
+      by t (B.does-burst z m) = absurd (bursting (m .speaks .place))
+        where
+          bursting : {w : List ℕ} → DevicePlace a-back 0 w (s .side .device) → ⊥
+          bursting (inside below i) = answers-bursts 1 1 (sym t ∙ i)
+            where
+              answers-bursts : (m n : ℕ) → Answers m ≡ Rattle.turns.specs.declared.Turn.the-variants.Bursts n → ⊥
+              answers-bursts m n e = let z : _≡_ {A = ℕ} 0 1 = cc in omega arith
+          bursting (finished last i due) = answers-listens 1 (sym t ∙ i)
+
+      at : DevicePlace an-ack 0 w (s .side .device) → SenderOwes k (deviceTick limit x Silence c .side) a b
+      at (inside below t) = by t (device-does limit low high p (v .some-sto) g h n x c q)
+      at (finished last t due) = absurd (omega arith)
+
+  -- the device that begins its ACK answers the message of the master that awaits it
+  begins-gives : (g : ℕ) (h : Header) (n : ℕ) (w : List ℕ) (message : Whole) (u : ℕ) (on : Bool) (r : Receiver) (a b : MasterSide) {gs : List Ledger} {xs : List DeviceSide} (calls : List DeviceCall) → 2 ≤ length w
+      → (1 ≤ g → h .primary ≡ true → h ≡ a .master .message .header) → (1 ≤ g → h .primary ≡ false → h ≡ b .master .message .header) → All (DeviceQuiet p g h n) xs
+      → AllOwe gs (sides (deviceTicks limit Silence xs calls)) → All (λ (y : DeviceSide). DeviceSpeaks p an-ack 0 w message u on y ⊎ DeviceHears p r u y) (sides (deviceTicks limit Silence xs calls)) → SenderGives u a b gs (sides (deviceTicks limit Silence xs calls))
+  unfolding deviceTicks sides
+  begins-gives g h n w message u on r a b calls long ha hb none no-more none = no-sender
+  begins-gives g h n w message u on r a b [] long ha hb (and {x = x} q qs) (owe-and o os) (and s ss) =
+      sender-and (sender-begins g h n w message u on r a b x no-call long ha hb q o s) (begins-gives g h n w message u on r a b [] long ha hb qs os ss)
+  begins-gives g h n w message u on r a b (c ∷ cs) long ha hb (and {x = x} q qs) (owe-and o os) (and s ss) =
+      sender-and (sender-begins g h n w message u on r a b x c long ha hb q o s) (begins-gives g h n w message u on r a b cs long ha hb qs os ss)
+
+  module _ (l : Link) (c : Calls) (gs : List Ledger) (rooms : Rooms l) where
+    abbrev quiet : LinkStep
+    quiet = heardTick limit l Silence c
+
+    -- at a frame's first character the buffers are as they are
+    begins-data : (w : List ℕ) → HearsData 0 w (linkAfter (heardTick limit l Silence c) .primary) × HearsData 0 w (linkAfter (heardTick limit l Silence c) .secondary)
+    unfolding heardTick dataAfter
+    begins-data w = (
+      record { before = quiet .for-primary .side .bytes; bytes-are = refl; room = omega (arith, rooms .primary-room, bytes-length limit (l .primary) Silence (c .for-primary)) },
+      record { before = quiet .for-secondary .side .bytes; bytes-are = refl; room = omega (arith, rooms .secondary-room, bytes-length limit (l .secondary) Silence (c .for-secondary)) },
+    )
+
+    spoken-long : {f : Frames} {k : ℕ} {w : List ℕ} {message : Whole} {u : ℕ} {on : Bool} {Q : DeviceSide → Type 0} {xs : List DeviceSide} → OneOf (DeviceSpeaks p f k w message u on) Q xs → 2 ≤ length w
+    spoken-long o = spoken-of o .long
+
+    -- the master that awaits the ACK keeps its message
+    module _ (g : ℕ) (h : Header) (asked : Asked g h (l .primary) (l .secondary)) (ra : MasterRests (l .primary) (heardTick limit l Silence c .for-primary)) (rb : MasterRests (l .secondary) (heardTick limit l Silence c .for-secondary)) where
+      same-primary : 1 ≤ g → h .primary ≡ true → h ≡ linkAfter (heardTick limit l Silence c) .primary .master .message .header
+      same-primary z e = asked .primary-header z e ∙ sym (ra .same-header (omega (arith, ra .one-less, asked .by-primary z e)))
+
+      same-secondary : 1 ≤ g → h .primary ≡ false → h ≡ linkAfter (heardTick limit l Silence c) .secondary .master .message .header
+      same-secondary z e = asked .secondary-header z e ∙ sym (rb .same-header (omega (arith, rb .one-less, asked .by-secondary z e)))
+
+    -- what comes of a silent tick
+    behind-silence : (g : ℕ) (h : Header) (n : ℕ) (burst : Bool) (noted : Noted) (next : Bool) (L : Type 0) → (linkAfter (heardTick limit l Silence c) .line ≡ Silence → L → Booked p (ledgersAfter (c .for-devices) (heardTick limit l Silence c .for-devices) gs) (linkAfter (heardTick limit l Silence c)))
+        → Asked g h (l .primary) (l .secondary) → All (DeviceQuiet p g h n) (l .devices) → AllOwe (ledgersAfter (c .for-devices) (heardTick limit l Silence c .for-devices) gs) (linkAfter (heardTick limit l Silence c) .devices)
+        → SilentTick p n burst noted next (l .primary) (l .secondary) (heardTick limit l Silence c .for-primary) (heardTick limit l Silence c .for-secondary) (heardTick limit l Silence c .for-devices) L
+        → Booked p (ledgersAfter (c .for-devices) (heardTick limit l Silence c .for-devices) gs) (linkAfter (heardTick limit l Silence c))
+    unfolding heardTick
+    behind-silence g h n burst noted next L f asked qs os (T.still-silent a b line k ra rb) = f (carries quiet a b line) k
+    behind-silence g h n burst noted next L f asked qs os (T.primary-begins w message a b line o ra rb) = in-primary burst noted next 0 w message (carries quiet a b line) o os
+    behind-silence g h n burst noted next L f asked qs os (T.secondary-begins w message a b line o ra rb) = in-secondary burst noted next 0 w message (carries quiet a b line) o os
+    behind-silence g h n burst noted next L f asked qs os (T.ack-begins w message u on a b line o ra rb) =
+        in-ack burst noted _ 0 w message u on (carries quiet a b line) o os
+        (begins-gives g h n w message u on _ _ _ (c .for-devices) (spoken-long (o .devices)) (same-primary g h asked ra rb) (same-secondary g h asked ra rb) qs os (one-all (o .devices)))
+        (begins-data w .0) (begins-data w .1)
+    behind-silence g h n burst noted next L f asked qs os (T.back-begins z w message u a b line o ra rb) = in-back burst noted _ 0 w message u (carries quiet a b line) o os
+
+    silence-books : (e : ℕ) → OneBursts (heardTick limit l Silence c) → SilentLine p e (l .primary) (l .secondary) (l .devices) → AllOwe gs (l .devices) → Ticked p gs l c (heardTick limit l Silence c)
+    unfolding heardTick
+    silence-books e sole (clear k) os =
+        let after = owe-after limit Silence (c .for-devices) (λ x d g q o. silent-owes limit high p (v .some-sto) x d g (q .listens) (q .ready) o) (k .devices) os in
+        unreported p gs l c quiet (quiet-reports limit (l .primary) (c .for-primary) (k .primary .ready)) (quiet-reports limit (l .secondary) (c .for-secondary) (k .secondary .ready))
+        (behind-silence (k .g) (k .h) 0 false (k .noted) true _ (λ line m. in-silence (e - 1) line (clear m) after) (k .asked) (k .devices) after
+        (clear-tick limit low high p v (l .primary) (l .secondary) (l .devices) (c .for-primary) (c .for-secondary) (c .for-devices) e k sole))
+    silence-books e sole (set n next k) os =
+        let after = owe-after limit Silence (c .for-devices) (λ x d g q o. silent-owes limit high p (v .some-sto) x d g (q .listens) (q .ready) o) (k .devices) os in
+        unreported p gs l c quiet (quiet-reports limit (l .primary) (c .for-primary) (k .primary .ready)) (quiet-reports limit (l .secondary) (c .for-secondary) (k .secondary .ready))
+        (behind-silence (k .g) (k .h) n true (k .noted) next _ (λ line m. in-silence (e - 1) line (set (n - 1) next m) after) (k .asked) (k .devices) after
+        (set-tick limit low high p v (l .primary) (l .secondary) (l .devices) (c .for-primary) (c .for-secondary) (c .for-devices) n next k sole))
+
+    -- ---- a master sends
+
+    abbrev heard : List ℕ → ℕ → LinkStep
+    heard w k = heardTick limit l (Character (getD w k 0)) c
+
+    -- the devices that hear a frame
+    hear-books : (w : List ℕ) (message : Whole) (k u : ℕ) → Spoken w message → (suc k < length w) ⊎ (suc k ≡ length w) → message .expansion ≡ 0 → All (DeviceHears p (readerAfter idle (take k w)) u) (l .devices) → Ledgers gs (l .devices)
+        → AllOwe (ledgersAfter (c .for-devices) (heardTick limit l (Character (getD w k 0)) c .for-devices) gs) (linkAfter (heardTick limit l (Character (getD w k 0)) c) .devices)
+    unfolding heardTick
+    hear-books w message k u s (inl below) plain hs gl = owe-anew limit (Character (getD w k 0)) (c .for-devices) (λ x d g q. mid-owes limit high p (v .some-sto) x d g (q .listens) w message k s below (q .receiver-is)) hs gl
+    hear-books w message k u s (inr last) plain hs gl = owe-anew limit (Character (getD w k 0)) (c .for-devices) (λ x d g q. end-owes limit high p (v .some-sto) x d g (q .listens) w message k s last (q .receiver-is) plain) hs gl
+
+    -- and a listening master: nothing to report of a frame that is no ACK
+    hears-reports : (x : MasterSide) (d : MasterCall) (w : List ℕ) (message : Whole) (k : ℕ) → Spoken w message → (suc k < length w) ⊎ (suc k ≡ length w) → x .master .receiver ≡ readerAfter idle (take k w) → (message .header .frame ≡ ack → ⊥) → NoReport (masterTick limit x (Character (getD w k 0)) d)
+    hears-reports x d w message k s (inl below) r f = mid-reports limit x d w message k s below r
+    hears-reports x d w message k s (inr last) r f = other-reports limit x d w message k s last r f
+
+    stx-ack : {n : ℕ} → n ≡ stx → n ≡ ack → ⊥
+    stx-ack e z = let q : stx ≡ ack = sym e ∙ z in omega (arith, q)
+
+    back-ack : {n : ℕ} → n ≡ back → n ≡ ack → ⊥
+    back-ack e z = let q : back ≡ ack = sym e ∙ z in omega (arith, q)
+
+    stx-where : {x : MasterSide} {k : ℕ} {w : List ℕ} → Rattle.turns.proofs.Sending.MasterPlace k w x → (suc k < length w) ⊎ (suc k ≡ length w)
+    stx-where (Rattle.turns.proofs.Sending.inside below e) = inl below
+    stx-where (Rattle.turns.proofs.Sending.finished last t s e) = inr last
+
+    primary-books : (burst : Bool) (noted : Noted) (next : Bool) (k : ℕ) (w : List ℕ) (message : Whole) → OneMasterSends p true false burst noted next k w message (l .primary) (l .secondary) (l .devices) → AllOwe gs (l .devices)
+        → Ticked p gs l c (heardTick limit l (Character (getD w k 0)) c)
+    unfolding heardTick
+    primary-books burst noted next k w message o os =
+        let s = o .speaks .held .speaks in
+        let place = stx-where (o .speaks .place) in
+        unreported p gs l c (heard w k) (deaf-reports limit (l .primary) (c .for-primary) (Character (getD w k 0)) (o .speaks .deaf-is)) (hears-reports (l .secondary) (c .for-secondary) w message k s place (o .hears .receiver-is) (stx-ack (o .speaks .type-is)))
+        (go (stx-tick limit low high p v true false burst noted next k w message (l .primary) (l .secondary) (l .devices) (c .for-primary) (c .for-secondary) (c .for-devices) o) (hear-books w message k 0 s place (o .speaks .no-expansion) (o .devices) (owe-ledgers os)))
+      where
+        go : StxTick p true false burst noted next k w message (l .primary) (l .secondary) (heard w k .for-primary) (heard w k .for-secondary) (heard w k .for-devices)
+            → AllOwe (ledgersAfter (c .for-devices) (heard w k .for-devices) gs) (linkAfter (heard w k) .devices) → Booked p (ledgersAfter (c .for-devices) (heard w k .for-devices) gs) (linkAfter (heard w k))
+        go (X.goes-on below a b line m n y) after = in-primary burst noted next (suc k) w message (carries (heard w k) a b line) m after
+        go (X.ends last a b line m n y) after = in-silence 0 (carries (heard w k) a b line) (stx-line p v 0 burst m) after
+
+    secondary-books : (burst : Bool) (noted : Noted) (next : Bool) (k : ℕ) (w : List ℕ) (message : Whole) → OneMasterSends p false true burst noted next k w message (l .secondary) (l .primary) (l .devices) → AllOwe gs (l .devices)
+        → Ticked p gs l c (heardTick limit l (Character (getD w k 0)) c)
+    unfolding heardTick
+    secondary-books burst noted next k w message o os =
+        let s = o .speaks .held .speaks in
+        let place = stx-where (o .speaks .place) in
+        unreported p gs l c (heard w k) (hears-reports (l .primary) (c .for-primary) w message k s place (o .hears .receiver-is) (stx-ack (o .speaks .type-is))) (deaf-reports limit (l .secondary) (c .for-secondary) (Character (getD w k 0)) (o .speaks .deaf-is))
+        (go (stx-tick limit low high p v false true burst noted next k w message (l .secondary) (l .primary) (l .devices) (c .for-secondary) (c .for-primary) (c .for-devices) o) (hear-books w message k 0 s place (o .speaks .no-expansion) (o .devices) (owe-ledgers os)))
+      where
+        go : StxTick p false true burst noted next k w message (l .secondary) (l .primary) (heard w k .for-secondary) (heard w k .for-primary) (heard w k .for-devices)
+            → AllOwe (ledgersAfter (c .for-devices) (heard w k .for-devices) gs) (linkAfter (heard w k) .devices) → Booked p (ledgersAfter (c .for-devices) (heard w k .for-devices) gs) (linkAfter (heard w k))
+        go (X.goes-on below a b line m n y) after = in-secondary burst noted next (suc k) w message (carries (heard w k) b a line) m after
+        go (X.ends last a b line m n y) after = in-silence 0 (carries (heard w k) b a line) (stx-line-secondary p v 0 burst m) after
+
+    -- ---- a device sends
+
+    -- the one that sends, and those that hear it
+    send-books : (f : Frames) (w : List ℕ) (message : Whole) (k u : ℕ) (on : Bool) → Spoken w message → (suc k < length w) ⊎ (suc k ≡ length w) → message .expansion ≡ 0
+        → OneOf (DeviceSpeaks p f k w message u on) (DeviceHears p (readerAfter idle (take k w)) u) (l .devices) → AllOwe gs (l .devices)
+        → AllOwe (ledgersAfter (c .for-devices) (heardTick limit l (Character (getD w k 0)) c .for-devices) gs) (linkAfter (heardTick limit l (Character (getD w k 0)) c) .devices)
+    unfolding heardTick
+    send-books f w message k u on s place plain o os = owe-after limit (Character (getD w k 0)) (c .for-devices) (λ x d g q k. by x d g q k place) (one-all o) os
+      where
+        by : (x : DeviceSide) (d : DeviceCall) (g : Ledger) → DeviceSpeaks p f k w message u on x ⊎ DeviceHears p (readerAfter idle (take k w)) u x → DeviceOwes g (x .device) (x .frame) → (suc k < length w) ⊎ (suc k ≡ length w)
+            → DeviceOwes (ledgerAfter d (deviceTick limit x (Character (getD w k 0)) d) g) (deviceTick limit x (Character (getD w k 0)) d .side .device) (deviceTick limit x (Character (getD w k 0)) d .side .frame)
+        by x d g (inl q) o z = speaks-owes limit high x (Character (getD w k 0)) d g (q .deaf-is) (speaker-free f (q .place)) o
+        by x d g (inr q) o (inl below) = mid-owes limit high p (v .some-sto) x d g (q .listens) w message k s below (q .receiver-is)
+        by x d g (inr q) o (inr last) = end-owes limit high p (v .some-sto) x d g (q .listens) w message k s last (q .receiver-is) plain
+
+    -- behind the last character, whatever was reported
+    end-books : (f : Frames) (w : List ℕ) (message : Whole) (k u : ℕ) (on : Bool) (hs : List Ledger) → Spoken w message → suc k ≡ length w → message .expansion ≡ 0
+        → OneOf (DeviceSpeaks p f k w message u on) (DeviceHears p (readerAfter idle (take k w)) u) (l .devices) → Ledgers hs (l .devices)
+        → AllOwe (ledgersAfter (c .for-devices) (heardTick limit l (Character (getD w k 0)) c .for-devices) hs) (linkAfter (heardTick limit l (Character (getD w k 0)) c) .devices)
+    unfolding heardTick
+    end-books f w message k u on hs s last plain o gl = owe-anew limit (Character (getD w k 0)) (c .for-devices) by (one-all o) gl
+      where
+        by : (x : DeviceSide) (d : DeviceCall) (g : Ledger) → DeviceSpeaks p f k w message u on x ⊎ DeviceHears p (readerAfter idle (take k w)) u x
+            → DeviceOwes (ledgerAfter d (deviceTick limit x (Character (getD w k 0)) d) g) (deviceTick limit x (Character (getD w k 0)) d .side .device) (deviceTick limit x (Character (getD w k 0)) d .side .frame)
+        by x d g (inl q) = speaks-owes limit high x (Character (getD w k 0)) d g (q .deaf-is) (speaker-free f (q .place)) (finished-owes f last (q .place))
+        by x d g (inr q) = end-owes limit high p (v .some-sto) x d g (q .listens) w message k s last (q .receiver-is) plain
+
+    back-books : (burst : Bool) (noted : Noted) (next : Bool) (k : ℕ) (w : List ℕ) (message : Whole) (u : ℕ) → OneDeviceSends p a-back burst noted next k w message u true (l .primary) (l .secondary) (l .devices) → AllOwe gs (l .devices)
+        → Ticked p gs l c (heardTick limit l (Character (getD w k 0)) c)
+    unfolding heardTick
+    back-books burst noted next k w message u o os =
+        let s = spoken-of (o .devices) in
+        let place = place-of (o .devices) in
+        unreported p gs l c (heard w k) (hears-reports (l .primary) (c .for-primary) w message k s place (o .primary .receiver-is) (back-ack (is-it (o .frame-is)))) (hears-reports (l .secondary) (c .for-secondary) w message k s place (o .secondary .receiver-is) (back-ack (is-it (o .frame-is))))
+        (go (back-tick limit low high p v burst noted next k w message u (l .primary) (l .secondary) (l .devices) (c .for-primary) (c .for-secondary) (c .for-devices) o) (send-books a-back w message k u true s place (o .no-expansion) (o .devices) os))
+      where
+        is-it : FrameIs true burst next (message .header) (l .primary) (l .secondary) a-back → message .header .frame ≡ back
+        is-it (is-back type z b e) = type
+
+        go : BackTick p burst noted next k w message u (l .primary) (l .secondary) (heard w k .for-primary) (heard w k .for-secondary) (heard w k .for-devices)
+            → AllOwe (ledgersAfter (c .for-devices) (heard w k .for-devices) gs) (linkAfter (heard w k) .devices) → Booked p (ledgersAfter (c .for-devices) (heard w k .for-devices) gs) (linkAfter (heard w k))
+        go (A.back-goes-on below a b line m x y) after = in-back burst noted next (suc k) w message u (carries (heard w k) a b line) m after
+        go (A.back-ends last a b line m ta tb n x y) after = in-silence 0 (carries (heard w k) a b line) (set (p .rt2) next m) after
+
+    -- ---- an ACK
+
+    -- the ACK's header, from the request that it answers
+    ack-bit : {g : Ledger} {w : List ℕ} {message : Whole} (x : DeviceSide) (k : Gives g (x .device) (x .frame)) → Holds (x .frame) (x .device .length) w message → message .header .primary ≡ x .device .request .primary
+    ack-bit {w = w} x k h = ap (λ (z : Whole). z .header .primary) (message-sent k h (length w - 1) (omega (arith, h .speaks .long)))
+
+    sender-goes-on : (w : List ℕ) (message : Whole) (k u : ℕ) (on : Bool) → suc k < length w → {g : Ledger} (x : DeviceSide) (d : DeviceCall) → DeviceSpeaks p an-ack k w message u on x
+        → (message .header .primary ≡ true → 1 ≤ left (linkAfter (heardTick limit l (Character (getD w k 0)) c) .primary .master .message .stage)) → (message .header .primary ≡ false → 1 ≤ left (linkAfter (heardTick limit l (Character (getD w k 0)) c) .secondary .master .message .stage))
+        → SenderOwes g x (l .primary) (l .secondary)
+        → SenderOwes (ledgerAfter d (deviceTick limit x (Character (getD w k 0)) d) g) (deviceTick limit x (Character (getD w k 0)) d .side) (linkAfter (heardTick limit l (Character (getD w k 0)) c) .primary) (linkAfter (heardTick limit l (Character (getD w k 0)) c) .secondary)
+    unfolding heardTick
+    sender-goes-on w message k u on below {g} x d q la lb o = at (q .place)
+      where
+        s : DeviceStep
+        s = deviceTick limit x (Character (getD w k 0)) d
+
+        at : DevicePlace an-ack k w (x .device) → SenderOwes (ledgerAfter d s g) (s .side) (linkAfter (heard w k) .primary) (linkAfter (heard w k) .secondary)
+        at (finished last t due) = absurd (omega arith)
+        at (inside more t) =
+            let y = device-speaks an-ack x (suc k) w message t (q .held) below limit (Character (getD w k 0)) d high (q .deaf-is) (q .sound) in
+            let bit = ack-bit x (o .gives) (q .held) in
+            subst (λ (z : Ledger). SenderOwes z (s .side) (linkAfter (heard w k) .primary) (linkAfter (heard w k) .secondary)) (sym (ledger-same limit g x (Character (getD w k 0)) d (q .deaf-is) (speaker-free an-ack (q .place))))
+            (record {
+              gives = subst (λ (f : List ℕ). Gives g (s .side .device) f) (sym (y .same-frame)) (same-gives (y .same-request) (y .same .same-preamble) (y .same-length) (o .gives));
+              own = subst (λ (h : Header). isOwn (s .side .device) h ≡ true) (sym (y .same-request)) (own-kept (x .device .request) (y .same) (o .own));
+              primary-asked = λ z.
+                  y .same-request ∙ o .primary-asked (ap (λ (h : Header). h .primary) (sym (y .same-request)) ∙ z)
+                  ∙ sym (header-kept limit high (l .primary) (Character (getD w k 0)) (c .for-primary) (la (bit ∙ ap (λ (h : Header). h .primary) (sym (y .same-request)) ∙ z)));
+              secondary-asked = λ z.
+                  y .same-request ∙ o .secondary-asked (ap (λ (h : Header). h .primary) (sym (y .same-request)) ∙ z)
+                  ∙ sym (header-kept limit high (l .secondary) (Character (getD w k 0)) (c .for-secondary) (lb (bit ∙ ap (λ (h : Header). h .primary) (sym (y .same-request)) ∙ z)));
+            })
+
+    -- the same for the list
+    module _ (w : List ℕ) (message : Whole) (k u : ℕ) (on : Bool) (sp : Spoken w message) (below : suc k < length w) (la : message .header .primary ≡ true → 1 ≤ left (linkAfter (heardTick limit l (Character (getD w k 0)) c) .primary .master .message .stage))
+        (lb : message .header .primary ≡ false → 1 ≤ left (linkAfter (heardTick limit l (Character (getD w k 0)) c) .secondary .master .message .stage)) where
+      one-after : {g : Ledger} (x : DeviceSide) (d : DeviceCall) → DeviceSpeaks p an-ack k w message u on x ⊎ DeviceHears p (readerAfter idle (take k w)) u x
+          → (x .device .unique ≡ u → SenderOwes g x (l .primary) (l .secondary)) → deviceTick limit x (Character (getD w k 0)) d .side .device .unique ≡ u
+          → SenderOwes (ledgerAfter d (deviceTick limit x (Character (getD w k 0)) d) g) (deviceTick limit x (Character (getD w k 0)) d .side) (linkAfter (heardTick limit l (Character (getD w k 0)) c) .primary) (linkAfter (heardTick limit l (Character (getD w k 0)) c) .secondary)
+      one-after x d (inl q) f e = sender-goes-on w message k u on below x d q la lb (f (q .unique-is))
+      one-after x d (inr q) f e = absurd (q .another (sym (device-hears-on limit low high p (v .some-sto) w message sp k u below x d q .same .same-unique) ∙ e))
+
+      sender-after : {hs : List Ledger} {xs : List DeviceSide} (calls : List DeviceCall) → All (λ (x : DeviceSide). DeviceSpeaks p an-ack k w message u on x ⊎ DeviceHears p (readerAfter idle (take k w)) u x) xs → SenderGives u (l .primary) (l .secondary) hs xs
+          → SenderGives u (linkAfter (heardTick limit l (Character (getD w k 0)) c) .primary) (linkAfter (heardTick limit l (Character (getD w k 0)) c) .secondary) (ledgersAfter calls (deviceTicks limit (Character (getD w k 0)) xs calls) hs) (sides (deviceTicks limit (Character (getD w k 0)) xs calls))
+      unfolding deviceTicks sides ledgersAfter
+      sender-after calls none no-sender = no-sender
+      sender-after [] (and {x = x} q qs) (sender-and f fs) = sender-and (one-after x no-call q f) (sender-after [] qs fs)
+      sender-after (d ∷ ds) (and {x = x} q qs) (sender-and f fs) = sender-and (one-after x d q f) (sender-after ds qs fs)
+
+    -- a master's data buffer behind one character more
+    hears-on-data : (x : MasterSide) (d : MasterCall) (w : List ℕ) (k : ℕ) → k < length w → x .master .deaf ≡ false → x .master .receiver ≡ readerAfter idle (take k w) → HearsData k w x → HearsData (suc k) w (masterTick limit x (Character (getD w k 0)) d .side)
+    hears-on-data x d w k below hears r h = record {
+      before = h .before;
+      bytes-are = tick-bytes limit x (Character (getD w k 0)) d ∙ hears-data x (Character (getD w k 0)) hears
+          ∙ (λ i. takenData (r i) (Character (getD w k 0)) (h .bytes-are i)) ∙ sym (data-next idle k w (h .before) below);
+      room = h .room;
+    }
+
+    -- the sender among the devices
+    record Found (f : Frames) (k : ℕ) (w : List ℕ) (message : Whole) (u : ℕ) (on : Bool) (a b : MasterSide) (hs : List Ledger) (xs : List DeviceSide) : Type 0 where
+      x : DeviceSide
+      g : Ledger
+      speaks : DeviceSpeaks p f k w message u on x
+      owes : SenderOwes g x a b
+      gave : (h : Header) → x .device .request ≡ h → Gave h (owes .gives .put) xs hs
+
+    found : {k : ℕ} {w : List ℕ} {message : Whole} {u : ℕ} {on : Bool} {a b : MasterSide} {Q : DeviceSide → Type 0} {hs : List Ledger} {xs : List DeviceSide}
+        → OneOf (DeviceSpeaks p an-ack k w message u on) Q xs → SenderGives u a b hs xs → Found an-ack k w message u on a b hs xs
+    found (here {x = x} q qs) (sender-and {g = g} {gs = gs} {xs = xs} f fs) =
+        let o = f (q .unique-is) in
+        record {
+          x = x;
+          g = g;
+          speaks = q;
+          owes = o;
+          gave = λ h e. subst (λ (z : Ledger). Gave h (o .gives .put) (x ∷ xs) (z ∷ gs)) (sym (o .gives .owed ∙ ap (λ (i : Header). given i (o .gives .put)) e))
+              (this-one (subst (λ (i : Header). isOwn (x .device) i ≡ true) e (o .own)));
+        }
+    found (further q o) (sender-and f fs) =
+        let r = found o fs in
+        record { x = r .x; g = r .g; speaks = r .speaks; owes = r .owes; gave = λ h e. another (r .gave h e) }
+
+    -- whose ACK it is, by its master bit
+    asked-by : (bit : Bool) (m : Master) (h : Header) {g : Ledger} (x : DeviceSide) → m .primary ≡ bit → toItself m h ≡ true → h .primary ≡ x .device .request .primary → SenderOwes g x (l .primary) (l .secondary) → x .device .request ≡ masterOf bit l .master .message .header
+    unfolding if_then_else_
+    asked-by true m h x e own same o = o .primary-asked (sym same ∙ sym (if-is-true (m .primary) (h .primary) _ e) ∙ own)
+    asked-by false m h x e own same o = o .secondary-asked (sym same ∙ go (h .primary) (sym (if-is-false (m .primary) _ (if h .primary then false else true) e) ∙ own))
+      where
+        go : (b : Bool) → (if b then false else true) ≡ true → b ≡ false
+        go true q = absurd (true-false (sym q))
+        go false q = refl
+
+    -- a master that reports the ACK which ends in this tick
+    record Credits (bit : Bool) (ack-told : Whole) (bytes : List ℕ) : Type 0 where
+      put : List ℕ
+      gave : Gave (masterOf bit l .master .message .header) put (l .devices) gs
+      command-is : ack-told .header .command ≡ masterOf bit l .master .message .header .command
+      data-is : take (ack-told .count) bytes ≡ put
+
+    credit : (bit : Bool) (k : ℕ) (w : List ℕ) (message : Whole) (u : ℕ) (on : Bool) (x : MasterSide) (d : MasterCall) → suc k ≡ length w → Found an-ack k w message u on (l .primary) (l .secondary) gs (l .devices)
+        → x .master .primary ≡ bit → x .master .receiver ≡ readerAfter idle (take k w) → HearsData k w x → (told : Whole) → masterTick limit x (Character (getD w k 0)) d .told ≡ Answered told
+        → Credits bit told (masterTick limit x (Character (getD w k 0)) d .side .bytes)
+    credit bit k w message u on x d last f pr r hd told e =
+        let t = end-reports limit x d w message k (f .speaks .held .speaks) last r told e in
+        let o = f .owes in
+        let v-is = t .0 ∙ message-sent (o .gives) (f .speaks .held) k last in
+        let request-is = asked-by bit (x .master) (told .header) (f .x) pr (answer-ack (x .master) (told .header) (t .1) .1) (ap (λ (z : Whole). z .header .primary) v-is) o in
+        let w-is = frame-sent (o .gives) (f .speaks .held) in
+        record {
+          put = o .gives .put;
+          gave = f .gave (masterOf bit l .master .message .header) request-is;
+          command-is = ap (λ (z : Whole). z .header .command) v-is ∙ ap (λ (h : Header). h .command) request-is;
+          data-is = ap (λ (z : Whole). take (z .count) (masterTick limit x (Character (getD w k 0)) d .side .bytes)) v-is
+              ∙ ap (take (length (o .gives .put))) (tick-bytes limit x (Character (getD w k 0)) d ∙ hears-data x (Character (getD w k 0)) (t .2) ∙ (λ i. takenData (r i) (Character (getD w k 0)) (hd .bytes-are i)))
+              ∙ ap (λ (z : List ℕ). take (length (o .gives .put)) (takenData (readerAfter idle (take k z)) (Character (getD z k 0)) (dataAfter idle (take k z) (hd .before)))) w-is
+              ∙ data-heard (f .x .device .preamble) (answerHeader (f .x .device .request) (o .gives .flag)) (o .gives .put) (hd .before) k (o .gives .fits) (last ∙ ap length w-is) (hd .room);
+        }
+
+    closed-any : (t : MasterTold) {hs : List Ledger} → Ledgers hs (l .devices) → Ledgers (closedBy t hs) (l .devices)
+    closed-any MasterTold.Nothing a = a
+    closed-any (Answered w) a = closed-ledgers a
+    closed-any (GivenUp n) a = a
+    closed-any BroadcastSent a = a
+
+    ack-books : (burst : Bool) (noted : Noted) (next : Bool) (k : ℕ) (w : List ℕ) (message : Whole) (u : ℕ) (on : Bool) → OneDeviceSends p an-ack burst noted next k w message u on (l .primary) (l .secondary) (l .devices) → AllOwe gs (l .devices)
+        → SenderGives u (l .primary) (l .secondary) gs (l .devices) → HearsData k w (l .primary) → HearsData k w (l .secondary) → Ticked p gs l c (heardTick limit l (Character (getD w k 0)) c)
+    unfolding heardTick
+    ack-books burst noted next k w message u on o os sg ha hb = go (ack-tick limit low high p v burst noted next k w message u (l .primary) (l .secondary) (l .devices) (c .for-primary) (c .for-secondary) (c .for-devices) 0 on o)
+      where
+        s : LinkStep
+        s = heard w k
+
+        sp : Spoken w message
+        sp = spoken-of (o .devices)
+
+        lefts : {a b : MasterSide} → FrameIs on burst next (message .header) a b an-ack → (message .header .primary ≡ true → 1 ≤ left (a .master .message .stage)) × (message .header .primary ≡ false → 1 ≤ left (b .master .message .stage))
+        lefts (is-ack type pa pb) = (pa, pb)
+
+        -- a report at the end of the ACK
+        reported : suc k ≡ length w → (primary : Bool) (v : Whole) → masterIn primary s .told ≡ Answered v → Credited primary gs l s v
+        reported last true v e =
+            let r = credit true k w message u on (l .primary) (c .for-primary) last (found (o .devices) sg) (o .primary .listens .is-it .primary-is) (o .primary .receiver-is) ha v e in
+            record { put = r .put; gave = r .gave; command-is = r .command-is; data-is = r .data-is }
+        reported last false v e =
+            let r = credit false k w message u on (l .secondary) (c .for-secondary) last (found (o .devices) sg) (o .secondary .listens .is-it .primary-is) (o .secondary .receiver-is) hb v e in
+            record { put = r .put; gave = r .gave; command-is = r .command-is; data-is = r .data-is }
+
+        ends-owe : suc k ≡ length w → AllOwe (bookedBy c s gs) (linkAfter s .devices)
+        ends-owe last = end-books an-ack w message k u on (closedBy (s .for-primary .told) (closedBy (s .for-secondary .told) gs)) sp last (o .no-expansion) (o .devices) (closed-any (s .for-primary .told) (closed-any (s .for-secondary .told) (owe-ledgers os)))
+
+        ended : linkAfter s .line ≡ Silence → AckEnded p 0 (Rattle.turns.specs.Master.burstAfter burst noted (message .header)) next (message .header) (s .for-primary .side) (s .for-secondary .side) (sides (s .for-devices)) → SilentLine p 0 (s .for-primary .side) (s .for-secondary .side) (sides (s .for-devices))
+        ended line (A.ended-clear z n m ta tb) = clear m
+        ended line (A.ended-set z n m ta tb) = set 1 next m
+
+        go : AckTick p 0 burst noted next k w message u on (l .primary) (l .secondary) (s .for-primary) (s .for-secondary) (s .for-devices) → Ticked p gs l c s
+        go (A.ack-goes-on below a b line m x y) =
+            let z = lefts (m .frame-is) in
+            unreported p gs l c s (mid-reports limit (l .primary) (c .for-primary) w message k sp below (o .primary .receiver-is)) (mid-reports limit (l .secondary) (c .for-secondary) w message k sp below (o .secondary .receiver-is))
+            (in-ack burst noted next (suc k) w message u on (carries s a b line) m (send-books an-ack w message k u on sp (inl below) (o .no-expansion) (o .devices) os)
+            (sender-after w message k u on sp below (z .0) (z .1) (c .for-devices) (one-all (o .devices)) sg)
+            (hears-on-data (l .primary) (c .for-primary) w k (omega arith) (o .primary .listens .hears) (o .primary .receiver-is) ha)
+            (hears-on-data (l .secondary) (c .for-secondary) w k (omega arith) (o .secondary .listens .hears) (o .secondary .receiver-is) hb))
+        go (A.ack-ends last off a b line m x y) = record { credited = reported last; next = in-silence 0 (carries s a b line) (ended (carries s a b line) m) (ends-owe last) }
+        go (A.back-follows-it last z who w′ message′ a b line m x y) = record { credited = reported last; next = in-back true who (if next then false else true) 0 w′ message′ u (carries s a b line) m (ends-owe last) }
+
+-- ---- the theorem
+
+module _ (limit : ℕ) (low : 2 ≤ limit) (high : limit ≤ 255) (p : Profile) (v : Valid p) where
+  book-tick : (l : Link) (c : Calls) (gs : List Ledger) → Rooms l → OneBursts (linkTick limit l c) → Booked p gs l → Ticked p gs l c (linkTick limit l c)
+  book-tick l c gs rooms sole (in-silence e line o os) =
+      let q = tick-is limit l Silence c line in
+      subst (Ticked p gs l c) (sym q) (silence-books limit low high p v l c gs rooms e (subst OneBursts q sole) o os)
+  book-tick l c gs rooms sole (in-primary burst noted next k w message line o os) =
+      subst (Ticked p gs l c) (sym (tick-is limit l (Character (getD w k 0)) c line)) (primary-books limit low high p v l c gs rooms burst noted next k w message o os)
+  book-tick l c gs rooms sole (in-secondary burst noted next k w message line o os) =
+      subst (Ticked p gs l c) (sym (tick-is limit l (Character (getD w k 0)) c line)) (secondary-books limit low high p v l c gs rooms burst noted next k w message o os)
+  book-tick l c gs rooms sole (in-ack burst noted next k w message u on line o os sg ha hb) =
+      subst (Ticked p gs l c) (sym (tick-is limit l (Character (getD w k 0)) c line)) (ack-books limit low high p v l c gs rooms burst noted next k w message u on o os sg ha hb)
+  book-tick l c gs rooms sole (in-back burst noted next k w message u line o os) =
+      subst (Ticked p gs l c) (sym (tick-is limit l (Character (getD w k 0)) c line)) (back-books limit low high p v l c gs rooms burst noted next k w message u o os)
+
+  rooms-after : (l : Link) (c : Calls) → Rooms l → Rooms (linkAfter (linkTick limit l c))
+  unfolding linkTick
+  rooms-after l c r = record {
+    primary-room = omega (arith, r .primary-room, bytes-length limit (l .primary) (l .line) (c .for-primary));
+    secondary-room = omega (arith, r .secondary-room, bytes-length limit (l .secondary) (l .line) (c .for-secondary));
+  }
+
+  booked-run : (l : Link) (ticks : List Calls) (gs : List Ledger) → Rooms l → Booked p gs l → EachTick OneBursts (run limit l ticks) → EachCredited limit gs l ticks
+  unfolding run
+  booked-run l [] gs rooms k b = no-tick
+  booked-run l (c ∷ cs) gs rooms k (R1.EachTick.tick-and one b) =
+      let t = book-tick l c gs rooms one k in
+      tick-and (t .credited) (booked-run (linkAfter (linkTick limit l c)) cs (bookedBy c (linkTick limit l c) gs) (rooms-after l c rooms) (t .next) b)
+
+blank-ledgers : (xs : List DeviceSide) → Ledgers (blanks xs) xs
+unfolding blanks
+blank-ledgers [] = no-ledger
+blank-ledgers (x ∷ xs) = ledger-and (blank-ledgers xs)
+
+pub credit-in-a-run : (limit : ℕ) → 2 ≤ limit → limit ≤ 255 → CreditInARun limit
+unfolding run linkTick
+credit-in-a-run limit low high p retries l [] k ra rb = no-tick
+credit-in-a-run limit low high p retries l (c ∷ cs) k ra rb = go (k .one-bursts)
+  where
+    v : Valid p
+    v = valid p (k .made)
+
+    s : LinkStep
+    s = linkTick limit l c
+
+    rooms : Rooms l
+    rooms = record { primary-room = ra; secondary-room = rb }
+
+    -- a fresh device has nothing in hand
+    fresh : (x : DeviceSide) (d : DeviceCall) (g : Ledger) → R1.DeviceStarts p x → DeviceOwes (ledgerAfter d (deviceTick limit x (l .line) d) g) (deviceTick limit x (l .line) d .side .device) (deviceTick limit x (l .line) d .side .frame)
+    fresh x d g q =
+        let e = device-is p (q .preamble) (q .polling) (q .unique) (x .device) (q .starts) .is in
+        let turn = ap (λ (z : Device). z .turn) e in
+        speaks-owes limit high x (l .line) d g (ap (λ (z : Device). z .deaf) e) (λ n z. listens-asked n (sym turn ∙ z)) (none-owed (λ n z. listens-asked n (sym turn ∙ z)) (ap answering turn))
+
+    first : Ticked p (blanks (l .devices)) l c (linkTick limit l c)
+    first =
+        let f = first-tick limit low high p v retries (l .primary) (l .secondary) (l .devices) (l .line) (c .for-primary) (c .for-secondary) (c .for-devices) (k .starts .primary) (k .starts .secondary) (k .starts .devices) (k .starts .distinct) in
+        unreported p (blanks (l .devices)) l c (linkTick limit l c)
+        (deaf-reports limit (l .primary) (c .for-primary) (l .line) (ap (λ (m : Master). m .deaf) (master-is p true retries (l .primary .master) (k .starts .primary .starts))))
+        (deaf-reports limit (l .secondary) (c .for-secondary) (l .line) (ap (λ (m : Master). m .deaf) (master-is p false retries (l .secondary .master) (k .starts .secondary .starts))))
+        (in-silence (p .rt1s) (carries (linkTick limit l c) (f .primary-silent) (f .secondary-silent) (f .devices-silent)) (clear (f .silent-line))
+        (owe-anew limit (l .line) (c .for-devices) fresh (k .starts .devices) (blank-ledgers (l .devices))))
+
+    go : EachTick OneBursts (run limit l (c ∷ cs)) → EachCredited limit (blanks (l .devices)) l (c ∷ cs)
+    go (R1.EachTick.tick-and one b) =
+        tick-and (first .credited) (booked-run limit low high p v (linkAfter s) cs (bookedBy c s (blanks (l .devices))) (rooms-after limit low high p v l c rooms) (first .next) b)

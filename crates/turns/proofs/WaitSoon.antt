@@ -1,0 +1,104 @@
+-- A message that begins soon, whatever the others do: its window comes first, or an ACK to the other master is being sent behind which it does.
+use Prim.Native.Nat.{ℕ, zero, suc, _+_, _-_, _*_, _≤_, _<_}
+use native.Mathlib.Omega.{arith}
+use mathlib.Core.Path.{_≡_, refl, sym, ap, subst, _∙_}
+use mathlib.Core.Bool.{Bool, true, false}
+use mathlib.Core.List.{List}
+use mathlib.Core.Logic.{_⊎_, inl, inr}
+use lib.ListN.{length, getD}
+use Rattle.base.specs.Choice.{if_then_else_}
+use Rattle.base.proofs.Choices.{true-false}
+use Rattle.frame.specs.declared.Header.{Header}
+use Rattle.line.specs.declared.Heard.{Heard}
+use Rattle.line.specs.declared.Heard.the-variants.{Silence, Character}
+use Rattle.line.specs.declared.Profile.{Profile}
+use Rattle.line.specs.declared.Whole.{Whole}
+use Rattle.turns.specs.Master.{burstAfter, timer}
+use Rattle.turns.specs.Link.{MasterSide, MasterStep, DeviceSide, DeviceStep, Link, LinkStep, Calls, masterTick, deviceTicks, linkTick, linkAfter, sides, carried}
+use Rattle.turns.specs.Run.{OneBursts}
+use Rattle.turns.specs.declared.Sent.{Sent}
+use Rattle.turns.specs.declared.Sent.the-variants.{Silent}
+use Rattle.turns.specs.declared.Noted.{Noted}
+use Rattle.turns.specs.declared.Timer.{Timer}
+use Rattle.turns.proofs.Masters.{left}
+use Rattle.turns.proofs.DeviceSpeaking.{an-ack, a-back}
+use Rattle.turns.proofs.Windows.{Valid}
+use Rattle.turns.proofs.Quiet.{NoSlot, ClearLine, SetLine, NobodyAwaits, itself, slotTimer, breakTimer}
+use Rattle.turns.proofs.Stx as X
+use Rattle.turns.proofs.Stx.{OneMasterSends, StxEnded, StxTick, WaitsOn, rt1Of, stx-tick}
+use Rattle.turns.proofs.SilentTick.{FrameIs, is-ack, is-back, OneDeviceSends, MasterRests, MasterTries}
+use Rattle.turns.proofs.Silences.{clear-tick, set-tick}
+use Rattle.turns.proofs.AckBack as A
+use Rattle.turns.proofs.AckBack.{AckEnded, AckTick, BackTick, ack-tick, back-tick, noted-of}
+use Rattle.turns.proofs.NoTwoSend.{carries, heardTick, primary-set, primary-clear, secondary-set, secondary-clear}
+use Rattle.turns.proofs.KeptLink.{KeptSide, LinkKept, LinkSettled}
+use Rattle.turns.proofs.Rank as K
+use Rattle.turns.proofs.Rank.{Pending, First, ClearRank, ClearNext, SetRank, burstStx, ownBack, allRetries, pending-left, clear-rests, other-clear, begins-clear, set-rests, other-set, begins-set, first-next, first-alone, clear-next, set-next}
+use Rattle.turns.proofs.Waits as Ways
+use Rattle.turns.proofs.Waits.{waiter, other, waiterStep, otherStep, not, isOwn, ClearOf, clear-of, SetOf, set-of, SilentView, silent-view, answer-for, frame-length, Soon, Burst, Clear, Next, began, waits}
+use Rattle.turns.proofs.WaitSides.{after-waiter, after-other, before-other, after-both, still-pending, waits-of, silent-of, other-line, no-line, own-other, own-turned, off-is, burstGain, stx-length}
+
+module _ (limit : ℕ) (low : 2 ≤ limit) (high : limit ≤ 255) (p : Profile) (v : Valid p) (retries : ℕ) (bit : Bool) (l : Link) (c : Calls) where
+  abbrev quiet : LinkStep
+  quiet = heardTick limit l Silence c
+
+  abbrev heard : List ℕ → ℕ → LinkStep
+  heard w k = heardTick limit l (Character (getD w k 0)) c
+
+  pub first-step : (e d : ℕ) → OneBursts (heardTick limit l Silence c) → (k : ClearLine p e (l .primary) (l .secondary) (l .devices)) → Pending (waiter bit l)
+      → First (waiter bit l .master .timer) (other bit l .master .timer) (left (other bit l .master .message .stage)) d → Next bit (heardTick limit l Silence c) (Soon p bit (d - 1))
+  unfolding heardTick
+  first-step e d sole k q r = go (silent-view p 0 false (k .noted) true bit l quiet _ (clear-tick limit low high p v (l .primary) (l .secondary) (l .devices) (c .for-primary) (c .for-secondary) (c .for-devices) e k sole))
+    where
+      co : ClearOf p e bit (waiter bit l) (other bit l)
+      co = clear-of p e bit l k
+
+      go : SilentView p 0 false (k .noted) true bit l quiet (ClearLine p (e - 1) (linkAfter quiet .primary) (linkAfter quiet .secondary) (linkAfter quiet .devices)) → Next bit quiet (Soon p bit (d - 1))
+      go (Ways.begins ch z) = began ch z
+      go (Ways.stays z line n rx ry) =
+          let x = clear-rests p v (co .waiter-quiet) q rx in
+          let y = first-next p _ _ _ _ _ d (x .0) (x .1) (other-clear p v (co .other-quiet) ry) r in
+          waits z (Ways.first-window (e - 1) line n (still-pending bit l quiet q (rx .waits-on))
+          (after-both bit quiet (λ (a b : MasterSide). First (a .master .timer) (b .master .timer) (left (b .master .message .stage)) (d - 1))
+          (subst (λ (j : ℕ). First (waiterStep bit quiet .side .master .timer) (otherStep bit quiet .side .master .timer) j (d - 1)) (sym (ry .one-less)) y)))
+      go (Ways.other-begins w message z line o rx ty) = absurd (first-alone _ _ _ _ (clear-rests p v (co .waiter-quiet) q rx .0) r (begins-clear p v (co .other-quiet) ty))
+      go (Ways.answer-begins w message u on z line o rx ry) =
+          let a = answer-for bit (linkAfter quiet) (o .frame-is) (still-pending bit l quiet q (rx .waits-on)) in
+          let some = before-other bit quiet (λ (b : MasterSide). 1 ≤ left (b .master .message .stage)) (a .1) in
+          absurd (omega (arith, some, ry .one-less, r .none-awaited))
+      go (Ways.burst-begins n w message u z line o rx ry) = absurd (omega (arith, n))
+
+  pub ack-step : (burst : Bool) (noted : Noted) (next : Bool) (k : ℕ) (w : List ℕ) (message : Whole) (u d : ℕ) → OneDeviceSends p an-ack burst noted next k w message u false (l .primary) (l .secondary) (l .devices)
+      → burstAfter burst noted (message .header) ≡ false → message .header .primary ≡ not bit → Pending (waiter bit l) → length w + 2 ≤ d + suc k → Next bit (heardTick limit l (Character (getD w k 0)) c) (Soon p bit (d - 1))
+  unfolding heardTick if_then_else_
+  ack-step burst noted next k w message u d o off for q r =
+      go (ack-tick limit low high p v burst noted next k w message u (l .primary) (l .secondary) (l .devices) (c .for-primary) (c .for-secondary) (c .for-devices) 0 false o)
+    where
+      s : LinkStep
+      s = heard w k
+
+      first : (b bit′ : Bool) → b ≡ not bit′ → NobodyAwaits (s .for-primary .side) (s .for-secondary .side) → s .for-primary .side .master .timer ≡ (if b then timer (p .rt2) else timer 1)
+          → s .for-secondary .side .master .timer ≡ (if (if b then false else true) then timer (p .rt2) else timer 1) → 2 ≤ d
+          → First (waiter bit′ (linkAfter s) .master .timer) (other bit′ (linkAfter s) .master .timer) (left (other bit′ (linkAfter s) .master .message .stage)) (d - 1)
+      first false true e n ta tb z = record {
+        soon = omega (arith, ap (λ (t : Timer). t .next) ta);
+        first = omega (arith, ap (λ (t : Timer). t .next) ta, ap (λ (t : Timer). t .next) tb, v .hold-short, v .some-hold);
+        shut = omega (arith, ap (λ (t : Timer). t .window) tb);
+        none-awaited = n .secondary-gone;
+      }
+      first true false e n ta tb z = record {
+        soon = omega (arith, ap (λ (t : Timer). t .next) tb);
+        first = omega (arith, ap (λ (t : Timer). t .next) ta, ap (λ (t : Timer). t .next) tb, v .hold-short, v .some-hold);
+        shut = omega (arith, ap (λ (t : Timer). t .window) ta);
+        none-awaited = n .primary-gone;
+      }
+      first true true e n ta tb z = absurd (true-false e)
+      first false false e n ta tb z = absurd (true-false (sym e))
+
+      go : AckTick p 0 burst noted next k w message u false (l .primary) (l .secondary) (s .for-primary) (s .for-secondary) (s .for-devices) → Next bit s (Soon p bit (d - 1))
+      go (A.ack-goes-on below a b line m x y) =
+          waits (silent-of bit s a b) (Ways.behind-ack burst noted next (suc k) w message u (carries s a b line) m off for (still-pending bit l s q (waits-of bit l s x y)) (omega arith))
+      go (A.ack-ends last z a b line (A.ended-clear y n m ta tb) wx wy) =
+          waits (silent-of bit s a b) (Ways.first-window 0 (carries s a b line) m (still-pending bit l s q (waits-of bit l s wx wy)) (first (message .header .primary) bit for n ta tb (omega arith)))
+      go (A.ack-ends last z a b line (A.ended-set y n m ta tb) wx wy) = absurd (true-false (sym y ∙ off))
+      go (A.back-follows-it last on who w′ message′ a b line m x y) = absurd (true-false (sym on))
