@@ -1,4 +1,3 @@
-use borrow.Author.Needs.{needs}
 use Rattle.base.proofs.Choices.{choices}
 use Rattle.device_heard.proofs.is_broadcast.Statement.{statement}
 use Rattle.device_heard.proofs.is_broadcast.Tie as tie
