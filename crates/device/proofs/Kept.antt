@@ -2,7 +2,7 @@
 use Prim.Native.Nat.{ℕ, _+_, _-_, _≤_}
 use native.Mathlib.Omega.{arith}
 use mathlib.Core.Bool.{Bool, true, false}
-use mathlib.Core.Path.{_≡_, refl, sym, ap, subst, _∙_}
+use mathlib.Core.Path.{_≡_, refl, sym, subst, _∙_}
 use mathlib.Core.List.{List}
 use lib.ListN.{length}
 use borrow.Author.Tests.{ltb-false}
@@ -21,7 +21,7 @@ use Rattle.line.specs.declared.Heard.{Heard}
 use Rattle.line.specs.declared.Heard.the-variants.{Silence, Character}
 use Rattle.line.specs.declared.Profile.{Profile}
 use Rattle.line.specs.declared.Receiver.{Receiver}
-use Rattle.turns.specs.Master.{Called, accepted, refused, isBroadcast}
+use Rattle.turns.specs.Master.{accepted, refused, isBroadcast}
 use Rattle.turns.specs.Device.{behind, isOwn, dueAfter, hasError, answerHeader, waited, backDue, counts, onSilence, onCharacter, onHeard, deviceTakes, wished, answersAt, answeredBy, answered, withContent, contentGiven, sends, firstFor, behindAck, answersFrom, burstsFrom, backLength, sendsBy, deviceSends, freshDevice, deviceStarts}
 use Rattle.turns.specs.declared.Device.{Device}
 use Rattle.turns.specs.declared.DeviceSent.{DeviceSent}

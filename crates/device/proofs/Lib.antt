@@ -1,7 +1,6 @@
 -- The laws by which a device's functions are proved.
 pub mod Answers
 pub mod Starts
-pub mod Sends
 pub mod Limits
 pub mod Puts
 pub mod Kept

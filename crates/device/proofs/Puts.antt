@@ -37,8 +37,6 @@ error-at d p q frame after e f = f ∙ ap (λ (x : Event). errorBuffer d x frame
 pub begun-at : (d : Device) (p q : Turn) (contents frame after : List ℕ) → p ≡ q → after ≡ begunBuffer d q contents frame → after ≡ begunBuffer d p contents frame
 begun-at d p q contents frame after e f = f ∙ ap (λ (x : Turn). begunBuffer d x contents frame) (sym e)
 
-pub ruleset puts = (refl, written-same, header-same, error-at, begun-at)
-
 pub took : (d : Device) (heard : Heard) (bytes frame : List ℕ) (s : DeviceTaken) (bytes-after after : List ℕ)
     → HeardIs d heard bytes s bytes-after → after ≡ errorBuffer d (s .event) frame → TakeIs d heard bytes frame s bytes-after after
 took d heard bytes frame s bytes-after after h p =

@@ -1,11 +1,9 @@
 -- Every device that a start and any ticks reach, whatever it hears and whatever its host calls: its fields are within their limits, and its turn has what it needs. There the promises say the frame buffer as turns does.
 use Prim.Native.Nat.{ℕ, _≤_}
 use native.Mathlib.Omega.{arith}
-use mathlib.Core.Bool.{Bool, true, false}
-use mathlib.Core.Path.{_≡_, refl, sym, subst, _∙_}
+use mathlib.Core.Path.{_≡_, refl}
 use mathlib.Core.List.{List}
 use lib.ListN.{length}
-use Rattle.base.specs.Choice.{if_then_else_}
 use Rattle.base.specs.Store.{stored}
 use Rattle.base.proofs.Stores.{length-stored}
 use Rattle.frame.specs.Frame.{frameBytes}
@@ -15,7 +13,7 @@ use Rattle.line.specs.declared.Heard.{Heard}
 use Rattle.line.specs.declared.Profile.{Profile}
 use Rattle.turns.specs.Master.{Called, accepted, refused}
 use Rattle.turns.specs.Device.{hasError, answerHeader, errorData, errorFrame, deviceTakes, answered, answerFrame, contentGiven, backFrame, begunFrame, deviceSends}
-use Rattle.turns.specs.Link.{DeviceSide, DeviceStep, DeviceCall, no-call, gives-answer, gives-content, Answer, deviceData, heardFrame, deviceSent, answerCalled, contentCalled, deviceCalls, deviceTick}
+use Rattle.turns.specs.Link.{DeviceSide, DeviceStep, DeviceCall, no-call, gives-answer, gives-content, deviceData, heardFrame, answerCalled, contentCalled, deviceCalls, deviceTick}
 use Rattle.turns.specs.Run.{DeviceStarts}
 use Rattle.turns.specs.declared.Device.{Device}
 use Rattle.turns.specs.declared.DeviceTold.{DeviceTold}

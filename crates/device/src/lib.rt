@@ -5,24 +5,19 @@ use line::Event;
 use line::Harm;
 use line::Heard;
 use line::Profile;
-use line::Receiver;
 use line::Whole;
 use turns::Content;
 use turns::Device;
 use turns::DeviceSent;
 use turns::DeviceTaken;
-use turns::Sent;
 use turns::Turn;
 use turns::Wish;
 ghost use mathlib.Core.Path.{_≡_};
-ghost use mathlib.Core.Bool.{true, false};
-ghost use Prim.Native.Nat.{_+_, _-_, _≤_};
+ghost use Prim.Native.Nat.{_+_, _≤_};
 ghost use lib.ListN.{length, take};
-ghost use Rattle.base.specs.Choice.{if_then_else_};
 ghost use Rattle.frame.specs.Address.{addressLength};
 ghost use Rattle.frame.specs.Write.{writeBuffer};
-ghost use Rattle.line.specs.Reader.{passing};
-ghost use Rattle.turns.specs.Device.{behind, errorStatus, errorData, answerHeader, wished, wishRefused, answersAt, answeredBy, answered, sends, backHeader, firstFor, behindAck, answersFrom, burstsFrom, backLength, sendsBy, deviceSends, freshDevice, deviceStarts};
+ghost use Rattle.turns.specs.Device.{behind, errorStatus, errorData, answerHeader, wished, wishRefused, answersAt, answeredBy, answered, backHeader, freshDevice, deviceStarts};
 ghost use Rattle.device.specs.Calls.{startedAs, calledAs};
 ghost use Rattle.device.specs.Buffers.{errorBuffer, begunBuffer};
 ghost use Rattle.device.specs.Promises.{TakeIs, AnswerIs, SendIs};
@@ -120,17 +115,6 @@ pub fn take(d: Device, heard: Heard, bytes: &mut [u8; 255], frame: &mut [u8; 284
     taken
 }
 
-// Burst, from the ACK's first character on.
-fn wished_burst(burst: bool, wish: Wish) -> bool
-    ensures { λ r. ⌜ r ≡ wished burst wish ⌝ }
-{
-    match wish {
-        Wish::Same => burst,
-        Wish::On => true,
-        Wish::Off => false,
-    }
-}
-
 // Whether burst may not be turned on.
 fn on_refused(d: Device) -> bool
     ensures { λ r. ⌜ r ≡ wishRefused d Wish.On ⌝ }
@@ -221,7 +205,7 @@ fn put_answer(d: Device, wish: Wish, bytes: &[u8], frame: &mut [u8; 284])
     let request = d.request;
     put_frame(
         d.preamble,
-        answer_header(request, wished_burst(d.burst, wish)),
+        answer_header(request, device_sends::wished_burst(d.burst, wish)),
         bytes,
         frame,
     );
@@ -241,91 +225,6 @@ pub fn answer(d: Device, wish: Wish, bytes: &[u8], frame: &mut [u8; 284]) -> Dev
     }
 }
 
-// What a device sends, and the device behind it.
-fn with_sent(
-    d: Device,
-    deaf: bool,
-    turn: Turn,
-    length: u16,
-    burst: bool,
-    primary: bool,
-    due: u32,
-    r: Receiver,
-    sent: Sent,
-) -> DeviceSent
-    ensures { λ s. ⌜ s ≡ sends d deaf turn length burst primary due r sent ⌝ }
-{
-    let profile = d.profile;
-    let request = d.request;
-    let wish = d.wish;
-    let content = d.content;
-    let device = Device {
-        profile: profile,
-        preamble: d.preamble,
-        polling: d.polling,
-        unique: d.unique,
-        receiver: r,
-        deaf: deaf,
-        turn: turn,
-        request: request,
-        wish: wish,
-        length: length,
-        burst: burst,
-        primary: primary,
-        due: due,
-        content: content,
-    };
-    DeviceSent {
-        device: device,
-        sent: sent,
-    }
-}
-
-// A device that sends nothing.
-fn sends_nothing(d: Device, turn: Turn) -> DeviceSent
-    ensures { λ s. ⌜ s ≡ sends d false turn (d .length) (d .burst) (d .primary) (d .due) (d .receiver) Sent.Silent ⌝ }
-{
-    let receiver = d.receiver;
-    let burst = d.burst;
-    with_sent(
-        d,
-        false,
-        turn,
-        d.length,
-        burst,
-        d.primary,
-        d.due,
-        receiver,
-        Sent::Silent,
-    )
-}
-
-// A device that sends a character, and hears nothing.
-fn sends_character(
-    d: Device,
-    turn: Turn,
-    length: u16,
-    burst: bool,
-    primary: bool,
-    due: u32,
-    c: u8,
-) -> DeviceSent
-    ensures { λ s. ⌜ s ≡ sends d true turn length burst primary due passing (Sent.Character c) ⌝ }
-{
-    let receiver = tick_reader::passing_reader();
-    with_sent(
-        d,
-        true,
-        turn,
-        length,
-        burst,
-        primary,
-        due,
-        receiver,
-        Sent::Character(c),
-    )
-}
-
 // What a BACK says.
 fn back_header(d: Device) -> Header
     ensures { λ r. ⌜ r ≡ backHeader d ⌝ }
@@ -338,107 +237,6 @@ fn back_header(d: Device) -> Header
         burst: true,
         address: d.unique,
         command: content.command,
-    }
-}
-
-// Whether the next BACK is for the primary, from an ACK's first character on.
-fn first_for(d: Device) -> bool
-    ensures { λ r. ⌜ r ≡ firstFor d ⌝ }
-{
-    if d.burst {
-        return d.primary;
-    }
-    true
-}
-
-// The turn behind an ACK.
-fn behind_ack(burst: bool) -> Turn
-    ensures { λ r. ⌜ r ≡ behindAck burst ⌝ }
-{
-    if burst {
-        return Turn::Follows;
-    }
-    Turn::Listens
-}
-
-// One character of an ACK.
-fn answers_from(d: Device, frame: &[u8; 284], n: u16, burst: bool, primary: bool) -> DeviceSent
-    ensures { λ s. ⌜ s ≡ answersFrom d (now (frame .entry)) n burst primary ⌝ }
-{
-    let c = party::character_at(frame, n);
-    let length = d.length;
-    if (n as u32) + 1 < (length as u32) {
-        return sends_character(d, Turn::Answers(n + 1), length, burst, primary, 0, c);
-    }
-    sends_character(d, behind_ack(burst), length, burst, primary, 0, c)
-}
-
-// One character of a BACK of this length.
-fn bursts_from(d: Device, frame: &[u8; 284], n: u16, length: u16, primary: bool) -> DeviceSent
-    ensures { λ s. ⌜ s ≡ burstsFrom d (now (frame .entry)) n length primary ⌝ }
-{
-    let c = party::character_at(frame, n);
-    let profile = d.profile;
-    if (n as u32) + 1 < (length as u32) {
-        return sends_character(d, Turn::Bursts(n + 1), length, d.burst, primary, 0, c);
-    }
-    sends_character(
-        d,
-        Turn::Listens,
-        length,
-        d.burst,
-        primary,
-        profile.rt2 as u32,
-        c,
-    )
-}
-
-// How many characters the next BACK has.
-fn back_length(d: Device) -> u16
-    ensures { λ r. ⌜ r ≡ backLength d ⌝ }
-{
-    let content = d.content;
-    device_heard::frame_length(d.preamble, true, content.count)
-}
-
-// The other master.
-fn other(primary: bool) -> bool
-    ensures { λ r. ⌜ r ≡ (if primary then false else true) ⌝ }
-{
-    if primary {
-        return false;
-    }
-    true
-}
-
-// The first character of a BACK.
-fn begins_back(d: Device, frame: &[u8; 284]) -> DeviceSent
-    ensures { λ s. ⌜ s ≡ sendsBy d (now (frame .entry)) Turn.Follows ⌝ }
-{
-    bursts_from(d, frame, 0, back_length(d), other(d.primary))
-}
-
-// The first character of an ACK.
-fn begins_answer(d: Device, frame: &[u8; 284]) -> DeviceSent
-    ensures { λ s. ⌜ s ≡ sendsBy d (now (frame .entry)) Turn.Begins ⌝ }
-{
-    let wish = d.wish;
-    answers_from(d, frame, 0, wished_burst(d.burst, wish), first_for(d))
-}
-
-// A character or none, by the device's turn.
-fn sends_by(d: Device, frame: &[u8; 284]) -> DeviceSent
-    ensures { λ s. ⌜ s ≡ deviceSends d (now (frame .entry)) ⌝ }
-{
-    let turn = d.turn;
-    match turn {
-        Turn::Listens => sends_nothing(d, Turn::Listens),
-        Turn::Asked(n) => sends_nothing(d, Turn::Asked(n)),
-        Turn::Accepted => sends_nothing(d, Turn::Accepted),
-        Turn::Begins => begins_answer(d, frame),
-        Turn::Answers(n) => answers_from(d, frame, n, d.burst, d.primary),
-        Turn::Follows => begins_back(d, frame),
-        Turn::Bursts(n) => bursts_from(d, frame, n, d.length, d.primary),
     }
 }
 
@@ -471,7 +269,7 @@ pub fn send(d: Device, contents: &[u8; 255], frame: &mut [u8; 284]) -> DeviceSen
     ensures { λ s. ⌜ SendIs d (now (contents .entry)) (now (frame .entry)) s (now (frame .exit)) ⌝ }
 {
     put_begun(d, contents, frame);
-    sends_by(d, frame)
+    device_sends::sends_by(d, frame)
 }
 
 // A device with burst off, no request in hand, and no burst content.

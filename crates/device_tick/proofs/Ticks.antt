@@ -6,11 +6,10 @@ use lib.ListN.{length}
 use Rattle.base.specs.Store.{stored}
 use Rattle.base.specs.declared.Refusal.{Refusal}
 use Rattle.frame.specs.Write.{writeBuffer}
-use Rattle.line.specs.declared.Event.{Event}
 use Rattle.line.specs.declared.Heard.{Heard}
 use Rattle.turns.specs.Master.{Called, accepted, refused}
-use Rattle.turns.specs.Device.{answerHeader, wished, deviceTakes, errorFrame, answered, answerFrame, deviceSends, begunFrame}
-use Rattle.turns.specs.Link.{DeviceStep, Answer, none, was-taken, was-refused, DeviceSide, deviceData, deviceSent, answerCalled, deviceCalls, deviceTick}
+use Rattle.turns.specs.Device.{answerHeader, wished, deviceTakes, errorFrame, answered, answerFrame}
+use Rattle.turns.specs.Link.{Answer, none, was-taken, was-refused, DeviceSide, deviceData, deviceSent, answerCalled, deviceCalls, deviceTick}
 use Rattle.turns.specs.declared.Device.{Device}
 use Rattle.turns.specs.declared.DeviceSent.{DeviceSent}
 use Rattle.turns.specs.declared.DeviceTaken.{DeviceTaken}
@@ -18,7 +17,7 @@ use Rattle.turns.specs.declared.DeviceTold.{DeviceTold}
 use Rattle.turns.specs.declared.Wish.{Wish}
 use Rattle.device.specs.declared.DeviceCalled.{DeviceCalled}
 use Rattle.device.specs.Calls.{calledAs}
-use Rattle.device.specs.Buffers.{errorBuffer, answerBuffer, storedBy, begunBuffer}
+use Rattle.device.specs.Buffers.{errorBuffer, answerBuffer, storedBy}
 use Rattle.device.specs.Promises.{TakeIs, AnswerIs, SendIs}
 use Rattle.device.proofs.Limits.{error-agrees, answer-agrees, begun-agrees}
 use Rattle.device.proofs.Fit.{fit-own, fit-content}
@@ -26,7 +25,6 @@ use Rattle.device.proofs.Reached.{Ready, takes-ready, answered-ready}
 use Rattle.device_tick.specs.declared.HostCall.{HostCall}
 use Rattle.device_tick.specs.declared.CallAnswer.{CallAnswer}
 use Rattle.device_tick.specs.declared.CallTaken.{CallTaken}
-use Rattle.device_tick.specs.declared.DeviceTicked.{DeviceTicked}
 use Rattle.device_tick.specs.Tick.{callOf, answerOf, sideOf, stepOf, sentAt, writtenSent, writtenAnswer, writtenCall, writtenTick, uncalled, CallIs, TickIs}
 
 -- ---- the call

@@ -1,4 +1,3 @@
-use borrow.Author.Needs.{needs}
 use Rattle.base.proofs.Choices.{choices}
 use Rattle.device_heard.proofs.back_due.Statement.{statement}
 use Rattle.device_heard.proofs.back_due.Tie as tie

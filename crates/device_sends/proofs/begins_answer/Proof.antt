@@ -1,7 +1,7 @@
 use borrow.Author.Needs.{needs}
-use Rattle.device.proofs.Sends.{answers-same}
-use Rattle.device.proofs.begins_answer.Statement.{statement}
-use Rattle.device.proofs.begins_answer.Tie as tie
+use Rattle.device_sends.proofs.Sends.{answers-same}
+use Rattle.device_sends.proofs.begins_answer.Statement.{statement}
+use Rattle.device_sends.proofs.begins_answer.Tie as tie
 
 pub begins-answer-spec : {M : Type 1} → statement M
 begins-answer-spec =

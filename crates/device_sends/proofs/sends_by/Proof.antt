@@ -1,7 +1,7 @@
 use borrow.Author.Needs.{needs}
-use Rattle.device.proofs.Sends.{sends-at}
-use Rattle.device.proofs.sends_by.Statement.{statement}
-use Rattle.device.proofs.sends_by.Tie as tie
+use Rattle.device_sends.proofs.Sends.{sends-at}
+use Rattle.device_sends.proofs.sends_by.Statement.{statement}
+use Rattle.device_sends.proofs.sends_by.Tie as tie
 
 pub sends-by-spec : {M : Type 1} → statement M
 sends-by-spec =

@@ -1,6 +1,6 @@
 use Rattle.base.proofs.Choices.{choices}
-use Rattle.device.proofs.first_for.Statement.{statement}
-use Rattle.device.proofs.first_for.Tie as tie
+use Rattle.device_sends.proofs.first_for.Statement.{statement}
+use Rattle.device_sends.proofs.first_for.Tie as tie
 
 pub first-for-spec : {M : Type 1} → statement M
 first-for-spec =

@@ -1,8 +1,8 @@
 -- Laws of what a device sends.
-use Prim.Native.Nat.{ℕ, _+_, _<_}
-use mathlib.Core.Bool.{Bool, true, false}
+use Prim.Native.Nat.{ℕ}
+use mathlib.Core.Bool.{Bool, true}
 use mathlib.Core.List.{List}
-use mathlib.Core.Path.{_≡_, refl, sym, ap, _∙_}
+use mathlib.Core.Path.{_≡_, sym, ap, _∙_}
 use Rattle.frame.specs.Address.{byteAt}
 use Rattle.line.specs.Reader.{passing}
 use Rattle.line.specs.declared.Receiver.{Receiver}
@@ -32,5 +32,3 @@ bursts-same d frame n length m primary p s e q f = f ∙ (λ i. burstsFrom d fra
 pub sends-at : (d : Device) (frame : List ℕ) (turn : Turn) (s : DeviceSent) → d .turn ≡ turn → s ≡ sendsBy d frame turn → s ≡ deviceSends d frame
 unfolding deviceSends
 sends-at d frame turn s e f = f ∙ ap (sendsBy d frame) (sym e)
-
-pub ruleset sendings = (refl, reader-same, character-same, answers-same, bursts-same, sends-at)

@@ -1,6 +1,6 @@
 use Rattle.base.proofs.Choices.{choices}
-use Rattle.device.proofs.other.Statement.{statement}
-use Rattle.device.proofs.other.Tie as tie
+use Rattle.device_sends.proofs.other.Statement.{statement}
+use Rattle.device_sends.proofs.other.Tie as tie
 
 pub other-spec : {M : Type 1} → statement M
 other-spec =

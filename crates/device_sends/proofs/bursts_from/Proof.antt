@@ -1,8 +1,8 @@
 use borrow.Author.Needs.{needs}
 use Rattle.base.proofs.Choices.{choices}
-use Rattle.device.proofs.Sends.{character-same}
-use Rattle.device.proofs.bursts_from.Statement.{statement}
-use Rattle.device.proofs.bursts_from.Tie as tie
+use Rattle.device_sends.proofs.Sends.{character-same}
+use Rattle.device_sends.proofs.bursts_from.Statement.{statement}
+use Rattle.device_sends.proofs.bursts_from.Tie as tie
 
 pub bursts-from-spec : {M : Type 1} → statement M
 bursts-from-spec =

@@ -1,6 +1,6 @@
 use borrow.Author.Needs.{needs}
-use Rattle.device.proofs.sends_nothing.Statement.{statement}
-use Rattle.device.proofs.sends_nothing.Tie as tie
+use Rattle.device_sends.proofs.sends_nothing.Statement.{statement}
+use Rattle.device_sends.proofs.sends_nothing.Tie as tie
 
 pub sends-nothing-spec : {M : Type 1} → statement M
 sends-nothing-spec =

@@ -1,7 +1,7 @@
 use borrow.Author.Needs.{needs}
-use Rattle.device.proofs.Sends.{bursts-same}
-use Rattle.device.proofs.begins_back.Statement.{statement}
-use Rattle.device.proofs.begins_back.Tie as tie
+use Rattle.device_sends.proofs.Sends.{bursts-same}
+use Rattle.device_sends.proofs.begins_back.Statement.{statement}
+use Rattle.device_sends.proofs.begins_back.Tie as tie
 
 pub begins-back-spec : {M : Type 1} → statement M
 begins-back-spec =

@@ -1,6 +1,6 @@
 use Rattle.base.proofs.Choices.{choices}
-use Rattle.device.proofs.behind_ack.Statement.{statement}
-use Rattle.device.proofs.behind_ack.Tie as tie
+use Rattle.device_sends.proofs.behind_ack.Statement.{statement}
+use Rattle.device_sends.proofs.behind_ack.Tie as tie
 
 pub behind-ack-spec : {M : Type 1} → statement M
 behind-ack-spec =

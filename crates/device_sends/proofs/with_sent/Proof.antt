@@ -1,6 +1,6 @@
 use borrow.Author.Needs.{needs}
-use Rattle.device.proofs.with_sent.Statement.{statement}
-use Rattle.device.proofs.with_sent.Tie as tie
+use Rattle.device_sends.proofs.with_sent.Statement.{statement}
+use Rattle.device_sends.proofs.with_sent.Tie as tie
 
 pub with-sent-spec : {M : Type 1} → statement M
 with-sent-spec =

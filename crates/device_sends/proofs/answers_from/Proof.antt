@@ -1,8 +1,8 @@
 use borrow.Author.Needs.{needs}
 use Rattle.base.proofs.Choices.{choices}
-use Rattle.device.proofs.Sends.{character-same}
-use Rattle.device.proofs.answers_from.Statement.{statement}
-use Rattle.device.proofs.answers_from.Tie as tie
+use Rattle.device_sends.proofs.Sends.{character-same}
+use Rattle.device_sends.proofs.answers_from.Statement.{statement}
+use Rattle.device_sends.proofs.answers_from.Tie as tie
 
 pub answers-from-spec : {M : Type 1} → statement M
 answers-from-spec =

@@ -1,0 +1,2 @@
+-- The laws by which what a device sends is proved.
+pub mod Sends
