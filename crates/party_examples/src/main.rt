@@ -532,20 +532,10 @@ fn tick_both(
     let to_d = b.to_d;
     let m_says = b.m_says;
     let d_says = b.d_says;
-    let m = master_ticks(
-        b.master,
-        to_m,
-        look(script, tick, MASTERS_HOST),
-        stx,
-        of_ack,
-    );
-    let d = device_ticks(
-        b.device,
-        to_d,
-        look(script, tick, DEVICES_HOST),
-        ack,
-        of_stx,
-    );
+    let asks = look(script, tick, MASTERS_HOST);
+    let m = master_ticks(b.master, to_m, asks, stx, of_ack);
+    let answers = look(script, tick, DEVICES_HOST);
+    let d = device_ticks(b.device, to_d, answers, ack, of_stx);
     let by_m = m.sent;
     let by_d = d.sent;
     let by_o = other_sends(tick, begin, other);
