@@ -1,4 +1,4 @@
--- What a device puts into its lent frame buffer, for every state. The definitions of turns store a frame's bytes whatever its fields hold. The frame writer refuses a preamble or an address outside its limits, and leaves the buffer as it was; a byte could not hold such an address's first bits. The fields of a device that was started are within their limits, and there both are the same (proofs/Limits.antt).
+-- What a device puts into its lent frame buffer, for every state. The definitions of turns store a frame's bytes whatever its fields hold. The frame writer refuses a preamble or an address outside its limits, and leaves the buffer as it was; a byte could not hold such an address's first bits. The fields of every device that a start and ticks reach are within their limits (proofs/Reached.antt), and there both are the same (proofs/Limits.antt).
 use Prim.Native.Nat.{ℕ, _≤_}
 use mathlib.Core.Bool.{true}
 use mathlib.Core.List.{List}
