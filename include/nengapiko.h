@@ -140,6 +140,31 @@ enum nengapiko_event {
 size_t nengapiko_ticks(const uint8_t *recording, size_t size,
                        uint8_t *events, size_t room);
 
+/* What a master does in a tick. */
+enum nengapiko_step {
+    NENGAPIKO_SILENT = 0,
+    NENGAPIKO_ANSWERED = 1,
+    NENGAPIKO_GIVEN_UP = 2,
+    NENGAPIKO_BROADCAST_SENT = 3,
+    NENGAPIKO_SENDS = 4 /* it sends a character, whatever it tells */
+};
+
+/*
+ * Runs a primary of the FSK profile with 3 retries over a recording of what it hears,
+ * for tests and measurements.
+ *
+ *   recording, size  as for nengapiko_ticks, but for the first byte's bits 4 to 0: 1 is the
+ *                    host's request in this tick, command 3 of unique address 2
+ *   events, room     as for nengapiko_ticks, with an enum nengapiko_step for each tick
+ *   frame            284 bytes, for the master's STX
+ *   bytes            255 bytes, for the data of the frame that it hears
+ *
+ * Returns how many ticks these are: size / 2 or room, whichever is less.
+ */
+size_t nengapiko_master(const uint8_t *recording, size_t size,
+                        uint8_t *events, size_t room,
+                        uint8_t *frame, uint8_t *bytes);
+
 #ifdef __cplusplus
 }
 #endif

@@ -97,6 +97,18 @@ impl Reader {
         }
     }
 
+    /// As after its own sending.
+    #[allow(dead_code)]
+    pub fn pass_over(&mut self) {
+        self.next = Next::PassedOver;
+    }
+
+    /// The first data byte of a whole ACK.
+    #[allow(dead_code)]
+    pub fn first_data_byte(&self) -> u8 {
+        self.data[0]
+    }
+
     pub fn take(&mut self, heard: Heard) -> Event {
         let character = match heard {
             Heard::Silence => return self.silence(),
@@ -229,7 +241,7 @@ impl Reader {
 }
 
 impl Heard {
-    fn recorded(kind: u8, character: u8) -> Heard {
+    pub fn recorded(kind: u8, character: u8) -> Heard {
         match kind >> 5 {
             1 => Heard::Character(character),
             2 => Heard::Damaged(character, Damage::Parity),

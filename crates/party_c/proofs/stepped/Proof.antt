@@ -1,0 +1,14 @@
+use Rattle.party_c.proofs.Runs.{step-is}
+use borrow.Author.Needs.{needs}
+use Rattle.party_c.proofs.stepped.Statement.{statement}
+use Rattle.party_c.proofs.stepped.Tie as tie
+
+pub stepped-spec : {M : Type 1} → statement M
+stepped-spec =
+    tie.close
+    (tie.spec
+    (λ c κs. search needs)
+    (λ c κs. search needs)
+    (λ c. search needs)
+    (λ c κs. search needs)
+    (λ c. search (needs, step-is)))

@@ -1,0 +1,2 @@
+-- A master over a recording of what it hears.
+pub mod Recording
