@@ -1,0 +1,2 @@
+-- The laws by which the link is proved.
+pub mod Lines
