@@ -1,2 +1,3 @@
 -- The laws by which the link is proved.
 pub mod Lines
+pub mod Devices

@@ -1,9 +1,14 @@
 // A link: one primary, one secondary and six slots for devices on one line.
 use line::Damage;
 use line::Heard;
+use master_tick::CallAnswer;
+use turns::Device;
+use turns::DeviceTold;
 use turns::Sent;
+use turns::Wish;
 ghost use mathlib.Core.Path.{_≡_};
 ghost use Rattle.turns.specs.Link.{joins};
+ghost use Rattle.link.specs.Device.{stepOf, tickedBy, uncalled, CallIs};
 
 // A character on a line that carried this without it.
 fn join_character(c: u8, heard: Heard) -> Heard
@@ -23,5 +28,88 @@ pub fn join(sent: Sent, heard: Heard) -> Heard
     match sent {
         Sent::Silent => heard,
         Sent::Character(c) => join_character(c, heard),
+    }
+}
+
+// A host's call to a device in a tick; the data of an answer are lent beside it.
+pub enum DeviceCall {
+    Nothing,
+    Answers(Wish),
+}
+
+// A device behind its host's call.
+pub struct DeviceCalled {
+    pub device: Device,
+    pub answer: CallAnswer,
+}
+
+// A device behind a tick, what it sends, what it tells its host, and what became of its host's call.
+pub struct DeviceTicked {
+    pub device: Device,
+    pub sent: Sent,
+    pub told: DeviceTold,
+    pub answer: CallAnswer,
+}
+
+fn answer_by(d: Device, wish: Wish, put: &[u8], frame: &mut [u8; 284]) -> DeviceCalled
+    ensures { λ r. ⌜ CallIs d (DeviceCall.Answers wish) (now (put .entry)) (now (frame .entry)) r (now (frame .exit)) ⌝ }
+{
+    let r = device::answer(d, wish, put, frame);
+    match r {
+        device::DeviceCalled::Accepted(e) => DeviceCalled {
+            device: e,
+            answer: CallAnswer::Taken,
+        },
+        device::DeviceCalled::Refused(why) => DeviceCalled {
+            device: d,
+            answer: CallAnswer::Refused(why),
+        },
+    }
+}
+
+fn no_call(d: Device) -> DeviceCalled
+    ensures { λ r. ⌜ r ≡ uncalled d ⌝ }
+{
+    DeviceCalled {
+        device: d,
+        answer: CallAnswer::Nothing,
+    }
+}
+
+fn take_call(d: Device, call: DeviceCall, put: &[u8], frame: &mut [u8; 284]) -> DeviceCalled
+    ensures { λ r. ⌜ CallIs d call (now (put .entry)) (now (frame .entry)) r (now (frame .exit)) ⌝ }
+{
+    match call {
+        DeviceCall::Nothing => no_call(d),
+        DeviceCall::Answers(wish) => answer_by(d, wish, put, frame),
+    }
+}
+
+// A tick of a device. Lent are the data of an answer, the buffer that holds the device's ACK or BACK, the one for the data of the frame that it hears, and its burst content.
+pub fn device_tick(
+    d: Device,
+    heard: Heard,
+    call: DeviceCall,
+    put: &[u8],
+    frame: &mut [u8; 284],
+    bytes: &mut [u8; 255],
+    contents: &[u8; 255],
+) -> DeviceTicked
+    ensures { λ r. ⌜ stepOf r (now (frame .exit)) (now (bytes .exit)) (now (contents .entry)) ≡ tickedBy d heard call (now (put .entry)) (now (frame .entry)) (now (bytes .entry)) (now (contents .entry)) ⌝ }
+{
+    let t = device::take(d, heard, bytes, frame);
+    let taken = t.device;
+    let told = t.told;
+    let c = take_call(taken, call, put, frame);
+    let called = c.device;
+    let answer = c.answer;
+    let s = device::send(called, contents, frame);
+    let next = s.device;
+    let sent = s.sent;
+    DeviceTicked {
+        device: next,
+        sent: sent,
+        told: told,
+        answer: answer,
     }
 }

@@ -1,0 +1,2 @@
+-- What a link promises, by the definitions of turns.
+pub mod Device
