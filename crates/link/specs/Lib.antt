@@ -1,2 +1,3 @@
 -- What a link promises, by the definitions of turns.
 pub mod Device
+pub mod Slot

@@ -9,6 +9,7 @@ use turns::Wish;
 ghost use mathlib.Core.Path.{_≡_};
 ghost use Rattle.turns.specs.Link.{joins};
 ghost use Rattle.link.specs.Device.{stepOf, tickedBy, uncalled, CallIs};
+ghost use Rattle.link.specs.Slot.{inSlot, absentTick, lends, SlotIs};
 
 // A character on a line that carried this without it.
 fn join_character(c: u8, heard: Heard) -> Heard
@@ -111,5 +112,63 @@ pub fn device_tick(
         sent: sent,
         told: told,
         answer: answer,
+    }
+}
+
+// A place for a device.
+pub enum Slot {
+    Absent,
+    Present(Device),
+}
+
+// A slot behind a tick: what its device did.
+pub struct SlotTicked {
+    pub slot: Slot,
+    pub sent: Sent,
+    pub told: DeviceTold,
+    pub answer: CallAnswer,
+}
+
+fn absent() -> SlotTicked
+    ensures { λ r. ⌜ r ≡ absentTick ⌝ }
+{
+    SlotTicked {
+        slot: Slot::Absent,
+        sent: Sent::Silent,
+        told: DeviceTold::Nothing,
+        answer: CallAnswer::Nothing,
+    }
+}
+
+fn in_slot(t: DeviceTicked) -> SlotTicked
+    ensures { λ r. ⌜ r ≡ inSlot t ⌝ }
+{
+    let device = t.device;
+    let sent = t.sent;
+    let told = t.told;
+    let answer = t.answer;
+    SlotTicked {
+        slot: Slot::Present(device),
+        sent: sent,
+        told: told,
+        answer: answer,
+    }
+}
+
+// A tick of a slot. A call to an absent one does nothing.
+pub fn slot_tick(
+    slot: Slot,
+    heard: Heard,
+    call: DeviceCall,
+    put: &[u8],
+    frame: &mut [u8; 284],
+    bytes: &mut [u8; 255],
+    contents: &[u8; 255],
+) -> SlotTicked
+    ensures { λ r. ⌜ SlotIs slot heard call (lends (now (put .entry)) (now (frame .entry)) (now (bytes .entry)) (now (contents .entry))) r (now (frame .exit)) (now (bytes .exit)) ⌝ }
+{
+    match slot {
+        Slot::Absent => absent(),
+        Slot::Present(d) => in_slot(device_tick(d, heard, call, put, frame, bytes, contents)),
     }
 }
