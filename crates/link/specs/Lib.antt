@@ -1,3 +1,4 @@
 -- What a link promises, by the definitions of turns.
 pub mod Device
 pub mod Slot
+pub mod Slots

@@ -7,9 +7,11 @@ use turns::DeviceTold;
 use turns::Sent;
 use turns::Wish;
 ghost use mathlib.Core.Path.{_≡_};
+ghost use Prim.Native.Nat.{_<_};
 ghost use Rattle.turns.specs.Link.{joins};
 ghost use Rattle.link.specs.Device.{stepOf, tickedBy, uncalled, CallIs};
 ghost use Rattle.link.specs.Slot.{inSlot, absentTick, lends, SlotIs};
+ghost use Rattle.link.specs.Slots.{AtIs};
 
 // A character on a line that carried this without it.
 fn join_character(c: u8, heard: Heard) -> Heard
@@ -171,4 +173,29 @@ pub fn slot_tick(
         Slot::Absent => absent(),
         Slot::Present(d) => in_slot(device_tick(d, heard, call, put, frame, bytes, contents)),
     }
+}
+
+// A tick of the slot with this number, counted from 0.
+fn slot_at(
+    slot: Slot,
+    at: usize,
+    heard: Heard,
+    call: DeviceCall,
+    put: &[u8],
+    frames: &mut [[u8; 284]; 6],
+    bytes: &mut [[u8; 255]; 6],
+    contents: &[[u8; 255]; 6],
+) -> SlotTicked
+    requires { ⌜ at < 6 ⌝ }
+    ensures { λ r. ⌜ AtIs slot heard call (now (put .entry)) (now (frames .entry)) (now (bytes .entry)) (now (contents .entry)) at r (now (frames .exit)) (now (bytes .exit)) ⌝ }
+{
+    slot_tick(
+        slot,
+        heard,
+        call,
+        put,
+        &mut frames[at],
+        &mut bytes[at],
+        &contents[at],
+    )
 }
