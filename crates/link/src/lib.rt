@@ -11,7 +11,7 @@ ghost use Prim.Native.Nat.{_<_};
 ghost use Rattle.turns.specs.Link.{joins};
 ghost use Rattle.link.specs.Device.{stepOf, tickedBy, uncalled, CallIs};
 ghost use Rattle.link.specs.Slot.{inSlot, absentTick, lends, SlotIs};
-ghost use Rattle.link.specs.Slots.{AtIs};
+ghost use Rattle.link.specs.Slots.{AtIs, PairIs};
 
 // A character on a line that carried this without it.
 fn join_character(c: u8, heard: Heard) -> Heard
@@ -198,4 +198,47 @@ fn slot_at(
         &mut bytes[at],
         &contents[at],
     )
+}
+
+// Two slots, the calls to them, and what they did in a tick.
+pub struct Pair {
+    pub left: Slot,
+    pub right: Slot,
+}
+
+pub struct PairCalls {
+    pub left: DeviceCall,
+    pub right: DeviceCall,
+}
+
+pub struct PairTicked {
+    pub left: SlotTicked,
+    pub right: SlotTicked,
+}
+
+// A tick of the slot with this number and of the next.
+fn pair_at(
+    pair: Pair,
+    at: usize,
+    heard: Heard,
+    calls: PairCalls,
+    first: &[u8],
+    second: &[u8],
+    frames: &mut [[u8; 284]; 6],
+    bytes: &mut [[u8; 255]; 6],
+    contents: &[[u8; 255]; 6],
+) -> PairTicked
+    requires { ⌜ at < 5 ⌝ }
+    ensures { λ r. ⌜ PairIs pair heard calls (now (first .entry)) (now (second .entry)) (now (frames .entry)) (now (bytes .entry)) (now (contents .entry)) at r (now (frames .exit)) (now (bytes .exit)) ⌝ }
+{
+    let a = pair.left;
+    let b = pair.right;
+    let call = calls.left;
+    let left = slot_at(a, at, heard, call, first, frames, bytes, contents);
+    let next = calls.right;
+    let right = slot_at(b, at + 1, heard, next, second, frames, bytes, contents);
+    PairTicked {
+        left: left,
+        right: right,
+    }
 }
