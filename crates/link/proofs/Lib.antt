@@ -1,4 +1,5 @@
 -- The laws by which the link is proved.
 pub mod Lines
-pub mod Devices
+pub mod Ticks
 pub mod Slots
+pub mod Sixes

@@ -8,10 +8,11 @@ use turns::Sent;
 use turns::Wish;
 ghost use mathlib.Core.Path.{_≡_};
 ghost use Prim.Native.Nat.{_<_};
+ghost use lib.ListN.{length};
 ghost use Rattle.turns.specs.Link.{joins};
 ghost use Rattle.link.specs.Device.{stepOf, tickedBy, uncalled, CallIs};
 ghost use Rattle.link.specs.Slot.{inSlot, absentTick, lends, SlotIs};
-ghost use Rattle.link.specs.Slots.{AtIs, PairIs};
+ghost use Rattle.link.specs.Slots.{AtIs, PairIs, says, ThreeIs, SixIs};
 
 // A character on a line that carried this without it.
 fn join_character(c: u8, heard: Heard) -> Heard
@@ -241,4 +242,96 @@ fn pair_at(
         left: left,
         right: right,
     }
+}
+
+// Six slots, the calls to them, and what they did in a tick.
+pub struct Devices {
+    pub low: Pair,
+    pub middle: Pair,
+    pub high: Pair,
+}
+
+pub struct DevicesCalls {
+    pub low: PairCalls,
+    pub middle: PairCalls,
+    pub high: PairCalls,
+}
+
+pub struct DevicesTicked {
+    pub low: PairTicked,
+    pub middle: PairTicked,
+    pub high: PairTicked,
+}
+
+// A tick of six slots.
+fn three_pairs(
+    devices: Devices,
+    heard: Heard,
+    calls: DevicesCalls,
+    first: &[u8],
+    second: &[u8],
+    third: &[u8],
+    fourth: &[u8],
+    fifth: &[u8],
+    sixth: &[u8],
+    frames: &mut [[u8; 284]; 6],
+    bytes: &mut [[u8; 255]; 6],
+    contents: &[[u8; 255]; 6],
+) -> DevicesTicked
+    ensures { λ r. ⌜ ThreeIs devices heard calls (says (now (first .entry)) (now (second .entry)) (now (third .entry)) (now (fourth .entry)) (now (fifth .entry)) (now (sixth .entry))) (now (frames .entry)) (now (bytes .entry)) (now (contents .entry)) r (now (frames .exit)) (now (bytes .exit)) ⌝ }
+{
+    let a = devices.low;
+    let b = devices.middle;
+    let c = devices.high;
+    let x = calls.low;
+    let y = calls.middle;
+    let z = calls.high;
+    let low = pair_at(a, 0, heard, x, first, second, frames, bytes, contents);
+    let middle = pair_at(b, 2, heard, y, third, fourth, frames, bytes, contents);
+    let high = pair_at(c, 4, heard, z, fifth, sixth, frames, bytes, contents);
+    DevicesTicked {
+        low: low,
+        middle: middle,
+        high: high,
+    }
+}
+
+// There is a buffer of each kind for every slot: what the arrays' type says, in words that the promise below needs.
+fn six_each(frames: &[[u8; 284]], bytes: &[[u8; 255]])
+    requires { ⌜ (length (now frames) ≡ 6) × (length (now bytes) ≡ 6) ⌝ }
+    ensures { λ _. ⌜ (length (now (frames .entry)) ≡ 6) × (length (now (bytes .entry)) ≡ 6) ⌝ }
+{}
+
+// The same, said of each slot by itself.
+pub fn devices_tick(
+    devices: Devices,
+    heard: Heard,
+    calls: DevicesCalls,
+    first: &[u8],
+    second: &[u8],
+    third: &[u8],
+    fourth: &[u8],
+    fifth: &[u8],
+    sixth: &[u8],
+    frames: &mut [[u8; 284]; 6],
+    bytes: &mut [[u8; 255]; 6],
+    contents: &[[u8; 255]; 6],
+) -> DevicesTicked
+    ensures { λ r. ⌜ SixIs devices heard calls (says (now (first .entry)) (now (second .entry)) (now (third .entry)) (now (fourth .entry)) (now (fifth .entry)) (now (sixth .entry))) (now (frames .entry)) (now (bytes .entry)) (now (contents .entry)) r (now (frames .exit)) (now (bytes .exit)) ⌝ }
+{
+    six_each(frames, bytes);
+    three_pairs(
+        devices,
+        heard,
+        calls,
+        first,
+        second,
+        third,
+        fourth,
+        fifth,
+        sixth,
+        frames,
+        bytes,
+        contents,
+    )
 }

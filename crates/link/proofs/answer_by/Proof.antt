@@ -1,4 +1,4 @@
-use Rattle.link.proofs.Devices.{ticks}
+use Rattle.link.proofs.Ticks.{ticks}
 use borrow.Author.Needs.{needs}
 use Rattle.link.proofs.answer_by.Statement.{statement}
 use Rattle.link.proofs.answer_by.Tie as tie
