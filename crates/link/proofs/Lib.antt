@@ -3,3 +3,4 @@ pub mod Lines
 pub mod Ticks
 pub mod Slots
 pub mod Sixes
+pub mod Whole

@@ -2,3 +2,4 @@
 pub mod Device
 pub mod Slot
 pub mod Slots
+pub mod Link

@@ -2,8 +2,11 @@
 use line::Damage;
 use line::Heard;
 use master_tick::CallAnswer;
+use master_tick::HostCall;
+use master_tick::MasterTicked;
 use turns::Device;
 use turns::DeviceTold;
+use turns::Master;
 use turns::Sent;
 use turns::Wish;
 ghost use mathlib.Core.Path.{_≡_};
@@ -13,6 +16,7 @@ ghost use Rattle.turns.specs.Link.{joins};
 ghost use Rattle.link.specs.Device.{stepOf, tickedBy, uncalled, CallIs};
 ghost use Rattle.link.specs.Slot.{inSlot, absentTick, lends, SlotIs};
 ghost use Rattle.link.specs.Slots.{AtIs, PairIs, says, ThreeIs, SixIs};
+ghost use Rattle.link.specs.Link.{pairLine, devicesLine, mastersLine, masterLends, devicesLend, MastersAre, LinkIs};
 
 // A character on a line that carried this without it.
 fn join_character(c: u8, heard: Heard) -> Heard
@@ -334,4 +338,146 @@ pub fn devices_tick(
         bytes,
         contents,
     )
+}
+
+// Both masters, the calls to them, and what they did in a tick.
+pub struct Masters {
+    pub primary: Master,
+    pub secondary: Master,
+}
+
+pub struct MastersCalls {
+    pub primary: HostCall,
+    pub secondary: HostCall,
+}
+
+pub struct MastersTicked {
+    pub primary: MasterTicked,
+    pub secondary: MasterTicked,
+}
+
+// A tick of both masters. Lent to each are the data of its host's request, its frame buffer and its data buffer.
+pub fn masters_tick(
+    masters: Masters,
+    heard: Heard,
+    calls: MastersCalls,
+    ask: &[u8],
+    stx: &mut [u8; 284],
+    own: &mut [u8; 255],
+    asks: &[u8],
+    stxs: &mut [u8; 284],
+    owns: &mut [u8; 255],
+) -> MastersTicked
+    ensures { λ r. ⌜ MastersAre masters heard calls (masterLends (now (ask .entry)) (now (stx .entry)) (now (own .entry))) (masterLends (now (asks .entry)) (now (stxs .entry)) (now (owns .entry))) r (masterLends (now (ask .entry)) (now (stx .exit)) (now (own .exit))) (masterLends (now (asks .entry)) (now (stxs .exit)) (now (owns .exit))) ⌝ }
+{
+    let p = masters.primary;
+    let s = masters.secondary;
+    let call = calls.primary;
+    let primary = master_tick::tick(p, heard, call, ask, stx, own);
+    let other = calls.secondary;
+    let secondary = master_tick::tick(s, heard, other, asks, stxs, owns);
+    MastersTicked {
+        primary: primary,
+        secondary: secondary,
+    }
+}
+
+// What the line carries with these two, where the others are heard so.
+fn pair_line(t: PairTicked, heard: Heard) -> Heard
+    ensures { λ r. ⌜ r ≡ pairLine t heard ⌝ }
+{
+    let left = t.left;
+    let right = t.right;
+    let a = left.sent;
+    let b = right.sent;
+    join(a, join(b, heard))
+}
+
+fn devices_line(d: DevicesTicked) -> Heard
+    ensures { λ r. ⌜ r ≡ devicesLine d ⌝ }
+{
+    let low = d.low;
+    let middle = d.middle;
+    let high = d.high;
+    pair_line(low, pair_line(middle, pair_line(high, Heard::Silence)))
+}
+
+fn masters_line(m: MastersTicked, heard: Heard) -> Heard
+    ensures { λ r. ⌜ r ≡ mastersLine m heard ⌝ }
+{
+    let primary = m.primary;
+    let secondary = m.secondary;
+    let a = primary.sent;
+    let b = secondary.sent;
+    join(a, join(b, heard))
+}
+
+// A link: its parties, and what the line carried in the last tick.
+pub struct Link {
+    pub masters: Masters,
+    pub devices: Devices,
+    pub line: Heard,
+}
+
+// A tick's calls, at most one for each party.
+pub struct LinkCalls {
+    pub masters: MastersCalls,
+    pub devices: DevicesCalls,
+}
+
+// What every party did in a tick, and what the line carries behind it.
+pub struct LinkTicked {
+    pub masters: MastersTicked,
+    pub devices: DevicesTicked,
+    pub line: Heard,
+}
+
+// A tick of all parties. Lent are, for the primary and then for the secondary, the data of a request, a frame buffer and a data buffer; the data of the slots' answers; and for every slot a frame buffer, a data buffer and its burst content.
+pub fn tick(
+    link: Link,
+    calls: LinkCalls,
+    ask: &[u8],
+    stx: &mut [u8; 284],
+    own: &mut [u8; 255],
+    asks: &[u8],
+    stxs: &mut [u8; 284],
+    owns: &mut [u8; 255],
+    first: &[u8],
+    second: &[u8],
+    third: &[u8],
+    fourth: &[u8],
+    fifth: &[u8],
+    sixth: &[u8],
+    frames: &mut [[u8; 284]; 6],
+    bytes: &mut [[u8; 255]; 6],
+    contents: &[[u8; 255]; 6],
+) -> LinkTicked
+    ensures { λ r. ⌜ LinkIs link calls (masterLends (now (ask .entry)) (now (stx .entry)) (now (own .entry))) (masterLends (now (asks .entry)) (now (stxs .entry)) (now (owns .entry))) (says (now (first .entry)) (now (second .entry)) (now (third .entry)) (now (fourth .entry)) (now (fifth .entry)) (now (sixth .entry))) (devicesLend (now (frames .entry)) (now (bytes .entry)) (now (contents .entry))) r (masterLends (now (ask .entry)) (now (stx .exit)) (now (own .exit))) (masterLends (now (asks .entry)) (now (stxs .exit)) (now (owns .exit))) (devicesLend (now (frames .exit)) (now (bytes .exit)) (now (contents .entry))) ⌝ }
+{
+    let heard = link.line;
+    let ms = link.masters;
+    let ds = link.devices;
+    let cm = calls.masters;
+    let cd = calls.devices;
+    let m = masters_tick(ms, heard, cm, ask, stx, own, asks, stxs, owns);
+    let d = devices_tick(
+        ds,
+        heard,
+        cd,
+        first,
+        second,
+        third,
+        fourth,
+        fifth,
+        sixth,
+        frames,
+        bytes,
+        contents,
+    );
+    let line = masters_line(m, devices_line(d));
+    LinkTicked {
+        masters: m,
+        devices: d,
+        line: line,
+    }
 }
