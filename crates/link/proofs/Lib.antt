@@ -4,3 +4,4 @@ pub mod Ticks
 pub mod Slots
 pub mod Sixes
 pub mod Whole
+pub mod Starts

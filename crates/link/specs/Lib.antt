@@ -3,3 +3,4 @@ pub mod Device
 pub mod Slot
 pub mod Slots
 pub mod Link
+pub mod Start
