@@ -5,3 +5,4 @@ pub mod Slots
 pub mod Sixes
 pub mod Whole
 pub mod Starts
+pub mod Within

@@ -1,20 +1,20 @@
 -- A tick of a device, for every state. It is `deviceTick` of crates/turns/specs/Link.antt with the frame buffers of crates/device/specs/Buffers.antt: the frame writer refuses a preamble or an address outside its limits. Within the limits both are the same (proofs/Within.antt).
 use Prim.Native.Nat.{ℕ}
+use mathlib.Core.Bool.{true}
 use mathlib.Core.List.{List}
 use mathlib.Core.Path.{_≡_}
 use lib.ListN.{length}
-use Rattle.line.specs.declared.Event.{Event}
 use Rattle.line.specs.declared.Heard.{Heard}
 use Rattle.turns.specs.Master.{Called, accepted, refused}
-use Rattle.turns.specs.Device.{tells, deviceTakes, answered, deviceSends}
+use Rattle.turns.specs.Device.{deviceTakes, errorFrame, isOwn, answered, deviceSends}
 use Rattle.turns.specs.Link.{Answer, none, was-taken, was-refused, no-call, gives-answer, DeviceSide, DeviceStep, deviceData}
 use Rattle.turns.specs.Link as L
 use Rattle.turns.specs.declared.Device.{Device}
-use Rattle.turns.specs.declared.DeviceTaken.{DeviceTaken}
 use Rattle.turns.specs.declared.DeviceTold.{DeviceTold}
+use Rattle.turns.specs.declared.Turn.the-variants.{Asked, Follows}
 use Rattle.turns.specs.declared.Wish.{Wish}
 use Rattle.device_heard.specs.Hearing.{lent}
-use Rattle.device.specs.Buffers.{errorBuffer, answerBuffer, begunBuffer}
+use Rattle.device.specs.Buffers.{Limits, ContentLimits, errorBuffer, answerBuffer, begunBuffer}
 use Rattle.master_tick.specs.Tick.{answerOf}
 use Rattle.master_tick.specs.declared.CallAnswer.{CallAnswer}
 use Rattle.link.specs.declared.DeviceCall.{DeviceCall}
@@ -61,3 +61,10 @@ uncalled d = record { device = d; answer = CallAnswer.Nothing }
 -- a call, whatever the tick told before it, and whatever data and content there are: `after` is the frame buffer behind the call
 pub record CallIs (d : Device) (call : DeviceCall) (put frame : List ℕ) (r : DeviceCalled) (after : List ℕ) : Type 0 where
   pub goes : (told : DeviceTold) (bytes contents : List ℕ) → calledBy d told call put frame bytes contents ≡ sentBy (r .device) after bytes contents told (answerOf (r .answer))
+
+-- a device whose frames the frame writer takes: within its limits, also behind what it heard; a request that is in hand there is for it, and a BACK that begins there has content
+pub record Ready (d : Device) (heard : Heard) (frame contents : List ℕ) : Type 0 where
+  pub limits : Limits d frame
+  pub limits-behind : Limits (deviceTakes d heard .device) (errorFrame d (deviceTakes d heard .event) frame)
+  pub asked : (n : ℕ) → deviceTakes d heard .device .turn ≡ Asked n → isOwn (deviceTakes d heard .device) (deviceTakes d heard .device .request) ≡ true
+  pub follows : deviceTakes d heard .device .turn ≡ Follows → ContentLimits (deviceTakes d heard .device) contents
