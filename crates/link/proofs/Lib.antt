@@ -6,3 +6,4 @@ pub mod Sixes
 pub mod Whole
 pub mod Starts
 pub mod Within
+pub mod Agrees

@@ -4,3 +4,4 @@ pub mod Slot
 pub mod Slots
 pub mod Link
 pub mod Start
+pub mod Stands
