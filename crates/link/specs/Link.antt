@@ -7,6 +7,7 @@ use Rattle.line.specs.declared.Heard.the-variants.{Silence}
 use Rattle.turns.specs.Link.{joins}
 use Rattle.master_tick.specs.Tick.{TickIs}
 use Rattle.link.specs.Slots.{Puts, SixIs}
+use Rattle.link.specs.declared.Devices.{Devices}
 use Rattle.link.specs.declared.DevicesTicked.{DevicesTicked}
 use Rattle.link.specs.declared.Link.{Link}
 use Rattle.link.specs.declared.LinkCalls.{LinkCalls}
@@ -14,6 +15,7 @@ use Rattle.link.specs.declared.LinkTicked.{LinkTicked}
 use Rattle.link.specs.declared.Masters.{Masters}
 use Rattle.link.specs.declared.MastersCalls.{MastersCalls}
 use Rattle.link.specs.declared.MastersTicked.{MastersTicked}
+use Rattle.link.specs.declared.Pair.{Pair}
 use Rattle.link.specs.declared.PairTicked.{PairTicked}
 
 -- what the line carries, where the parties behind these two are heard so
@@ -54,3 +56,16 @@ pub record LinkIs (l : Link) (calls : LinkCalls) (p s : MasterLent) (puts : Puts
   pub masters : MastersAre (l .masters) (l .line) (calls .masters) p s (r .masters) p-after s-after
   pub devices : SixIs (l .devices) (l .line) (calls .devices) puts (d .frames) (d .bytes) (d .contents) (r .devices) (d-after .frames) (d-after .bytes)
   pub line : r .line ≡ mastersLine (r .masters) (devicesLine (r .devices))
+
+-- the link behind a tick
+abbrev pub pairAfter : PairTicked → Pair
+pairAfter t = record { left = t .left .slot; right = t .right .slot }
+
+abbrev pub devicesAfter : DevicesTicked → Devices
+devicesAfter t = record { low = pairAfter (t .low); middle = pairAfter (t .middle); high = pairAfter (t .high) }
+
+abbrev pub mastersAfter : MastersTicked → Masters
+mastersAfter t = record { primary = t .primary .master; secondary = t .secondary .master }
+
+abbrev pub after : LinkTicked → Link
+after t = record { masters = mastersAfter (t .masters); devices = devicesAfter (t .devices); line = t .line }

@@ -22,7 +22,7 @@ ghost use Rattle.link.specs.Slots.{AtIs, PairIs, says, ThreeIs, SixIs};
 ghost use Rattle.turns.specs.Master.{accepted, refused};
 ghost use Rattle.master.specs.Answers.{started};
 ghost use Rattle.link.specs.Start.{lower, lowest, slotStarts, pairBegun, pairStarts, devicesBegun, devicesStart, bothMasters, mastersStart, linkBegun, linkStarts, mastersAs, linkAs};
-ghost use Rattle.link.specs.Link.{pairLine, devicesLine, mastersLine, masterLends, devicesLend, MastersAre, LinkIs};
+ghost use Rattle.link.specs.Link.{pairLine, devicesLine, mastersLine, masterLends, devicesLend, MastersAre, LinkIs, pairAfter, devicesAfter, mastersAfter, after};
 
 // A character on a line that carried this without it.
 fn join_character(c: u8, heard: Heard) -> Heard
@@ -730,5 +730,59 @@ pub fn start(profile: Profile, retries: u8, settings: DevicesSettings) -> LinkSt
     match m {
         MastersStarted::Started(x) => with_masters(x, d),
         MastersStarted::Refused(v) => without_masters(v, d),
+    }
+}
+
+// The slots behind a tick.
+fn pair_behind(t: PairTicked) -> Pair
+    ensures { λ r. ⌜ r ≡ pairAfter t ⌝ }
+{
+    let a = t.left;
+    let b = t.right;
+    let left = a.slot;
+    let right = b.slot;
+    Pair {
+        left: left,
+        right: right,
+    }
+}
+
+fn devices_behind(t: DevicesTicked) -> Devices
+    ensures { λ r. ⌜ r ≡ devicesAfter t ⌝ }
+{
+    let a = t.low;
+    let b = t.middle;
+    let c = t.high;
+    Devices {
+        low: pair_behind(a),
+        middle: pair_behind(b),
+        high: pair_behind(c),
+    }
+}
+
+fn masters_behind(t: MastersTicked) -> Masters
+    ensures { λ r. ⌜ r ≡ mastersAfter t ⌝ }
+{
+    let a = t.primary;
+    let b = t.secondary;
+    let primary = a.master;
+    let secondary = b.master;
+    Masters {
+        primary: primary,
+        secondary: secondary,
+    }
+}
+
+// The link behind a tick.
+pub fn behind(t: LinkTicked) -> Link
+    ensures { λ r. ⌜ r ≡ after t ⌝ }
+{
+    let m = t.masters;
+    let d = t.devices;
+    let line = t.line;
+    Link {
+        masters: masters_behind(m),
+        devices: devices_behind(d),
+        line: line,
     }
 }
