@@ -1,0 +1,14 @@
+use Rattle.link.proofs.Ticks.{ticks}
+use borrow.Author.Needs.{needs}
+use Rattle.link.proofs.answer_by.Statement.{statement}
+use Rattle.link.proofs.answer_by.Tie as tie
+
+pub answer-by-spec : {M : Type 1} → statement M
+answer-by-spec =
+    tie.close
+    (tie.spec
+    (λ c κs. search needs)
+    (λ c. search needs)
+    (λ c. search needs)
+    (λ c. search (needs, ticks))
+    (λ c. search (needs, ticks)))

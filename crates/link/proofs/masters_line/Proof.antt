@@ -1,0 +1,12 @@
+use Rattle.link.proofs.Lines.{joinings}
+use borrow.Author.Needs.{needs}
+use Rattle.link.proofs.masters_line.Statement.{statement}
+use Rattle.link.proofs.masters_line.Tie as tie
+
+pub masters-line-spec : {M : Type 1} → statement M
+masters-line-spec =
+    tie.close
+    (tie.spec
+    (λ c κs. search needs)
+    (λ c κs. search needs)
+    (λ c. search (needs, joinings)))
