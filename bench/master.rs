@@ -13,8 +13,8 @@ mod tick_oracle;
 use rounds::by_turns;
 use std::hint::black_box;
 
-const TICKS: usize = 1_000_000;
-const CALLS: usize = 5;
+const TICKS: usize = 200_000;
+const CALLS: usize = 1;
 
 const SILENCE: [u8; 2] = [0, 0];
 const ASKS: [u8; 2] = [1, 0];
