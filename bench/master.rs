@@ -80,8 +80,8 @@ fn show_counts(name: &str, events: &[u8]) {
 fn compare(name: &str, recording: &[u8]) {
     let mut events = [vec![0; TICKS], vec![0; TICKS]];
     let [archive_events, oracle_events] = &mut events;
-    let (mut frame, mut stx, mut bytes) = ([0; 284], [0; 284], [0; 255]);
-    master_archive::ticks(recording, archive_events, &mut frame, &mut bytes);
+    let mut stx = [0; 284];
+    master_archive::ticks(recording, archive_events);
     master_oracle::ticks(recording, oracle_events, &mut stx);
     assert!(archive_events == oracle_events, "{name}: they differ");
     show_counts(name, oracle_events);
@@ -91,8 +91,6 @@ fn compare(name: &str, recording: &[u8]) {
             black_box(master_archive::ticks(
                 black_box(recording),
                 black_box(archive_events),
-                &mut frame,
-                &mut bytes,
             ));
         },
         || {

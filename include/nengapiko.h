@@ -156,14 +156,32 @@ enum nengapiko_step {
  *   recording, size  as for nengapiko_ticks, but for the first byte's bits 4 to 0: 1 is the
  *                    host's request in this tick, command 3 of unique address 2
  *   events, room     as for nengapiko_ticks, with an enum nengapiko_step for each tick
- *   frame            284 bytes, for the master's STX
- *   bytes            255 bytes, for the data of the frame that it hears
  *
  * Returns how many ticks these are: size / 2 or room, whichever is less.
  */
 size_t nengapiko_master(const uint8_t *recording, size_t size,
-                        uint8_t *events, size_t room,
-                        uint8_t *frame, uint8_t *bytes);
+                        uint8_t *events, size_t room);
+
+/* What a device does in a tick. */
+enum nengapiko_device_step {
+    NENGAPIKO_DEVICE_SILENT = 0,
+    NENGAPIKO_REQUEST_TOLD = 1,
+    NENGAPIKO_BROADCAST_TOLD = 2,
+    NENGAPIKO_DEVICE_SENDS = 4 /* it sends a character, whatever it tells */
+};
+
+/*
+ * Runs a device of the FSK profile with 5 preamble characters, polling address 0 and unique
+ * address 2 over a recording of what it hears, for tests and measurements.
+ *
+ *   recording, size  as for nengapiko_ticks, but for the first byte's bits 4 to 0: 1 is the
+ *                    host's answer in this tick, with two zero bytes
+ *   events, room     as for nengapiko_ticks, with an enum nengapiko_device_step for each tick
+ *
+ * Returns how many ticks these are: size / 2 or room, whichever is less.
+ */
+size_t nengapiko_device(const uint8_t *recording, size_t size,
+                        uint8_t *events, size_t room);
 
 #ifdef __cplusplus
 }

@@ -7,18 +7,11 @@ extern "C" {
         recorded: usize,
         events: *mut u8,
         room: usize,
-        frame: *mut [u8; 284],
-        bytes: *mut [u8; 255],
     ) -> usize;
 }
 
 #[inline(always)]
-pub fn ticks(
-    recording: &[u8],
-    events: &mut [u8],
-    frame: &mut [u8; 284],
-    bytes: &mut [u8; 255],
-) -> usize {
+pub fn ticks(recording: &[u8], events: &mut [u8]) -> usize {
     // SAFETY: all pointers come from borrows that outlive the call, the slices' each with its own
     // length; what is written is borrowed mutably, so nothing overlaps it.
     unsafe {
@@ -27,8 +20,6 @@ pub fn ticks(
             recording.len(),
             events.as_mut_ptr(),
             events.len(),
-            frame,
-            bytes,
         )
     }
 }

@@ -72,7 +72,7 @@ fn recording(random: &mut Xorshift) -> Vec<u8> {
 
 fn main() -> ExitCode {
     let mut random = Xorshift(0x2545_F491_4F6C_DD1D);
-    let (mut frame, mut stx, mut bytes) = ([0; 284], [0; 284], [0; 255]);
+    let mut stx = [0; 284];
     let mut counts = [0; 5];
     let mut differences = 0;
     for _ in 0..RECORDINGS {
@@ -80,8 +80,7 @@ fn main() -> ExitCode {
         let room = recording.len() / 2 - random.below(3) + 1;
         let mut by_archive = vec![0xA5; room];
         let mut by_oracle = by_archive.clone();
-        let archive_ticks =
-            master_archive::ticks(&recording, &mut by_archive, &mut frame, &mut bytes);
+        let archive_ticks = master_archive::ticks(&recording, &mut by_archive);
         let oracle_ticks = master_oracle::ticks(&recording, &mut by_oracle, &mut stx);
         for &event in &by_oracle[..oracle_ticks] {
             counts[usize::from(event)] += 1;

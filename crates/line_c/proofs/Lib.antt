@@ -1,2 +1,3 @@
 -- The laws by which a run over a recording is proved.
 pub mod Runs
+pub mod Reader

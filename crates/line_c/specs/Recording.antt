@@ -31,21 +31,29 @@ eventNumber Broken = 2
 eventNumber (Frame w) = 3
 eventNumber (Event.Damaged w m) = 4
 
+-- a tick of any party, by the two bytes: the number for what it did, and the party behind it
+pub record Ticked (S : Type 0) : Type 0 where
+  pub number : ℕ
+  pub behind : S
+
+-- the number of each tick of a recording; a last odd byte is no tick
+unfoldable pub trace : {S : Type 0} → (S → ℕ → ℕ → Ticked S) → S → List ℕ → List ℕ
+trace tick s [] = []
+trace tick s (first ∷ []) = []
+trace tick s (first ∷ c ∷ recording) = tick s first c .number ∷ trace tick (tick s first c .behind) recording
+
+-- what a run promises: as many of the numbers as there is room for, at the front of the lent events, and how many they are
+pub record RunIs (numbers before : List ℕ) (r : ℕ) (after : List ℕ) : Type 0 where
+  pub events : after ≡ stored before 0 (take (length before) numbers)
+  pub returned : r ≡ length (take (length before) numbers)
+
 -- a tick of the reader, by the two bytes
 abbrev pub step : Receiver → ℕ → ℕ → Taken
 step r first c = taken r (heardOf (first / 32) c)
 
--- what the reader tells in each tick of a recording; a last odd byte is no tick
-unfoldable pub trace : Receiver → List ℕ → List ℕ
-trace r [] = []
-trace r (first ∷ []) = []
-trace r (first ∷ c ∷ recording) = eventNumber (step r first c .event) ∷ trace (step r first c .receiver) recording
+abbrev pub ticked : Receiver → ℕ → ℕ → Ticked Receiver
+ticked r first c = record { number = eventNumber (step r first c .event); behind = step r first c .receiver }
 
--- as many of these numbers as there is room for, from the reader's start on
-abbrev pub told : ℕ → List ℕ → List ℕ
-told room recording = take room (trace passing recording)
-
--- what a run promises: the numbers at the front of the lent events, and how many they are
-pub record RunIs (recording before : List ℕ) (r : ℕ) (after : List ℕ) : Type 0 where
-  pub events : after ≡ stored before 0 (told (length before) recording)
-  pub returned : r ≡ length (told (length before) recording)
+-- what the reader tells in each tick of a recording, from its start on
+abbrev pub told : List ℕ → List ℕ
+told recording = trace ticked passing recording

@@ -5,7 +5,7 @@ use line::Heard;
 use line::Receiver;
 use line::Taken;
 ghost use mathlib.Core.Path.{_≡_};
-ghost use Rattle.line_c.specs.Recording.{heardOf, eventNumber, step, RunIs};
+ghost use Rattle.line_c.specs.Recording.{heardOf, eventNumber, step, told, RunIs};
 
 // What a tick of a recording says was heard: silence, a character, or a damaged one.
 pub fn heard_of(kind: u8, c: u8) -> Heard
@@ -49,7 +49,7 @@ fn stepped(r: Receiver, first: u8, c: u8, bytes: &mut [u8; 255]) -> Taken
 
 // The reader over a recording, from its start on; bytes holds the data of the frame being heard.
 fn run(recording: &[u8], events: &mut [u8], bytes: &mut [u8; 255]) -> usize
-    ensures { λ r. ⌜ RunIs (now (recording .entry)) (now (events .entry)) r (now (events .exit)) ⌝ }
+    ensures { λ r. ⌜ RunIs (told (now (recording .entry))) (now (events .entry)) r (now (events .exit)) ⌝ }
 {
     let mut r = tick_reader::passing_reader();
     let mut at = 0;
@@ -71,7 +71,7 @@ fn run(recording: &[u8], events: &mut [u8], bytes: &mut [u8; 255]) -> usize
 // What the reader tells in each tick of a recording, from its start on: at the front of events, for as many ticks as both hold, and their number.
 #[no_mangle]
 pub extern "C" fn nengapiko_ticks(recording: &[u8], events: &mut [u8]) -> usize
-    ensures { λ r. ⌜ RunIs (now (recording .entry)) (now (events .entry)) r (now (events .exit)) ⌝ }
+    ensures { λ r. ⌜ RunIs (told (now (recording .entry))) (now (events .entry)) r (now (events .exit)) ⌝ }
 {
     let mut bytes = [0u8; 255];
     run(recording, events, &mut bytes)

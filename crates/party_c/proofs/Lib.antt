@@ -1,2 +1,3 @@
--- The laws by which a run over a recording is proved.
-pub mod Runs
+-- The laws by which runs over a recording are proved.
+pub mod Master
+pub mod Device

@@ -1,2 +1,3 @@
--- A master over a recording of what it hears.
-pub mod Recording
+-- A master and a device over a recording of what they hear. A recording has two bytes for each tick: 32 times the kind of what is heard plus the host's call, and the character.
+pub mod Master
+pub mod Device

@@ -1,33 +1,42 @@
-// A master for programs in C and Rust: over a recording of what it hears, with a number for what it does in each tick.
+// A master and a device for programs in C and Rust: each over a recording of what it hears, with a number for what it does in each tick.
+use device::DeviceStarted;
+use device_tick::DeviceTicked;
 use line::Profile;
-use master::HostCall;
 use master::MasterStarted;
 use master::MasterTicked;
 use master::Wanted;
+use turns::Device;
+use turns::DeviceTold;
 use turns::Master;
 use turns::MasterTold;
 use turns::Sent;
+use turns::Wish;
 ghost use mathlib.Core.Path.{_≡_};
-ghost use Rattle.master.specs.Tick.{sideOf};
-ghost use Rattle.party_c.specs.Recording.{callAt, stepNumber, StepIs, RunIs, StartedIs};
+ghost use Rattle.line_c.specs.Recording.{trace, RunIs};
+ghost use Rattle.master.specs.Tick as M;
+ghost use Rattle.device_tick.specs.Tick as D;
+ghost use Rattle.party_c.specs.Master.{requestAt, masterNumber, masterNumbers};
+ghost use Rattle.party_c.specs.Master as SM;
+ghost use Rattle.party_c.specs.Device.{answerAt, deviceNumber, deviceNumbers};
+ghost use Rattle.party_c.specs.Device as SD;
 
-// The host's call in a tick: 1 asks command 3 of unique address 2.
-fn call_at(low: u8) -> HostCall
-    ensures { λ r. ⌜ r ≡ callAt low ⌝ }
+// The host's request in a tick: 1 asks command 3 of unique address 2.
+fn request_at(low: u8) -> master::HostCall
+    ensures { λ r. ⌜ r ≡ requestAt low ⌝ }
 {
     if low == 1 {
-        return HostCall::Requests(Wanted {
+        return master::HostCall::Requests(Wanted {
             preamble: 5,
             long: true,
             address: 2,
             command: 3,
         });
     }
-    HostCall::Nothing
+    master::HostCall::Nothing
 }
 
-fn told_number(told: MasterTold) -> u8
-    ensures { λ r. ⌜ r ≡ stepNumber Sent.Silent told ⌝ }
+fn master_told(told: MasterTold) -> u8
+    ensures { λ r. ⌜ r ≡ masterNumber Sent.Silent told ⌝ }
 {
     match told {
         MasterTold::Nothing => 0,
@@ -38,39 +47,39 @@ fn told_number(told: MasterTold) -> u8
 }
 
 // What a master does in a tick, as a number.
-fn step_number(sent: Sent, told: MasterTold) -> u8
-    ensures { λ r. ⌜ r ≡ stepNumber sent told ⌝ }
+fn master_number(sent: Sent, told: MasterTold) -> u8
+    ensures { λ r. ⌜ r ≡ masterNumber sent told ⌝ }
 {
     match sent {
-        Sent::Silent => told_number(told),
+        Sent::Silent => master_told(told),
         Sent::Character(_) => 4,
     }
 }
 
 // A tick of a master, by the two bytes of a recording.
-fn stepped(
+fn master_stepped(
     m: Master,
     first: u8,
     c: u8,
     frame: &mut [u8; 284],
     bytes: &mut [u8; 255],
 ) -> MasterTicked
-    ensures { λ t. ⌜ StepIs m (now (frame .entry)) (now (bytes .entry)) first c t (now (frame .exit)) (now (bytes .exit)) ⌝ }
+    ensures { λ t. ⌜ SM.StepIs m (now (frame .entry)) (now (bytes .entry)) first c t (now (frame .exit)) (now (bytes .exit)) ⌝ }
 {
     let heard = line_c::heard_of(first / 32, c);
-    let call = call_at(first % 32);
+    let call = request_at(first % 32);
     master::tick(m, heard, call, &[], frame, bytes)
 }
 
 // A master over a recording, from this state on.
-fn run(
+fn master_run(
     start: Master,
     recording: &[u8],
     events: &mut [u8],
     frame: &mut [u8; 284],
     bytes: &mut [u8; 255],
 ) -> usize
-    ensures { λ r. ⌜ RunIs (sideOf start (now (frame .entry)) (now (bytes .entry))) (now (recording .entry)) (now (events .entry)) r (now (events .exit)) ⌝ }
+    ensures { λ r. ⌜ RunIs (trace SM.ticked (M.sideOf start (now (frame .entry)) (now (bytes .entry))) (now (recording .entry))) (now (events .entry)) r (now (events .exit)) ⌝ }
 {
     let mut m = start;
     let mut at = 0;
@@ -84,28 +93,120 @@ fn run(
         let place = i;
         at += 2;
         i += 1;
-        let t = stepped(m, first, c, frame, bytes);
+        let t = master_stepped(m, first, c, frame, bytes);
         let sent = t.sent;
         let told = t.told;
-        events[place] = step_number(sent, told);
+        events[place] = master_number(sent, told);
         m = t.master;
     }
     i
 }
 
-// What a primary of the FSK profile with 3 retries does in each tick of a recording: at the front of events, for as many ticks as both hold, and their number. Lent are the buffers for its STX and for the data that it hears.
+// What a primary of the FSK profile with 3 retries does in each tick of a recording: at the front of events, for as many ticks as both hold, and their number.
 #[no_mangle]
-pub extern "C" fn nengapiko_master(
+pub extern "C" fn nengapiko_master(recording: &[u8], events: &mut [u8]) -> usize
+    ensures { λ r. ⌜ RunIs (masterNumbers (now (recording .entry))) (now (events .entry)) r (now (events .exit)) ⌝ }
+{
+    let mut frame = [0u8; 284];
+    let mut bytes = [0u8; 255];
+    let started = master::start(Profile::fsk(), true, 3);
+    match started {
+        MasterStarted::Started(m) => master_run(m, recording, events, &mut frame, &mut bytes),
+        MasterStarted::Refused(_) => 0,
+    }
+}
+
+// The host's answer in a tick: 1 answers.
+fn answer_at(low: u8) -> device_tick::HostCall
+    ensures { λ r. ⌜ r ≡ answerAt low ⌝ }
+{
+    if low == 1 {
+        return device_tick::HostCall::Answers(Wish::Same);
+    }
+    device_tick::HostCall::Nothing
+}
+
+fn device_told(told: DeviceTold) -> u8
+    ensures { λ r. ⌜ r ≡ deviceNumber Sent.Silent told ⌝ }
+{
+    match told {
+        DeviceTold::Nothing => 0,
+        DeviceTold::Request(_) => 1,
+        DeviceTold::Broadcast(_) => 2,
+    }
+}
+
+// What a device does in a tick, as a number.
+fn device_number(sent: Sent, told: DeviceTold) -> u8
+    ensures { λ r. ⌜ r ≡ deviceNumber sent told ⌝ }
+{
+    match sent {
+        Sent::Silent => device_told(told),
+        Sent::Character(_) => 4,
+    }
+}
+
+// A tick of a device, by the two bytes of a recording.
+fn device_stepped(
+    d: Device,
+    first: u8,
+    c: u8,
+    contents: &[u8; 255],
+    frame: &mut [u8; 284],
+    bytes: &mut [u8; 255],
+) -> DeviceTicked
+    ensures { λ t. ⌜ SD.StepIs d (now (frame .entry)) (now (bytes .entry)) (now (contents .entry)) first c t (now (frame .exit)) (now (bytes .exit)) ⌝ }
+{
+    let heard = line_c::heard_of(first / 32, c);
+    let call = answer_at(first % 32);
+    device_tick::tick(d, heard, call, &[0, 0], contents, frame, bytes)
+}
+
+// A device over a recording, from this state on.
+fn device_run(
+    start: Device,
     recording: &[u8],
     events: &mut [u8],
+    contents: &[u8; 255],
     frame: &mut [u8; 284],
     bytes: &mut [u8; 255],
 ) -> usize
-    ensures { λ r. ⌜ StartedIs (now (frame .entry)) (now (bytes .entry)) (now (recording .entry)) (now (events .entry)) r (now (events .exit)) ⌝ }
+    ensures { λ r. ⌜ RunIs (trace SD.ticked (D.sideOf start (now (frame .entry)) (now (bytes .entry)) (now (contents .entry))) (now (recording .entry))) (now (events .entry)) r (now (events .exit)) ⌝ }
 {
-    let started = master::start(Profile::fsk(), true, 3);
+    let mut d = start;
+    let mut at = 0;
+    let mut i = 0;
+    while i < events.len() {
+        if recording.len() - at < 2 {
+            return i;
+        }
+        let first = recording[at];
+        let c = recording[at + 1];
+        let place = i;
+        at += 2;
+        i += 1;
+        let t = device_stepped(d, first, c, contents, frame, bytes);
+        let sent = t.sent;
+        let told = t.told;
+        events[place] = device_number(sent, told);
+        d = t.device;
+    }
+    i
+}
+
+// What a device of the FSK profile with polling address 0 and unique address 2 does in each tick of a recording: at the front of events, for as many ticks as both hold, and their number.
+#[no_mangle]
+pub extern "C" fn nengapiko_device(recording: &[u8], events: &mut [u8]) -> usize
+    ensures { λ r. ⌜ RunIs (deviceNumbers (now (recording .entry))) (now (events .entry)) r (now (events .exit)) ⌝ }
+{
+    let mut frame = [0u8; 284];
+    let mut bytes = [0u8; 255];
+    let contents = [0u8; 255];
+    let started = device::start(Profile::fsk(), 5, 0, 2);
     match started {
-        MasterStarted::Started(m) => run(m, recording, events, frame, bytes),
-        MasterStarted::Refused(_) => 0,
+        DeviceStarted::Started(d) => {
+            device_run(d, recording, events, &contents, &mut frame, &mut bytes)
+        }
+        DeviceStarted::Refused(_) => 0,
     }
 }

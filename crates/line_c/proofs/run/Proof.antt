@@ -1,12 +1,14 @@
 use Prim.Native.Nat.{_-_}
 use lib.ListN.{length}
 use borrow.Author.Needs.{needs}
-use Rattle.line_c.proofs.Runs.{Running, runs}
+use Rattle.line_c.specs.Recording.{ticked, told}
+use Rattle.line_c.proofs.Runs.{Running}
+use Rattle.line_c.proofs.Reader.{runs}
 use Rattle.line_c.proofs.run.Statement.{statement}
 use Rattle.line_c.proofs.run.Tie as tie
 
 abbrev Inv-loop : tie.InvT-loop
-Inv-loop recording events₀ bytes₀ r₀ at₀ i₀ events bytes r at i = Running recording events₀ r events at i
+Inv-loop recording events₀ bytes₀ r₀ at₀ i₀ events bytes r at i = Running ticked (told recording) recording events₀ r events at i
 
 abbrev μ-loop : tie.MeasureT-loop
 μ-loop recording events₀ bytes₀ r₀ at₀ i₀ events bytes r at i = length events₀ - i

@@ -1,5 +1,5 @@
 use borrow.Author.Needs.{needs}
-use Rattle.line_c.proofs.Runs.{step-same}
+use Rattle.line_c.proofs.Reader.{step-same}
 use Rattle.line_c.proofs.stepped.Statement.{statement}
 use Rattle.line_c.proofs.stepped.Tie as tie
 

@@ -1,4 +1,4 @@
-use Rattle.party_c.proofs.Runs.{starts}
+use Rattle.party_c.proofs.Master.{starts}
 use borrow.Author.Needs.{needs}
 use Rattle.party_c.proofs.nengapiko_master.Statement.{statement}
 use Rattle.party_c.proofs.nengapiko_master.Tie as tie

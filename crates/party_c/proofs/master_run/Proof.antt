@@ -2,18 +2,21 @@ use Prim.Native.Nat.{_-_}
 use lib.ListN.{length}
 use borrow.Author.Needs.{needs}
 use Rattle.master.specs.Tick.{sideOf}
-use Rattle.party_c.proofs.Runs.{Running, runs}
-use Rattle.party_c.proofs.run.Statement.{statement}
-use Rattle.party_c.proofs.run.Tie as tie
+use Rattle.line_c.specs.Recording.{trace}
+use Rattle.line_c.proofs.Runs.{Running}
+use Rattle.party_c.specs.Master.{ticked}
+use Rattle.party_c.proofs.Master.{runs}
+use Rattle.party_c.proofs.master_run.Statement.{statement}
+use Rattle.party_c.proofs.master_run.Tie as tie
 
 abbrev Inv-loop : tie.InvT-loop
-Inv-loop recording events₀ frame₀ bytes₀ m₀ at₀ i₀ events frame bytes m at i = Running (sideOf m₀ frame₀ bytes₀) recording events₀ (sideOf m frame bytes) events at i
+Inv-loop recording events₀ frame₀ bytes₀ m₀ at₀ i₀ events frame bytes m at i = Running ticked (trace ticked (sideOf m₀ frame₀ bytes₀) recording) recording events₀ (sideOf m frame bytes) events at i
 
 abbrev μ-loop : tie.MeasureT-loop
 μ-loop recording events₀ frame₀ bytes₀ m₀ at₀ i₀ events frame bytes m at i = length events₀ - i
 
-pub run-spec : {M : Type 1} → statement M
-run-spec =
+pub master-run-spec : {M : Type 1} → statement M
+master-run-spec =
     tie.close
     (tie.spec
     Inv-loop

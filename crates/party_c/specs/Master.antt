@@ -1,0 +1,47 @@
+-- A primary of the FSK profile with 3 retries over a recording.
+use Prim.Native.Nat.{ℕ, _/_, _%_}
+use mathlib.Core.Bool.{true}
+use mathlib.Core.Path.{_≡_}
+use mathlib.Core.List.{List, []}
+use lib.ListN.{replicate}
+use Rattle.base.specs.Choice.{if_then_else_, _=?_}
+use Rattle.line.specs.Profile.{fskProfile}
+use Rattle.line_c.specs.Recording.{heardOf, Ticked, trace}
+use Rattle.turns.specs.Master.{Called, accepted, refused, masterStarts}
+use Rattle.turns.specs.Link.{MasterSide, MasterStep, masterTick}
+use Rattle.turns.specs.declared.Master.{Master}
+use Rattle.turns.specs.declared.MasterTold.{MasterTold}
+use Rattle.turns.specs.declared.Sent.{Sent}
+use Rattle.master.specs.Tick.{callOf, sideOf, stepOf}
+use Rattle.master.specs.declared.HostCall.{HostCall}
+use Rattle.master.specs.declared.MasterTicked.{MasterTicked}
+
+-- 1 asks command 3 of unique address 2, anything else nothing
+abbrev pub requestAt : ℕ → HostCall
+requestAt low = if low =? 1 then HostCall.Requests (record { preamble = 5; long = true; address = 2; command = 3 }) else HostCall.Nothing
+
+-- 4 for a character that is sent; else what is told: 1 answered, 2 given up, 3 broadcast sent
+abbrev pub masterNumber : Sent → MasterTold → ℕ
+masterNumber Sent.Silent MasterTold.Nothing = 0
+masterNumber Sent.Silent (MasterTold.Answered w) = 1
+masterNumber Sent.Silent (MasterTold.GivenUp n) = 2
+masterNumber Sent.Silent MasterTold.BroadcastSent = 3
+masterNumber (Sent.Character c) told = 4
+
+-- a tick, by the two bytes
+abbrev pub step : MasterSide → ℕ → ℕ → MasterStep
+step s first c = masterTick 255 s (heardOf (first / 32) c) (callOf (requestAt (first % 32)) [])
+
+abbrev pub ticked : MasterSide → ℕ → ℕ → Ticked MasterSide
+ticked s first c = record { number = masterNumber (step s first c .sent) (step s first c .told); behind = step s first c .side }
+
+pub record StepIs (m : Master) (frame bytes : List ℕ) (first c : ℕ) (t : MasterTicked) (frame-after bytes-after : List ℕ) : Type 0 where
+  pub steps : stepOf t frame-after bytes-after ≡ step (sideOf m frame bytes) first c
+
+-- from its start on
+abbrev pub numbersBy : Called Master → List ℕ → List ℕ
+numbersBy (accepted m) recording = trace ticked (sideOf m (replicate 284 0) (replicate 255 0)) recording
+numbersBy (refused why) recording = []
+
+abbrev pub masterNumbers : List ℕ → List ℕ
+masterNumbers recording = numbersBy (masterStarts fskProfile true 3) recording
