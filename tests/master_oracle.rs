@@ -30,7 +30,7 @@ enum Told {
     GivenUp = 2,
 }
 
-struct Master<'a> {
+struct Master {
     reader: Reader,
     deaf: bool,
     burst: bool,
@@ -42,11 +42,11 @@ struct Master<'a> {
     stage: Stage,
     attempts: u32,
     length: usize,
-    stx: &'a mut [u8; 284],
+    stx: [u8; 284],
 }
 
-impl<'a> Master<'a> {
-    fn start(stx: &'a mut [u8; 284]) -> Master<'a> {
+impl Master {
+    fn start() -> Master {
         Master {
             reader: Reader::start(),
             deaf: true,
@@ -58,7 +58,7 @@ impl<'a> Master<'a> {
             stage: Stage::Free,
             attempts: 0,
             length: 0,
-            stx,
+            stx: [0; 284],
         }
     }
 
@@ -227,8 +227,8 @@ impl<'a> Master<'a> {
 /// The number of what a master does in each tick of a recording, for as many ticks as both slices
 /// hold; returns how many these are.
 #[inline(never)]
-pub fn ticks(recording: &[u8], events: &mut [u8], stx: &mut [u8; 284]) -> usize {
-    let mut master = Master::start(stx);
+pub fn ticks(recording: &[u8], events: &mut [u8]) -> usize {
+    let mut master = Master::start();
     let ticks = recording.chunks_exact(2);
     let taken = ticks.len().min(events.len());
     for (tick, event) in ticks.zip(events) {
