@@ -1,7 +1,7 @@
 //! A device of document 01 in plain Rust, over recordings of what it hears. It never bursts, shares
 //! nothing with the archive, takes the same arguments and gives the same answers.
 
-use crate::tick_oracle::{Event, Frame, Harm, Heard, Reader};
+use crate::tick_oracle::{over, Event, Frame, Harm, Heard, Reader};
 
 const STO: u32 = 28;
 
@@ -184,15 +184,11 @@ fn error_status(harm: Harm) -> u8 {
         | bit(harm.check, 0x08)
 }
 
-/// The number of what a device does in each tick of a recording, for as many ticks as both slices
-/// hold; returns how many these are.
+/// The number of what a device does in each tick.
 #[inline(never)]
 pub fn ticks(recording: &[u8], events: &mut [u8]) -> usize {
     let mut device = Device::start();
-    let ticks = recording.chunks_exact(2);
-    let taken = ticks.len().min(events.len());
-    for (tick, event) in ticks.zip(events) {
-        *event = device.tick(Heard::recorded(tick[0], tick[1]), tick[0] % 32 == 1);
-    }
-    taken
+    over(recording, events, |first, character| {
+        device.tick(Heard::recorded(first, character), first % 32 == 1)
+    })
 }

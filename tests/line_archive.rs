@@ -1,25 +1,13 @@
 //! The function that libline_c.a exports, called with slices.
 
+use crate::called::over;
+
 #[link(name = "line_c", kind = "static")]
 extern "C" {
-    fn nengapiko_ticks(
-        recording: *const u8,
-        recorded: usize,
-        events: *mut u8,
-        room: usize,
-    ) -> usize;
+    fn nengapiko_ticks(from: *const u8, size: usize, to: *mut u8, room: usize) -> usize;
 }
 
 #[inline(always)]
 pub fn ticks(recording: &[u8], events: &mut [u8]) -> usize {
-    // SAFETY: both pointers come from borrows that outlive the call, each with its own length;
-    // the events are borrowed mutably, so nothing overlaps them.
-    unsafe {
-        nengapiko_ticks(
-            recording.as_ptr(),
-            recording.len(),
-            events.as_mut_ptr(),
-            events.len(),
-        )
-    }
+    over(nengapiko_ticks, recording, events)
 }

@@ -1,7 +1,7 @@
 //! A primary of document 01 in plain Rust, over recordings of what it hears. It shares nothing with
 //! the archive, takes the same arguments and gives the same answers.
 
-use crate::tick_oracle::{Event, Frame, Heard, Reader};
+use crate::tick_oracle::{over, Event, Frame, Heard, Reader};
 
 const HOLD: u32 = 2;
 const RT2: u32 = 8;
@@ -224,15 +224,11 @@ impl Master {
     }
 }
 
-/// The number of what a master does in each tick of a recording, for as many ticks as both slices
-/// hold; returns how many these are.
+/// The number of what a master does in each tick.
 #[inline(never)]
 pub fn ticks(recording: &[u8], events: &mut [u8]) -> usize {
     let mut master = Master::start();
-    let ticks = recording.chunks_exact(2);
-    let taken = ticks.len().min(events.len());
-    for (tick, event) in ticks.zip(events) {
-        *event = master.tick(Heard::recorded(tick[0], tick[1]), tick[0] % 32 == 1);
-    }
-    taken
+    over(recording, events, |first, character| {
+        master.tick(Heard::recorded(first, character), first % 32 == 1)
+    })
 }

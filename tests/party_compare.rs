@@ -1,6 +1,8 @@
 //! Compares the archive's master and device with the oracles: the number of ticks, and the whole
 //! buffer of events. The recordings are the same in every run.
 
+#[path = "called.rs"]
+mod called;
 #[path = "device_oracle.rs"]
 mod device_oracle;
 #[path = "frame_oracle.rs"]

@@ -1,6 +1,8 @@
 //! Compares the archive's tick reader with the oracle: the number of ticks, and the whole buffer of
 //! events. The recordings are the same in every run.
 
+#[path = "called.rs"]
+mod called;
 #[path = "frame_oracle.rs"]
 #[allow(dead_code)]
 mod frame_oracle;

@@ -264,15 +264,23 @@ impl Event {
     }
 }
 
-/// The number of what a reader tells in each tick of a recording, for as many ticks as both
-/// slices hold; returns how many these are.
+/// A number for each tick of a recording, for as many ticks as both slices hold; returns how many
+/// these are.
+#[inline(always)]
+pub fn over(recording: &[u8], events: &mut [u8], mut tick: impl FnMut(u8, u8) -> u8) -> usize {
+    let ticks = recording.chunks_exact(2);
+    let taken = ticks.len().min(events.len());
+    for (bytes, event) in ticks.zip(events) {
+        *event = tick(bytes[0], bytes[1]);
+    }
+    taken
+}
+
+/// The number of what a reader tells in each tick.
 #[inline(never)]
 pub fn ticks(recording: &[u8], events: &mut [u8]) -> usize {
     let mut reader = Reader::start();
-    let ticks = recording.chunks_exact(2);
-    let taken = ticks.len().min(events.len());
-    for (tick, event) in ticks.zip(events) {
-        *event = reader.take(Heard::recorded(tick[0], tick[1])).number();
-    }
-    taken
+    over(recording, events, |kind, character| {
+        reader.take(Heard::recorded(kind, character)).number()
+    })
 }
