@@ -11,7 +11,7 @@ use Rattle.turns.specs.Master.{requested, masterTakes, masterSends}
 use Rattle.turns.specs.Device.{deviceTakes, deviceSends, answered, contentGiven}
 use Rattle.turns.specs.Link.{masterTick, deviceTick, deviceTicks, sides, carried, linkTick, run}
 use Rattle.turns.specs.Run.{deviceSenders}
-use Rattle.player.specs.Script.{scriptOf, isIn, isGood, masterAt, deviceAt, stopOf, callsFrom}
+use Rattle.script.specs.Script.{recordsOf, isIn, isGood, goodScript, wantedAt, stopOf, callsFrom}
 use Rattle.player.specs.Play.{readyLink, deviceLines, linesFrom, decimalOf, linesText, headLine, play}
 
 -- 42 0 STX 0 10, and 55 2 ACK 0 12
@@ -19,5 +19,5 @@ pub worked-example : play (0x00 ∷ 0x00 ∷ 0x01 ∷ 0x00 ∷ 0x00 ∷ 0x2C ∷
     ≡ headLine
     ++ (52 ∷ 50 ∷ 32 ∷ 48 ∷ 32 ∷ 83 ∷ 84 ∷ 88 ∷ 32 ∷ 48 ∷ 32 ∷ 49 ∷ 48 ∷ 10
     ∷ 53 ∷ 53 ∷ 32 ∷ 50 ∷ 32 ∷ 65 ∷ 67 ∷ 75 ∷ 32 ∷ 48 ∷ 32 ∷ 49 ∷ 50 ∷ 10 ∷ [])
-unfolding play scriptOf isIn isGood masterAt deviceAt stopOf callsFrom readyLink deviceLines linesFrom decimalOf linesText run linkTick deviceTicks deviceSenders sides carried masterTick deviceTick requested masterTakes masterSends deviceTakes deviceSends answered contentGiven taken takenData atIdle atPreamble atFirst atAddress atExpansion atCommand atCount atData atCheck frameBytes preambleBytes bodyBytes protectedBytes headerBytes xorFrom delimiterOf stored if_then_else_
+unfolding play recordsOf isIn isGood goodScript wantedAt stopOf callsFrom readyLink deviceLines linesFrom decimalOf linesText run linkTick deviceTicks deviceSenders sides carried masterTick deviceTick requested masterTakes masterSends deviceTakes deviceSends answered contentGiven taken takenData atIdle atPreamble atFirst atAddress atExpansion atCommand atCount atData atCheck frameBytes preambleBytes bodyBytes protectedBytes headerBytes xorFrom delimiterOf stored if_then_else_
 worked-example = refl

@@ -1,3 +1,2 @@
--- The player, from document 01: what a script is, and what is printed for it.
-pub mod Script
+-- The player, from document 01: what is printed for a script.
 pub mod Play

@@ -18,7 +18,8 @@ use Rattle.turns.specs.Link.{DeviceSide, DeviceStep, Link, LinkStep, run}
 use Rattle.turns.specs.Run.{senders}
 use Rattle.turns.specs.declared.Sent.{Sent}
 use Rattle.turns.specs.declared.Sent.the-variants.{Silent}
-use Rattle.player.specs.Script.{Entry, Script, records, leftOver, scriptOf, isGood, stopOf, callsFrom}
+use Rattle.script.specs.Script.{recordsOf, goodScript, stopOf, callsFrom}
+use Rattle.script.specs.declared.Entry.{Entry}
 
 -- "2 to 7 devices with polling address party − 2 and unique address equal to the party"; "FSK, R 3, preamble 5"
 abbrev pub ready : ℕ → DeviceSide
@@ -131,9 +132,5 @@ listing es =
     headLine ++ linesText (linesFrom 0 (record { primary = quietEar; secondary = quietEar; devices = replicate 6 quietEar }) (run 255 readyLink (callsFrom 0 (stopOf es) es)))
 
 -- "is 16, and the output is then that number alone"
-abbrev pub playRecords : Script → List ℕ
-playRecords (records es) = if isGood 0 [] es then listing es else badScript
-playRecords leftOver = badScript
-
 unfoldable pub play : List ℕ → List ℕ
-play script = playRecords (scriptOf script)
+play script = if goodScript script then listing (recordsOf script) else badScript

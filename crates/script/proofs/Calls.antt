@@ -1,0 +1,152 @@
+-- A walk over the records of a tick: its calls are those of `wantedAt`, and what is left of it gives what the whole gives.
+use Prim.Native.Nat.{ℕ, _+_, _-_, _*_, _≤_, _<_}
+use native.Mathlib.Omega.{arith}
+use mathlib.Core.Bool.{Bool, true, false}
+use mathlib.Core.Path.{_≡_, refl, sym, ap, _∙_}
+use mathlib.Core.List.{List, [], _∷_}
+use lib.ListN.{length, drop}
+use borrow.Author.Tests.{eq-eqb, ne-eqb}
+use Rattle.base.specs.Choice.{if_then_else_, _=?_}
+use Rattle.base.proofs.Choices.{if-true, if-false, if-is-true, if-is-false}
+use Rattle.script.specs.Script.{recordsOf, wantedAt, leading, tickOf, tickAt}
+use Rattle.script.specs.Walk.{entryAt, wantedBy, kept, withRecord, noCalls}
+use Rattle.script.specs.declared.Entry.{Entry}
+use Rattle.script.specs.declared.ScriptTick.{ScriptTick}
+use Rattle.script.specs.declared.Wanted.{Wanted}
+use Rattle.script.specs.declared.Wanted.the-variants.{Nothing, Call}
+use Rattle.script.proofs.Records.{records-more, records-none}
+
+-- ---- one record
+
+pub kept-own : (before : Wanted) (own : Bool) (w : Wanted) → before ≡ Nothing → own ≡ true → w ≡ kept before own w
+kept-own before own w e t = if-true own w w Nothing t refl ∙ ap (λ (b : Wanted). kept b own w) (sym e)
+
+pub kept-none : (before : Wanted) (own : Bool) (w : Wanted) → before ≡ Nothing → own ≡ false → Nothing ≡ kept before own w
+kept-none before own w e f = if-false own Nothing w Nothing f refl ∙ ap (λ (b : Wanted). kept b own w) (sym e)
+
+-- the code makes the eight one by one, from what the record wants
+pub with-record : (t : ScriptTick) (e : Entry) (w a0 a1 a2 a3 a4 a5 a6 a7 : Wanted) → w ≡ wantedBy e
+    → a0 ≡ kept (t .primary) (e .party =? 0) w
+    → a1 ≡ kept (t .secondary) (e .party =? 1) w
+    → a2 ≡ kept (t .device2) (e .party =? 2) w
+    → a3 ≡ kept (t .device3) (e .party =? 3) w
+    → a4 ≡ kept (t .device4) (e .party =? 4) w
+    → a5 ≡ kept (t .device5) (e .party =? 5) w
+    → a6 ≡ kept (t .device6) (e .party =? 6) w
+    → a7 ≡ kept (t .device7) (e .party =? 7) w
+    → record { primary = a0; secondary = a1; device2 = a2; device3 = a3; device4 = a4; device5 = a5; device6 = a6; device7 = a7; next = t .next + 4 } ≡ withRecord t e
+unfolding withRecord
+with-record t e w a0 a1 a2 a3 a4 a5 a6 a7 p h0 h1 h2 h3 h4 h5 h6 h7 = λ i. record { primary = (h0 ∙ ap (kept (t .primary) (e .party =? 0)) p) i; secondary = (h1 ∙ ap (kept (t .secondary) (e .party =? 1)) p) i; device2 = (h2 ∙ ap (kept (t .device2) (e .party =? 2)) p) i; device3 = (h3 ∙ ap (kept (t .device3) (e .party =? 3)) p) i; device4 = (h4 ∙ ap (kept (t .device4) (e .party =? 4)) p) i; device5 = (h5 ∙ ap (kept (t .device5) (e .party =? 5)) p) i; device6 = (h6 ∙ ap (kept (t .device6) (e .party =? 6)) p) i; device7 = (h7 ∙ ap (kept (t .device7) (e .party =? 7)) p) i; next = t .next + 4 }
+
+pub ruleset keeps = (kept-own, kept-none)
+
+-- ---- the records of a tick
+
+unfoldable pub walked : ℕ → List Entry → ScriptTick → ScriptTick
+walked tick [] t = t
+walked tick (e ∷ es) t = if e .tick =? tick then walked tick es (withRecord t e) else t
+
+-- a party's call, and where it has none the later one
+abbrev first : Wanted → Wanted → Wanted
+first before later = kept before true later
+
+first-none : (w : Wanted) → first w Nothing ≡ w
+unfolding if_then_else_
+first-none Nothing = refl
+first-none (Call a b) = refl
+
+-- the record's call comes before the later ones
+kept-first : (before : Wanted) (own stop : Bool) (a b : ℕ) (later : Wanted)
+    → first (kept before own (if stop then Nothing else Call a b)) later ≡ first before (if (if true then (if stop then false else own) else false) then Call a b else later)
+unfolding if_then_else_
+kept-first (Call x y) own stop a b later = refl
+kept-first Nothing true true a b later = refl
+kept-first Nothing true false a b later = refl
+kept-first Nothing false true a b later = refl
+kept-first Nothing false false a b later = refl
+
+module _ (f : ScriptTick → Wanted) (party : ℕ) (one : (t : ScriptTick) (e : Entry) → f (withRecord t e) ≡ kept (f t) (e .party =? party) (wantedBy e)) where
+  walked-party : (tick : ℕ) (es : List Entry) (t : ScriptTick) → f (walked tick es t) ≡ first (f t) (wantedAt tick party (leading tick es))
+  unfolding walked leading wantedAt if_then_else_
+  walked-party tick [] t = sym (first-none (f t))
+  walked-party tick (e ∷ es) t = go (e .tick =? tick) refl (walked-party tick es (withRecord t e))
+    where
+      go : (b : Bool) → (e .tick =? tick) ≡ b → f (walked tick es (withRecord t e)) ≡ first (f (withRecord t e)) (wantedAt tick party (leading tick es))
+          → f (if b then walked tick es (withRecord t e) else t) ≡ first (f t) (wantedAt tick party (if b then e ∷ leading tick es else []))
+      go false q rest = sym (first-none (f t))
+      go true q rest =
+          rest
+          ∙ ap (λ (w : Wanted). first w (wantedAt tick party (leading tick es))) (one t e)
+          ∙ kept-first (f t) (e .party =? party) (e .action =? 0) (e .action) (e .argument) (wantedAt tick party (leading tick es))
+          ∙ ap (λ (b : Bool). first (f t) (if (if b then (if e .action =? 0 then false else e .party =? party) else false) then Call (e .action) (e .argument) else (wantedAt tick party (leading tick es)))) (sym q)
+
+walked-next : (tick : ℕ) (es : List Entry) (t : ScriptTick) → walked tick es t .next ≡ t .next + 4 * length (leading tick es)
+unfolding walked leading withRecord if_then_else_
+walked-next tick [] t = omega arith
+walked-next tick (e ∷ es) t = go (e .tick =? tick) (walked-next tick es (withRecord t e))
+  where
+    go : (b : Bool) → walked tick es (withRecord t e) .next ≡ t .next + 4 + 4 * length (leading tick es)
+        → (if b then walked tick es (withRecord t e) else t) .next ≡ t .next + 4 * length (if b then e ∷ leading tick es else [])
+    go false rest = omega arith
+    go true rest = rest ∙ omega arith
+
+pub walked-all : (at tick : ℕ) (es : List Entry) → walked tick es (noCalls at) ≡ tickOf tick (leading tick es) (at + 4 * length (leading tick es))
+unfolding withRecord if_then_else_
+walked-all at tick es = λ i. record {
+  primary = walked-party (λ (t : ScriptTick). t .primary) 0 (λ t e. refl) tick es (noCalls at) i;
+  secondary = walked-party (λ (t : ScriptTick). t .secondary) 1 (λ t e. refl) tick es (noCalls at) i;
+  device2 = walked-party (λ (t : ScriptTick). t .device2) 2 (λ t e. refl) tick es (noCalls at) i;
+  device3 = walked-party (λ (t : ScriptTick). t .device3) 3 (λ t e. refl) tick es (noCalls at) i;
+  device4 = walked-party (λ (t : ScriptTick). t .device4) 4 (λ t e. refl) tick es (noCalls at) i;
+  device5 = walked-party (λ (t : ScriptTick). t .device5) 5 (λ t e. refl) tick es (noCalls at) i;
+  device6 = walked-party (λ (t : ScriptTick). t .device6) 6 (λ t e. refl) tick es (noCalls at) i;
+  device7 = walked-party (λ (t : ScriptTick). t .device7) 7 (λ t e. refl) tick es (noCalls at) i;
+  next = walked-next tick es (noCalls at) i;
+}
+
+-- ---- the walk over the script's bytes
+
+pub record Walking (script : List ℕ) (at tick : ℕ) (t : ScriptTick) : Type 0 where
+  pub within : t .next ≤ length script
+  pub walks : walked tick (recordsOf (drop (t .next) script)) t ≡ tickAt script at tick
+
+walk-from : (script : List ℕ) (at tick : ℕ) (t : ScriptTick) → t ≡ noCalls at → walked tick (recordsOf (drop (t .next) script)) t ≡ tickAt script at tick
+unfolding tickAt
+walk-from script at tick t e = ap (λ (u : ScriptTick). walked tick (recordsOf (drop (u .next) script)) u) e ∙ walked-all at tick (recordsOf (drop at script))
+
+pub walk-start : (script : List ℕ) (at tick : ℕ) (t : ScriptTick) → at ≤ length script → t ≡ noCalls at → Walking script at tick t
+walk-start script at tick t h e = record { within = omega (arith, ap (λ (u : ScriptTick). u .next) e); walks = walk-from script at tick t e }
+
+walk-over : (script : List ℕ) (at tick : ℕ) (t : ScriptTick) → walked tick (recordsOf (drop (t .next) script)) t ≡ tickAt script at tick → length script < t .next + 4 → t ≡ tickAt script at tick
+unfolding walked
+walk-over script at tick t w h = sym (ap (λ (es : List Entry). walked tick es t) (records-none script (t .next) h)) ∙ w
+
+pub walk-nothing : (script : List ℕ) (at tick : ℕ) (t : ScriptTick) → length script < at → t ≡ noCalls at → t ≡ tickAt script at tick
+walk-nothing script at tick t h e = walk-over script at tick t (walk-from script at tick t e) (omega (arith, ap (λ (u : ScriptTick). u .next) e))
+
+pub walk-end : (script : List ℕ) (at tick : ℕ) (t : ScriptTick) → Walking script at tick t → length script - t .next < 4 → t ≡ tickAt script at tick
+walk-end script at tick t v h = walk-over script at tick t (v .walks) (omega arith)
+
+module _ (script : List ℕ) (at tick : ℕ) (t : ScriptTick) (e : Entry) (v : Walking script at tick t) (h : 4 ≤ length script - t .next) (p : e ≡ entryAt script (t .next)) where
+  walk-step : tickAt script at tick ≡ (if e .tick =? tick then walked tick (recordsOf (drop (t .next + 4) script)) (withRecord t e) else t)
+  unfolding walked
+  walk-step =
+      sym (v .walks)
+      ∙ ap (λ (es : List Entry). walked tick es t) (records-more script (t .next) (omega arith))
+      ∙ ap (λ (x : Entry). if x .tick =? tick then walked tick (recordsOf (drop (t .next + 4) script)) (withRecord t x) else t) (sym p)
+
+  pub walk-other : (e .tick ≡ tick → ⊥) → t ≡ tickAt script at tick
+  walk-other n = sym (walk-step ∙ if-is-false (e .tick =? tick) _ _ (ne-eqb (e .tick) tick n))
+
+  pub walk-more : (u : ScriptTick) → e .tick ≡ tick → u ≡ withRecord t e → Walking script at tick u
+  unfolding withRecord
+  walk-more u s q = record {
+    within = omega (arith, ap (λ (x : ScriptTick). x .next) q);
+    walks = ap (λ (x : ScriptTick). walked tick (recordsOf (drop (x .next) script)) x) q ∙ sym (walk-step ∙ if-is-true (e .tick =? tick) _ _ (eq-eqb (e .tick) tick s));
+  }
+
+pub walk-less : (script : List ℕ) (t u : ScriptTick) (e : Entry) → 4 ≤ length script - t .next → u ≡ withRecord t e → length script - u .next < length script - t .next
+unfolding withRecord
+walk-less script t u e h q = omega (arith, ap (λ (x : ScriptTick). x .next) q)
+
+pub ruleset walks = (walk-start, walk-nothing, walk-end, walk-other, walk-more, walk-less)

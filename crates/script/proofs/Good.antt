@@ -1,0 +1,189 @@
+-- The check of a script, record by record: what is left is as good as the whole.
+use Prim.Native.Nat.{ℕ, _+_, _-_, _%_, _≤_, _<_}
+use native.Mathlib.Decide.{decLe}
+use native.Mathlib.Omega.{arith}
+use mathlib.Core.Bool.{Bool, true, false}
+use mathlib.Core.Path.{_≡_, refl, sym, ap, _∙_}
+use mathlib.Core.List.{List, [], _∷_}
+use lib.ListN.{length, drop, getD, set, replicate, length-set, getD-replicate}
+use lib.Seq.{getD-set-same, getD-set-other}
+use borrow.Author.Tests.{le-ltb, lt-ltb, eq-eqb, ne-eqb}
+use Rattle.base.specs.Choice.{if_then_else_, _<?_, _=?_}
+use Rattle.base.proofs.Choices.{true-false, if-true, if-false, if-is-true, if-is-false}
+use Rattle.script.specs.Script.{recordsOf, isStop, isMasters, isDevices, isCall, isIn, calledBefore, isGood, goodScript}
+use Rattle.script.specs.Walk.{entryAt}
+use Rattle.script.specs.declared.Entry.{Entry}
+use Rattle.script.proofs.Records.{records-more, records-none, records-last}
+
+-- ---- the last record
+
+pub end-none : (script : List ℕ) (at last : ℕ) → length script - at < 4 → false ≡ isGood last [] (recordsOf (drop at script))
+unfolding isGood
+end-none script at last h = sym (ap (isGood last []) (records-none script at (omega arith)))
+
+end-is : (script : List ℕ) (at last : ℕ) (called : List ℕ) → at + 4 ≤ length script → length script < at + 8
+    → isGood last called (recordsOf (drop at script)) ≡ (if entryAt script at .tick <? last then false else isStop (entryAt script at))
+unfolding isGood
+end-is script at last called h k = ap (isGood last called) (records-last script at h k)
+
+pub end-falls : (script : List ℕ) (at last : ℕ) (e : Entry) → e ≡ entryAt script at → 4 ≤ length script - at → length script < at + 8 → e .tick < last
+    → false ≡ isGood last [] (recordsOf (drop at script))
+end-falls script at last e p h k l =
+    if-true (e .tick <? last) false false (isStop e) (lt-ltb (e .tick) last l) refl
+    ∙ ap (λ (x : Entry). if x .tick <? last then false else isStop x) p
+    ∙ sym (end-is script at last [] (omega arith) k)
+
+pub end-stop : (script : List ℕ) (at last : ℕ) (e : Entry) (r : Bool) → e ≡ entryAt script at → 4 ≤ length script - at → length script < at + 8 → last ≤ e .tick → r ≡ isStop e
+    → r ≡ isGood last [] (recordsOf (drop at script))
+end-stop script at last e r p h k l q =
+    if-false (e .tick <? last) r false (isStop e) (le-ltb (e .tick) last l) q
+    ∙ ap (λ (x : Entry). if x .tick <? last then false else isStop x) p
+    ∙ sym (end-is script at last [] (omega arith) k)
+
+pub ruleset ends = (end-none, end-falls, end-stop)
+
+-- ---- the records before it
+
+abbrev step : ℕ → List ℕ → Entry → List Entry → Bool
+step last called e rest =
+    if e .tick <? last then false else
+    if isCall e then (if isIn (e .party) (calledBefore last called e) then false else isGood (e .tick) (e .party ∷ calledBefore last called e) rest) else false
+
+good-step : (script : List ℕ) (at last : ℕ) (called : List ℕ) → at + 8 ≤ length script → isGood last called (recordsOf (drop at script)) ≡ step last called (entryAt script at) (recordsOf (drop (at + 4) script))
+unfolding isGood
+good-step script at last called h =
+    ap (isGood last called) (records-more script at (omega arith))
+    ∙ ap (λ (es : List Entry). isGood last called (entryAt script at ∷ es)) (records-more script (at + 4) (omega arith))
+    ∙ ap (λ (es : List Entry). step last called (entryAt script at) es) (sym (records-more script (at + 4) (omega arith)))
+
+-- the code's mark of a party is one more than the tick of its last call: these parties are marked with the tick `last`, and none with a later one
+pub record Marked (seen : List ℕ) (last : ℕ) (called : List ℕ) : Type 0 where
+  pub slots : length seen ≡ 8
+  pub marks : (p : ℕ) → p < 8 → (getD seen p 0 =? (last + 1)) ≡ isIn p called
+  pub past : (p : ℕ) → p < 8 → getD seen p 0 ≤ last + 1
+
+module _ (seen : List ℕ) (last : ℕ) (called : List ℕ) (m : Marked seen last called) (e : Entry) (rises : last ≤ e .tick) where
+  marked-before : (p : ℕ) → p < 8 → (getD seen p 0 =? (e .tick + 1)) ≡ isIn p (calledBefore last called e)
+  unfolding isIn
+  marked-before p h = go (decLe (e .tick) last)
+    where
+      go : Dec (e .tick ≤ last) → (getD seen p 0 =? (e .tick + 1)) ≡ isIn p (calledBefore last called e)
+      go (yes l) =
+          let same : e .tick ≡ last = omega arith in
+          ap (λ (n : ℕ). getD seen p 0 =? (n + 1)) same ∙ m .marks p h ∙ ap (isIn p) (sym (if-is-true (e .tick =? last) called [] (eq-eqb (e .tick) last same)))
+      go (no l) =
+          ne-eqb (getD seen p 0) (e .tick + 1) (λ q. omega (arith, m .past p h))
+          ∙ ap (isIn p) (sym (if-is-false (e .tick =? last) called [] (ne-eqb (e .tick) last (λ q. omega arith))))
+
+  marked-more : e .party < 8 → Marked (set seen (e .party) (e .tick + 1)) (e .tick) (e .party ∷ calledBefore last called e)
+  unfolding isIn
+  marked-more h = record { slots = length-set seen (e .party) (e .tick + 1) ∙ m .slots; marks = λ p k. at p k (decLe p (e .party)) (decLe (e .party) p); past = λ p k. under p k (decLe p (e .party)) (decLe (e .party) p) }
+    where
+      own : getD (set seen (e .party) (e .tick + 1)) (e .party) 0 ≡ e .tick + 1
+      own = getD-set-same seen (e .party) (e .tick + 1) 0 (omega (arith, m .slots))
+
+      other : (p : ℕ) → (p ≡ e .party → ⊥) → getD (set seen (e .party) (e .tick + 1)) p 0 ≡ getD seen p 0
+      other p n = getD-set-other seen (e .party) p (e .tick + 1) 0 n
+
+      at-own : (p : ℕ) → p ≡ e .party → (getD (set seen (e .party) (e .tick + 1)) p 0 =? (e .tick + 1)) ≡ isIn p (e .party ∷ calledBefore last called e)
+      at-own p q = if-true (p =? e .party) _ true (isIn p (calledBefore last called e)) (eq-eqb p (e .party) q) (eq-eqb _ _ (ap (λ (n : ℕ). getD (set seen (e .party) (e .tick + 1)) n 0) q ∙ own))
+
+      at-other : (p : ℕ) → p < 8 → (p ≡ e .party → ⊥) → (getD (set seen (e .party) (e .tick + 1)) p 0 =? (e .tick + 1)) ≡ isIn p (e .party ∷ calledBefore last called e)
+      at-other p k n = if-false (p =? e .party) _ true (isIn p (calledBefore last called e)) (ne-eqb p (e .party) n) (ap (λ (x : ℕ). x =? (e .tick + 1)) (other p n) ∙ marked-before p k)
+
+      at : (p : ℕ) → p < 8 → Dec (p ≤ e .party) → Dec (e .party ≤ p) → (getD (set seen (e .party) (e .tick + 1)) p 0 =? (e .tick + 1)) ≡ isIn p (e .party ∷ calledBefore last called e)
+      at p k (yes a) (yes b) = at-own p (omega arith)
+      at p k (no a) b = at-other p k (λ q. omega arith)
+      at p k (yes a) (no b) = at-other p k (λ q. omega arith)
+
+      under : (p : ℕ) → p < 8 → Dec (p ≤ e .party) → Dec (e .party ≤ p) → getD (set seen (e .party) (e .tick + 1)) p 0 ≤ e .tick + 1
+      under p k (yes a) (yes b) = let same : p ≡ e .party = omega arith in omega (arith, own, ap (λ (n : ℕ). getD (set seen (e .party) (e .tick + 1)) n 0) same)
+      under p k (no a) b = omega (arith, other p (λ q. omega arith), m .past p k)
+      under p k (yes a) (no b) = omega (arith, other p (λ q. omega arith), m .past p k)
+
+-- a call's party
+pub call-party : (e : Entry) (r : Bool) → r ≡ isCall e → r ≡ true → e .party < 8
+call-party e r q t = go (decLe 8 (e .party))
+  where
+    go : Dec (8 ≤ e .party) → e .party < 8
+    go (no l) = omega arith
+    go (yes l) =
+        absurd (true-false (sym t ∙ q
+        ∙ if-is-false (e .party <? 2) (isMasters (e .action)) (if e .party <? 8 then isDevices (e .action) else false) (le-ltb (e .party) 2 (omega arith))
+        ∙ if-is-false (e .party <? 8) (isDevices (e .action)) false (le-ltb (e .party) 8 l)))
+
+pub record Checking (script seen : List ℕ) (last at : ℕ) : Type 0 where
+  pub within : at ≤ length script
+  pub called : List ℕ
+  pub marked : Marked seen last called
+  pub good : isGood last called (recordsOf (drop at script)) ≡ isGood 0 [] (recordsOf script)
+
+pub check-start : (script : List ℕ) → Checking script (replicate 8 0) 0 0
+unfolding isIn
+check-start script = record {
+  within = omega arith;
+  called = [];
+  marked = record {
+    slots = refl;
+    marks = λ p h. ne-eqb (getD (replicate 8 0) p 0) 1 (λ q. omega (arith, getD-replicate {A = ℕ} 8 p 0 0 h));
+    past = λ p h. omega (arith, getD-replicate {A = ℕ} 8 p 0 0 h);
+  };
+  good = refl;
+}
+
+module _ (script seen : List ℕ) (last at : ℕ) (e : Entry) (v : Checking script seen last at) (p : e ≡ entryAt script at) (h : 8 ≤ length script - at) where
+  left-is : isGood 0 [] (recordsOf script) ≡ step last (v .called) e (recordsOf (drop (at + 4) script))
+  left-is = sym (v .good) ∙ good-step script at last (v .called) (omega arith) ∙ ap (λ (x : Entry). step last (v .called) x (recordsOf (drop (at + 4) script))) (sym p)
+
+  pub check-falls : e .tick < last → false ≡ isGood 0 [] (recordsOf script)
+  check-falls l = sym (left-is ∙ if-is-true (e .tick <? last) _ _ (lt-ltb (e .tick) last l))
+
+  rising-is : last ≤ e .tick → isGood 0 [] (recordsOf script) ≡ (if isCall e then (if isIn (e .party) (calledBefore last (v .called) e) then false else isGood (e .tick) (e .party ∷ calledBefore last (v .called) e) (recordsOf (drop (at + 4) script))) else false)
+  rising-is l = left-is ∙ if-is-false (e .tick <? last) _ _ (le-ltb (e .tick) last l)
+
+  pub check-no-call : (r : Bool) → last ≤ e .tick → r ≡ isCall e → r ≡ false → false ≡ isGood 0 [] (recordsOf script)
+  check-no-call r l q f = sym (rising-is l ∙ if-is-false (isCall e) _ _ (sym q ∙ f))
+
+  call-is : (r : Bool) → last ≤ e .tick → r ≡ isCall e → r ≡ true
+      → isGood 0 [] (recordsOf script) ≡ (if isIn (e .party) (calledBefore last (v .called) e) then false else isGood (e .tick) (e .party ∷ calledBefore last (v .called) e) (recordsOf (drop (at + 4) script)))
+  call-is r l q t = rising-is l ∙ if-is-true (isCall e) _ _ (sym q ∙ t)
+
+  pub check-twice : (r : Bool) → last ≤ e .tick → r ≡ isCall e → r ≡ true → getD seen (e .party) 0 ≡ e .tick + 1 → false ≡ isGood 0 [] (recordsOf script)
+  check-twice r l q t s =
+      sym (call-is r l q t
+      ∙ if-is-true _ _ _ (sym (marked-before seen last (v .called) (v .marked) e l (e .party) (call-party e r q t)) ∙ eq-eqb _ _ s))
+
+  pub check-more : (r : Bool) → last ≤ e .tick → r ≡ isCall e → r ≡ true → (getD seen (e .party) 0 ≡ e .tick + 1 → ⊥) → Checking script (set seen (e .party) (e .tick + 1)) (e .tick) (at + 4)
+  check-more r l q t s = record {
+    within = omega arith;
+    called = e .party ∷ calledBefore last (v .called) e;
+    marked = marked-more seen last (v .called) (v .marked) e l (call-party e r q t);
+    good = sym (call-is r l q t
+        ∙ if-is-false _ _ _ (sym (marked-before seen last (v .called) (v .marked) e l (e .party) (call-party e r q t)) ∙ ne-eqb _ _ s));
+  }
+
+-- at the last record it does not matter which parties have calls
+end-called : (script : List ℕ) (at last : ℕ) (called : List ℕ) → length script < at + 8 → isGood last [] (recordsOf (drop at script)) ≡ isGood last called (recordsOf (drop at script))
+unfolding isGood
+end-called script at last called h = go (decLe (at + 4) (length script))
+  where
+    go : Dec (at + 4 ≤ length script) → isGood last [] (recordsOf (drop at script)) ≡ isGood last called (recordsOf (drop at script))
+    go (yes l) = end-is script at last [] l h ∙ sym (end-is script at last called l h)
+    go (no l) = ap (isGood last []) (records-none script at (omega arith)) ∙ sym (ap (isGood last called) (records-none script at (omega arith)))
+
+pub check-end : (script seen : List ℕ) (last at : ℕ) (r : Bool) → Checking script seen last at → length script - at < 8 → r ≡ isGood last [] (recordsOf (drop at script)) → r ≡ isGood 0 [] (recordsOf script)
+check-end script seen last at r v h q = q ∙ end-called script at last (v .called) (omega arith) ∙ v .good
+
+pub ruleset checks = (refl, call-party, check-start, check-falls, check-no-call, check-twice, check-more, check-end)
+
+-- ---- the whole script
+
+pub whole-good : (script : List ℕ) (r : Bool) → length script % 4 ≡ 0 → r ≡ isGood 0 [] (recordsOf script) → r ≡ goodScript script
+unfolding goodScript
+whole-good script r e q = if-true (length script % 4 =? 0) r (isGood 0 [] (recordsOf script)) false (eq-eqb (length script % 4) 0 e) q
+
+pub left-over-bad : (script : List ℕ) → (length script % 4 ≡ 0 → ⊥) → false ≡ goodScript script
+unfolding goodScript
+left-over-bad script n = if-false (length script % 4 =? 0) false (isGood 0 [] (recordsOf script)) false (ne-eqb (length script % 4) 0 n) refl
+
+pub ruleset whole = (whole-good, left-over-bad)

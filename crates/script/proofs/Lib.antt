@@ -1,0 +1,5 @@
+-- The laws of scripts: by which the code is proved, and for who plays one tick by tick.
+pub mod Records
+pub mod Good
+pub mod Calls
+pub mod Ticks

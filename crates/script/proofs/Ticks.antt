@@ -1,0 +1,150 @@
+-- Reading a good script tick by tick: what `tickAt` gives at each place is what the whole script wants in that tick.
+use Prim.Native.Nat.{ℕ, zero, suc, _+_, _-_, _*_, _%_, _≤_, _<_}
+use native.Mathlib.Decide.{decLe}
+use native.Mathlib.Omega.{arith}
+use mathlib.Core.Bool.{Bool, true, false}
+use mathlib.Core.Path.{_≡_, refl, sym, ap, subst, _∙_}
+use mathlib.Core.List.{List, [], _∷_}
+use lib.ListN.{length, drop}
+use lib.Seq.{drop-drop}
+use borrow.Author.Tests.{ltb-false, eqb-true, eqb-false, ne-eqb}
+use Rattle.base.specs.Choice.{if_then_else_, _<?_, _=?_}
+use Rattle.base.proofs.Choices.{true-false, if-is-false, went-else}
+use Rattle.base.proofs.Tables.{chain-second}
+use Rattle.script.specs.Script.{entryOf, recordsOf, isStop, isCall, isIn, calledBefore, isGood, goodScript, isOf, wantedAt, leading, tickOf, tickAt}
+use Rattle.script.specs.declared.Entry.{Entry}
+use Rattle.script.specs.declared.ScriptTick.{ScriptTick}
+use Rattle.script.specs.declared.Wanted.{Wanted}
+use Rattle.script.specs.declared.Wanted.the-variants.{Nothing, Call}
+
+-- ticks that do not fall, from this one on
+pub data Rising : ℕ → List Entry → Type 0 where
+  none : {low : ℕ} → Rising low []
+  more : {low : ℕ} {e : Entry} {es : List Entry} → low ≤ e .tick → Rising (e .tick) es → Rising low (e ∷ es)
+
+-- the records from a place on do not fall below this tick; and for this tick and each later one they want what the whole script wants
+pub record Reads (script : List ℕ) (at tick : ℕ) : Type 0 where
+  pub rising : Rising tick (recordsOf (drop at script))
+  pub rest : (later party : ℕ) → tick ≤ later → wantedAt later party (recordsOf (drop at script)) ≡ wantedAt later party (recordsOf script)
+
+-- ---- from the start
+
+good-rises : (last : ℕ) (called : List ℕ) (es : List Entry) → isGood last called es ≡ true → Rising last es
+unfolding isGood
+good-rises last called [] g = none
+good-rises last called (e ∷ []) g = more (ltb-false (e .tick) last (went-else (e .tick <? last) false (isStop e) true g (λ f. true-false (sym f)) .0)) none
+good-rises last called (e ∷ f ∷ es) g =
+    let rises = went-else (e .tick <? last) false _ true g (λ f. true-false (sym f)) in
+    let free = went-else (isIn (e .party) (calledBefore last called e)) false _ true (chain-second (isCall e) _ (rises .1)) (λ f. true-false (sym f)) in
+    more (ltb-false (e .tick) last (rises .0)) (good-rises (e .tick) (e .party ∷ calledBefore last called e) (f ∷ es) (free .1))
+
+pub reads-start : (script : List ℕ) → goodScript script ≡ true → Reads script 0 0
+unfolding goodScript
+reads-start script g = record { rising = good-rises 0 [] (recordsOf script) (chain-second (length script % 4 =? 0) (isGood 0 [] (recordsOf script)) g); rest = λ later party h. refl }
+
+-- ---- from tick to tick
+
+-- the records behind the leading ones
+unfoldable behind : ℕ → List Entry → List Entry
+behind tick [] = []
+behind tick (e ∷ es) = if e .tick =? tick then behind tick es else e ∷ es
+
+-- they are those behind so many bytes
+behind-is : (script : List ℕ) (tick : ℕ) → recordsOf (drop (4 * length (leading tick (recordsOf script))) script) ≡ behind tick (recordsOf script)
+unfolding recordsOf leading behind if_then_else_
+behind-is [] tick = refl
+behind-is (a ∷ []) tick = refl
+behind-is (a ∷ b ∷ []) tick = refl
+behind-is (a ∷ b ∷ c ∷ []) tick = refl
+behind-is (a ∷ b ∷ c ∷ d ∷ rest) tick = go ((a * 256 + b) =? tick) (behind-is rest tick)
+  where
+    go : (t : Bool) → recordsOf (drop (4 * length (leading tick (recordsOf rest))) rest) ≡ behind tick (recordsOf rest)
+        → recordsOf (drop (4 * length (if t then entryOf a b c d ∷ leading tick (recordsOf rest) else [])) (a ∷ b ∷ c ∷ d ∷ rest)) ≡ (if t then behind tick (recordsOf rest) else entryOf a b c d ∷ recordsOf rest)
+    go true q =
+        let count : 4 * suc (length (leading tick (recordsOf rest))) ≡ suc (suc (suc (suc (4 * length (leading tick (recordsOf rest)))))) = omega arith in
+        ap (λ (n : ℕ). recordsOf (drop n (a ∷ b ∷ c ∷ d ∷ rest))) count ∙ q
+    go false q = refl
+
+above : (e : Entry) (tick : ℕ) → tick ≤ e .tick → (e .tick =? tick) ≡ false → tick < e .tick
+above e tick l q = go (decLe (e .tick) tick)
+  where
+    go : Dec (e .tick ≤ tick) → tick < e .tick
+    go (yes h) = absurd (eqb-false (e .tick) tick q (omega arith))
+    go (no h) = omega arith
+
+-- a record of another tick wants nothing
+other-tick : (tick party : ℕ) (e : Entry) (es : List Entry) → (e .tick ≡ tick → ⊥) → wantedAt tick party (e ∷ es) ≡ wantedAt tick party es
+unfolding wantedAt
+other-tick tick party e es n = if-is-false (isOf tick party e) _ _ (if-is-false (e .tick =? tick) _ _ (ne-eqb (e .tick) tick n))
+
+later-none : (low tick party : ℕ) (es : List Entry) → Rising low es → tick < low → wantedAt tick party es ≡ Nothing
+unfolding wantedAt
+later-none low tick party [] none h = refl
+later-none low tick party (e ∷ es) (more l r) h = other-tick tick party e es (λ q. omega arith) ∙ later-none (e .tick) tick party es r (omega arith)
+
+-- the leading records want all that is wanted in their tick
+leading-all : (tick party : ℕ) (es : List Entry) → Rising tick es → wantedAt tick party (leading tick es) ≡ wantedAt tick party es
+unfolding wantedAt leading if_then_else_
+leading-all tick party [] none = refl
+leading-all tick party (e ∷ es) (more l r) = go (e .tick =? tick) refl (λ q. leading-all tick party es (subst (λ (n : ℕ). Rising n es) (eqb-true (e .tick) tick q) r))
+  where
+    go : (t : Bool) → (e .tick =? tick) ≡ t → ((e .tick =? tick) ≡ true → wantedAt tick party (leading tick es) ≡ wantedAt tick party es)
+        → wantedAt tick party (if t then e ∷ leading tick es else []) ≡ wantedAt tick party (e ∷ es)
+    go true q rest = ap (λ (w : Wanted). if isOf tick party e then Call (e .action) (e .argument) else w) (rest q)
+    go false q rest = sym (other-tick tick party e es (eqb-false (e .tick) tick q) ∙ later-none (e .tick) tick party es r (above e tick l q))
+
+-- the leading records want nothing in later ticks
+behind-all : (tick later party : ℕ) (es : List Entry) → tick < later → wantedAt later party (behind tick es) ≡ wantedAt later party es
+unfolding wantedAt behind if_then_else_
+behind-all tick later party [] h = refl
+behind-all tick later party (e ∷ es) h = go (e .tick =? tick) refl (behind-all tick later party es h)
+  where
+    go : (t : Bool) → (e .tick =? tick) ≡ t → wantedAt later party (behind tick es) ≡ wantedAt later party es
+        → wantedAt later party (if t then behind tick es else e ∷ es) ≡ wantedAt later party (e ∷ es)
+    go true q rest = rest ∙ sym (other-tick later party e es (λ p. omega (arith, eqb-true (e .tick) tick q)))
+    go false q rest = refl
+
+-- behind them the ticks are later
+behind-rises : (tick : ℕ) (es : List Entry) → Rising tick es → Rising (tick + 1) (behind tick es)
+unfolding behind if_then_else_
+behind-rises tick [] none = none
+behind-rises tick (e ∷ es) (more l r) = go (e .tick =? tick) refl (λ q. behind-rises tick es (subst (λ (n : ℕ). Rising n es) (eqb-true (e .tick) tick q) r))
+  where
+    go : (t : Bool) → (e .tick =? tick) ≡ t → ((e .tick =? tick) ≡ true → Rising (tick + 1) (behind tick es)) → Rising (tick + 1) (if t then behind tick es else e ∷ es)
+    go true q rest = rest q
+    go false q rest = let later : tick + 1 ≤ e .tick = omega (arith, above e tick l q) in more later r
+
+module _ (script : List ℕ) (at tick : ℕ) (t : ScriptTick) (v : Reads script at tick) (e : t ≡ tickAt script at tick) where
+  wanted : (party : ℕ) → wantedAt tick party (leading tick (recordsOf (drop at script))) ≡ wantedAt tick party (recordsOf script)
+  wanted party = leading-all tick party (recordsOf (drop at script)) (v .rising) ∙ v .rest tick party (omega arith)
+
+  -- what is read in this tick is what the whole script wants in it
+  pub reads-tick : t ≡ tickOf tick (recordsOf script) (t .next)
+  unfolding tickAt
+  reads-tick = λ i. record {
+    primary = (ap (λ (x : ScriptTick). x .primary) e ∙ wanted 0) i;
+    secondary = (ap (λ (x : ScriptTick). x .secondary) e ∙ wanted 1) i;
+    device2 = (ap (λ (x : ScriptTick). x .device2) e ∙ wanted 2) i;
+    device3 = (ap (λ (x : ScriptTick). x .device3) e ∙ wanted 3) i;
+    device4 = (ap (λ (x : ScriptTick). x .device4) e ∙ wanted 4) i;
+    device5 = (ap (λ (x : ScriptTick). x .device5) e ∙ wanted 5) i;
+    device6 = (ap (λ (x : ScriptTick). x .device6) e ∙ wanted 6) i;
+    device7 = (ap (λ (x : ScriptTick). x .device7) e ∙ wanted 7) i;
+    next = t .next;
+  }
+
+  -- and reading goes on behind it with the next tick
+  next-is : recordsOf (drop (t .next) script) ≡ behind tick (recordsOf (drop at script))
+  unfolding tickAt
+  next-is =
+      ap (λ (x : ScriptTick). recordsOf (drop (x .next) script)) e
+      ∙ ap recordsOf (sym (drop-drop (4 * length (leading tick (recordsOf (drop at script)))) at script))
+      ∙ behind-is (drop at script) tick
+
+  pub reads-next : Reads script (t .next) (tick + 1)
+  reads-next = record {
+    rising = subst (Rising (tick + 1)) (sym next-is) (behind-rises tick (recordsOf (drop at script)) (v .rising));
+    rest = λ later party h. ap (wantedAt later party) next-is ∙ behind-all tick later party (recordsOf (drop at script)) (omega arith) ∙ v .rest later party (omega arith);
+  }
+
+pub ruleset ticks = (reads-start, reads-tick, reads-next)

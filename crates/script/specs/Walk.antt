@@ -1,0 +1,51 @@
+-- One record more in a walk over a tick's records: what the code's steps are.
+use Prim.Native.Nat.{ℕ, _+_}
+use mathlib.Core.Bool.{Bool}
+use mathlib.Core.List.{List}
+use lib.ListN.{getD}
+use Rattle.base.specs.Choice.{if_then_else_, _=?_}
+use Rattle.script.specs.Script.{entryOf}
+use Rattle.script.specs.declared.Entry.{Entry}
+use Rattle.script.specs.declared.ScriptTick.{ScriptTick}
+use Rattle.script.specs.declared.Wanted.{Wanted}
+use Rattle.script.specs.declared.Wanted.the-variants.{Nothing, Call}
+
+-- the record at a place
+abbrev pub entryAt : List ℕ → ℕ → Entry
+entryAt script at = entryOf (getD script at 0) (getD script (at + 1) 0) (getD script (at + 2) 0) (getD script (at + 3) 0)
+
+-- what a record wants: the stop is no call
+abbrev pub wantedBy : Entry → Wanted
+wantedBy e = if e .action =? 0 then Nothing else Call (e .action) (e .argument)
+
+-- a party's call stays; a party that has none takes its own
+abbrev pub kept : Wanted → Bool → Wanted → Wanted
+kept Nothing own w = if own then w else Nothing
+kept (Call action argument) own w = Call action argument
+
+unfoldable pub withRecord : ScriptTick → Entry → ScriptTick
+withRecord t e = record {
+  primary = kept (t .primary) (e .party =? 0) (wantedBy e);
+  secondary = kept (t .secondary) (e .party =? 1) (wantedBy e);
+  device2 = kept (t .device2) (e .party =? 2) (wantedBy e);
+  device3 = kept (t .device3) (e .party =? 3) (wantedBy e);
+  device4 = kept (t .device4) (e .party =? 4) (wantedBy e);
+  device5 = kept (t .device5) (e .party =? 5) (wantedBy e);
+  device6 = kept (t .device6) (e .party =? 6) (wantedBy e);
+  device7 = kept (t .device7) (e .party =? 7) (wantedBy e);
+  next = t .next + 4;
+}
+
+-- before the first record
+abbrev pub noCalls : ℕ → ScriptTick
+noCalls at = record {
+  primary = Nothing;
+  secondary = Nothing;
+  device2 = Nothing;
+  device3 = Nothing;
+  device4 = Nothing;
+  device5 = Nothing;
+  device6 = Nothing;
+  device7 = Nothing;
+  next = at;
+}
