@@ -7,9 +7,10 @@ use mathlib.Core.Path.{_≡_, refl, sym, ap, _∙_}
 use mathlib.Core.List.{List, [], _∷_}
 use lib.ListN.{length, drop, getD, set, replicate, length-set, getD-replicate}
 use lib.Seq.{getD-set-same, getD-set-other}
-use borrow.Author.Tests.{le-ltb, lt-ltb, eq-eqb, ne-eqb}
+use borrow.Author.Tests.{ltb-false, le-ltb, lt-ltb, eq-eqb, ne-eqb}
 use Rattle.base.specs.Choice.{if_then_else_, _<?_, _=?_}
-use Rattle.base.proofs.Choices.{true-false, if-true, if-false, if-is-true, if-is-false}
+use Rattle.base.proofs.Choices.{true-false, if-true, if-false, if-is-true, if-is-false, went-else}
+use Rattle.base.proofs.Tables.{chain-first, chain-second}
 use Rattle.script.specs.Script.{recordsOf, isStop, isMasters, isDevices, isCall, isIn, calledBefore, isGood, goodScript}
 use Rattle.script.specs.Walk.{entryAt}
 use Rattle.script.specs.declared.Entry.{Entry}
@@ -187,3 +188,27 @@ unfolding goodScript
 left-over-bad script n = if-false (length script % 4 =? 0) false (isGood 0 [] (recordsOf script)) false (ne-eqb (length script % 4) 0 n) refl
 
 pub ruleset whole = (whole-good, left-over-bad)
+
+-- ---- what holds of a good script's call
+
+pub record GoodCall (last : ℕ) (called : List ℕ) (e : Entry) (rest : List Entry) : Type 0 where
+  pub rises : last ≤ e .tick
+  pub party : e .party < 8
+  pub once : isIn (e .party) (calledBefore last called e) ≡ false
+  pub goes-on : isGood (e .tick) (e .party ∷ calledBefore last called e) rest ≡ true
+
+pub good-end : (last : ℕ) (called : List ℕ) (e : Entry) → isGood last called (e ∷ []) ≡ true → last ≤ e .tick
+unfolding isGood
+good-end last called e g = ltb-false (e .tick) last (went-else (e .tick <? last) false (isStop e) true g (λ f. true-false (sym f)) .0)
+
+pub good-call : (last : ℕ) (called : List ℕ) (e f : Entry) (es : List Entry) → isGood last called (e ∷ f ∷ es) ≡ true → GoodCall last called e (f ∷ es)
+unfolding isGood
+good-call last called e f es g =
+    let rise = went-else (e .tick <? last) false _ true g (λ f. true-false (sym f)) in
+    let free = went-else (isIn (e .party) (calledBefore last called e)) false _ true (chain-second (isCall e) _ (rise .1)) (λ f. true-false (sym f)) in
+    record {
+      rises = ltb-false (e .tick) last (rise .0);
+      party = call-party e (isCall e) refl (chain-first (isCall e) _ (rise .1));
+      once = free .0;
+      goes-on = free .1;
+    }

@@ -3,3 +3,4 @@ pub mod Records
 pub mod Good
 pub mod Calls
 pub mod Ticks
+pub mod Length

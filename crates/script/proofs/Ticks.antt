@@ -1,5 +1,5 @@
 -- Reading a good script tick by tick: what `tickAt` gives at each place is what the whole script wants in that tick.
-use Prim.Native.Nat.{ℕ, zero, suc, _+_, _-_, _*_, _%_, _≤_, _<_}
+use Prim.Native.Nat.{ℕ, suc, _+_, _*_, _%_, _≤_, _<_}
 use native.Mathlib.Decide.{decLe}
 use native.Mathlib.Omega.{arith}
 use mathlib.Core.Bool.{Bool, true, false}
@@ -7,15 +7,16 @@ use mathlib.Core.Path.{_≡_, refl, sym, ap, subst, _∙_}
 use mathlib.Core.List.{List, [], _∷_}
 use lib.ListN.{length, drop}
 use lib.Seq.{drop-drop}
-use borrow.Author.Tests.{ltb-false, eqb-true, eqb-false, ne-eqb}
-use Rattle.base.specs.Choice.{if_then_else_, _<?_, _=?_}
-use Rattle.base.proofs.Choices.{true-false, if-is-false, went-else}
+use borrow.Author.Tests.{eqb-true, eqb-false, ne-eqb}
+use Rattle.base.specs.Choice.{if_then_else_, _=?_}
+use Rattle.base.proofs.Choices.{if-is-false}
 use Rattle.base.proofs.Tables.{chain-second}
-use Rattle.script.specs.Script.{entryOf, recordsOf, isStop, isCall, isIn, calledBefore, isGood, goodScript, isOf, wantedAt, leading, tickOf, tickAt}
+use Rattle.script.specs.Script.{entryOf, recordsOf, calledBefore, isGood, goodScript, isOf, wantedAt, leading, tickOf, tickAt}
 use Rattle.script.specs.declared.Entry.{Entry}
 use Rattle.script.specs.declared.ScriptTick.{ScriptTick}
 use Rattle.script.specs.declared.Wanted.{Wanted}
 use Rattle.script.specs.declared.Wanted.the-variants.{Nothing, Call}
+use Rattle.script.proofs.Good.{good-end, good-call}
 
 -- ticks that do not fall, from this one on
 pub data Rising : ℕ → List Entry → Type 0 where
@@ -30,13 +31,11 @@ pub record Reads (script : List ℕ) (at tick : ℕ) : Type 0 where
 -- ---- from the start
 
 good-rises : (last : ℕ) (called : List ℕ) (es : List Entry) → isGood last called es ≡ true → Rising last es
-unfolding isGood
 good-rises last called [] g = none
-good-rises last called (e ∷ []) g = more (ltb-false (e .tick) last (went-else (e .tick <? last) false (isStop e) true g (λ f. true-false (sym f)) .0)) none
+good-rises last called (e ∷ []) g = more (good-end last called e g) none
 good-rises last called (e ∷ f ∷ es) g =
-    let rises = went-else (e .tick <? last) false _ true g (λ f. true-false (sym f)) in
-    let free = went-else (isIn (e .party) (calledBefore last called e)) false _ true (chain-second (isCall e) _ (rises .1)) (λ f. true-false (sym f)) in
-    more (ltb-false (e .tick) last (rises .0)) (good-rises (e .tick) (e .party ∷ calledBefore last called e) (f ∷ es) (free .1))
+    let call = good-call last called e f es g in
+    more (call .rises) (good-rises (e .tick) (e .party ∷ calledBefore last called e) (f ∷ es) (call .goes-on))
 
 pub reads-start : (script : List ℕ) → goodScript script ≡ true → Reads script 0 0
 unfolding goodScript
