@@ -23,30 +23,23 @@ use Rattle.turns.specs.declared.Sent.the-variants.{Silent}
 use Rattle.listing.specs.Lines.{Line, lineOf, quietEar, PartyLines, goesOn, frameEnds, endsBy, endsWith, oneMore, listens, TickLines, besides, linesOf, senders, tickLines, linesFrom}
 use Rattle.listing.specs.Put.{Out, outOf, put, PutIs}
 use Rattle.listing.specs.Text.{lineText, linesText}
-use Rattle.listing.specs.Promises.{SendsIs, heardAt, PartyIs, TickIs}
+use Rattle.listing.specs.Promises.{SendsIs, PartyIs, TickIs}
 use Rattle.listing.specs.declared.Ear.{Ear}
-use Rattle.listing.specs.declared.EarHeard.{EarHeard}
 use Rattle.listing.proofs.Puts.{put-append, put-none, put-same, put-then, put-length}
 
 -- quiet ears
 pub quiet-reader : (r : Receiver) → r ≡ idle → record { receiver = r; count = 0; alone = true } ≡ quietEar
 quiet-reader r p = ap (λ (x : Receiver). record { receiver = x; count = 0; alone = true }) p
 
-pub quiet-at : (e : Ear) (at : ℕ) → e ≡ quietEar → heardAt e at ≡ heardAt quietEar at
-quiet-at e at p = ap (λ (x : Ear). heardAt x at) p
-
 pub quiet-all : (e : Ear) → e ≡ quietEar → replicate 8 e ≡ replicate 8 quietEar
 quiet-all e p = ap (λ (x : Ear). replicate 8 x) p
 
-pub ruleset quiet = (quiet-reader, quiet-at, quiet-all)
+pub ruleset quiet = (quiet-reader, quiet-all)
 
 -- no line
-party-none : (e : Ear) (before : List ℕ) (at : ℕ) (h : EarHeard) → h ≡ heardAt e at → PartyIs (record { ear = e; lines = [] }) before at (h .ear) (h .at) before
+party-none : (e f : Ear) (before : List ℕ) (at : ℕ) → f ≡ e → PartyIs (record { ear = e; lines = [] }) before at f at before
 unfolding linesText
-party-none e before at h p = record {
-  ear-is = ap (λ (x : EarHeard). x .ear) p;
-  text = subst (λ (r : ℕ). PutIs [] before at r before) (sym (ap (λ (x : EarHeard). x .at) p)) (put-none before at);
-}
+party-none e f before at p = record { ear-is = p; text = put-none before at }
 
 -- a frame that ended
 one-line : (l : Line) → lineText l ≡ linesText (l ∷ [])
@@ -70,44 +63,52 @@ ends-with-others l alone e before at a p = record {
 pub ruleset ends = (refl, ends-alone, ends-with-others)
 
 -- behind a character, by what the reader tells
-module _ (tick party count : ℕ) (alone : Bool) (t : Taken) (before : List ℕ) (at : ℕ) (h : EarHeard) where
-  by-event : (e : Event) (after : List ℕ) → t .event ≡ e → PartyIs (endsBy tick party count alone (t .receiver) e) before at (h .ear) (h .at) after → PartyIs (endsWith tick party count alone t) before at (h .ear) (h .at) after
+module _ (tick party count : ℕ) (alone : Bool) (t : Taken) (before : List ℕ) (at : ℕ) where
+  by-event : (e : Event) (f : Ear) (r : ℕ) (after : List ℕ) → t .event ≡ e → PartyIs (endsBy tick party count alone (t .receiver) e) before at f r after → PartyIs (endsWith tick party count alone t) before at f r after
   unfolding endsWith
-  by-event e after p q = subst (λ (x : Event). PartyIs (endsBy tick party count alone (t .receiver) x) before at (h .ear) (h .at) after) (sym p) q
+  by-event e f r after p q = subst (λ (x : Event). PartyIs (endsBy tick party count alone (t .receiver) x) before at f r after) (sym p) q
 
-  pub told-nothing : t .event ≡ Nothing → h ≡ heardAt (goesOn (t .receiver) count alone .ear) at → PartyIs (endsWith tick party count alone t) before at (h .ear) (h .at) before
-  told-nothing p q = by-event Nothing before p (party-none (goesOn (t .receiver) count alone .ear) before at h q)
+  abbrev GoesOn : Type 0
+  GoesOn = PartyIs (endsWith tick party count alone t) before at (goesOn (t .receiver) count alone .ear) at before
 
-  pub told-passed-over : t .event ≡ PassedOver → h ≡ heardAt (goesOn (t .receiver) count alone .ear) at → PartyIs (endsWith tick party count alone t) before at (h .ear) (h .at) before
-  told-passed-over p q = by-event PassedOver before p (party-none (goesOn (t .receiver) count alone .ear) before at h q)
+  goes : (e : Event) → t .event ≡ e → endsBy tick party count alone (t .receiver) e ≡ goesOn (t .receiver) count alone → GoesOn
+  goes e p q = by-event e (goesOn (t .receiver) count alone .ear) at before p
+      (subst (λ (x : PartyLines). PartyIs x before at (goesOn (t .receiver) count alone .ear) at before) (sym q)
+      (party-none (goesOn (t .receiver) count alone .ear) (goesOn (t .receiver) count alone .ear) before at refl))
 
-  pub told-broken : t .event ≡ Broken → h ≡ heardAt (goesOn (t .receiver) count alone .ear) at → PartyIs (endsWith tick party count alone t) before at (h .ear) (h .at) before
-  told-broken p q = by-event Broken before p (party-none (goesOn (t .receiver) count alone .ear) before at h q)
+  pub told-nothing : t .event ≡ Nothing → GoesOn
+  told-nothing p = goes Nothing p refl
 
-  pub told-damaged : (w : Whole) (m : Harm) → t .event ≡ Damaged w m → h ≡ heardAt (goesOn (t .receiver) count alone .ear) at → PartyIs (endsWith tick party count alone t) before at (h .ear) (h .at) before
-  told-damaged w m p q = by-event (Damaged w m) before p (party-none (goesOn (t .receiver) count alone .ear) before at h q)
+  pub told-passed-over : t .event ≡ PassedOver → GoesOn
+  told-passed-over p = goes PassedOver p refl
 
-  pub told-frame : (w : Whole) (after : List ℕ) → t .event ≡ Frame w → PartyIs (frameEnds (lineOf tick party (w .header) count) alone) before at (h .ear) (h .at) after → PartyIs (endsWith tick party count alone t) before at (h .ear) (h .at) after
-  told-frame w after p q = by-event (Frame w) after p q
+  pub told-broken : t .event ≡ Broken → GoesOn
+  told-broken p = goes Broken p refl
+
+  pub told-damaged : (w : Whole) (m : Harm) → t .event ≡ Damaged w m → GoesOn
+  told-damaged w m p = goes (Damaged w m) p refl
+
+  pub told-frame : (w : Whole) (f : Ear) (r : ℕ) (after : List ℕ) → t .event ≡ Frame w → PartyIs (frameEnds (lineOf tick party (w .header) count) alone) before at f r after → PartyIs (endsWith tick party count alone t) before at f r after
+  told-frame w f r after p q = by-event (Frame w) f r after p q
 
 pub ruleset tells = (refl, told-nothing, told-passed-over, told-broken, told-damaged, told-frame)
 
 -- a character
-pub hears : (tick party : ℕ) (lone : Bool) (e : Ear) (c : ℕ) (n : ℕ) (alone : Bool) (t : Taken) (before after : List ℕ) (at : ℕ) (h : EarHeard)
-    → t ≡ taken (e .receiver) (Character c) → n ≡ oneMore (e .count) → alone ≡ (if e .alone then lone else false) → PartyIs (endsWith tick party n alone t) before at (h .ear) (h .at) after
-    → PartyIs (listens tick party lone e (Sent.Character c)) before at (h .ear) (h .at) after
+pub hears : (tick party : ℕ) (lone : Bool) (e : Ear) (c : ℕ) (n : ℕ) (alone : Bool) (t : Taken) (before after : List ℕ) (at : ℕ) (f : Ear) (r : ℕ)
+    → t ≡ taken (e .receiver) (Character c) → n ≡ oneMore (e .count) → alone ≡ (if e .alone then lone else false) → PartyIs (endsWith tick party n alone t) before at f r after
+    → PartyIs (listens tick party lone e (Sent.Character c)) before at f r after
 unfolding listens
-hears tick party lone e c n alone t before after at h p q s v =
-    subst (λ (x : PartyLines). PartyIs x before at (h .ear) (h .at) after) (λ i. endsWith tick party (q i) (s i) (p i)) v
+hears tick party lone e c n alone t before after at f r p q s v =
+    subst (λ (x : PartyLines). PartyIs x before at f r after) (λ i. endsWith tick party (q i) (s i) (p i)) v
 
 -- a party, by what it sends
-pub listens-silent : (tick party : ℕ) (lone : Bool) (e : Ear) (s : Sent) (before : List ℕ) (at : ℕ) (h : EarHeard) → s ≡ Silent → h ≡ heardAt quietEar at → PartyIs (listens tick party lone e s) before at (h .ear) (h .at) before
+pub listens-silent : (tick party : ℕ) (lone : Bool) (e : Ear) (s : Sent) (before : List ℕ) (at : ℕ) (f : Ear) → s ≡ Silent → f ≡ quietEar → PartyIs (listens tick party lone e s) before at f at before
 unfolding listens
-listens-silent tick party lone e s before at h p q = subst (λ (x : Sent). PartyIs (listens tick party lone e x) before at (h .ear) (h .at) before) (sym p) (party-none quietEar before at h q)
+listens-silent tick party lone e s before at f p q = subst (λ (x : Sent). PartyIs (listens tick party lone e x) before at f at before) (sym p) (party-none quietEar f before at q)
 
-pub listens-character : (tick party : ℕ) (lone : Bool) (e : Ear) (s : Sent) (c : ℕ) (before after : List ℕ) (at : ℕ) (h : EarHeard) → s ≡ Sent.Character c
-    → PartyIs (listens tick party lone e (Sent.Character c)) before at (h .ear) (h .at) after → PartyIs (listens tick party lone e s) before at (h .ear) (h .at) after
-listens-character tick party lone e s c before after at h p v = subst (λ (x : Sent). PartyIs (listens tick party lone e x) before at (h .ear) (h .at) after) (sym p) v
+pub listens-character : (tick party : ℕ) (lone : Bool) (e : Ear) (s : Sent) (c : ℕ) (before after : List ℕ) (at : ℕ) (f : Ear) (r : ℕ) → s ≡ Sent.Character c
+    → PartyIs (listens tick party lone e (Sent.Character c)) before at f r after → PartyIs (listens tick party lone e s) before at f r after
+listens-character tick party lone e s c before after at f r p v = subst (λ (x : Sent). PartyIs (listens tick party lone e x) before at f r after) (sym p) v
 
 pub ruleset listening = (refl, hears, listens-silent, listens-character)
 

@@ -8,16 +8,11 @@ use Rattle.listing.specs.Lines.{PartyLines, TickLines}
 use Rattle.listing.specs.Put.{PutIs}
 use Rattle.listing.specs.Text.{linesText}
 use Rattle.listing.specs.declared.Ear.{Ear}
-use Rattle.listing.specs.declared.EarHeard.{EarHeard}
 
 -- whether a party sends, as a number
 pub record SendsIs (s : Sent) (r : ℕ) : Type 0 where
   pub number : r ≡ count s
   pub most : r ≤ 1
-
--- an ear behind a tick that has no line
-abbrev pub heardAt : Ear → ℕ → EarHeard
-heardAt ear at = record { ear = ear; at = at }
 
 -- one party: its ear, and the place behind its line
 pub record PartyIs (x : PartyLines) (before : List ℕ) (at : ℕ) (e : Ear) (r : ℕ) (after : List ℕ) : Type 0 where

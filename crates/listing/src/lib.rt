@@ -12,10 +12,10 @@ ghost use lib.ListN.{replicate};
 ghost use Prim.Native.Nat.{_<_, _+_};
 ghost use Rattle.base.specs.Choice.{if_then_else_};
 ghost use Rattle.line.specs.Reader as Reader;
-ghost use Rattle.listing.specs.Lines.{lineOf, quietEar, goesOn, frameEnds, endsWith, oneMore, listens, linesOf, senders, tickLines};
+ghost use Rattle.listing.specs.Lines.{lineOf, quietEar, frameEnds, endsWith, oneMore, listens, linesOf, senders, tickLines};
 ghost use Rattle.listing.specs.Text.{decimalOf, decimal, headLine, typeName, masterDigit, word, lineText};
 ghost use Rattle.listing.specs.Put.{PutIs};
-ghost use Rattle.listing.specs.Promises.{SendsIs, heardAt, PartyIs, TickIs};
+ghost use Rattle.listing.specs.Promises.{SendsIs, PartyIs, TickIs};
 
 // What was heard of one party's characters.
 pub struct Ear {
@@ -201,18 +201,6 @@ fn one_more(n: u16) -> u16
     65535
 }
 
-// An ear that goes on, and has no line.
-fn goes_on(r: Receiver, count: u16, alone: bool, at: usize) -> EarHeard
-    ensures { λ h. ⌜ h ≡ heardAt (goesOn r count alone .ear) at ⌝ }
-{
-    let ear = Ear {
-        receiver: r,
-        count: count,
-        alone: alone,
-    };
-    EarHeard { ear: ear, at: at }
-}
-
 // A frame that its sender sent to the end.
 fn frame_ends(
     tick: u16,
@@ -250,15 +238,20 @@ fn ends_with(
 {
     let r = t.receiver;
     let event = t.event;
+    let ear = Ear {
+        receiver: r,
+        count: count,
+        alone: alone,
+    };
     match event {
-        Event::Nothing => goes_on(r, count, alone, at),
-        Event::PassedOver => goes_on(r, count, alone, at),
-        Event::Broken => goes_on(r, count, alone, at),
+        Event::Nothing => EarHeard { ear: ear, at: at },
+        Event::PassedOver => EarHeard { ear: ear, at: at },
+        Event::Broken => EarHeard { ear: ear, at: at },
         Event::Frame(w) => {
             let header = w.header;
             frame_ends(tick, party, header, count, alone, out, at)
         }
-        Event::Damaged(_, _) => goes_on(r, count, alone, at),
+        Event::Damaged(_, _) => EarHeard { ear: ear, at: at },
     }
 }
 
@@ -291,14 +284,6 @@ fn hear(tick: u16, party: u16, lone: bool, ear: Ear, c: u8, out: &mut [u8], at: 
     ends_with(tick, party, count, alone, t, out, at)
 }
 
-// A party sends nothing.
-fn hear_silence(at: usize) -> EarHeard
-    ensures { λ h. ⌜ h ≡ heardAt quietEar at ⌝ }
-{
-    let ear = quiet_ear();
-    EarHeard { ear: ear, at: at }
-}
-
 // A tick of one party: its ear behind it, and the line of the frame that ended.
 fn listen(
     tick: u16,
@@ -312,7 +297,10 @@ fn listen(
     ensures { λ h. ⌜ PartyIs (listens tick party lone ear sent) (now (out .entry)) at (h .ear) (h .at) (now (out .exit)) ⌝ }
 {
     match sent {
-        Sent::Silent => hear_silence(at),
+        Sent::Silent => {
+            let quiet = quiet_ear();
+            EarHeard { ear: quiet, at: at }
+        }
         Sent::Character(c) => hear(tick, party, lone, ear, c, out, at),
     }
 }
