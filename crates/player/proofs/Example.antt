@@ -10,14 +10,15 @@ use Rattle.line.specs.Reader.{taken, takenData, atIdle, atPreamble, atFirst, at
 use Rattle.turns.specs.Master.{requested, masterTakes, masterSends}
 use Rattle.turns.specs.Device.{deviceTakes, deviceSends, answered, contentGiven}
 use Rattle.turns.specs.Link.{masterTick, deviceTick, deviceTicks, sides, carried, linkTick, run}
-use Rattle.turns.specs.Run.{deviceSenders}
+use Rattle.listing.specs.Lines.{frameEnds, endsWith, listens, linesOf, senders, tickLines, linesFrom}
+use Rattle.listing.specs.Text.{decimalOf, lineText, linesText, headLine}
 use Rattle.script.specs.Script.{recordsOf, isIn, isGood, goodScript, wantedAt, stopOf, callsFrom}
-use Rattle.player.specs.Play.{readyLink, deviceLines, linesFrom, decimalOf, linesText, headLine, play}
+use Rattle.player.specs.Play.{readyLink, devicesSent, sentIn, play}
 
 -- 42 0 STX 0 10, and 55 2 ACK 0 12
 pub worked-example : play (0x00 ∷ 0x00 ∷ 0x01 ∷ 0x00 ∷ 0x00 ∷ 0x2C ∷ 0x22 ∷ 0x02 ∷ 0x00 ∷ 0x3C ∷ 0x00 ∷ 0x00 ∷ [])
     ≡ headLine
     ++ (52 ∷ 50 ∷ 32 ∷ 48 ∷ 32 ∷ 83 ∷ 84 ∷ 88 ∷ 32 ∷ 48 ∷ 32 ∷ 49 ∷ 48 ∷ 10
     ∷ 53 ∷ 53 ∷ 32 ∷ 50 ∷ 32 ∷ 65 ∷ 67 ∷ 75 ∷ 32 ∷ 48 ∷ 32 ∷ 49 ∷ 50 ∷ 10 ∷ [])
-unfolding play recordsOf isIn isGood goodScript wantedAt stopOf callsFrom readyLink deviceLines linesFrom decimalOf linesText run linkTick deviceTicks deviceSenders sides carried masterTick deviceTick requested masterTakes masterSends deviceTakes deviceSends answered contentGiven taken takenData atIdle atPreamble atFirst atAddress atExpansion atCommand atCount atData atCheck frameBytes preambleBytes bodyBytes protectedBytes headerBytes xorFrom delimiterOf stored if_then_else_
+unfolding play recordsOf isIn isGood goodScript wantedAt stopOf callsFrom readyLink devicesSent sentIn frameEnds endsWith listens linesOf senders tickLines linesFrom decimalOf lineText linesText run linkTick deviceTicks sides carried masterTick deviceTick requested masterTakes masterSends deviceTakes deviceSends answered contentGiven taken takenData atIdle atPreamble atFirst atAddress atExpansion atCommand atCount atData atCheck frameBytes preambleBytes bodyBytes protectedBytes headerBytes xorFrom delimiterOf stored if_then_else_
 worked-example = refl

@@ -10,9 +10,10 @@ use Rattle.line.specs.Reader.{taken, takenData, atIdle, atPreamble, atFirst, at
 use Rattle.turns.specs.Master.{requested, masterTakes, masterSends}
 use Rattle.turns.specs.Device.{deviceTakes, deviceSends, answered, contentGiven}
 use Rattle.turns.specs.Link.{masterTick, deviceTick, deviceTicks, sides, carried, linkTick, run}
-use Rattle.turns.specs.Run.{deviceSenders}
+use Rattle.listing.specs.Lines.{frameEnds, endsWith, listens, linesOf, senders, tickLines, linesFrom}
+use Rattle.listing.specs.Text.{decimalOf, lineText, linesText, headLine}
 use Rattle.script.specs.Script.{recordsOf, isIn, isGood, goodScript, wantedAt, stopOf, callsFrom}
-use Rattle.player.specs.Play.{readyLink, deviceLines, linesFrom, decimalOf, linesText, headLine, play}
+use Rattle.player.specs.Play.{readyLink, devicesSent, sentIn, play}
 
 -- one device bursts. The lines:
 --   46 0 STX 0 14
@@ -49,7 +50,7 @@ pub one-bursts : play
     ∷ 67 ∷ 75 ∷ 32 ∷ 48 ∷ 32 ∷ 53 ∷ 48 ∷ 10 ∷ 50 ∷ 52 ∷ 52 ∷ 32 ∷ 53 ∷ 32 ∷ 66 ∷ 65 ∷ 67 ∷ 75 ∷ 32 ∷ 48 ∷ 32 ∷ 49 ∷ 54 ∷ 10
     ∷ 50 ∷ 53 ∷ 57 ∷ 32 ∷ 49 ∷ 32 ∷ 83 ∷ 84 ∷ 88 ∷ 32 ∷ 49 ∷ 32 ∷ 49 ∷ 52 ∷ 10 ∷ 51 ∷ 48 ∷ 56 ∷ 32 ∷ 53 ∷ 32 ∷ 66 ∷ 65 ∷ 67
     ∷ 75 ∷ 32 ∷ 49 ∷ 32 ∷ 49 ∷ 54 ∷ 10 ∷ 51 ∷ 49 ∷ 57 ∷ 32 ∷ 48 ∷ 32 ∷ 83 ∷ 84 ∷ 88 ∷ 32 ∷ 48 ∷ 32 ∷ 49 ∷ 48 ∷ 10 ∷ [])
-unfolding play recordsOf isIn isGood goodScript wantedAt stopOf callsFrom readyLink deviceLines linesFrom decimalOf linesText run linkTick deviceTicks deviceSenders sides carried masterTick deviceTick requested masterTakes masterSends deviceTakes deviceSends answered contentGiven taken takenData atIdle atPreamble atFirst atAddress atExpansion atCommand atCount atData atCheck frameBytes preambleBytes bodyBytes protectedBytes headerBytes xorFrom delimiterOf stored if_then_else_
+unfolding play recordsOf isIn isGood goodScript wantedAt stopOf callsFrom readyLink devicesSent sentIn frameEnds endsWith listens linesOf senders tickLines linesFrom decimalOf lineText linesText run linkTick deviceTicks sides carried masterTick deviceTick requested masterTakes masterSends deviceTakes deviceSends answered contentGiven taken takenData atIdle atPreamble atFirst atAddress atExpansion atCommand atCount atData atCheck frameBytes preambleBytes bodyBytes protectedBytes headerBytes xorFrom delimiterOf stored if_then_else_
 one-bursts = refl
 
 -- two devices burst, and frames collide. The lines:
@@ -81,5 +82,5 @@ pub two-burst : play
     ∷ 49 ∷ 32 ∷ 83 ∷ 84 ∷ 88 ∷ 32 ∷ 49 ∷ 32 ∷ 49 ∷ 52 ∷ 10 ∷ 49 ∷ 53 ∷ 50 ∷ 32 ∷ 55 ∷ 32 ∷ 65 ∷ 67 ∷ 75 ∷ 32 ∷ 49 ∷ 32 ∷ 51
     ∷ 52 ∷ 10 ∷ 49 ∷ 54 ∷ 56 ∷ 32 ∷ 55 ∷ 32 ∷ 66 ∷ 65 ∷ 67 ∷ 75 ∷ 32 ∷ 48 ∷ 32 ∷ 49 ∷ 54 ∷ 10 ∷ 49 ∷ 56 ∷ 51 ∷ 32 ∷ 49 ∷ 32
     ∷ 83 ∷ 84 ∷ 88 ∷ 32 ∷ 49 ∷ 32 ∷ 49 ∷ 52 ∷ 10 ∷ 50 ∷ 50 ∷ 53 ∷ 32 ∷ 52 ∷ 32 ∷ 65 ∷ 67 ∷ 75 ∷ 32 ∷ 49 ∷ 32 ∷ 52 ∷ 49 ∷ 10 ∷ [])
-unfolding play recordsOf isIn isGood goodScript wantedAt stopOf callsFrom readyLink deviceLines linesFrom decimalOf linesText run linkTick deviceTicks deviceSenders sides carried masterTick deviceTick requested masterTakes masterSends deviceTakes deviceSends answered contentGiven taken takenData atIdle atPreamble atFirst atAddress atExpansion atCommand atCount atData atCheck frameBytes preambleBytes bodyBytes protectedBytes headerBytes xorFrom delimiterOf stored if_then_else_
+unfolding play recordsOf isIn isGood goodScript wantedAt stopOf callsFrom readyLink devicesSent sentIn frameEnds endsWith listens linesOf senders tickLines linesFrom decimalOf lineText linesText run linkTick deviceTicks sides carried masterTick deviceTick requested masterTakes masterSends deviceTakes deviceSends answered contentGiven taken takenData atIdle atPreamble atFirst atAddress atExpansion atCommand atCount atData atCheck frameBytes preambleBytes bodyBytes protectedBytes headerBytes xorFrom delimiterOf stored if_then_else_
 two-burst = refl

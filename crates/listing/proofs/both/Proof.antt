@@ -1,0 +1,11 @@
+use borrow.Author.Needs.{needs}
+use Rattle.base.proofs.Choices.{choices}
+use Rattle.listing.proofs.both.Statement.{statement}
+use Rattle.listing.proofs.both.Tie as tie
+
+pub both-spec : {M : Type 1} → statement M
+both-spec =
+    tie.close
+    (tie.spec
+    (λ c. search (needs, choices))
+    (λ c. search (needs, choices)))

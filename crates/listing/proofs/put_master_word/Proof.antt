@@ -1,0 +1,14 @@
+use borrow.Author.Needs.{needs}
+use Rattle.listing.proofs.Puts.{put-word}
+use Rattle.listing.proofs.put_master_word.Statement.{statement}
+use Rattle.listing.proofs.put_master_word.Tie as tie
+
+pub put-master-word-spec : {M : Type 1} → statement M
+put-master-word-spec =
+    tie.close
+    (tie.spec
+    (λ c κs. search needs)
+    (λ c κs. search needs)
+    (λ c κs. search needs)
+    (λ c. search needs)
+    (λ c. search (needs, put-word)))

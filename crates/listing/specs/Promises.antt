@@ -1,0 +1,25 @@
+-- What is promised of a tick: the ears behind it, and the text of its lines in the lent output buffer.
+use Prim.Native.Nat.{ℕ, _≤_}
+use mathlib.Core.List.{List}
+use mathlib.Core.Path.{_≡_}
+use Rattle.turns.specs.Run.{count}
+use Rattle.turns.specs.declared.Sent.{Sent}
+use Rattle.listing.specs.Lines.{PartyLines, TickLines}
+use Rattle.listing.specs.Put.{PutIs}
+use Rattle.listing.specs.Text.{linesText}
+use Rattle.listing.specs.declared.Ear.{Ear}
+
+-- whether a party sends, as a number
+pub record SendsIs (s : Sent) (r : ℕ) : Type 0 where
+  pub number : r ≡ count s
+  pub most : r ≤ 1
+
+-- one party: its ear, and the place behind its line
+pub record PartyIs (x : PartyLines) (before : List ℕ) (at : ℕ) (e : Ear) (r : ℕ) (after : List ℕ) : Type 0 where
+  pub ear-is : e ≡ x .ear
+  pub text : PutIs (linesText (x .lines)) before at r after
+
+-- several parties: their ears, and the place behind their lines
+pub record TickIs (x : TickLines) (before : List ℕ) (at : ℕ) (es : List Ear) (r : ℕ) (after : List ℕ) : Type 0 where
+  pub ears-are : es ≡ x .ears
+  pub text : PutIs (linesText (x .lines)) before at r after

@@ -1,0 +1,367 @@
+// The player's output: an ear for each party that listens to what it sends, and the lines of the frames that it hears, put as text into a lent buffer.
+use frame::Header;
+use line::Event;
+use line::Heard;
+use line::Receiver;
+use line::Taken;
+use turns::Sent;
+ghost use mathlib.Core.Path.{_≡_};
+ghost use mathlib.Core.List.{[], _∷_};
+ghost use mathlib.Core.Bool.{false};
+ghost use lib.ListN.{replicate};
+ghost use Prim.Native.Nat.{_<_, _+_};
+ghost use Rattle.base.specs.Choice.{if_then_else_};
+ghost use Rattle.line.specs.Reader as Reader;
+ghost use Rattle.listing.specs.Lines.{lineOf, quietEar, frameEnds, endsWith, oneMore, listens, linesOf, senders, tickLines};
+ghost use Rattle.listing.specs.Text.{decimalOf, decimal, headLine, typeName, masterDigit, word, lineText};
+ghost use Rattle.listing.specs.Put.{PutIs};
+ghost use Rattle.listing.specs.Promises.{SendsIs, PartyIs, TickIs};
+
+// What was heard of one party's characters.
+pub struct Ear {
+    pub receiver: Receiver,
+    // how many characters of the frame there were
+    pub count: u16,
+    // nobody else sent in their ticks
+    pub alone: bool,
+}
+
+// An ear for each party: 0 primary, 1 secondary, then the devices.
+pub type Ears = [Ear; 8];
+
+// What every party sent in a tick, in the same order.
+pub type Sents = [Sent; 8];
+
+// The ears behind a tick, and the place behind its lines in the output.
+pub struct Listened {
+    pub ears: Ears,
+    pub at: usize,
+}
+
+// The same of one party.
+struct EarHeard {
+    ear: Ear,
+    at: usize,
+}
+
+// A byte at a place of the output, if there is room for it; the next place.
+pub fn put_byte(b: u8, out: &mut [u8], at: usize) -> usize
+    ensures { λ r. ⌜ PutIs (b ∷ []) (now (out .entry)) at r (now (out .exit)) ⌝ }
+{
+    if at < out.len() {
+        out[at] = b;
+        return at + 1;
+    }
+    at
+}
+
+// Bytes, one behind the other.
+pub fn put_bytes(text: &[u8], out: &mut [u8], at: usize) -> usize
+    ensures { λ r. ⌜ PutIs (now (text .entry)) (now (out .entry)) at r (now (out .exit)) ⌝ }
+{
+    let mut place = at;
+    let mut i = 0;
+    while i < text.len() {
+        place = put_byte(text[i], out, place);
+        i += 1;
+    }
+    place
+}
+
+// A digit, 0 to 9.
+fn put_digit(n: u16, out: &mut [u8], at: usize) -> usize
+    requires { ⌜ n < 10 ⌝ }
+    ensures { λ r. ⌜ PutIs ((48 + n) ∷ []) (now (out .entry)) at r (now (out .exit)) ⌝ }
+{
+    put_byte((48 + n) as u8, out, at)
+}
+
+// A number in decimal, up to this many digits.
+fn put_digits(digits: u8, n: u16, out: &mut [u8], at: usize) -> usize
+    ensures { λ r. ⌜ PutIs (decimalOf digits n) (now (out .entry)) at r (now (out .exit)) ⌝ }
+{
+    if digits == 0 {
+        return at;
+    }
+    if n < 10 {
+        return put_digit(n, out, at);
+    }
+    let place = put_digits(digits - 1, n / 10, out, at);
+    put_digit(n % 10, out, place)
+}
+
+// A number in decimal.
+pub fn put_decimal(n: u16, out: &mut [u8], at: usize) -> usize
+    ensures { λ r. ⌜ PutIs (decimal n) (now (out .entry)) at r (now (out .exit)) ⌝ }
+{
+    put_digits(5, n, out, at)
+}
+
+// The header line.
+pub fn put_head(out: &mut [u8], at: usize) -> usize
+    ensures { λ r. ⌜ PutIs headLine (now (out .entry)) at r (now (out .exit)) ⌝ }
+{
+    put_bytes(b"tick party type master length\n", out, at)
+}
+
+// The name of a frame type.
+fn put_type(frame: u8, out: &mut [u8], at: usize) -> usize
+    ensures { λ r. ⌜ PutIs (typeName frame) (now (out .entry)) at r (now (out .exit)) ⌝ }
+{
+    if frame == frame::STX {
+        return put_bytes(b"STX", out, at);
+    }
+    if frame == frame::ACK {
+        return put_bytes(b"ACK", out, at);
+    }
+    put_bytes(b"BACK", out, at)
+}
+
+// A frame's master: 0 is the primary.
+fn master_digit(primary: bool) -> u8
+    ensures { λ r. ⌜ r ≡ masterDigit primary ⌝ }
+{
+    if primary {
+        return b'0';
+    }
+    b'1'
+}
+
+// The words of a line, each with a space behind it.
+fn put_number_word(n: u16, out: &mut [u8], at: usize) -> usize
+    ensures { λ r. ⌜ PutIs (word (decimal n)) (now (out .entry)) at r (now (out .exit)) ⌝ }
+{
+    let place = put_decimal(n, out, at);
+    put_byte(b' ', out, place)
+}
+
+fn put_type_word(frame: u8, out: &mut [u8], at: usize) -> usize
+    ensures { λ r. ⌜ PutIs (word (typeName frame)) (now (out .entry)) at r (now (out .exit)) ⌝ }
+{
+    let place = put_type(frame, out, at);
+    put_byte(b' ', out, place)
+}
+
+fn put_master_word(primary: bool, out: &mut [u8], at: usize) -> usize
+    ensures { λ r. ⌜ PutIs (word (masterDigit primary ∷ [])) (now (out .entry)) at r (now (out .exit)) ⌝ }
+{
+    let digit = master_digit(primary);
+    let place = put_byte(digit, out, at);
+    put_byte(b' ', out, place)
+}
+
+// The line of a frame: the tick of its last character, its sender, its type, its master, and its length in characters.
+pub fn put_line(
+    tick: u16,
+    party: u16,
+    header: Header,
+    length: u16,
+    out: &mut [u8],
+    at: usize,
+) -> usize
+    ensures { λ r. ⌜ PutIs (lineText (lineOf tick party header length)) (now (out .entry)) at r (now (out .exit)) ⌝ }
+{
+    let frame = header.frame;
+    let primary = header.primary;
+    let a = put_number_word(tick, out, at);
+    let b = put_number_word(party, out, a);
+    let c = put_type_word(frame, out, b);
+    let d = put_master_word(primary, out, c);
+    let e = put_decimal(length, out, d);
+    put_byte(b'\n', out, e)
+}
+
+// An ear that has heard nothing of a frame.
+pub fn quiet_ear() -> Ear
+    ensures { λ r. ⌜ r ≡ quietEar ⌝ }
+{
+    let r = tick_reader::idle_reader();
+    Ear {
+        receiver: r,
+        count: 0,
+        alone: true,
+    }
+}
+
+// The ears before the first tick.
+pub fn quiet_ears() -> Ears
+    ensures { λ r. ⌜ r ≡ replicate 8 quietEar ⌝ }
+{
+    let e = quiet_ear();
+    [e; 8]
+}
+
+// One character more, up to the largest count.
+fn one_more(n: u16) -> u16
+    ensures { λ r. ⌜ r ≡ oneMore n ⌝ }
+{
+    if n < 65535 {
+        return n + 1;
+    }
+    65535
+}
+
+// A frame that its sender sent to the end.
+fn frame_ends(
+    tick: u16,
+    party: u16,
+    header: Header,
+    length: u16,
+    alone: bool,
+    out: &mut [u8],
+    at: usize,
+) -> EarHeard
+    ensures { λ h. ⌜ PartyIs (frameEnds (lineOf tick party header length) alone) (now (out .entry)) at (h .ear) (h .at) (now (out .exit)) ⌝ }
+{
+    let ear = quiet_ear();
+    if alone {
+        let place = put_line(tick, party, header, length, out, at);
+        return EarHeard {
+            ear: ear,
+            at: place,
+        };
+    }
+    EarHeard { ear: ear, at: at }
+}
+
+// An ear behind a character, by what its reader tells.
+fn ends_with(
+    tick: u16,
+    party: u16,
+    count: u16,
+    alone: bool,
+    t: Taken,
+    out: &mut [u8],
+    at: usize,
+) -> EarHeard
+    ensures { λ h. ⌜ PartyIs (endsWith tick party count alone t) (now (out .entry)) at (h .ear) (h .at) (now (out .exit)) ⌝ }
+{
+    let r = t.receiver;
+    let event = t.event;
+    let ear = Ear {
+        receiver: r,
+        count: count,
+        alone: alone,
+    };
+    match event {
+        Event::Nothing => EarHeard { ear: ear, at: at },
+        Event::PassedOver => EarHeard { ear: ear, at: at },
+        Event::Broken => EarHeard { ear: ear, at: at },
+        Event::Frame(w) => {
+            let header = w.header;
+            frame_ends(tick, party, header, count, alone, out, at)
+        }
+        Event::Damaged(_, _) => EarHeard { ear: ear, at: at },
+    }
+}
+
+// Whether both hold.
+fn both(a: bool, b: bool) -> bool
+    ensures { λ r. ⌜ r ≡ (if a then b else false) ⌝ }
+{
+    if a {
+        return b;
+    }
+    false
+}
+
+// A reader behind a character. The frame's data are of no interest here.
+fn taken(r: Receiver, c: u8) -> Taken
+    ensures { λ t. ⌜ t ≡ Reader.taken r (Heard.Character c) ⌝ }
+{
+    let mut bytes = [0u8; 255];
+    tick_reader::take(r, Heard::Character(c), &mut bytes)
+}
+
+// A party sends a character.
+fn hear(tick: u16, party: u16, lone: bool, ear: Ear, c: u8, out: &mut [u8], at: usize) -> EarHeard
+    ensures { λ h. ⌜ PartyIs (listens tick party lone ear (Sent.Character c)) (now (out .entry)) at (h .ear) (h .at) (now (out .exit)) ⌝ }
+{
+    let r = ear.receiver;
+    let t = taken(r, c);
+    let count = one_more(ear.count);
+    let alone = both(ear.alone, lone);
+    ends_with(tick, party, count, alone, t, out, at)
+}
+
+// A tick of one party: its ear behind it, and the line of the frame that ended.
+fn listen(
+    tick: u16,
+    party: u16,
+    lone: bool,
+    ear: Ear,
+    sent: Sent,
+    out: &mut [u8],
+    at: usize,
+) -> EarHeard
+    ensures { λ h. ⌜ PartyIs (listens tick party lone ear sent) (now (out .entry)) at (h .ear) (h .at) (now (out .exit)) ⌝ }
+{
+    match sent {
+        Sent::Silent => {
+            let quiet = quiet_ear();
+            EarHeard { ear: quiet, at: at }
+        }
+        Sent::Character(c) => hear(tick, party, lone, ear, c, out, at),
+    }
+}
+
+// 1 for a party that sends.
+fn sends(s: Sent) -> usize
+    ensures { λ r. ⌜ SendsIs s r ⌝ }
+{
+    match s {
+        Sent::Silent => 0,
+        Sent::Character(_) => 1,
+    }
+}
+
+// How many parties send.
+fn senders_of(sents: Sents) -> usize
+    ensures { λ r. ⌜ r ≡ senders sents ⌝ }
+{
+    let mut n = 0;
+    let mut i = 0;
+    while i < 8 {
+        let s = sents[i];
+        n += sends(s);
+        i += 1;
+    }
+    n
+}
+
+// The parties one behind the other. lone says that at most one of them sends.
+fn listen_all(
+    tick: u16,
+    lone: bool,
+    ears: Ears,
+    sents: Sents,
+    out: &mut [u8],
+    at: usize,
+) -> Listened
+    ensures { λ h. ⌜ TickIs (linesOf tick 0 lone ears sents) (now (out .entry)) at (h .ears) (h .at) (now (out .exit)) ⌝ }
+{
+    let mut list = ears;
+    let mut place = at;
+    let mut i = 0;
+    while i < 8 {
+        let e = list[i];
+        let s = sents[i];
+        let h = listen(tick, i as u16, lone, e, s, out, place);
+        let next = h.ear;
+        list[i] = next;
+        place = h.at;
+        i += 1;
+    }
+    Listened {
+        ears: list,
+        at: place,
+    }
+}
+
+// A tick: the ears behind it, and the lines of the frames that ended in it, put into the output.
+pub fn tick_lines(tick: u16, ears: Ears, sents: Sents, out: &mut [u8], at: usize) -> Listened
+    ensures { λ h. ⌜ TickIs (tickLines tick ears sents) (now (out .entry)) at (h .ears) (h .at) (now (out .exit)) ⌝ }
+{
+    let n = senders_of(sents);
+    listen_all(tick, n <= 1, ears, sents, out, at)
+}
