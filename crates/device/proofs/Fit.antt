@@ -187,7 +187,7 @@ module _ (d : Device) (contents : List ℕ) (f : Fit d contents) where
       by Follows z = absurd (not-accepted NoRequest e z)
       by (Bursts n) z = absurd (not-accepted NoRequest e z)
 
-  -- content that was given: the definition that a later function will follow
+  -- content that was given
   pub content-fit : (limit : ℕ) → limit ≤ 255 → (command : ℕ) (put : List ℕ) (e : Device) → 255 ≤ length contents → contentGiven limit d command (length put) ≡ accepted e → Fit e (stored contents 0 put)
   content-fit limit most command put e room q = go (content-view limit d command (length put)) q
     where

@@ -82,10 +82,10 @@ sends-ready d frame contents r = record {
   contents-room = r .contents-room;
 }
 
-abbrev SideReady : DeviceStep → Type 0
+abbrev pub SideReady : DeviceStep → Type 0
 SideReady s = Ready (s .side .device) (s .side .frame) (s .side .contents)
 
-tick-ready : (x : DeviceSide) (heard : Heard) (call : DeviceCall) → Ready (x .device) (x .frame) (x .contents) → SideReady (deviceTick 255 x heard call)
+pub tick-ready : (x : DeviceSide) (heard : Heard) (call : DeviceCall) → Ready (x .device) (x .frame) (x .contents) → SideReady (deviceTick 255 x heard call)
 unfolding deviceTick
 tick-ready x heard call r = by call
   where

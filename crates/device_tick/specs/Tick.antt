@@ -3,16 +3,18 @@ use Prim.Native.Nat.{ℕ}
 use mathlib.Core.List.{List}
 use mathlib.Core.Path.{_≡_}
 use lib.ListN.{length}
+use Rattle.base.specs.Store.{stored}
 use Rattle.frame.specs.Write.{writeBuffer}
 use Rattle.line.specs.declared.Event.{Event}
 use Rattle.line.specs.declared.Heard.{Heard}
 use Rattle.turns.specs.Master.{Called, accepted, refused}
-use Rattle.turns.specs.Device.{tells, answerHeader, wished, deviceTakes, answered, deviceSends}
-use Rattle.turns.specs.Link.{DeviceCall, no-call, gives-answer, Answer, none, was-taken, was-refused, DeviceSide, DeviceStep, deviceData, deviceTick}
+use Rattle.turns.specs.Device.{tells, answerHeader, wished, deviceTakes, answered, contentGiven, deviceSends}
+use Rattle.turns.specs.Link.{DeviceCall, no-call, gives-answer, gives-content, Answer, none, was-taken, was-refused, DeviceSide, DeviceStep, deviceData, deviceTick}
 use Rattle.turns.specs.declared.Device.{Device}
 use Rattle.turns.specs.declared.DeviceTaken.{DeviceTaken}
 use Rattle.turns.specs.declared.DeviceTold.{DeviceTold}
 use Rattle.turns.specs.declared.Wish.{Wish}
+use Rattle.device.specs.declared.DeviceCalled.{DeviceCalled}
 use Rattle.device.specs.Buffers.{errorBuffer, begunBuffer}
 use Rattle.device.proofs.Reached.{Ready}
 use Rattle.device_tick.specs.declared.HostCall.{HostCall}
@@ -24,6 +26,7 @@ use Rattle.device_tick.specs.declared.DeviceTicked.{DeviceTicked}
 abbrev pub callOf : HostCall → List ℕ → DeviceCall
 callOf HostCall.Nothing put = no-call
 callOf (HostCall.Answers wish) put = gives-answer wish put
+callOf (HostCall.Content command) put = gives-content command put
 
 -- what became of it: none, taken, or refused with its number in document 01's table
 abbrev pub answerOf : CallAnswer → Answer
@@ -49,9 +52,14 @@ abbrev pub writtenAnswer : Called Device → Device → Wish → List ℕ → Li
 writtenAnswer (accepted e) d wish put frame bytes contents told = writtenSent e (writeBuffer (d .preamble) (answerHeader (d .request) (wished (d .burst) wish)) put frame 0) bytes contents told was-taken
 writtenAnswer (refused why) d wish put frame bytes contents told = writtenSent d frame bytes contents told (was-refused why)
 
+abbrev pub writtenContent : Called Device → Device → List ℕ → List ℕ → List ℕ → List ℕ → DeviceTold → DeviceStep
+writtenContent (accepted e) d put frame bytes contents told = writtenSent e frame bytes (stored contents 0 put) told was-taken
+writtenContent (refused why) d put frame bytes contents told = writtenSent d frame bytes contents told (was-refused why)
+
 abbrev pub writtenCall : DeviceTaken → HostCall → List ℕ → List ℕ → List ℕ → List ℕ → DeviceStep
 writtenCall t HostCall.Nothing put frame bytes contents = writtenSent (t .device) frame bytes contents (t .told) none
 writtenCall t (HostCall.Answers wish) put frame bytes contents = writtenAnswer (answered 255 (t .device) wish (length put)) (t .device) wish put frame bytes contents (t .told)
+writtenCall t (HostCall.Content command) put frame bytes contents = writtenContent (contentGiven 255 (t .device) command (length put)) (t .device) put frame bytes contents (t .told)
 
 unfoldable pub writtenTick : DeviceSide → Heard → HostCall → List ℕ → DeviceStep
 writtenTick x heard call put =
@@ -60,13 +68,18 @@ writtenTick x heard call put =
 abbrev pub uncalled : Device → CallTaken
 uncalled d = record { device = d; answer = CallAnswer.Nothing }
 
--- a call, whatever the tick told before it and whatever data it heard: `after` is the frame buffer behind the call
-pub record CallIs (d : Device) (call : HostCall) (put frame : List ℕ) (r : CallTaken) (after : List ℕ) : Type 0 where
-  pub goes : (told : DeviceTold) (event : Event) (bytes contents : List ℕ)
-      → writtenCall (tells d told event) call put frame bytes contents ≡ writtenSent (r .device) after bytes contents told (answerOf (r .answer))
+-- behind an answer or a burst content, by what it answered
+abbrev pub calledBy : Device → DeviceCalled → CallTaken
+calledBy d (DeviceCalled.Accepted e) = record { device = e; answer = CallAnswer.Taken }
+calledBy d (DeviceCalled.Refused why) = record { device = d; answer = CallAnswer.Refused why }
+
+-- a call, whatever the tick told before it and whatever data it heard: `frame-after` and `contents-after` are the frame buffer and the burst content behind the call
+pub record CallIs (d : Device) (call : HostCall) (put frame contents : List ℕ) (r : CallTaken) (frame-after contents-after : List ℕ) : Type 0 where
+  pub goes : (told : DeviceTold) (event : Event) (bytes : List ℕ)
+      → writtenCall (tells d told event) call put frame bytes contents ≡ writtenSent (r .device) frame-after bytes contents-after told (answerOf (r .answer))
 
 -- a tick: what is sent, told and answered, the state and the lent buffers behind it; and each frame that its reader found
-pub record TickIs (d : Device) (heard : Heard) (call : HostCall) (put frame bytes contents : List ℕ) (r : DeviceTicked) (frame-after bytes-after : List ℕ) : Type 0 where
-  pub step : stepOf r frame-after bytes-after contents ≡ writtenTick (sideOf d frame bytes contents) heard call put
+pub record TickIs (d : Device) (heard : Heard) (call : HostCall) (put frame bytes contents : List ℕ) (r : DeviceTicked) (frame-after bytes-after contents-after : List ℕ) : Type 0 where
+  pub step : stepOf r frame-after bytes-after contents-after ≡ writtenTick (sideOf d frame bytes contents) heard call put
   pub found : r .event ≡ deviceTakes d heard .event
-  pub within : Ready d frame contents → stepOf r frame-after bytes-after contents ≡ deviceTick 255 (sideOf d frame bytes contents) heard (callOf call put)
+  pub within : Ready d frame contents → stepOf r frame-after bytes-after contents-after ≡ deviceTick 255 (sideOf d frame bytes contents) heard (callOf call put)

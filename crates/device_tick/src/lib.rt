@@ -1,4 +1,4 @@
-// A tick of a device: it takes what was heard, then its host's answer, then sends a character or none.
+// A tick of a device: it takes what was heard, then its host's answer or burst content, then sends a character or none.
 use base::Refusal;
 use device::DeviceCalled;
 use line::Event;
@@ -8,12 +8,14 @@ use turns::DeviceTold;
 use turns::Sent;
 use turns::Wish;
 ghost use mathlib.Core.Path.{_≡_};
-ghost use Rattle.device_tick.specs.Tick.{uncalled, CallIs, TickIs};
+ghost use Rattle.device_tick.specs.Tick.{uncalled, calledBy, CallIs, TickIs};
 
 // A host's call in a tick.
 pub enum HostCall {
     Nothing,
     Answers(Wish),
+    // a burst content of this command
+    Content(u8),
 }
 
 // What became of it.
@@ -38,10 +40,10 @@ pub struct DeviceTicked {
     pub answer: CallAnswer,
 }
 
-fn answer_by(d: Device, wish: Wish, put: &[u8], frame: &mut [u8; 284]) -> CallTaken
-    ensures { λ r. ⌜ CallIs d (HostCall.Answers wish) (now (put .entry)) (now (frame .entry)) r (now (frame .exit)) ⌝ }
+// A device behind its host's answer or burst content, by what it answered.
+fn called_by(d: Device, r: DeviceCalled) -> CallTaken
+    ensures { λ t. ⌜ t ≡ calledBy d r ⌝ }
 {
-    let r = device::answer(d, wish, put, frame);
     match r {
         DeviceCalled::Accepted(e) => CallTaken {
             device: e,
@@ -63,32 +65,41 @@ fn no_call(d: Device) -> CallTaken
     }
 }
 
-fn take_call(d: Device, call: HostCall, put: &[u8], frame: &mut [u8; 284]) -> CallTaken
-    ensures { λ r. ⌜ CallIs d call (now (put .entry)) (now (frame .entry)) r (now (frame .exit)) ⌝ }
+fn take_call(
+    d: Device,
+    call: HostCall,
+    put: &[u8],
+    contents: &mut [u8; 255],
+    frame: &mut [u8; 284],
+) -> CallTaken
+    ensures { λ r. ⌜ CallIs d call (now (put .entry)) (now (frame .entry)) (now (contents .entry)) r (now (frame .exit)) (now (contents .exit)) ⌝ }
 {
     match call {
         HostCall::Nothing => no_call(d),
-        HostCall::Answers(wish) => answer_by(d, wish, put, frame),
+        HostCall::Answers(wish) => called_by(d, device::answer(d, wish, put, frame)),
+        HostCall::Content(command) => {
+            called_by(d, device_content::content(d, command, put, contents))
+        }
     }
 }
 
-// A tick. Lent are the data of an answer, the data of the burst content, the buffer that holds the device's ACK or BACK and the one for the data of the frame that it hears.
+// A tick. Lent are the data of an answer or of a burst content, the burst content, the buffer that holds the device's ACK or BACK and the one for the data of the frame that it hears.
 pub fn tick(
     d: Device,
     heard: Heard,
     call: HostCall,
     put: &[u8],
-    contents: &[u8; 255],
+    contents: &mut [u8; 255],
     frame: &mut [u8; 284],
     bytes: &mut [u8; 255],
 ) -> DeviceTicked
-    ensures { λ r. ⌜ TickIs d heard call (now (put .entry)) (now (frame .entry)) (now (bytes .entry)) (now (contents .entry)) r (now (frame .exit)) (now (bytes .exit)) ⌝ }
+    ensures { λ r. ⌜ TickIs d heard call (now (put .entry)) (now (frame .entry)) (now (bytes .entry)) (now (contents .entry)) r (now (frame .exit)) (now (bytes .exit)) (now (contents .exit)) ⌝ }
 {
     let t = device::take(d, heard, bytes, frame);
     let taken = t.device;
     let told = t.told;
     let event = t.event;
-    let c = take_call(taken, call, put, frame);
+    let c = take_call(taken, call, put, contents, frame);
     let called = c.device;
     let answer = c.answer;
     let s = device::send(called, contents, frame);

@@ -1,9 +1,4 @@
--- The laws by which the link is proved.
+-- The laws by which a link is proved, and where its tick is the tick of turns.
 pub mod Lines
-pub mod Ticks
-pub mod Slots
-pub mod Sixes
 pub mod Whole
-pub mod Starts
-pub mod Within
 pub mod Agrees

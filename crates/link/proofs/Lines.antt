@@ -5,7 +5,7 @@ use Rattle.line.specs.declared.Heard.{Heard}
 use Rattle.turns.specs.Link.{joins}
 use Rattle.turns.specs.declared.Sent.{Sent}
 use Rattle.link.specs.Link.{pairLine}
-use Rattle.link.specs.declared.PairTicked.{PairTicked}
+use Rattle.slots.specs.declared.PairTicked.{PairTicked}
 
 pub joins-sent : (p q : Sent) (heard r : Heard) → p ≡ q → r ≡ joins q heard → r ≡ joins p heard
 joins-sent p q heard r e f = f ∙ ap (λ (x : Sent). joins x heard) (sym e)

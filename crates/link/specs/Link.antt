@@ -5,18 +5,20 @@ use mathlib.Core.Path.{_≡_}
 use Rattle.line.specs.declared.Heard.{Heard}
 use Rattle.line.specs.declared.Heard.the-variants.{Silence}
 use Rattle.turns.specs.Link.{joins}
+use Rattle.turns.specs.declared.Master.{Master}
 use Rattle.master.specs.Tick.{TickIs}
-use Rattle.link.specs.Slots.{Puts, SixIs}
-use Rattle.link.specs.declared.Devices.{Devices}
-use Rattle.link.specs.declared.DevicesTicked.{DevicesTicked}
+use Rattle.master.specs.declared.MasterTicked.{MasterTicked}
+use Rattle.slots.specs.Part.{dataOf}
+use Rattle.slots.specs.Slots.{SixIs, devicesAfter}
+use Rattle.slots.specs.declared.DevicesTicked.{DevicesTicked}
+use Rattle.slots.specs.declared.PairTicked.{PairTicked}
 use Rattle.link.specs.declared.Link.{Link}
 use Rattle.link.specs.declared.LinkCalls.{LinkCalls}
 use Rattle.link.specs.declared.LinkTicked.{LinkTicked}
+use Rattle.link.specs.declared.MasterCall.{MasterCall}
 use Rattle.link.specs.declared.Masters.{Masters}
 use Rattle.link.specs.declared.MastersCalls.{MastersCalls}
 use Rattle.link.specs.declared.MastersTicked.{MastersTicked}
-use Rattle.link.specs.declared.Pair.{Pair}
-use Rattle.link.specs.declared.PairTicked.{PairTicked}
 
 -- what the line carries, where the parties behind these two are heard so
 abbrev pub pairLine : PairTicked → Heard → Heard
@@ -28,19 +30,22 @@ devicesLine d = pairLine (d .low) (pairLine (d .middle) (pairLine (d .high) Sile
 abbrev pub mastersLine : MastersTicked → Heard → Heard
 mastersLine m heard = joins (m .primary .sent) (joins (m .secondary .sent) heard)
 
--- what is lent to a master: the data of its host's request, and its two buffers
+-- what is lent to a master: its frame buffer and its data buffer
 pub record MasterLent : Type 0 where
-  pub put : List ℕ
   pub frame : List ℕ
   pub bytes : List ℕ
 
-abbrev pub masterLends : List ℕ → List ℕ → List ℕ → MasterLent
-masterLends put frame bytes = record { put = put; frame = frame; bytes = bytes }
+abbrev pub masterLends : List ℕ → List ℕ → MasterLent
+masterLends frame bytes = record { frame = frame; bytes = bytes }
+
+-- a tick of a master, whose call names its data in what is put
+abbrev pub OfMaster : Heard → Master → MasterCall → List ℕ → MasterLent → MasterTicked → MasterLent → Type 0
+OfMaster heard m called put x r after = TickIs m heard (called .call) (dataOf (called .part) put) (x .frame) (x .bytes) r (after .frame) (after .bytes)
 
 -- a tick of both masters: `p` and `s` are what is lent, `p-after` and `s-after` the same behind the tick
-pub record MastersAre (m : Masters) (heard : Heard) (calls : MastersCalls) (p s : MasterLent) (r : MastersTicked) (p-after s-after : MasterLent) : Type 0 where
-  pub primary : TickIs (m .primary) heard (calls .primary) (p .put) (p .frame) (p .bytes) (r .primary) (p-after .frame) (p-after .bytes)
-  pub secondary : TickIs (m .secondary) heard (calls .secondary) (s .put) (s .frame) (s .bytes) (r .secondary) (s-after .frame) (s-after .bytes)
+pub record MastersAre (m : Masters) (heard : Heard) (calls : MastersCalls) (put : List ℕ) (p s : MasterLent) (r : MastersTicked) (p-after s-after : MasterLent) : Type 0 where
+  pub primary : OfMaster heard (m .primary) (calls .primary) put p (r .primary) p-after
+  pub secondary : OfMaster heard (m .secondary) (calls .secondary) put s (r .secondary) s-after
 
 -- what is lent to six slots
 pub record DevicesLent : Type 0 where
@@ -52,18 +57,12 @@ abbrev pub devicesLend : List (List ℕ) → List (List ℕ) → List (List ℕ)
 devicesLend frames bytes contents = record { frames = frames; bytes = bytes; contents = contents }
 
 -- a tick of all
-pub record LinkIs (l : Link) (calls : LinkCalls) (p s : MasterLent) (puts : Puts) (d : DevicesLent) (r : LinkTicked) (p-after s-after : MasterLent) (d-after : DevicesLent) : Type 0 where
-  pub masters : MastersAre (l .masters) (l .line) (calls .masters) p s (r .masters) p-after s-after
-  pub devices : SixIs (l .devices) (l .line) (calls .devices) puts (d .frames) (d .bytes) (d .contents) (r .devices) (d-after .frames) (d-after .bytes)
+pub record LinkIs (l : Link) (calls : LinkCalls) (put : List ℕ) (p s : MasterLent) (d : DevicesLent) (r : LinkTicked) (p-after s-after : MasterLent) (d-after : DevicesLent) : Type 0 where
+  pub masters : MastersAre (l .masters) (l .line) (calls .masters) put p s (r .masters) p-after s-after
+  pub devices : SixIs (l .devices) (l .line) (calls .devices) put (d .frames) (d .bytes) (d .contents) (r .devices) (d-after .frames) (d-after .bytes) (d-after .contents)
   pub line : r .line ≡ mastersLine (r .masters) (devicesLine (r .devices))
 
 -- the link behind a tick
-abbrev pub pairAfter : PairTicked → Pair
-pairAfter t = record { left = t .left .slot; right = t .right .slot }
-
-abbrev pub devicesAfter : DevicesTicked → Devices
-devicesAfter t = record { low = pairAfter (t .low); middle = pairAfter (t .middle); high = pairAfter (t .high) }
-
 abbrev pub mastersAfter : MastersTicked → Masters
 mastersAfter t = record { primary = t .primary .master; secondary = t .secondary .master }
 

@@ -21,10 +21,10 @@ use Rattle.device_tick.specs.declared.DeviceTicked.{DeviceTicked}
 use Rattle.party_c.specs.Device.{answerAt, deviceNumber, step, ticked, StepIs, numbersBy, deviceNumbers}
 
 -- a tick of what was heard and called
-pub step-is : (d : Device) (frame bytes contents frame-after bytes-after : List ℕ) (first c : ℕ) (h : Heard) (call : HostCall) (t : DeviceTicked)
-    → h ≡ heardOf (first / 32) c → call ≡ answerAt (first % 32) → TickIs d h call (0 ∷ 0 ∷ []) frame bytes contents t frame-after bytes-after
-    → StepIs d frame bytes contents first c t frame-after bytes-after
-step-is d frame bytes contents frame-after bytes-after first c h call t p q e = record {
+pub step-is : (d : Device) (frame bytes contents frame-after bytes-after contents-after : List ℕ) (first c : ℕ) (h : Heard) (call : HostCall) (t : DeviceTicked)
+    → h ≡ heardOf (first / 32) c → call ≡ answerAt (first % 32) → TickIs d h call (0 ∷ 0 ∷ []) frame bytes contents t frame-after bytes-after contents-after
+    → StepIs d frame bytes contents first c t frame-after bytes-after contents-after
+step-is d frame bytes contents frame-after bytes-after contents-after first c h call t p q e = record {
   steps = e .step
       ∙ ap (λ (x : Heard). writtenTick (sideOf d frame bytes contents) x call (0 ∷ 0 ∷ [])) p
       ∙ ap (λ (x : HostCall). writtenTick (sideOf d frame bytes contents) (heardOf (first / 32) c) x (0 ∷ 0 ∷ [])) q;
@@ -34,13 +34,13 @@ pub run-start : (recording before : List ℕ) (d : Device) (frame bytes contents
     → Running ticked (trace ticked (sideOf d frame bytes contents) recording) recording before (sideOf d frame bytes contents) before 0 0
 run-start recording before d frame bytes contents = begun ticked recording before (sideOf d frame bytes contents)
 
-pub run-tick : (numbers recording before : List ℕ) (d : Device) (frame bytes contents events : List ℕ) (at i : ℕ) (t : DeviceTicked) (frame-after bytes-after : List ℕ) (number : ℕ)
+pub run-tick : (numbers recording before : List ℕ) (d : Device) (frame bytes contents events : List ℕ) (at i : ℕ) (t : DeviceTicked) (frame-after bytes-after contents-after : List ℕ) (number : ℕ)
     → Running ticked numbers recording before (sideOf d frame bytes contents) events at i → i < length events → 2 ≤ length recording - at
-    → StepIs d frame bytes contents (getD recording at 0) (getD recording (at + 1) 0) t frame-after bytes-after → number ≡ deviceNumber (t .sent) (t .told)
-    → Running ticked numbers recording before (sideOf (t .device) frame-after bytes-after contents) (set events i number) (at + 2) (i + 1)
-run-tick numbers recording before d frame bytes contents events at i t frame-after bytes-after number v h k e f =
-    goes-on ticked numbers recording before (sideOf d frame bytes contents) events at i (record { number = number; behind = sideOf (t .device) frame-after bytes-after contents }) v h k
-    (ap (λ (n : ℕ). record { number = n; behind = sideOf (t .device) frame-after bytes-after contents }) f
+    → StepIs d frame bytes contents (getD recording at 0) (getD recording (at + 1) 0) t frame-after bytes-after contents-after → number ≡ deviceNumber (t .sent) (t .told)
+    → Running ticked numbers recording before (sideOf (t .device) frame-after bytes-after contents-after) (set events i number) (at + 2) (i + 1)
+run-tick numbers recording before d frame bytes contents events at i t frame-after bytes-after contents-after number v h k e f =
+    goes-on ticked numbers recording before (sideOf d frame bytes contents) events at i (record { number = number; behind = sideOf (t .device) frame-after bytes-after contents-after }) v h k
+    (ap (λ (n : ℕ). record { number = n; behind = sideOf (t .device) frame-after bytes-after contents-after }) f
     ∙ ap (λ (u : DeviceStep). record { number = deviceNumber (u .sent) (u .told); behind = u .side }) (e .steps))
 
 pub ruleset runs = (refl, run-start, run-tick, run-ended, run-full)

@@ -35,8 +35,8 @@ step s first c = writtenTick s (heardOf (first / 32) c) (answerAt (first % 32)) 
 abbrev pub ticked : DeviceSide → ℕ → ℕ → Ticked DeviceSide
 ticked s first c = record { number = deviceNumber (step s first c .sent) (step s first c .told); behind = step s first c .side }
 
-pub record StepIs (d : Device) (frame bytes contents : List ℕ) (first c : ℕ) (t : DeviceTicked) (frame-after bytes-after : List ℕ) : Type 0 where
-  pub steps : stepOf t frame-after bytes-after contents ≡ step (sideOf d frame bytes contents) first c
+pub record StepIs (d : Device) (frame bytes contents : List ℕ) (first c : ℕ) (t : DeviceTicked) (frame-after bytes-after contents-after : List ℕ) : Type 0 where
+  pub steps : stepOf t frame-after bytes-after contents-after ≡ step (sideOf d frame bytes contents) first c
 
 -- from its start on
 abbrev pub numbersBy : Called Device → List ℕ → List ℕ

@@ -151,11 +151,11 @@ fn device_stepped(
     d: Device,
     first: u8,
     c: u8,
-    contents: &[u8; 255],
+    contents: &mut [u8; 255],
     frame: &mut [u8; 284],
     bytes: &mut [u8; 255],
 ) -> DeviceTicked
-    ensures { λ t. ⌜ SD.StepIs d (now (frame .entry)) (now (bytes .entry)) (now (contents .entry)) first c t (now (frame .exit)) (now (bytes .exit)) ⌝ }
+    ensures { λ t. ⌜ SD.StepIs d (now (frame .entry)) (now (bytes .entry)) (now (contents .entry)) first c t (now (frame .exit)) (now (bytes .exit)) (now (contents .exit)) ⌝ }
 {
     let heard = line_c::heard_of(first / 32, c);
     let call = answer_at(first % 32);
@@ -167,7 +167,7 @@ fn device_run(
     start: Device,
     recording: &[u8],
     events: &mut [u8],
-    contents: &[u8; 255],
+    contents: &mut [u8; 255],
     frame: &mut [u8; 284],
     bytes: &mut [u8; 255],
 ) -> usize
@@ -201,11 +201,11 @@ pub extern "C" fn nengapiko_device(recording: &[u8], events: &mut [u8]) -> usize
 {
     let mut frame = [0u8; 284];
     let mut bytes = [0u8; 255];
-    let contents = [0u8; 255];
+    let mut contents = [0u8; 255];
     let started = device::start(Profile::fsk(), 5, 0, 2);
     match started {
         DeviceStarted::Started(d) => {
-            device_run(d, recording, events, &contents, &mut frame, &mut bytes)
+            device_run(d, recording, events, &mut contents, &mut frame, &mut bytes)
         }
         DeviceStarted::Refused(_) => 0,
     }

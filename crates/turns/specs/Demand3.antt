@@ -68,13 +68,15 @@ longerWithBurst limit p = 4 * longestFrame limit + p .rt1s + 2 * p .rt2
 abbrev pub dueWithin : ℕ → Profile → ℕ → ℕ → ℕ
 dueWithin limit p retries t = (p .rt1s - t) + longestWait limit p retries
 
--- "Of a message due only after the list's last tick, no wait is claimed." Tick t is s, and `after` are those behind it.
-abbrev pub WaitInARun : ℕ → Type 0
-WaitInARun limit =
-    (p : Profile) (retries : ℕ) (l : Link) (ticks : List Calls) → Premises limit p retries l ticks
-    → (primary : Bool) (t : ℕ) (s : LinkStep) (after : List LinkStep) → drop t (run limit l ticks) ≡ s ∷ after → AcceptedIn primary s
+-- "Of a message due only after the list's last tick, no wait is claimed." Tick t of the run is s, and `after` are those behind it.
+abbrev pub WaitIn : ℕ → Profile → ℕ → List LinkStep → Type 0
+WaitIn limit p retries steps =
+    (primary : Bool) (t : ℕ) (s : LinkStep) (after : List LinkStep) → drop t steps ≡ s ∷ after → AcceptedIn primary s
     → (NoneBursts primary (s ∷ after) → dueWithin limit p retries t < length (s ∷ after) → BeginsWithin primary (dueWithin limit p retries t) (s ∷ after))
     × (dueWithin limit p retries t + longerWithBurst limit p < length (s ∷ after) → BeginsWithin primary (dueWithin limit p retries t + longerWithBurst limit p) (s ∷ after))
+
+abbrev pub WaitInARun : ℕ → Type 0
+WaitInARun limit = (p : Profile) (retries : ℕ) (l : Link) (ticks : List Calls) → Premises limit p retries l ticks → WaitIn limit p retries (run limit l ticks)
 
 -- ---- demand 3
 

@@ -1,5 +1,5 @@
-use borrow.Author.Needs.{needs}
 use Rattle.device_tick.proofs.Ticks.{ticks}
+use borrow.Author.Needs.{needs}
 use Rattle.device_tick.proofs.take_call.Statement.{statement}
 use Rattle.device_tick.proofs.take_call.Tie as tie
 
@@ -11,5 +11,10 @@ take-call-spec =
     (λ c κs. search needs)
     (λ c. search needs)
     (λ c κs. search needs)
+    (λ c κs. search needs)
+    (λ c. search needs)
+    (λ c κs. search needs)
+    (λ c κs. search needs)
+    (λ c. search (needs, ticks))
     (λ c. search (needs, ticks))
     (λ c. search (needs, ticks)))

@@ -10,10 +10,10 @@ use Rattle.party_c.proofs.device_run.Statement.{statement}
 use Rattle.party_c.proofs.device_run.Tie as tie
 
 abbrev Inv-loop : tie.InvT-loop
-Inv-loop recording events₀ contents frame₀ bytes₀ d₀ at₀ i₀ events frame bytes d at i = Running ticked (trace ticked (sideOf d₀ frame₀ bytes₀ contents) recording) recording events₀ (sideOf d frame bytes contents) events at i
+Inv-loop recording events₀ contents₀ frame₀ bytes₀ d₀ at₀ i₀ events contents frame bytes d at i = Running ticked (trace ticked (sideOf d₀ frame₀ bytes₀ contents₀) recording) recording events₀ (sideOf d frame bytes contents) events at i
 
 abbrev μ-loop : tie.MeasureT-loop
-μ-loop recording events₀ contents frame₀ bytes₀ d₀ at₀ i₀ events frame bytes d at i = length events₀ - i
+μ-loop recording events₀ contents₀ frame₀ bytes₀ d₀ at₀ i₀ events contents frame bytes d at i = length events₀ - i
 
 pub device-run-spec : {M : Type 1} → statement M
 device-run-spec =

@@ -1,0 +1,2 @@
+-- The laws by which the call of a burst content is proved.
+pub mod Contents

@@ -1,0 +1,2 @@
+-- What a device's burst content promises, by the definitions of turns.
+pub mod Content

@@ -1,0 +1,66 @@
+-- The loop of a run: what is left of the list gives what the whole gives.
+use Prim.Native.Nat.{ℕ, _+_, _≤_, _<_}
+use native.Mathlib.Omega.{arith}
+use mathlib.Core.Path.{_≡_, refl, sym, ap, subst, _∙_}
+use mathlib.Core.List.{List, [], _∷_}
+use lib.ListN.{length, drop, set, length-drop}
+use Rattle.turns.specs.Link.{Calls, linkTick, linkAfter, run}
+use Rattle.turns.specs.Link as L
+use Rattle.line_c.specs.Recording.{RunIs}
+use Rattle.line_c.proofs.Runs.{Filling, filling-begun, filling-more, filling-ended, filling-full}
+use Rattle.link.specs.Link.{MasterLent, DevicesLent}
+use Rattle.link.specs.Stands.{linkOf, LinkReady}
+use Rattle.link.specs.declared.Link.{Link}
+use Rattle.tick_list.specs.Ticks.{Here, behind, callsIn, ticksOf}
+use Rattle.tick_list.proofs.Whole.{ticks-more, ticks-none}
+use Rattle.link_run.specs.Run.{hereOf, runSteps, tickNumber, numbersOf}
+use Rattle.link_run.specs.Step.{stepAt, StepIs}
+use Rattle.link_run.specs.declared.Stepped.{Stepped}
+
+-- the numbers of what is left: a link, and the ticks that it has still to make
+abbrev left : (L.Link × List Calls) → List ℕ
+left s = numbersOf (runSteps (s .0) (s .1))
+
+-- the numbers of a whole run from a link on
+abbrev pub allNumbers : Link → MasterLent → MasterLent → DevicesLent → List ℕ → List ℕ
+allNumbers l p s d ticks = numbersOf (runSteps (linkOf l p s d) (ticksOf (hereOf (l .devices)) ticks))
+
+pub record Going (here : Here) (numbers ticks before : List ℕ) (l : Link) (p s : MasterLent) (d : DevicesLent) (events : List ℕ) (at i : ℕ) : Type 0 where
+  pub ready : LinkReady (l .devices) d
+  pub here-is : hereOf (l .devices) ≡ here
+  pub filling : Filling left numbers before (linkOf l p s d, ticksOf here (drop at ticks)) events i
+
+pub going-begun : (l : Link) (p s : MasterLent) (d : DevicesLent) (ticks before : List ℕ) → LinkReady (l .devices) d → Going (hereOf (l .devices)) (allNumbers l p s d ticks) ticks before l p s d before 0 0
+going-begun l p s d ticks before k = record {
+  ready = k;
+  here-is = refl;
+  filling = filling-begun left before (linkOf l p s d, ticksOf (hereOf (l .devices)) ticks);
+}
+
+module _ (here : Here) (numbers ticks before : List ℕ) (l : Link) (p s : MasterLent) (d : DevicesLent) (events : List ℕ) (at i : ℕ) (g : Going here numbers ticks before l p s d events at i) where
+  pub going-on : (r : Stepped) (p-after s-after : MasterLent) (d-after : DevicesLent) → i < length events → at < length ticks → StepIs l ticks at p s d r p-after s-after d-after
+      → Going here numbers ticks before (r .link) p-after s-after d-after (set events i (r .number)) (r .next) (i + 1)
+  unfolding numbersOf run
+  going-on r p-after s-after d-after h k is =
+      let t = is .steps (g .ready) in
+      let first : ticksOf here (drop at ticks) ≡ callsIn here (drop at ticks) ∷ ticksOf here (behind 8 (drop at ticks)) = ticks-more here (drop at ticks) (omega (arith, length-drop at ticks)) in
+      let step : linkTick 255 (linkOf l p s d) (callsIn here (drop at ticks)) ≡ stepAt l p s d ticks at = ap (λ (x : Here). linkTick 255 (linkOf l p s d) (callsIn x (drop at ticks))) (sym (g .here-is)) in
+      record {
+        ready = t .ready;
+        here-is = t .here ∙ g .here-is;
+        filling = filling-more left numbers before (linkOf l p s d, ticksOf here (drop at ticks)) (linkOf (r .link) p-after s-after d-after, ticksOf here (drop (r .next) ticks)) events i (r .number) (g .filling) h
+            (ap (λ (cs : List Calls). numbersOf (runSteps (linkOf l p s d) cs)) first
+            ∙ (λ j. tickNumber (step j) ∷ numbersOf (runSteps (linkAfter (step j)) (ticksOf here (behind 8 (drop at ticks)))))
+            ∙ (λ j. sym (t .number-is) j ∷ numbersOf (runSteps (sym (t .behind-is) j) (ticksOf here (sym (t .next .rest) j)))));
+      }
+
+  pub going-ended : length ticks ≤ at → RunIs numbers before i events
+  unfolding numbersOf run
+  going-ended h =
+      filling-ended left numbers before (linkOf l p s d, ticksOf here (drop at ticks)) events i (g .filling)
+      (ap (λ (cs : List Calls). numbersOf (runSteps (linkOf l p s d) cs)) (ticks-none here (drop at ticks) (omega (arith, length-drop at ticks))))
+
+  pub going-full : length events ≤ i → RunIs numbers before i events
+  going-full h = filling-full left numbers before (linkOf l p s d, ticksOf here (drop at ticks)) events i (g .filling) h
+
+pub ruleset goings = (refl, going-begun, going-on, going-ended, going-full)

@@ -1,0 +1,5 @@
+-- The laws by which a run is proved.
+pub mod Steps
+pub mod Going
+pub mod Started
+pub mod Kept

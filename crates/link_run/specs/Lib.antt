@@ -1,0 +1,3 @@
+-- A run of the link over a lent list of ticks, and what it promises.
+pub mod Run
+pub mod Step

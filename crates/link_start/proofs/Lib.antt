@@ -1,0 +1,2 @@
+-- The laws by which a link's start is proved.
+pub mod Starts

@@ -1,0 +1,14 @@
+use Rattle.link_start.proofs.Starts.{starts}
+use borrow.Author.Needs.{needs}
+use Rattle.link_start.proofs.devices_begin.Statement.{statement}
+use Rattle.link_start.proofs.devices_begin.Tie as tie
+
+pub devices-begin-spec : {M : Type 1} → statement M
+devices-begin-spec =
+    tie.close
+    (tie.spec
+    (λ c κs. search needs)
+    (λ c κs. search needs)
+    (λ c κs. search needs)
+    (λ c κs. search needs)
+    (λ c. search (needs, starts)))

@@ -1,0 +1,12 @@
+use Rattle.link_start.proofs.Starts.{starts}
+use borrow.Author.Needs.{needs}
+use Rattle.link_start.proofs.devices_of.Statement.{statement}
+use Rattle.link_start.proofs.devices_of.Tie as tie
+
+pub devices-of-spec : {M : Type 1} → statement M
+devices-of-spec =
+    tie.close
+    (tie.spec
+    (λ c κs. search needs)
+    (λ c κs. search needs)
+    (λ c. search (needs, starts)))

@@ -1,0 +1,14 @@
+use Rattle.link_start.proofs.Starts.{starts}
+use borrow.Author.Needs.{needs}
+use Rattle.link_start.proofs.lowest_with.Statement.{statement}
+use Rattle.link_start.proofs.lowest_with.Tie as tie
+
+pub lowest-with-spec : {M : Type 1} → statement M
+lowest-with-spec =
+    tie.close
+    (tie.spec
+    (λ c. search needs)
+    (λ c. search needs)
+    (λ c κs. search needs)
+    (λ c. search (needs, starts))
+    (λ c. search (needs, starts)))

@@ -1,0 +1,13 @@
+use Rattle.link_start.proofs.Starts.{starts}
+use borrow.Author.Needs.{needs}
+use Rattle.link_start.proofs.with_masters.Statement.{statement}
+use Rattle.link_start.proofs.with_masters.Tie as tie
+
+pub with-masters-spec : {M : Type 1} → statement M
+with-masters-spec =
+    tie.close
+    (tie.spec
+    (λ c. search needs)
+    (λ c. search needs)
+    (λ c. search (needs, starts))
+    (λ c. search (needs, starts)))

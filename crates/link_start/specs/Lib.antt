@@ -1,0 +1,2 @@
+-- What a link's start promises, by the definitions of turns.
+pub mod Start

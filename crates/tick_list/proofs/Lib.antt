@@ -1,0 +1,4 @@
+-- The laws by which a list of ticks is read.
+pub mod Places
+pub mod Readings
+pub mod Whole

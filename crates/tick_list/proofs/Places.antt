@@ -1,0 +1,106 @@
+-- Laws of places in a list of ticks: its bytes, the data of a call, and the place behind a call.
+use Prim.Native.Nat.{ℕ, suc, _+_, _-_, _*_, _%_, _^_, _≤_, _<_}
+use native.Mathlib.Omega.{arith}
+use mathlib.Core.Bool.{Bool}
+use mathlib.Core.Path.{_≡_, refl, sym, ap, subst, _∙_}
+use mathlib.Core.List.{List, [], _∷_}
+use lib.ListN.{length, take, drop, getD, length-drop}
+use lib.Seq.{getD-drop, drop-drop, take-nil}
+use Rattle.base.specs.Choice.{if_then_else_, _=?_}
+use Rattle.base.proofs.Choices.{if-equal, if-unequal}
+use Rattle.frame.specs.Address.{byteAt}
+use Rattle.slots.specs.Part.{dataOf}
+use Rattle.slots.proofs.Parts.{past-end}
+use Rattle.master.specs.declared.HostCall.{HostCall}
+use Rattle.device_tick.specs.declared.HostCall as DeviceHost
+use Rattle.tick_list.specs.Ticks.{kindIn, addressIn, lengthIn, dataIn, requestOf, requestBy, requestIn, answerBy, answerIn, behindCall}
+use Rattle.tick_list.specs.Coded.{ForwardIs, NextIs}
+
+short : (xs : List ℕ) (k : ℕ) → length xs ≤ k → getD xs k 0 ≡ 0
+short [] k h = refl
+short (x ∷ xs) Prim.Native.Nat.zero h = absurd (omega arith)
+short (x ∷ xs) (suc k) h = short xs k (omega arith)
+
+pub byte-inside : (ticks : List ℕ) (at k : ℕ) → getD ticks (at + k) 0 ≡ byteAt (drop at ticks) k
+byte-inside ticks at k = sym (getD-drop at ticks k 0)
+
+pub byte-behind : (ticks : List ℕ) (at k : ℕ) → length ticks - at ≤ k → 0 ≡ byteAt (drop at ticks) k
+byte-behind ticks at k h = sym (short (drop at ticks) k (omega (arith, length-drop at ticks)))
+
+pub ruleset bytes = (refl, byte-inside, byte-behind)
+
+-- numbers of several bytes
+pub length-is : (rest : List ℕ) (high low n : ℕ) → high ≡ byteAt rest 8 → low ≡ byteAt rest 9 → n ≡ (high * 256 + low) % 257 → n ≡ lengthIn rest
+length-is rest high low n p q e = e ∙ (λ i. (p i * 256 + q i) % 257)
+
+pub length-same : (a b high low : ℕ) → a ≡ high → b ≡ low → (a * 256 + b) % 257 ≡ (high * 256 + low) % 257
+length-same a b high low p q = λ i. (p i * 256 + q i) % 257
+
+pub length-small : (high low n : ℕ) → n ≡ (high * 256 + low) % 257 → n < 257
+length-small high low n e = omega arith
+
+pub address-is : (rest : List ℕ) (a b c d e n : ℕ) → a ≡ byteAt rest 3 → b ≡ byteAt rest 4 → c ≡ byteAt rest 5 → d ≡ byteAt rest 6 → e ≡ byteAt rest 7
+    → n ≡ a * 2 ^ 32 + b * 2 ^ 24 + c * 2 ^ 16 + d * 2 ^ 8 + e → n ≡ addressIn rest
+address-is rest a b c d e n p q r s t f = f ∙ (λ i. p i * 2 ^ 32 + q i * 2 ^ 24 + r i * 2 ^ 16 + s i * 2 ^ 8 + t i)
+
+-- calls
+pub wanted-is : (rest : List ℕ) (long : Bool) (preamble command address : ℕ) → preamble ≡ byteAt rest 1 → command ≡ byteAt rest 2 → address ≡ addressIn rest
+    → HostCall.Requests (record { preamble = preamble; long = long; address = address; command = command }) ≡ requestOf long rest
+wanted-is rest long preamble command address p q r = λ i. HostCall.Requests (record { preamble = p i; long = long; address = r i; command = q i })
+
+pub request-is : (rest : List ℕ) (kind : ℕ) (r : HostCall) → kind ≡ byteAt rest 0 → r ≡ requestBy kind rest → r ≡ requestIn rest
+request-is rest kind r p q = q ∙ ap (λ (k : ℕ). requestBy k rest) p
+
+pub answer-is : (rest : List ℕ) (kind command : ℕ) (r : DeviceHost.HostCall) → kind ≡ byteAt rest 0 → command ≡ byteAt rest 2 → r ≡ answerBy kind command → r ≡ answerIn rest
+answer-is rest kind command r p q e = e ∙ (λ i. answerBy (p i) (q i))
+
+pub ruleset calls = (refl, length-is, length-same, length-small, address-is, wanted-is, request-is, answer-is)
+
+-- a call's data
+pub part-none : (ticks : List ℕ) (at : ℕ) → length ticks - at < 10 → dataOf (record { from = at; count = 0 }) ticks ≡ dataIn (drop at ticks)
+part-none ticks at h =
+    sym (ap (take (lengthIn (drop at ticks))) (past-end (drop at ticks) 10 (omega (arith, length-drop at ticks)))
+    ∙ take-nil (lengthIn (drop at ticks)))
+
+pub part-some : (ticks : List ℕ) (at n : ℕ) → n ≡ lengthIn (drop at ticks) → dataOf (record { from = at + 10; count = n }) ticks ≡ dataIn (drop at ticks)
+part-some ticks at n e =
+    ap (λ (m : ℕ). take m (drop (at + 10) ticks)) e
+    ∙ ap (take (lengthIn (drop at ticks))) (sym (drop-drop 10 at ticks))
+
+pub ruleset parts = (refl, part-none, part-some)
+
+-- so many places on, or the end
+pub forward-end : (at n end : ℕ) → at ≤ end → end - at < n → ForwardIs at n end end
+forward-end at n end h k = record {
+  within = omega arith;
+  onward = omega arith;
+  goes-on = λ p q. q;
+  rest = λ xs e. past-end xs end (omega (arith, e)) ∙ sym (past-end (drop at xs) n (omega (arith, length-drop at xs, e)));
+}
+
+pub forward-on : (at n end : ℕ) → at ≤ end → n ≤ end - at → ForwardIs at n end (at + n)
+forward-on at n end h k = record {
+  within = omega arith;
+  onward = omega arith;
+  goes-on = λ p q. omega arith;
+  rest = λ xs e. sym (drop-drop n at xs);
+}
+
+pub ruleset forwards = (refl, forward-end, forward-on)
+
+module _ (ticks : List ℕ) (at kind r : ℕ) (q : kind ≡ byteAt (drop at ticks) 0) where
+  next : (n : ℕ) → 0 < n → ForwardIs at n (length ticks) r → drop n (drop at ticks) ≡ behindCall (drop at ticks) → NextIs ticks at r
+  next n h f e = record { within = f .within; onward = λ k. f .onward; goes-on = f .goes-on h; rest = f .rest ticks refl ∙ e }
+
+  pub next-none : kind ≡ 0 → ForwardIs at 1 (length ticks) r → NextIs ticks at r
+  unfolding behindCall
+  next-none z f = next 1 (omega arith) f (if-equal (kindIn (drop at ticks)) 0 _ _ _ (sym q ∙ z) refl)
+
+  pub next-some : (n : ℕ) → (kind ≡ 0 → ⊥) → n ≡ lengthIn (drop at ticks) → ForwardIs at (10 + n) (length ticks) r → NextIs ticks at r
+  unfolding behindCall
+  next-some n z l f =
+      next (10 + n) (omega arith) f
+      (ap (λ (m : ℕ). drop (10 + m) (drop at ticks)) l
+      ∙ if-unequal (kindIn (drop at ticks)) 0 _ _ _ (λ e. z (q ∙ e)) refl)
+
+pub ruleset nexts = (refl, next-none, next-some)

@@ -1,0 +1,13 @@
+use Rattle.tick_list.proofs.Places.{forwards}
+use borrow.Author.Needs.{needs}
+use Rattle.tick_list.proofs.forward.Statement.{statement}
+use Rattle.tick_list.proofs.forward.Tie as tie
+
+pub forward-spec : {M : Type 1} → statement M
+forward-spec =
+    tie.close
+    (tie.spec
+    (λ c. search needs)
+    (λ c. search (needs, forwards))
+    (λ c. search needs)
+    (λ c. search (needs, forwards)))

@@ -1,0 +1,12 @@
+use Rattle.tick_list.proofs.Readings.{readings}
+use borrow.Author.Needs.{needs}
+use Rattle.tick_list.proofs.pair_read.Statement.{statement}
+use Rattle.tick_list.proofs.pair_read.Tie as tie
+
+pub pair-read-spec : {M : Type 1} → statement M
+pair-read-spec =
+    tie.close
+    (tie.spec
+    (λ c κs. search needs)
+    (λ c κs. search needs)
+    (λ c. search (needs, readings)))

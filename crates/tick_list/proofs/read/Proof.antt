@@ -1,0 +1,13 @@
+use Rattle.tick_list.proofs.Readings.{readings}
+use borrow.Author.Needs.{needs}
+use Rattle.tick_list.proofs.read.Statement.{statement}
+use Rattle.tick_list.proofs.read.Tie as tie
+
+pub read-spec : {M : Type 1} → statement M
+read-spec =
+    tie.close
+    (tie.spec
+    (λ c κs. search needs)
+    (λ c. search needs)
+    (λ c κs. search needs)
+    (λ c. search (needs, readings)))

@@ -1,0 +1,3 @@
+-- A list of ticks as bytes.
+pub mod Ticks
+pub mod Coded

@@ -1,0 +1,95 @@
+-- A list of ticks as bytes, so that a run can be lent "a list of ticks from tick 0" (document 01, "Runs of the link"). Every byte string is some list of ticks. A tick is eight calls, one behind the other: to the primary, to the secondary, and to the devices of the six slots.
+-- A call is one byte 0, no call; or a kind that is not 0, the preamble, the command, the address in five bytes, the length of the data in two, each most significant first, and the data. The length counts modulo 257, so that a call can have 0 to 256 data bytes. Behind the end every byte is 0, and data are as many as there are.
+use Prim.Native.Nat.{ℕ, zero, suc, _+_, _*_, _%_, _^_}
+use mathlib.Core.Bool.{Bool, true, false}
+use mathlib.Core.List.{List, [], _∷_}
+use lib.ListN.{length, take, drop}
+use Rattle.base.specs.Choice.{if_then_else_, _=?_}
+use Rattle.frame.specs.Address.{byteAt}
+use Rattle.turns.specs.Link.{DeviceCall, Calls}
+use Rattle.turns.specs.declared.Wish.the-variants.{Same, On, Off}
+use Rattle.master.specs.Tick as M
+use Rattle.master.specs.declared.HostCall as MasterHost
+use Rattle.device_tick.specs.Tick as D
+use Rattle.device_tick.specs.declared.HostCall as DeviceHost
+use Rattle.link.specs.Stands.{six}
+
+-- ---- a call, in front of the rest of the list
+
+abbrev pub kindIn : List ℕ → ℕ
+kindIn rest = byteAt rest 0
+
+abbrev pub addressIn : List ℕ → ℕ
+addressIn rest = byteAt rest 3 * 2 ^ 32 + byteAt rest 4 * 2 ^ 24 + byteAt rest 5 * 2 ^ 16 + byteAt rest 6 * 2 ^ 8 + byteAt rest 7
+
+abbrev pub lengthIn : List ℕ → ℕ
+lengthIn rest = (byteAt rest 8 * 256 + byteAt rest 9) % 257
+
+abbrev pub dataIn : List ℕ → List ℕ
+dataIn rest = take (lengthIn rest) (drop 10 rest)
+
+-- a master's call: kind 1 is a request with a short address, 2 one with a long address, any other is none
+abbrev pub requestOf : Bool → List ℕ → MasterHost.HostCall
+requestOf long rest = MasterHost.HostCall.Requests (record { preamble = byteAt rest 1; long = long; address = addressIn rest; command = byteAt rest 2 })
+
+abbrev pub requestBy : ℕ → List ℕ → MasterHost.HostCall
+requestBy kind rest = if kind =? 1 then requestOf false rest else (if kind =? 2 then requestOf true rest else MasterHost.HostCall.Nothing)
+
+abbrev pub requestIn : List ℕ → MasterHost.HostCall
+requestIn rest = requestBy (kindIn rest) rest
+
+-- a device's call: kind 1 is an answer, 2 one that turns burst on, 3 one that turns it off, 4 is burst content, any other is none
+abbrev pub answerBy : ℕ → ℕ → DeviceHost.HostCall
+answerBy kind command =
+    if kind =? 1 then DeviceHost.HostCall.Answers Same else
+    if kind =? 2 then DeviceHost.HostCall.Answers On else
+    if kind =? 3 then DeviceHost.HostCall.Answers Off else
+    if kind =? 4 then DeviceHost.HostCall.Content command else DeviceHost.HostCall.Nothing
+
+abbrev pub answerIn : List ℕ → DeviceHost.HostCall
+answerIn rest = answerBy (kindIn rest) (byteAt rest 2)
+
+-- the rest of the list behind a call
+unfoldable pub behindCall : List ℕ → List ℕ
+behindCall rest = if kindIn rest =? 0 then drop 1 rest else drop (10 + lengthIn rest) rest
+
+-- ---- a tick
+
+-- which of the six slots have a device
+pub record Here : Type 0 where
+  pub first : Bool
+  pub second : Bool
+  pub third : Bool
+  pub fourth : Bool
+  pub fifth : Bool
+  pub sixth : Bool
+
+-- a device's call, with its data; "a call to an absent slot does nothing"
+abbrev pub ifHere : Bool → List ℕ → List DeviceCall
+ifHere true rest = D.callOf (answerIn rest) (dataIn rest) ∷ []
+ifHere false rest = []
+
+-- the rest of the list behind so many calls
+unfoldable pub behind : ℕ → List ℕ → List ℕ
+behind zero rest = rest
+behind (suc n) rest = behind n (behindCall rest)
+
+unfoldable pub callsIn : Here → List ℕ → Calls
+callsIn here rest = record {
+  for-primary = M.callOf (requestIn rest) (dataIn rest);
+  for-secondary = M.callOf (requestIn (behind 1 rest)) (dataIn (behind 1 rest));
+  for-devices = six (ifHere (here .first) (behind 2 rest)) (ifHere (here .second) (behind 3 rest))
+      (ifHere (here .third) (behind 4 rest)) (ifHere (here .fourth) (behind 5 rest))
+      (ifHere (here .fifth) (behind 6 rest)) (ifHere (here .sixth) (behind 7 rest));
+}
+
+-- ---- the list
+
+-- at most n ticks: each takes a byte at least, so that there are no more than bytes
+unfoldable pub ticksFrom : Here → ℕ → List ℕ → List Calls
+ticksFrom here zero rest = []
+ticksFrom here (suc n) [] = []
+ticksFrom here (suc n) (b ∷ bs) = callsIn here (b ∷ bs) ∷ ticksFrom here n (behind 8 (b ∷ bs))
+
+abbrev pub ticksOf : Here → List ℕ → List Calls
+ticksOf here bytes = ticksFrom here (length bytes) bytes
