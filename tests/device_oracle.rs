@@ -166,17 +166,14 @@ impl Device {
         let Turn::Asked(left) = self.turn else {
             return false;
         };
-        let refused = match wish {
-            Wish::AsItIs => false,
-            Wish::On => self.content.is_none() || self.request.command == 0,
-            Wish::Off => self.request.command == 0,
-        };
         let burst = match wish {
             Wish::AsItIs => self.bursting,
             Wish::On => true,
             Wish::Off => false,
         };
-        if refused || !self.put_ack(self.request, burst, data) {
+        let wish_refused = self.request.command == 0 && wish != Wish::AsItIs
+            || self.content.is_none() && wish == Wish::On;
+        if wish_refused || !self.put_ack(self.request, burst, data) {
             return false;
         }
         self.turn = if left == STO {

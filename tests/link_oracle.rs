@@ -16,7 +16,7 @@ const PARTIES: usize = MASTERS + DEVICES;
 
 const BURST_COMMAND: u8 = 3;
 
-const NO_BYTES: [u8; 255] = [0; 255];
+const ZEROS: [u8; 255] = [0; 255];
 
 #[derive(Clone, Copy)]
 struct Record {
@@ -88,7 +88,7 @@ impl Link {
         };
         let mut devices: [Device; DEVICES] = std::array::from_fn(device);
         for device in &mut devices {
-            device.burst_content(BURST_COMMAND, &NO_BYTES[..2]);
+            device.burst_content(BURST_COMMAND, &ZEROS[..2]);
         }
         Link {
             masters: [Master::start(true), Master::start(false)],
@@ -109,7 +109,7 @@ impl Link {
 
     /// A call that is refused is passed over.
     fn call(&mut self, call: &Record) {
-        let data = &NO_BYTES[..usize::from(call.argument)];
+        let data = &ZEROS[..usize::from(call.argument)];
         let address = u64::from(call.argument);
         match call.action {
             1 => self.masters[call.party].request(false, address, 0),
