@@ -1,7 +1,7 @@
 //! Recordings of the line, two bytes for each tick, and the row of a table that compares two runs
 //! over one.
 
-use crate::rounds::by_turns;
+use crate::rounds::{by_turns, Measured};
 use std::hint::black_box;
 
 pub const SILENCE: [u8; 2] = [0, 0];
@@ -60,6 +60,10 @@ pub fn compare(name: &str, calls: usize, archive: Run, oracle: Run, recording: &
             black_box(oracle(black_box(recording), black_box(&mut oracle_events)));
         },
     );
+    row(name, ticks, &measured);
+}
+
+pub fn row(name: &str, ticks: usize, measured: &Measured) {
     let millions = |nanoseconds: f64| ticks as f64 / nanoseconds * 1e3;
     println!(
         "{:<17}  {:>7.1}  {:>6.1}  {:>6.2}  {:>8.2}  {:>7.2}",

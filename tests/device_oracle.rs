@@ -1,16 +1,10 @@
-//! A device of document 01 in plain Rust, over recordings of what it hears. It never bursts, shares
-//! nothing with the archive, takes the same arguments and gives the same answers.
+//! A device of document 01 in plain Rust, with FSK, and one that never bursts over recordings of
+//! what it hears. It shares nothing with the archive; over a recording it takes the same arguments
+//! and gives the same answers.
 
+use crate::frame_oracle::{ACK, BACK, STX};
+use crate::party_oracle::{Outgoing, BROADCAST, RT1_PRIMARY, RT2, STO};
 use crate::tick_oracle::{over, Event, Frame, Harm, Heard, Reader};
-
-const STO: u32 = 28;
-
-const STX: u8 = 2;
-const ACK: u8 = 6;
-
-const POLLING_ADDRESS: u64 = 0;
-const UNIQUE_ADDRESS: u64 = 2;
-const BROADCAST: u64 = 0;
 
 #[derive(Clone, Copy)]
 enum Turn {
@@ -18,68 +12,95 @@ enum Turn {
     /// The ticks in which the host may still answer, this one included.
     Asked(u32),
     /// The ACK begins in the next tick, or in this one.
-    Ready,
-    Beginning,
-    Sending(usize),
+    Ready(Wish),
+    Beginning(Wish),
+    SendingAck,
+    /// A BACK begins in this tick.
+    BackDue,
+    SendingBack,
 }
 
 #[derive(Clone, Copy)]
-enum Told {
+pub enum Told {
     Nothing = 0,
     Request = 1,
     Broadcast = 2,
 }
 
-struct Device {
+/// What the host's answer wishes of burst.
+#[derive(Clone, Copy, PartialEq)]
+pub enum Wish {
+    AsItIs,
+    On,
+    Off,
+}
+
+struct Content {
+    command: u8,
+    data: Vec<u8>,
+}
+
+pub struct Device {
+    polling_address: u64,
+    unique_address: u64,
     reader: Reader,
     deaf: bool,
     turn: Turn,
     request: Frame,
-    length: usize,
-    ack: [u8; 284],
+    content: Option<Content>,
+    bursting: bool,
+    /// Whether the next BACK is for the primary.
+    back_to_primary: bool,
+    /// Silent ticks until the next BACK; 0 is a stopped timer.
+    back_in: u32,
+    out: Outgoing,
 }
 
 impl Device {
-    fn start() -> Device {
+    pub fn start(polling_address: u64, unique_address: u64) -> Device {
         Device {
+            polling_address,
+            unique_address,
             reader: Reader::start(),
             deaf: true,
             turn: Turn::Listening,
             request: Frame::default(),
-            length: 0,
-            ack: [0; 284],
+            content: None,
+            bursting: false,
+            back_to_primary: true,
+            back_in: 0,
+            out: Outgoing::none(),
         }
     }
 
-    fn tick(&mut self, heard: Heard, answers: bool) -> u8 {
-        let told = if self.deaf {
-            Told::Nothing
-        } else {
-            self.take(heard)
-        };
-        if answers {
-            self.answer();
-        }
-        if self.send().is_some() {
-            4
-        } else {
-            told as u8
-        }
+    /// What it sends, or sent last.
+    pub fn out(&self) -> &Outgoing {
+        &self.out
     }
 
-    fn take(&mut self, heard: Heard) -> Told {
+    pub fn take(&mut self, heard: Heard) -> Told {
+        if self.deaf {
+            return Told::Nothing;
+        }
         let event = self.reader.take(heard);
-        if matches!(heard, Heard::Silence) {
+        let silent = matches!(heard, Heard::Silence);
+        if !silent {
+            self.turn = Turn::Listening;
+            self.back_in = 0;
+        }
+        if self.bursting {
+            self.time_back(&event);
+        }
+        if silent {
             self.count();
             return Told::Nothing;
         }
-        self.turn = Turn::Listening;
         match event {
             Event::Whole(frame) if is_request(&frame) => self.requested(frame),
             Event::Damaged(frame, harm) if is_request(&frame) && !harm.address => {
-                if is_own(&frame) {
-                    self.put_ack(frame, [error_status(harm), 0]);
-                    self.turn = Turn::Ready;
+                if self.is_own(&frame) {
+                    self.put_ack(frame, self.bursting, &[error_status(harm), 0]);
+                    self.turn = Turn::Ready(Wish::AsItIs);
                 }
                 Told::Nothing
             }
@@ -87,17 +108,31 @@ impl Device {
         }
     }
 
+    fn time_back(&mut self, event: &Event) {
+        match event {
+            Event::Nothing => {}
+            Event::Whole(frame) if frame.frame_type == ACK => self.back_in = 1,
+            _ => self.back_in = RT1_PRIMARY,
+        }
+    }
+
     fn count(&mut self) {
         self.turn = match self.turn {
             Turn::Asked(1) => Turn::Listening,
             Turn::Asked(left) => Turn::Asked(left - 1),
-            Turn::Ready => Turn::Beginning,
+            Turn::Ready(wish) => Turn::Beginning(wish),
             turn => turn,
         };
+        if self.back_in > 0 {
+            self.back_in -= 1;
+            if self.back_in == 0 {
+                self.turn = Turn::BackDue;
+            }
+        }
     }
 
     fn requested(&mut self, frame: Frame) -> Told {
-        if is_own(&frame) {
+        if self.is_own(&frame) {
             self.request = frame;
             self.turn = Turn::Asked(STO);
             return Told::Request;
@@ -108,72 +143,123 @@ impl Device {
         Told::Nothing
     }
 
-    fn answer(&mut self) {
-        if let Turn::Asked(left) = self.turn {
-            self.put_ack(self.request, [0, 0]);
-            self.turn = if left == STO {
-                Turn::Ready
-            } else {
-                Turn::Beginning
-            };
-        }
-    }
-
-    fn put_ack(&mut self, request: Frame, data: [u8; 2]) {
-        let primary = if request.primary { 0x80 } else { 0 };
-        self.ack[..5].fill(0xFF);
-        let mut at = 5;
-        let mut put = |byte| {
-            self.ack[at] = byte;
-            at += 1;
-        };
-        if request.long_address {
-            put(0x80 | ACK);
-            put(primary | (request.address >> 32) as u8);
-            for byte in 0..4 {
-                put((request.address >> (8 * (3 - byte))) as u8);
-            }
+    fn is_own(&self, frame: &Frame) -> bool {
+        if frame.long_address {
+            frame.address == self.unique_address
         } else {
-            put(ACK);
-            put(primary | request.address as u8);
+            frame.address == self.polling_address && frame.command == 0
         }
-        for byte in [request.command, 2, data[0], data[1]] {
-            put(byte);
-        }
-        self.ack[at] = self.ack[5..at].iter().fold(0, |sum, byte| sum ^ byte);
-        self.length = at + 1;
     }
 
-    fn send(&mut self) -> Option<u8> {
-        let at = match self.turn {
-            Turn::Beginning => 0,
-            Turn::Sending(at) => at,
-            _ => {
+    /// What its BACKs carry from the next one on; whether it is taken.
+    pub fn burst_content(&mut self, command: u8, data: &[u8]) -> bool {
+        let taken = command != 254 && (2..=255).contains(&data.len());
+        if taken {
+            let data = data.to_vec();
+            self.content = Some(Content { command, data });
+        }
+        taken
+    }
+
+    /// The host's answer; whether it is taken.
+    pub fn answer(&mut self, data: &[u8], wish: Wish) -> bool {
+        let Turn::Asked(left) = self.turn else {
+            return false;
+        };
+        let burst = match wish {
+            Wish::AsItIs => self.bursting,
+            Wish::On => true,
+            Wish::Off => false,
+        };
+        let wish_refused = self.request.command == 0 && wish != Wish::AsItIs
+            || self.content.is_none() && wish == Wish::On;
+        if wish_refused || !self.put_ack(self.request, burst, data) {
+            return false;
+        }
+        self.turn = if left == STO {
+            Turn::Ready(wish)
+        } else {
+            Turn::Beginning(wish)
+        };
+        true
+    }
+
+    fn put_ack(&mut self, request: Frame, burst: bool, data: &[u8]) -> bool {
+        let ack = Frame {
+            frame_type: ACK,
+            burst,
+            ..request
+        };
+        self.out.put(&ack, data)
+    }
+
+    fn put_back(&mut self) {
+        if let Some(content) = &self.content {
+            let back = Frame {
+                frame_type: BACK,
+                long_address: true,
+                primary: self.back_to_primary,
+                burst: true,
+                address: self.unique_address,
+                command: content.command,
+                ..Frame::default()
+            };
+            self.out.put(&back, &content.data);
+            self.back_to_primary = !self.back_to_primary;
+        }
+    }
+
+    fn wished(&mut self, wish: Wish) {
+        match wish {
+            Wish::AsItIs => {}
+            Wish::On => {
+                self.back_to_primary |= !self.bursting;
+                self.bursting = true;
+            }
+            Wish::Off => self.bursting = false,
+        }
+    }
+
+    pub fn send(&mut self) -> Option<u8> {
+        match self.turn {
+            Turn::Beginning(wish) => {
+                self.wished(wish);
+                self.turn = Turn::SendingAck;
+            }
+            Turn::BackDue => {
+                self.put_back();
+                self.turn = Turn::SendingBack;
+            }
+            Turn::SendingAck | Turn::SendingBack => {}
+            Turn::Listening | Turn::Asked(_) | Turn::Ready(_) => {
                 self.deaf = false;
                 return None;
             }
-        };
+        }
         self.deaf = true;
         self.reader.pass_over();
-        self.turn = if at + 1 < self.length {
-            Turn::Sending(at + 1)
-        } else {
-            Turn::Listening
+        self.back_in = 0;
+        let character = self.out.next();
+        if self.out.at_last() {
+            self.sent_to_the_end();
+        }
+        Some(character)
+    }
+
+    fn sent_to_the_end(&mut self) {
+        self.turn = match self.turn {
+            Turn::SendingAck if self.bursting => Turn::BackDue,
+            Turn::SendingBack => {
+                self.back_in = RT2;
+                Turn::Listening
+            }
+            _ => Turn::Listening,
         };
-        Some(self.ack[at])
     }
 }
 
 fn is_request(frame: &Frame) -> bool {
     frame.frame_type == STX && frame.expansion == 0
-}
-
-fn is_own(frame: &Frame) -> bool {
-    if frame.long_address {
-        frame.address == UNIQUE_ADDRESS
-    } else {
-        frame.address == POLLING_ADDRESS && frame.command == 0
-    }
 }
 
 fn error_status(harm: Harm) -> u8 {
@@ -184,11 +270,21 @@ fn error_status(harm: Harm) -> u8 {
         | bit(harm.check, 0x08)
 }
 
+const POLLING_ADDRESS: u64 = 0;
+const UNIQUE_ADDRESS: u64 = 2;
+
 /// The number of what a device does in each tick.
 #[inline(never)]
 pub fn ticks(recording: &[u8], events: &mut [u8]) -> usize {
-    let mut device = Device::start();
+    let mut device = Device::start(POLLING_ADDRESS, UNIQUE_ADDRESS);
     over(recording, events, |first, character| {
-        device.tick(Heard::recorded(first, character), first % 32 == 1)
+        let told = device.take(Heard::recorded(first, character));
+        if first % 32 == 1 {
+            device.answer(&[0, 0], Wish::AsItIs);
+        }
+        match device.send() {
+            Some(_) => 4,
+            None => told as u8,
+        }
     })
 }

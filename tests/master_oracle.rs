@@ -1,36 +1,33 @@
-//! A primary of document 01 in plain Rust, over recordings of what it hears. It shares nothing with
-//! the archive, takes the same arguments and gives the same answers.
+//! A master of document 01 in plain Rust, with FSK and three retries, and a primary over recordings
+//! of what it hears. It shares nothing with the archive; over a recording it takes the same
+//! arguments and gives the same answers.
 
+use crate::frame_oracle::{ACK, BACK, STX};
+use crate::party_oracle::{Outgoing, BROADCAST, HOLD, RT1_PRIMARY, RT1_SECONDARY, RT2};
 use crate::tick_oracle::{over, Event, Frame, Heard, Reader};
 
-const HOLD: u32 = 2;
-const RT2: u32 = 8;
-const RT1: u32 = 33;
-const QUIET: u32 = 2 * RT1;
 const RETRIES: u32 = 3;
-
-const STX: u8 = 2;
-const ACK: u8 = 6;
-
-const UNIQUE_ADDRESS: u64 = 2;
-const COMMAND: u8 = 3;
 
 #[derive(Clone, Copy, PartialEq)]
 enum Stage {
     Free,
     Waiting,
-    Sending(usize),
+    Sending,
     Awaiting(u32),
 }
 
 #[derive(Clone, Copy, PartialEq)]
-enum Told {
+pub enum Told {
     Nothing = 0,
     Answered = 1,
     GivenUp = 2,
+    BroadcastSent = 3,
 }
 
-struct Master {
+pub struct Master {
+    primary: bool,
+    rt1: u32,
+    quiet_time: u32,
     reader: Reader,
     deaf: bool,
     burst: bool,
@@ -41,44 +38,40 @@ struct Master {
     quiet: u32,
     stage: Stage,
     attempts: u32,
-    length: usize,
-    stx: [u8; 284],
+    message: Frame,
+    out: Outgoing,
 }
 
 impl Master {
-    fn start() -> Master {
+    pub fn start(primary: bool) -> Master {
+        let rt1 = if primary { RT1_PRIMARY } else { RT1_SECONDARY };
         Master {
+            primary,
+            rt1,
+            quiet_time: 2 * RT1_PRIMARY + if primary { 0 } else { RT2 },
             reader: Reader::start(),
             deaf: true,
             burst: false,
             noted: (false, 0),
-            next: RT1,
+            next: rt1,
             window: 0,
             quiet: 0,
             stage: Stage::Free,
             attempts: 0,
-            length: 0,
-            stx: [0; 284],
+            message: Frame::default(),
+            out: Outgoing::none(),
         }
     }
 
-    fn tick(&mut self, heard: Heard, asks: bool) -> u8 {
-        let told = if self.deaf {
-            Told::Nothing
-        } else {
-            self.take(heard)
-        };
-        if asks && self.stage == Stage::Free {
-            self.request();
-        }
-        if self.send().is_some() {
-            4
-        } else {
-            told as u8
-        }
+    /// What it sends, or sent last.
+    pub fn out(&self) -> &Outgoing {
+        &self.out
     }
 
-    fn take(&mut self, heard: Heard) -> Told {
+    pub fn take(&mut self, heard: Heard) -> Told {
+        if self.deaf {
+            return Told::Nothing;
+        }
         let silent = matches!(heard, Heard::Silence);
         let event = self.reader.take(heard);
         if !silent {
@@ -106,15 +99,16 @@ impl Master {
 
     fn timer_after_break(&mut self) {
         if self.burst {
-            self.timer(0, QUIET);
+            self.timer(0, self.quiet_time);
         } else {
-            self.timer(RT1, 0);
+            self.timer(self.rt1, 0);
         }
     }
 
     fn whole(&mut self, frame: &Frame) -> Told {
         let is_ack = frame.frame_type == ACK;
-        let is_back = !is_ack && frame.frame_type != STX;
+        let is_back = frame.frame_type == BACK;
+        let to_itself = frame.primary == self.primary;
         let from = (frame.long_address, frame.address);
         if is_back || (is_ack && frame.burst) {
             self.burst = true;
@@ -124,17 +118,18 @@ impl Master {
         } else if is_ack && frame.long_address && self.noted == from {
             self.burst = false;
         }
-        match (self.burst, is_ack, frame.primary) {
-            (true, false, false) if is_back => self.timer(1, QUIET),
-            (true, ..) => self.timer(0, QUIET),
+        match (self.burst, is_ack, to_itself) {
+            (true, false, false) if is_back => self.timer(1, self.quiet_time),
+            (true, ..) => self.timer(0, self.quiet_time),
             (false, true, false) => self.timer(1, 0),
             (false, true, true) => self.timer(RT2, 0),
-            (false, false, _) => self.timer(RT1, 0),
+            (false, false, _) => self.timer(self.rt1, 0),
         }
         let is_own = is_ack
-            && frame.primary
-            && from == (true, UNIQUE_ADDRESS)
-            && frame.command == COMMAND
+            && to_itself
+            && !self.is_broadcast()
+            && from == (self.message.long_address, self.message.address)
+            && frame.command == self.message.command
             && self.reader.first_data_byte() < 0x80;
         if is_own && matches!(self.stage, Stage::Awaiting(_)) {
             self.stage = Stage::Free;
@@ -143,10 +138,18 @@ impl Master {
         self.ended_unanswered()
     }
 
-    /// The attempt fails, if one is awaited.
+    fn is_broadcast(&self) -> bool {
+        self.message.long_address && self.message.address == BROADCAST
+    }
+
+    /// A broadcast is over, and another attempt fails, if one is awaited.
     fn ended_unanswered(&mut self) -> Told {
         if !matches!(self.stage, Stage::Awaiting(_)) {
             return Told::Nothing;
+        }
+        if self.is_broadcast() {
+            self.stage = Stage::Free;
+            return Told::BroadcastSent;
         }
         if self.attempts > RETRIES {
             self.stage = Stage::Free;
@@ -189,46 +192,68 @@ impl Master {
         told
     }
 
-    fn request(&mut self) {
-        let mut body = [0x82, 0x80, 0, 0, 0, UNIQUE_ADDRESS as u8, COMMAND, 0, 0];
-        body[8] = body.iter().fold(0, |sum, byte| sum ^ byte);
-        self.stx[..5].fill(0xFF);
-        self.stx[5..14].copy_from_slice(&body);
-        self.length = 14;
-        self.attempts = 0;
-        self.stage = Stage::Waiting;
+    /// A request without data; whether it is taken.
+    pub fn request(&mut self, long_address: bool, address: u64, command: u8) -> bool {
+        if command == 254 || (!long_address && command != 0) || self.stage != Stage::Free {
+            return false;
+        }
+        self.message = Frame {
+            frame_type: STX,
+            long_address,
+            primary: self.primary,
+            address,
+            command,
+            ..Frame::default()
+        };
+        let taken = self.out.put(&self.message, &[]);
+        if taken {
+            self.attempts = 0;
+            self.stage = Stage::Waiting;
+        }
+        taken
     }
 
-    fn send(&mut self) -> Option<u8> {
-        let at = match self.stage {
+    pub fn send(&mut self) -> Option<u8> {
+        match self.stage {
             Stage::Waiting if self.window > 0 => {
                 self.attempts += 1;
-                0
+                self.out.again();
             }
-            Stage::Sending(at) => at,
+            Stage::Sending => {}
             _ => {
                 self.deaf = false;
                 return None;
             }
-        };
+        }
         self.deaf = true;
         self.reader.pass_over();
-        if at + 1 < self.length {
-            self.timer(0, 0);
-            self.stage = Stage::Sending(at + 1);
-        } else {
+        let character = self.out.next();
+        if self.out.at_last() {
             self.timer_after_break();
-            self.stage = Stage::Awaiting(RT1);
+            self.stage = Stage::Awaiting(self.rt1);
+        } else {
+            self.timer(0, 0);
+            self.stage = Stage::Sending;
         }
-        Some(self.stx[at])
+        Some(character)
     }
 }
 
-/// The number of what a master does in each tick.
+const UNIQUE_ADDRESS: u64 = 2;
+const COMMAND: u8 = 3;
+
+/// The number of what a primary does in each tick.
 #[inline(never)]
 pub fn ticks(recording: &[u8], events: &mut [u8]) -> usize {
-    let mut master = Master::start();
+    let mut master = Master::start(true);
     over(recording, events, |first, character| {
-        master.tick(Heard::recorded(first, character), first % 32 == 1)
+        let told = master.take(Heard::recorded(first, character));
+        if first % 32 == 1 {
+            master.request(true, UNIQUE_ADDRESS, COMMAND);
+        }
+        match master.send() {
+            Some(_) => 4,
+            None => told as u8,
+        }
     })
 }

@@ -4,6 +4,7 @@
 #[path = "called.rs"]
 mod called;
 #[path = "device_oracle.rs"]
+#[allow(dead_code)]
 mod device_oracle;
 #[path = "frame_oracle.rs"]
 #[allow(dead_code)]
@@ -12,9 +13,13 @@ mod frame_oracle;
 #[allow(dead_code)]
 mod frames;
 #[path = "master_oracle.rs"]
+#[allow(dead_code)]
 mod master_oracle;
 #[path = "party_archive.rs"]
 mod party_archive;
+#[path = "party_oracle.rs"]
+#[allow(dead_code)]
+mod party_oracle;
 #[path = "tick_oracle.rs"]
 #[allow(dead_code)]
 mod tick_oracle;

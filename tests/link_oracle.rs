@@ -1,0 +1,195 @@
+//! The link and the player of document 01 in plain Rust. It shares nothing with the archive.
+
+use crate::device_oracle::{Device, Wish};
+use crate::frame_oracle::{self, Fields, BACK, STX};
+use crate::master_oracle::Master;
+use crate::party_oracle::Outgoing;
+use crate::tick_oracle::{Damage, Heard};
+use std::io::Write;
+
+pub const BAD_SCRIPT: &[u8] = b"16\n";
+pub const HEADER: &[u8] = b"tick party type master length\n";
+
+const MASTERS: usize = 2;
+const DEVICES: usize = 6;
+const PARTIES: usize = MASTERS + DEVICES;
+
+const BURST_COMMAND: u8 = 3;
+
+const ZEROS: [u8; 255] = [0; 255];
+
+#[derive(Clone, Copy)]
+struct Record {
+    tick: u16,
+    party: usize,
+    action: u8,
+    argument: u8,
+}
+
+impl Record {
+    fn read(bytes: &[u8]) -> Record {
+        Record {
+            tick: u16::from_be_bytes([bytes[0], bytes[1]]),
+            party: usize::from(bytes[2] >> 4),
+            action: bytes[2] & 0x0F,
+            argument: bytes[3],
+        }
+    }
+
+    fn is_stop(&self) -> bool {
+        self.party == 0 && self.action == 0 && self.argument == 0
+    }
+
+    fn is_call(&self) -> bool {
+        match self.action {
+            1 | 3 => self.party < MASTERS,
+            2 | 4 | 5 => (MASTERS..PARTIES).contains(&self.party),
+            _ => false,
+        }
+    }
+}
+
+/// The calls of a script and its stop's tick, unless it is a bad script.
+fn read_script(script: &[u8]) -> Option<(Vec<Record>, u16)> {
+    let records = script.chunks_exact(4);
+    if !records.remainder().is_empty() {
+        return None;
+    }
+    let mut calls: Vec<Record> = records.map(Record::read).collect();
+    let stop = calls.pop()?;
+    let in_order = calls.windows(2).all(|two| two[0].tick <= two[1].tick)
+        && calls.last().is_none_or(|last| last.tick <= stop.tick);
+    let good = stop.is_stop() && in_order && calls.iter().all(Record::is_call);
+    (good && one_call_a_tick(&calls)).then_some((calls, stop.tick))
+}
+
+/// Whether no party has two calls in one tick.
+fn one_call_a_tick(calls: &[Record]) -> bool {
+    let mut latest = [None; PARTIES];
+    calls
+        .iter()
+        .all(|call| latest[call.party].replace(call.tick) != Some(call.tick))
+}
+
+struct Link {
+    masters: [Master; MASTERS],
+    devices: [Device; DEVICES],
+    /// What the line carried in the tick before.
+    heard: Heard,
+    /// Whether each party has been alone in each tick of its frame so far.
+    alone: [bool; PARTIES],
+}
+
+impl Link {
+    fn start() -> Link {
+        let device = |at| {
+            let polling_address = at as u64;
+            Device::start(polling_address, polling_address + MASTERS as u64)
+        };
+        let mut devices: [Device; DEVICES] = std::array::from_fn(device);
+        for device in &mut devices {
+            device.burst_content(BURST_COMMAND, &ZEROS[..2]);
+        }
+        Link {
+            masters: [Master::start(true), Master::start(false)],
+            devices,
+            heard: Heard::Silence,
+            alone: [false; PARTIES],
+        }
+    }
+
+    fn take(&mut self) {
+        for master in &mut self.masters {
+            master.take(self.heard);
+        }
+        for device in &mut self.devices {
+            device.take(self.heard);
+        }
+    }
+
+    /// A call that is refused is passed over.
+    fn call(&mut self, call: &Record) {
+        let data = &ZEROS[..usize::from(call.argument)];
+        let address = u64::from(call.argument);
+        match call.action {
+            1 => self.masters[call.party].request(false, address, 0),
+            3 => self.masters[call.party].request(true, address, 3),
+            2 => self.devices[call.party - MASTERS].answer(data, Wish::AsItIs),
+            4 => self.devices[call.party - MASTERS].answer(data, Wish::On),
+            _ => self.devices[call.party - MASTERS].answer(data, Wish::Off),
+        };
+    }
+
+    /// All parties send; the frames that end here, alone in each tick, are listed.
+    fn send(&mut self, tick: u16, listing: &mut Vec<u8>) {
+        let mut senders = 0;
+        let mut last_sender = 0;
+        self.heard = Heard::Silence;
+        let by_masters = self.masters.iter_mut().map(Master::send);
+        let by_devices = self.devices.iter_mut().map(Device::send);
+        let mut sending = [false; PARTIES];
+        for (party, sent) in by_masters.chain(by_devices).enumerate() {
+            if let Some(character) = sent {
+                senders += 1;
+                last_sender = party;
+                sending[party] = true;
+                self.heard = Heard::Character(character);
+            }
+        }
+        match senders {
+            0 => {}
+            1 => self.sent_alone(tick, last_sender, listing),
+            _ => {
+                self.heard = Heard::Damaged(0, Damage::Framing);
+                for (alone, sends) in self.alone.iter_mut().zip(sending) {
+                    *alone &= !sends;
+                }
+            }
+        }
+    }
+
+    fn sent_alone(&mut self, tick: u16, party: usize, listing: &mut Vec<u8>) {
+        let out = match party.checked_sub(MASTERS) {
+            None => self.masters[party].out(),
+            Some(device) => self.devices[device].out(),
+        };
+        if out.at_first() {
+            self.alone[party] = true;
+        }
+        if out.at_last() && self.alone[party] {
+            list(tick, party, out, listing);
+        }
+    }
+}
+
+fn list(tick: u16, party: usize, out: &Outgoing, listing: &mut Vec<u8>) {
+    let mut fields = Fields::default();
+    frame_oracle::read(out.frame(), &mut fields);
+    let [_, frame_type, _, primary, .., length] = fields;
+    let name = match frame_type as u8 {
+        STX => "STX",
+        BACK => "BACK",
+        _ => "ACK",
+    };
+    let master = 1 - primary;
+    writeln!(listing, "{tick} {party} {name} {master} {length}").expect("a vector takes all");
+}
+
+/// The player's output.
+#[inline(never)]
+pub fn play(script: &[u8]) -> Vec<u8> {
+    let Some((calls, stop)) = read_script(script) else {
+        return BAD_SCRIPT.to_vec();
+    };
+    let mut listing = HEADER.to_vec();
+    let mut link = Link::start();
+    let mut calls = calls.iter().peekable();
+    for tick in 0..stop {
+        link.take();
+        while let Some(call) = calls.next_if(|call| call.tick == tick) {
+            link.call(call);
+        }
+        link.send(tick, &mut listing);
+    }
+    listing
+}
