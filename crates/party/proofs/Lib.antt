@@ -1,2 +1,3 @@
--- The law by which the character of a frame is proved.
+-- The laws by which the character of a frame and a receiver made anew are proved.
 pub mod Characters
+pub mod Sames

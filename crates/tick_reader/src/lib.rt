@@ -95,7 +95,7 @@ fn silent_inside() -> Taken
 }
 
 // A silent tick.
-fn silent(place: Place) -> Taken
+pub fn silent(place: Place) -> Taken
     ensures { λ r. ⌜ r ≡ silence place ⌝ }
 {
     match place {
