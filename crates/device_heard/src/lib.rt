@@ -129,7 +129,7 @@ fn listens(d: Device, due: u32, told: DeviceTold) -> Heeded
     ensures { λ h. ⌜ h ≡ listening d due told ⌝ }
 {
     let q = d.request;
-    let request = party::same_header(q);
+    let request = tick_reader::same_header(q);
     Heeded {
         turn: Turn::Listens,
         request: request,
@@ -158,7 +158,7 @@ fn heeds_request(d: Device, w: Whole) -> Heeded
     let profile = d.profile;
     let due = profile.rt1p as u32;
     if is_own(d, h) {
-        let request = party::same_header(h);
+        let request = tick_reader::same_header(h);
         return Heeded {
             turn: Turn::Asked(profile.sto),
             request: request,
@@ -196,7 +196,7 @@ fn heeds_damage(d: Device, w: Whole, m: Harm) -> Heeded
     let due = profile.rt1p as u32;
     if has_error(d, w, m) {
         let length = frame_length(d.preamble, h.long, 2);
-        let request = party::same_header(h);
+        let request = tick_reader::same_header(h);
         return Heeded {
             turn: Turn::Accepted,
             request: request,
@@ -356,7 +356,7 @@ fn hears_silence(d: Device) -> DeviceTaken
     on_silence(d, r, event)
 }
 
-// The same device, field by field, as the parts that crates/party makes anew.
+// The same device, field by field, as the parts that the tick reader makes anew.
 fn same_device(d: Device) -> Device
     ensures { λ r. ⌜ r ≡ d ⌝ }
 {
@@ -364,8 +364,8 @@ fn same_device(d: Device) -> Device
     let q = d.request;
     let turn = d.turn;
     let wish = d.wish;
-    let receiver = party::same_receiver(r);
-    let request = party::same_header(q);
+    let receiver = tick_reader::same_receiver(r);
+    let request = tick_reader::same_header(q);
     with_parts(d, receiver, turn, request, wish, d.length, d.due)
 }
 

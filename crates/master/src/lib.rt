@@ -369,7 +369,7 @@ fn take_call(m: Master, call: HostCall, put: &[u8], frame: &mut [u8; 284]) -> Ca
     }
 }
 
-// The same master, and parts of it, field by field, as the parts that crates/party makes anew.
+// The same master, and parts of it, field by field, as the parts that the tick reader makes anew.
 fn same_noted(n: Noted) -> Noted
     ensures { λ r. ⌜ r ≡ n ⌝ }
 {
@@ -384,7 +384,7 @@ fn same_message(g: Message) -> Message
 {
     let stage = g.stage;
     let h = g.header;
-    let header = party::same_header(h);
+    let header = tick_reader::same_header(h);
     Message {
         stage: stage,
         header: header,
@@ -401,7 +401,7 @@ fn same_master(m: Master) -> Master
     let n = m.noted;
     let g = m.message;
     let timer = m.timer;
-    let receiver = party::same_receiver(r);
+    let receiver = tick_reader::same_receiver(r);
     let noted = same_noted(n);
     let message = same_message(g);
     Master {

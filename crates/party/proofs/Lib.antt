@@ -1,3 +1,2 @@
--- The laws by which the character of a frame and a receiver made anew are proved.
+-- The law by which the character of a frame is proved.
 pub mod Characters
-pub mod Sames

@@ -1,7 +1,6 @@
-// What master and device have in common: what silence and a broadcast are, a counter's tick, the characters of a frame that is sent, and parts of their states made anew.
+// What master and device have in common: what silence and a broadcast are, a counter's tick, and the characters of a frame that is sent.
 use frame::Header;
 use line::Heard;
-use line::Receiver;
 ghost use mathlib.Core.Path.{_≡_};
 ghost use Prim.Native.Nat.{_-_};
 ghost use Rattle.frame.specs.Address.{byteAt};
@@ -54,35 +53,4 @@ pub fn is_broadcast(h: Header) -> bool
         return h.address == 0;
     }
     false
-}
-
-// The next two give what they take, field by field. Copied as a block, with the unused bytes between its fields, a struct stays in memory; made anew, its fields can stay in registers.
-pub fn same_header(h: Header) -> Header
-    ensures { λ r. ⌜ r ≡ h ⌝ }
-{
-    Header {
-        frame: h.frame,
-        long: h.long,
-        primary: h.primary,
-        burst: h.burst,
-        address: h.address,
-        command: h.command,
-    }
-}
-
-pub fn same_receiver(r: Receiver) -> Receiver
-    ensures { λ s. ⌜ s ≡ r ⌝ }
-{
-    let place = r.place;
-    let h = r.header;
-    let header = same_header(h);
-    let harm = r.harm;
-    Receiver {
-        place: place,
-        header: header,
-        expansion: r.expansion,
-        count: r.count,
-        sum: r.sum,
-        harm: harm,
-    }
 }
