@@ -1,55 +1,58 @@
--- Laws of hearing: what a device makes of its reader's tick.
+-- Laws of hearing: what taking promises, from what was heard.
 use Prim.Native.Nat.{ℕ}
 use mathlib.Core.Bool.{Bool, true, false}
 use mathlib.Core.List.{List}
 use mathlib.Core.Path.{_≡_, refl, sym, ap, _∙_}
-use Rattle.base.specs.Choice.{if_then_else_}
-use Rattle.base.proofs.Choices.{if-true, if-false}
-use Rattle.line.specs.declared.Damage.{Damage}
+use Rattle.base.proofs.Choices.{if-true, if-false, true-false}
+use Rattle.line.specs.Reader.{silence, taken, takenData}
+use Rattle.line.specs.Reader as Reader
 use Rattle.line.specs.declared.Event.{Event}
 use Rattle.line.specs.declared.Heard.{Heard}
 use Rattle.line.specs.declared.Heard.the-variants.{Silence, Character, Damaged}
 use Rattle.line.specs.declared.Taken.{Taken}
-use Rattle.party.specs.Hears.{hears, HearIs}
-use Rattle.turns.specs.Device.{tells, onSilence, onCharacter, onHeard, deviceTakes}
+use Rattle.party.specs.Hears.{isSilence}
+use Rattle.turns.specs.Device.{tells, onSilence, onCharacter, deviceTakes}
+use Rattle.turns.specs.Link.{deviceData}
 use Rattle.turns.specs.declared.Device.{Device}
 use Rattle.turns.specs.declared.DeviceTaken.{DeviceTaken}
 use Rattle.turns.specs.declared.DeviceTold.{DeviceTold}
-use Rattle.device_heard.specs.Hearing.{byHeard, afterHearing, HeardIs}
+use Rattle.device_heard.specs.Hearing.{hearsSilence, lent, HeardIs}
 
--- hearing
-module _ (d : Device) (heard : Heard) (t : Taken) (s : DeviceTaken) where
-  pub hears-deaf : d .deaf ≡ true → s ≡ tells d DeviceTold.Nothing Event.Nothing → s ≡ afterHearing d heard t
-  unfolding afterHearing
-  hears-deaf e f = if-true (d .deaf) s (tells d DeviceTold.Nothing Event.Nothing) (byHeard d heard t) e f
+pub hears-silence : (d : Device) (s : Taken) (t : DeviceTaken) → s ≡ silence (d .receiver .place) → t ≡ onSilence d (s .receiver) (s .event) → t ≡ hearsSilence d
+hears-silence d s t p q = q ∙ ap (λ (k : Taken). onSilence d (k .receiver) (k .event)) p
 
-  by-heard : d .deaf ≡ false → s ≡ byHeard d heard t → s ≡ afterHearing d heard t
-  unfolding afterHearing
-  by-heard e f = if-false (d .deaf) s (tells d DeviceTold.Nothing Event.Nothing) (byHeard d heard t) e f
+-- `own` is the device made anew
+module _ (d own : Device) (heard : Heard) (bytes : List ℕ) (x : DeviceTaken) (same : own ≡ d) where
+  as-own : (after : List ℕ) → HeardIs own heard bytes x after → HeardIs d heard bytes x after
+  as-own after is = record {
+    taken = is .taken ∙ ap (λ (k : Device). deviceTakes k heard) same;
+    data-is = is .data-is ∙ ap (λ (k : Device). deviceData (lent k bytes) heard) same;
+  }
 
-  pub hears-silence : d .deaf ≡ false → heard ≡ Silence → s ≡ onSilence d (t .receiver) (t .event) → s ≡ afterHearing d heard t
-  hears-silence e h f = by-heard e (f ∙ ap (λ (x : Heard). byHeard d x t) (sym h))
+  pub take-deaf : own .deaf ≡ true → x ≡ tells own DeviceTold.Nothing Event.Nothing → HeardIs d heard bytes x bytes
+  unfolding deviceTakes
+  take-deaf e p = as-own bytes (record { taken = if-true (own .deaf) _ _ _ e p; data-is = if-true (own .deaf) _ _ _ e refl })
 
-  pub hears-character : (c : ℕ) → d .deaf ≡ false → heard ≡ Character c → s ≡ onCharacter d (t .receiver) (t .event) → s ≡ afterHearing d heard t
-  hears-character c e h f = by-heard e (f ∙ ap (λ (x : Heard). byHeard d x t) (sym h))
+  module _ (e : own .deaf ≡ false) (s : Bool) (is-s : s ≡ isSilence heard) where
+    pub take-silence : s ≡ true → x ≡ hearsSilence own → HeardIs d heard bytes x bytes
+    unfolding deviceTakes taken takenData
+    take-silence t q = as-own bytes (by heard (sym is-s ∙ t))
+      where
+        by : (h : Heard) → isSilence h ≡ true → HeardIs own h bytes x bytes
+        by Silence t = record { taken = if-false (own .deaf) _ _ _ e q; data-is = if-false (own .deaf) _ _ _ e refl }
+        by (Character c) t = absurd (true-false (sym t))
+        by (Damaged c k) t = absurd (true-false (sym t))
 
-  pub hears-damage : (c : ℕ) (k : Damage) → d .deaf ≡ false → heard ≡ Damaged c k → s ≡ onCharacter d (t .receiver) (t .event) → s ≡ afterHearing d heard t
-  hears-damage c k e h f = by-heard e (f ∙ ap (λ (x : Heard). byHeard d x t) (sym h))
+    pub take-character : (t : Taken) (after : List ℕ) → s ≡ false → Reader.TakeIs (own .receiver) heard bytes t after → x ≡ onCharacter own (t .receiver) (t .event) → HeardIs d heard bytes x after
+    unfolding deviceTakes
+    take-character t after f is q = as-own after (by heard (sym is-s ∙ f) is)
+      where
+        heeds : (h : Heard) → t ≡ taken (own .receiver) h → x ≡ onCharacter own (taken (own .receiver) h .receiver) (taken (own .receiver) h .event)
+        heeds h r = q ∙ ap (λ (k : Taken). onCharacter own (k .receiver) (k .event)) r
 
-  -- the reader that a party shares
-  hearing : t ≡ hears (d .deaf) (d .receiver) heard → s ≡ afterHearing d heard t → s ≡ deviceTakes d heard
-  unfolding afterHearing deviceTakes if_then_else_
-  hearing e f = f ∙ go (d .deaf) heard t e
-    where
-      go : (deaf : Bool) (x : Heard) (u : Taken) → u ≡ hears deaf (d .receiver) x → (if deaf then tells d DeviceTold.Nothing Event.Nothing else byHeard d x u) ≡ (if deaf then tells d DeviceTold.Nothing Event.Nothing else onHeard d x)
-      go true x u q = refl
-      go false Silence u q = ap (byHeard d Silence) q
-      go false (Character c) u q = ap (byHeard d (Character c)) q
-      go false (Damaged c k) u q = ap (byHeard d (Damaged c k)) q
+        by : (h : Heard) → isSilence h ≡ false → Reader.TakeIs (own .receiver) h bytes t after → HeardIs own h bytes x after
+        by Silence f is = absurd (true-false f)
+        by (Character c) f is = record { taken = if-false (own .deaf) _ _ _ e (heeds (Character c) (is .reader)); data-is = if-false (own .deaf) _ _ _ e (is .buffer) }
+        by (Damaged c k) f is = record { taken = if-false (own .deaf) _ _ _ e (heeds (Damaged c k) (is .reader)); data-is = if-false (own .deaf) _ _ _ e (is .buffer) }
 
-pub ruleset hearings = (refl, hears-deaf, hears-silence, hears-character, hears-damage)
-
--- what taking promises, from what hearing promises
-pub heard-is : (d : Device) (heard : Heard) (bytes : List ℕ) (t : Taken) (s : DeviceTaken) (after : List ℕ)
-    → HearIs (d .deaf) (d .receiver) heard bytes t after → s ≡ afterHearing d heard t → HeardIs d heard bytes s after
-heard-is d heard bytes t s after h f = record { taken = hearing d heard t s (h .reader) f; data-is = h .buffer }
+pub ruleset hearings = (refl, hears-silence, take-deaf, take-silence, take-character)

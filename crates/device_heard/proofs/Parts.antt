@@ -1,23 +1,28 @@
 -- Laws of a device behind what it heard: equal parts give equal devices.
-use Prim.Native.Nat.{ℕ, _+_}
+use Prim.Native.Nat.{ℕ, _+_, _-_}
 use native.Mathlib.Omega.{arith}
 use mathlib.Core.Bool.{Bool, true, false}
 use mathlib.Core.Path.{_≡_, refl, sym, ap, _∙_}
+use Rattle.base.specs.Choice.{if_then_else_, _=?_}
 use Rattle.base.proofs.Choices.{if-is-true, if-is-false}
 use Rattle.frame.specs.Address.{addressLength}
+use Rattle.frame.specs.Delimiter.{stx}
 use Rattle.frame.specs.declared.Header.{Header}
 use Rattle.line.specs.declared.Event.{Event}
 use Rattle.line.specs.declared.Event.the-variants.{Nothing, PassedOver, Broken, Frame, Damaged}
 use Rattle.line.specs.declared.Receiver.{Receiver}
-use Rattle.turns.specs.Device.{behind, tells, waited, counts, onSilence, onCharacter}
+use Rattle.line.specs.declared.Whole.{Whole}
+use Rattle.turns.specs.Master.{isBroadcast}
+use Rattle.turns.specs.Device.{behind, isOwn, dueAfter, hasError, tells, afterRequest, afterFrame, onCharacter, waited, backDue, counts, onSilence}
 use Rattle.turns.specs.declared.Device.{Device}
 use Rattle.turns.specs.declared.DeviceTaken.{DeviceTaken}
 use Rattle.turns.specs.declared.DeviceTold.{DeviceTold}
+use Rattle.turns.specs.declared.DeviceTold.the-variants.{Request}
 use Rattle.turns.specs.declared.Turn.{Turn}
-use Rattle.turns.specs.declared.Turn.the-variants.{Listens}
-use Rattle.turns.specs.declared.Wish.{Wish}
+use Rattle.turns.specs.declared.Turn.the-variants.{Asked, Follows}
 use Rattle.turns.specs.declared.Wish.the-variants.{Same}
-use Rattle.device_heard.specs.Hearing.{silentDue}
+use Rattle.device_heard.specs.Hearing.{heededAs, listening, heedsRequest, heedsFrame, heedsEvent, nextTurn, nextDue, silentDue}
+use Rattle.device_heard.specs.declared.Heeded.{Heeded}
 
 -- how many characters a frame has, by the address's form
 pub length-long : (preamble : ℕ) (long : Bool) (count : ℕ) → long ≡ true → preamble + (8 + count + 1) ≡ preamble + (addressLength long + 3 + count + 1)
@@ -26,24 +31,16 @@ length-long preamble long count e = omega (arith, if-is-true {A = ℕ} long 5 1 
 pub length-short : (preamble : ℕ) (long : Bool) (count : ℕ) → long ≡ false → preamble + (4 + count + 1) ≡ preamble + (addressLength long + 3 + count + 1)
 length-short preamble long count e = omega (arith, if-is-false {A = ℕ} long 5 1 e)
 
--- a device that answers damage
-pub answers-same : (d e : Device) (r : Receiver) (turn : Turn) (request : Header) (wish : Wish) (length n due : ℕ) (told : DeviceTold) (event : Event) → length ≡ n
-    → e ≡ behind d r turn request wish length due → _≡_ {A = DeviceTaken} (record { device = e; told = told; event = event }) (tells (behind d r turn request wish n due) told event)
-answers-same d e r turn request wish length n due told event q f = ap (λ (x : Device). tells x told event) f ∙ (λ i. tells (behind d r turn request wish (q i) due) told event)
+-- equal parts
+pub heeded-same : (turn : Turn) (request q : Header) (length n due : ℕ) (told : DeviceTold) → request ≡ q → length ≡ n
+    → _≡_ {A = Heeded} (record { turn = turn; request = request; length = length; due = due; told = told }) (record { turn = turn; request = q; length = n; due = due; told = told })
+heeded-same turn request q length n due told p e = λ i. record { turn = turn; request = p i; length = e i; due = due; told = told }
 
--- what is told, of an equal device
-pub tells-same : (d e : Device) (told : DeviceTold) (event : Event) → d ≡ e → _≡_ {A = DeviceTaken} (record { device = d; told = told; event = event }) (tells e told event)
-tells-same d e told event p = ap (λ (x : Device). tells x told event) p
+pub listens-same : (d : Device) (due other : ℕ) (told u : DeviceTold) (h : Heeded) → due ≡ other → told ≡ u → h ≡ listening d due told → h ≡ listening d other u
+listens-same d due other told u h p q e = e ∙ (λ i. listening d (p i) (q i))
 
--- a device that listens, with equal ticks before its next BACK
-pub listens-same : (d : Device) (r : Receiver) (due other : ℕ) (told : DeviceTold) (event : Event) (t : DeviceTaken) → due ≡ other
-    → t ≡ tells (behind d r Listens (d .request) Same (d .length) due) told event → t ≡ tells (behind d r Listens (d .request) Same (d .length) other) told event
-listens-same d r due other told event t e p = p ∙ ap (λ (n : ℕ). tells (behind d r Listens (d .request) Same (d .length) n) told event) e
-
--- a device that counts a silent tick
-pub counts-same : (d e : Device) (r : Receiver) (turn : Turn) (due other : ℕ) (event : Event) → turn ≡ waited (d .turn) → due ≡ other → e ≡ behind d r turn (d .request) (d .wish) (d .length) due
-    → _≡_ {A = DeviceTaken} (record { device = e; told = DeviceTold.Nothing; event = event }) (tells (behind d r (waited (d .turn)) (d .request) (d .wish) (d .length) other) DeviceTold.Nothing event)
-counts-same d e r turn due other event p q f = ap (λ (x : Device). tells x DeviceTold.Nothing event) f ∙ (λ i. tells (behind d r (p i) (d .request) (d .wish) (d .length) (q i)) DeviceTold.Nothing event)
+pub device-same : (d e : Device) (r : Receiver) (request : Header) → r ≡ d .receiver → request ≡ d .request → e ≡ behind d r (d .turn) request (d .wish) (d .length) (d .due) → e ≡ d
+device-same d e r request p q f = f ∙ (λ i. behind d (p i) (d .turn) (q i) (d .wish) (d .length) (d .due))
 
 -- a definition by cases, at a case that a `match` has told
 pub waited-at : (p q t : Turn) → p ≡ q → t ≡ waited q → t ≡ waited p
@@ -51,6 +48,58 @@ waited-at p q t e f = f ∙ ap waited (sym e)
 
 pub due-at : (d : Device) (p q : Event) (n : ℕ) → p ≡ q → n ≡ silentDue d q → n ≡ silentDue d p
 due-at d p q n e f = f ∙ ap (silentDue d) (sym e)
+
+pub heeds-at : (d : Device) (p q : Event) (h : Heeded) → p ≡ q → h ≡ heedsEvent d q → h ≡ heedsEvent d p
+heeds-at d p q h e f = f ∙ ap (heedsEvent d) (sym e)
+
+-- ---- a character
+
+if-ap : {A B : Type 0} (f : A → B) (t : Bool) (a b : A) → f (if t then a else b) ≡ (if t then f a else f b)
+unfolding if_then_else_
+if-ap f true a b = refl
+if-ap f false a b = refl
+
+module _ (d : Device) (r : Receiver) where
+  by-request : (w : Whole) → heededAs d r (heedsRequest d w) (Frame w) ≡ afterRequest d r w
+  by-request w =
+      if-ap (λ (h : Heeded). heededAs d r h (Frame w)) (isOwn d (w .header)) _ _
+      ∙ ap (λ (x : DeviceTaken). if isOwn d (w .header) then heededAs d r (record { turn = Asked (d .profile .sto); request = w .header; length = d .length; due = d .profile .rt1p; told = Request w }) (Frame w) else x)
+      (if-ap (λ (u : DeviceTold). heededAs d r (listening d (d .profile .rt1p) u) (Frame w)) (isBroadcast (w .header)) _ _)
+
+  by-frame : (w : Whole) → heededAs d r (heedsFrame d w) (Frame w) ≡ afterFrame d r w
+  by-frame w =
+      if-ap (λ (h : Heeded). heededAs d r h (Frame w)) (w .header .frame =? stx) _ _
+      ∙ ap (λ (x : DeviceTaken). if w .header .frame =? stx then x else heededAs d r (listening d (dueAfter d (w .header)) DeviceTold.Nothing) (Frame w))
+      (if-ap (λ (h : Heeded). heededAs d r h (Frame w)) (w .expansion =? 0) _ _
+      ∙ ap (λ (x : DeviceTaken). if w .expansion =? 0 then x else heededAs d r (listening d (d .profile .rt1p) DeviceTold.Nothing) (Frame w)) (by-request w))
+
+  by-event : (event : Event) → heededAs d r (heedsEvent d event) event ≡ onCharacter d r event
+  by-event Nothing = refl
+  by-event PassedOver = refl
+  by-event Broken = refl
+  by-event (Frame w) = by-frame w
+  by-event (Damaged w m) = if-ap (λ (h : Heeded). heededAs d r h (Damaged w m)) (hasError d w m) _ _
+
+  pub character-parts : (event : Event) (h : Heeded) (e : Device) → h ≡ heedsEvent d event → e ≡ behind d r (h .turn) (h .request) Same (h .length) (h .due)
+      → _≡_ {A = DeviceTaken} (record { device = e; told = h .told; event = event }) (onCharacter d r event)
+  character-parts event h e p q = ap (λ (x : Device). tells x (h .told) event) q ∙ ap (λ (x : Heeded). heededAs d r x event) p ∙ by-event event
+
+-- ---- a silent tick
+
+by-back : (d : Device) (r : Receiver) (due : ℕ) (event : Event) (back : Bool)
+    → tells (behind d r (nextTurn back (d .turn)) (d .request) (d .wish) (d .length) (nextDue back due)) DeviceTold.Nothing event
+    ≡ (if back then tells (behind d r Follows (d .request) (d .wish) (d .length) 0) DeviceTold.Nothing event
+    else tells (behind d r (waited (d .turn)) (d .request) (d .wish) (d .length) (due - 1)) DeviceTold.Nothing event)
+unfolding if_then_else_
+by-back d r due event true = refl
+by-back d r due event false = refl
+
+pub count-parts : (d e : Device) (r : Receiver) (due n : ℕ) (event : Event) (back : Bool) (turn : Turn) → back ≡ backDue d due → turn ≡ nextTurn back (d .turn) → n ≡ nextDue back due
+    → e ≡ behind d r turn (d .request) (d .wish) (d .length) n → _≡_ {A = DeviceTaken} (record { device = e; told = DeviceTold.Nothing; event = event }) (counts d r due event)
+count-parts d e r due n event back turn p q u f =
+    let at : (b : Bool) → Device = λ (b : Bool). behind d r (nextTurn b (d .turn)) (d .request) (d .wish) (d .length) (nextDue b due) in
+    let device : e ≡ at back = f ∙ (λ i. behind d r (q i) (d .request) (d .wish) (d .length) (u i)) in
+    ap (λ (x : Device). tells x DeviceTold.Nothing event) (device ∙ ap at p) ∙ by-back d r due event (backDue d due)
 
 -- a silent tick counts, whatever the reader tells
 by-due : (d : Device) (r : Receiver) (event : Event) → counts d r (silentDue d event) event ≡ onSilence d r event
@@ -63,5 +112,4 @@ by-due d r (Damaged w m) = refl
 pub silence-is : (d : Device) (r : Receiver) (event : Event) (n : ℕ) (t : DeviceTaken) → n ≡ silentDue d event → t ≡ counts d r n event → t ≡ onSilence d r event
 silence-is d r event n t e f = f ∙ ap (λ (x : ℕ). counts d r x event) e ∙ by-due d r event
 
-pub character-at : (d : Device) (r : Receiver) (p q : Event) (t : DeviceTaken) → p ≡ q → t ≡ onCharacter d r q → t ≡ onCharacter d r p
-character-at d r p q t e f = f ∙ ap (onCharacter d r) (sym e)
+pub ruleset parts = (refl, heeded-same, listens-same, device-same, waited-at, due-at, heeds-at, character-parts, count-parts, silence-is)

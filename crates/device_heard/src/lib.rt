@@ -3,8 +3,8 @@ use frame::Header;
 use line::Event;
 use line::Harm;
 use line::Heard;
+use line::Profile;
 use line::Receiver;
-use line::Taken;
 use line::Whole;
 use turns::Device;
 use turns::DeviceTaken;
@@ -13,11 +13,20 @@ use turns::Turn;
 use turns::Wish;
 ghost use mathlib.Core.Path.{_≡_};
 ghost use mathlib.Core.Bool.{false};
-ghost use Prim.Native.Nat.{_+_, _-_};
+ghost use Prim.Native.Nat.{_+_};
 ghost use Rattle.base.specs.Choice.{if_then_else_};
 ghost use Rattle.frame.specs.Address.{addressLength};
-ghost use Rattle.turns.specs.Device.{behind, isOwn, dueAfter, hasError, tells, afterRequest, afterFrame, afterDamage, onCharacter, waited, backDue, counts, onSilence};
-ghost use Rattle.device_heard.specs.Hearing.{silentDue, afterHearing, HeardIs};
+ghost use Rattle.turns.specs.Device.{behind, isOwn, dueAfter, hasError, tells, onCharacter, waited, backDue, counts, onSilence};
+ghost use Rattle.device_heard.specs.Hearing.{listening, toldOfOther, heedsRequest, heedsFrame, heedsDamage, heedsEvent, nextTurn, nextDue, silentDue, hearsSilence, HeardIs};
+
+// What a device makes of a character, its reader and its wish aside, and what it tells.
+struct Heeded {
+    turn: Turn,
+    request: Header,
+    length: u16,
+    due: u32,
+    told: DeviceTold,
+}
 
 // The same device with other parts.
 pub fn with_parts(
@@ -31,7 +40,14 @@ pub fn with_parts(
 ) -> Device
     ensures { λ e. ⌜ e ≡ behind d r turn request wish length due ⌝ }
 {
-    let profile = d.profile;
+    let p = d.profile;
+    let profile = Profile {
+        sto: p.sto,
+        hold: p.hold,
+        rt2: p.rt2,
+        rt1p: p.rt1p,
+        rt1s: p.rt1s,
+    };
     let content = d.content;
     Device {
         profile: profile,
@@ -109,42 +125,54 @@ fn has_own_address(d: Device, h: Header, m: Harm) -> bool
 }
 
 // A device that listens, and the ticks before its next BACK.
-fn listens(d: Device, r: Receiver, due: u32, told: DeviceTold, event: Event) -> DeviceTaken
-    ensures { λ t. ⌜ t ≡ tells (behind d r Turn.Listens (d .request) Wish.Same (d .length) due) told event ⌝ }
+fn listens(d: Device, due: u32, told: DeviceTold) -> Heeded
+    ensures { λ h. ⌜ h ≡ listening d due told ⌝ }
 {
-    let request = d.request;
-    let device = with_parts(d, r, Turn::Listens, request, Wish::Same, d.length, due);
-    DeviceTaken {
-        device: device,
+    let q = d.request;
+    let request = tick_reader::same_header(q);
+    Heeded {
+        turn: Turn::Listens,
+        request: request,
+        length: d.length,
+        due: due,
         told: told,
-        event: event,
     }
 }
 
+// What is told of a request that is not for this device.
+fn told_of_other(w: Whole) -> DeviceTold
+    ensures { λ t. ⌜ t ≡ toldOfOther w ⌝ }
+{
+    let h = w.header;
+    if party::is_broadcast(h) {
+        return DeviceTold::Broadcast(w);
+    }
+    DeviceTold::Nothing
+}
+
 // An undamaged STX without expansion bytes: a request, a broadcast, or another's.
-fn after_request(d: Device, r: Receiver, w: Whole) -> DeviceTaken
-    ensures { λ t. ⌜ t ≡ afterRequest d r w ⌝ }
+fn heeds_request(d: Device, w: Whole) -> Heeded
+    ensures { λ h. ⌜ h ≡ heedsRequest d w ⌝ }
 {
     let h = w.header;
     let profile = d.profile;
     let due = profile.rt1p as u32;
     if is_own(d, h) {
-        let device = with_parts(d, r, Turn::Asked(profile.sto), h, Wish::Same, d.length, due);
-        return DeviceTaken {
-            device: device,
+        let request = tick_reader::same_header(h);
+        return Heeded {
+            turn: Turn::Asked(profile.sto),
+            request: request,
+            length: d.length,
+            due: due,
             told: DeviceTold::Request(w),
-            event: Event::Frame(w),
         };
     }
-    if party::is_broadcast(h) {
-        return listens(d, r, due, DeviceTold::Broadcast(w), Event::Frame(w));
-    }
-    listens(d, r, due, DeviceTold::Nothing, Event::Frame(w))
+    listens(d, due, told_of_other(w))
 }
 
 // An undamaged frame.
-fn after_frame(d: Device, r: Receiver, w: Whole) -> DeviceTaken
-    ensures { λ t. ⌜ t ≡ afterFrame d r w ⌝ }
+fn heeds_frame(d: Device, w: Whole) -> Heeded
+    ensures { λ h. ⌜ h ≡ heedsFrame d w ⌝ }
 {
     let h = w.header;
     let profile = d.profile;
@@ -152,44 +180,62 @@ fn after_frame(d: Device, r: Receiver, w: Whole) -> DeviceTaken
     let expansion = w.expansion;
     if h.frame == frame::STX {
         if expansion == 0 {
-            return after_request(d, r, w);
+            return heeds_request(d, w);
         }
-        return listens(d, r, due, DeviceTold::Nothing, Event::Frame(w));
+        return listens(d, due, DeviceTold::Nothing);
     }
-    listens(d, r, due_after(d, h), DeviceTold::Nothing, Event::Frame(w))
+    listens(d, due_after(d, h), DeviceTold::Nothing)
 }
 
 // A damaged frame.
-fn after_damage(d: Device, r: Receiver, w: Whole, m: Harm) -> DeviceTaken
-    ensures { λ t. ⌜ t ≡ afterDamage d r w m ⌝ }
+fn heeds_damage(d: Device, w: Whole, m: Harm) -> Heeded
+    ensures { λ h. ⌜ h ≡ heedsDamage d w m ⌝ }
 {
     let h = w.header;
     let profile = d.profile;
     let due = profile.rt1p as u32;
     if has_error(d, w, m) {
         let length = frame_length(d.preamble, h.long, 2);
-        let device = with_parts(d, r, Turn::Accepted, h, Wish::Same, length, due);
-        return DeviceTaken {
-            device: device,
+        let request = tick_reader::same_header(h);
+        return Heeded {
+            turn: Turn::Accepted,
+            request: request,
+            length: length,
+            due: due,
             told: DeviceTold::Nothing,
-            event: Event::Damaged(w, m),
         };
     }
-    listens(d, r, due, DeviceTold::Nothing, Event::Damaged(w, m))
+    listens(d, due, DeviceTold::Nothing)
 }
 
 // A character, by what the reader tells.
-fn on_character(d: Device, r: Receiver, event: Event) -> DeviceTaken
-    ensures { λ t. ⌜ t ≡ onCharacter d r event ⌝ }
+fn heeds(d: Device, event: Event) -> Heeded
+    ensures { λ h. ⌜ h ≡ heedsEvent d event ⌝ }
 {
     let profile = d.profile;
     let due = profile.rt1p as u32;
     match event {
-        Event::Nothing => listens(d, r, 0, DeviceTold::Nothing, Event::Nothing),
-        Event::PassedOver => listens(d, r, due, DeviceTold::Nothing, Event::PassedOver),
-        Event::Broken => listens(d, r, due, DeviceTold::Nothing, Event::Broken),
-        Event::Frame(w) => after_frame(d, r, w),
-        Event::Damaged(w, m) => after_damage(d, r, w, m),
+        Event::Nothing => listens(d, 0, DeviceTold::Nothing),
+        Event::PassedOver => listens(d, due, DeviceTold::Nothing),
+        Event::Broken => listens(d, due, DeviceTold::Nothing),
+        Event::Frame(w) => heeds_frame(d, w),
+        Event::Damaged(w, m) => heeds_damage(d, w, m),
+    }
+}
+
+// Behind a character.
+fn on_character(d: Device, r: Receiver, event: Event) -> DeviceTaken
+    ensures { λ t. ⌜ t ≡ onCharacter d r event ⌝ }
+{
+    let h = heeds(d, event);
+    let turn = h.turn;
+    let request = h.request;
+    let told = h.told;
+    let device = with_parts(d, r, turn, request, Wish::Same, h.length, h.due);
+    DeviceTaken {
+        device: device,
+        told: told,
+        event: event,
     }
 }
 
@@ -228,13 +274,24 @@ fn back_due(d: Device, due: u32) -> bool
     false
 }
 
-fn one_less(n: u32) -> u32
-    ensures { λ r. ⌜ r ≡ n - 1 ⌝ }
+// The turn behind a silent tick that a BACK begins behind, or none does.
+fn next_turn(back: bool, turn: Turn) -> Turn
+    ensures { λ t. ⌜ t ≡ nextTurn back turn ⌝ }
 {
-    if n == 0 {
+    if back {
+        return Turn::Follows;
+    }
+    waits(turn)
+}
+
+// The silent ticks before the next BACK, behind one of them.
+fn next_due(back: bool, due: u32) -> u32
+    ensures { λ r. ⌜ r ≡ nextDue back due ⌝ }
+{
+    if back {
         return 0;
     }
-    n - 1
+    party::one_less(due)
 }
 
 // A silent tick.
@@ -244,17 +301,11 @@ fn count_tick(d: Device, r: Receiver, due: u32, event: Event) -> DeviceTaken
     let request = d.request;
     let wish = d.wish;
     let turn = d.turn;
-    if back_due(d, due) {
-        let follows = with_parts(d, r, Turn::Follows, request, wish, d.length, 0);
-        return DeviceTaken {
-            device: follows,
-            told: DeviceTold::Nothing,
-            event: event,
-        };
-    }
-    let waits = with_parts(d, r, waits(turn), request, wish, d.length, one_less(due));
+    let back = back_due(d, due);
+    let next = next_turn(back, turn);
+    let device = with_parts(d, r, next, request, wish, d.length, next_due(back, due));
     DeviceTaken {
-        device: waits,
+        device: device,
         told: DeviceTold::Nothing,
         event: event,
     }
@@ -282,31 +333,56 @@ fn on_silence(d: Device, r: Receiver, event: Event) -> DeviceTaken
     count_tick(d, r, silent_due(d, event), event)
 }
 
-// A tick of a device, by what its reader made of it.
-fn after_hearing(d: Device, heard: Heard, t: Taken) -> DeviceTaken
-    ensures { λ s. ⌜ s ≡ afterHearing d heard t ⌝ }
+// A device that hears nothing.
+fn hears_nothing(d: Device) -> DeviceTaken
+    ensures { λ t. ⌜ t ≡ tells d DeviceTold.Nothing Event.Nothing ⌝ }
 {
+    DeviceTaken {
+        device: d,
+        told: DeviceTold::Nothing,
+        event: Event::Nothing,
+    }
+}
+
+// Hears silence.
+fn hears_silence(d: Device) -> DeviceTaken
+    ensures { λ t. ⌜ t ≡ hearsSilence d ⌝ }
+{
+    let reader = d.receiver;
+    let place = reader.place;
+    let t = tick_reader::silent(place);
     let r = t.receiver;
     let event = t.event;
-    if d.deaf {
-        return DeviceTaken {
-            device: d,
-            told: DeviceTold::Nothing,
-            event: Event::Nothing,
-        };
-    }
-    match heard {
-        Heard::Silence => on_silence(d, r, event),
-        Heard::Character(_) => on_character(d, r, event),
-        Heard::Damaged(_, _) => on_character(d, r, event),
-    }
+    on_silence(d, r, event)
+}
+
+// The same device, field by field, as the parts that the tick reader makes anew.
+fn same_device(d: Device) -> Device
+    ensures { λ r. ⌜ r ≡ d ⌝ }
+{
+    let r = d.receiver;
+    let q = d.request;
+    let turn = d.turn;
+    let wish = d.wish;
+    let receiver = tick_reader::same_receiver(r);
+    let request = tick_reader::same_header(q);
+    with_parts(d, receiver, turn, request, wish, d.length, d.due)
 }
 
 // Takes what was heard: the device behind it, and what it tells its host. The data of the frame being heard are in the lent data buffer.
 pub fn take(d: Device, heard: Heard, bytes: &mut [u8; 255]) -> DeviceTaken
     ensures { λ t. ⌜ HeardIs d heard (now (bytes .entry)) t (now (bytes .exit)) ⌝ }
 {
-    let receiver = d.receiver;
-    let t = party::hear(d.deaf, receiver, heard, bytes);
-    after_hearing(d, heard, t)
+    let own = same_device(d);
+    if own.deaf {
+        return hears_nothing(own);
+    }
+    if party::is_silence(heard) {
+        return hears_silence(own);
+    }
+    let reader = own.receiver;
+    let t = tick_reader::take(reader, heard, bytes);
+    let r = t.receiver;
+    let event = t.event;
+    on_character(own, r, event)
 }

@@ -1,4 +1,5 @@
 // What a device sends from its lent frame buffer, in which a BACK that begins already stands. The functions follow the definitions of crates/turns/specs/Device.antt, in their order.
+use line::Profile;
 use line::Receiver;
 use turns::Device;
 use turns::DeviceSent;
@@ -36,7 +37,14 @@ fn with_sent(
 ) -> DeviceSent
     ensures { λ s. ⌜ s ≡ sends d deaf turn length burst primary due r sent ⌝ }
 {
-    let profile = d.profile;
+    let p = d.profile;
+    let profile = Profile {
+        sto: p.sto,
+        hold: p.hold,
+        rt2: p.rt2,
+        rt1p: p.rt1p,
+        rt1s: p.rt1s,
+    };
     let request = d.request;
     let wish = d.wish;
     let content = d.content;

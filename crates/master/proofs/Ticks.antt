@@ -6,15 +6,19 @@ use lib.ListN.{length}
 use Rattle.base.specs.Store.{stored}
 use Rattle.base.specs.declared.Refusal.{Refusal}
 use Rattle.frame.specs.Frame.{frameBytes}
+use Rattle.frame.specs.declared.Header.{Header}
 use Rattle.line.specs.declared.Event.{Event}
 use Rattle.line.specs.declared.Heard.{Heard}
-use Rattle.turns.specs.Master.{Called, accepted, refused, Request, requestHeader, requested, tells, masterTakes, masterSends}
+use Rattle.line.specs.declared.Receiver.{Receiver}
+use Rattle.turns.specs.Master.{Called, accepted, refused, Request, requestHeader, requested, behind, tells, masterTakes, masterSends}
 use Rattle.turns.specs.Link.{Answer, MasterCall, MasterStep, was-taken, was-refused, masterData, masterSent, masterCalled, masterCalls, masterTick}
 use Rattle.turns.specs.declared.Master.{Master}
 use Rattle.turns.specs.declared.MasterSent.{MasterSent}
 use Rattle.turns.specs.declared.MasterTaken.{MasterTaken}
 use Rattle.turns.specs.declared.MasterTold.{MasterTold}
-use Rattle.master_heard.specs.Takes.{TakeIs}
+use Rattle.turns.specs.declared.Message.{Message}
+use Rattle.turns.specs.declared.Noted.{Noted}
+use Rattle.master_heard.specs.Takes.{heardBytes, TakeIs}
 use Rattle.master.specs.Answers.{asks, asked, askedFrame, RequestIs}
 use Rattle.master.specs.declared.MasterRequested.{MasterRequested}
 use Rattle.master.specs.Tick.{callOf, answerOf, sideOf, stepOf, uncalled, CallIs, TickIs}
@@ -68,18 +72,31 @@ call-some m call w put frame after r e p = record {
   goes = λ told event bytes. ap (λ (c : HostCall). masterCalls 255 (tells m told event) (callOf c put) frame bytes) e ∙ p .goes told event bytes;
 }
 
+-- a message and a master are what their fields make of them
+pub message-same : (g : Message) (h : Header) → h ≡ g .header → _≡_ {A = Message} (record { stage = g .stage; header = h; length = g .length; attempts = g .attempts }) g
+message-same g h e = λ i. record { stage = g .stage; header = e i; length = g .length; attempts = g .attempts }
+
+pub master-same : (m : Master) (r : Receiver) (n : Noted) (g : Message) → r ≡ m .receiver → n ≡ m .noted → g ≡ m .message
+    → _≡_ {A = Master} (record { primary = m .primary; profile = m .profile; retries = m .retries; receiver = r; deaf = m .deaf; burst = m .burst; noted = n; timer = m .timer; message = g }) m
+master-same m r n g p q e = λ i. behind m (p i) (m .burst) (q i) (m .timer) (e i)
+
 -- the whole tick
-pub tick-is : (m : Master) (heard : Heard) (call : HostCall) (put frame bytes frame-after bytes-after : List ℕ) (t : MasterTaken) (c : CallTaken) (s : MasterSent)
-    → TakeIs m heard bytes t bytes-after → CallIs (t .master) call put frame c frame-after → s ≡ masterSends (c .master) frame-after
+pub tick-is : (m own : Master) (heard : Heard) (call : HostCall) (put frame bytes frame-after bytes-after : List ℕ) (t : MasterTaken) (c : CallTaken) (s : MasterSent)
+    → own ≡ m → TakeIs own heard bytes t bytes-after → CallIs (t .master) call put frame c frame-after → s ≡ masterSends (c .master) frame-after
     → TickIs m heard call put frame bytes (record { master = s .master; sent = s .sent; told = t .told; event = t .event; answer = c .answer }) frame-after bytes-after
 unfolding masterTick
-tick-is m heard call put frame bytes frame-after bytes-after t c s p q e = record {
-  step =
-      ap (λ (x : MasterSent). masterSent x frame-after bytes-after (t .told) (answerOf (c .answer))) e
-      ∙ sym (q .goes (t .told) (t .event) bytes-after)
-      ∙ ap (λ (x : MasterTaken). masterCalls 255 x (callOf call put) frame bytes-after) (p .takes)
-      ∙ ap (λ (b : List ℕ). masterCalls 255 (masterTakes m heard b) (callOf call put) frame b) (p .buffer);
-  found = ap (λ (x : MasterTaken). x .event) (p .takes);
-}
+tick-is m own heard call put frame bytes frame-after bytes-after t c s same p q e =
+    let takes : t ≡ masterTakes m heard bytes-after = p .takes ∙ ap (λ (x : Master). masterTakes x heard bytes-after) same in
+    let buffer : bytes-after ≡ heardBytes m heard bytes = p .buffer ∙ ap (λ (x : Master). heardBytes x heard bytes) same in
+    record {
+      step =
+          ap (λ (x : MasterSent). masterSent x frame-after bytes-after (t .told) (answerOf (c .answer))) e
+          ∙ sym (q .goes (t .told) (t .event) bytes-after)
+          ∙ ap (λ (x : MasterTaken). masterCalls 255 x (callOf call put) frame bytes-after) takes
+          ∙ ap (λ (b : List ℕ). masterCalls 255 (masterTakes m heard b) (callOf call put) frame b) buffer;
+      found = ap (λ (x : MasterTaken). x .event) takes;
+    }
 
 pub ruleset ticks = (refl, call-accepted, call-refused, call-none, call-some, tick-is)
+
+pub ruleset sames = (refl, message-same, master-same)

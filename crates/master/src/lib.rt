@@ -369,6 +369,54 @@ fn take_call(m: Master, call: HostCall, put: &[u8], frame: &mut [u8; 284]) -> Ca
     }
 }
 
+// The same master, and parts of it, field by field, as the parts that the tick reader makes anew.
+fn same_noted(n: Noted) -> Noted
+    ensures { λ r. ⌜ r ≡ n ⌝ }
+{
+    Noted {
+        long: n.long,
+        address: n.address,
+    }
+}
+
+fn same_message(g: Message) -> Message
+    ensures { λ r. ⌜ r ≡ g ⌝ }
+{
+    let stage = g.stage;
+    let h = g.header;
+    let header = tick_reader::same_header(h);
+    Message {
+        stage: stage,
+        header: header,
+        length: g.length,
+        attempts: g.attempts,
+    }
+}
+
+fn same_master(m: Master) -> Master
+    ensures { λ r. ⌜ r ≡ m ⌝ }
+{
+    let p = m.profile;
+    let r = m.receiver;
+    let n = m.noted;
+    let g = m.message;
+    let timer = m.timer;
+    let receiver = tick_reader::same_receiver(r);
+    let noted = same_noted(n);
+    let message = same_message(g);
+    Master {
+        primary: m.primary,
+        profile: p,
+        retries: m.retries,
+        receiver: receiver,
+        deaf: m.deaf,
+        burst: m.burst,
+        noted: noted,
+        timer: timer,
+        message: message,
+    }
+}
+
 // A tick. Lent are the data of a request, the buffer that holds the master's STX and the one for the data of the frame that it hears.
 pub fn tick(
     m: Master,
@@ -380,7 +428,8 @@ pub fn tick(
 ) -> MasterTicked
     ensures { λ r. ⌜ TickIs m heard call (now (put .entry)) (now (frame .entry)) (now (bytes .entry)) r (now (frame .exit)) (now (bytes .exit)) ⌝ }
 {
-    let t = master_heard::take(m, heard, bytes);
+    let own = same_master(m);
+    let t = master_heard::take(own, heard, bytes);
     let taken = t.master;
     let told = t.told;
     let event = t.event;

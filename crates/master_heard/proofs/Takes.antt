@@ -4,9 +4,9 @@ use mathlib.Core.Bool.{Bool, true, false}
 use mathlib.Core.List.{List}
 use mathlib.Core.Path.{_≡_, refl, sym, ap, _∙_}
 use Rattle.base.specs.Choice.{if_then_else_}
-use Rattle.base.proofs.Choices.{if-true, if-false, if-is-false}
-use Rattle.line.specs.Reader.{taken}
-use Rattle.line.specs.declared.Damage.{Damage}
+use Rattle.base.proofs.Choices.{if-true, if-false, true-false}
+use Rattle.line.specs.Reader.{silence, taken, takenData}
+use Rattle.line.specs.Reader as Reader
 use Rattle.line.specs.declared.Event.{Event}
 use Rattle.line.specs.declared.Event.the-variants.{Frame}
 use Rattle.line.specs.declared.Heard.{Heard}
@@ -14,7 +14,7 @@ use Rattle.line.specs.declared.Heard.the-variants.{Silence, Character, Damaged}
 use Rattle.line.specs.declared.Receiver.{Receiver}
 use Rattle.line.specs.declared.Taken.{Taken}
 use Rattle.line.specs.declared.Whole.{Whole}
-use Rattle.party.specs.Hears.{hears}
+use Rattle.party.specs.Hears.{isSilence}
 use Rattle.turns.specs.Master.{behind, staged, timer, burstCounted, timerCounted, burstAfter, notedAfter, timerAfter, brokenTimer, ifAwaiting, atFrame, atBreak, tells, afterFrame, afterBreak, onCharacter, waited, rt1Ends, unlessEnded, counts, onSilence, onHeard, masterTakes}
 use Rattle.turns.specs.declared.Timer.{Timer}
 use Rattle.turns.specs.declared.Stage.{Stage}
@@ -25,7 +25,7 @@ use Rattle.turns.specs.declared.Ending.{Ending}
 use Rattle.turns.specs.declared.Master.{Master}
 use Rattle.turns.specs.declared.MasterTold.{MasterTold}
 use Rattle.turns.specs.declared.MasterTaken.{MasterTaken}
-use Rattle.master_heard.specs.Takes.{insideFrame, rt1Ended, countedOn}
+use Rattle.master_heard.specs.Takes.{insideFrame, countedMessage, countedTimer, silentLine, beforeCount, hearsSilence, TakeIs}
 
 pub frame-parts : (m n : Master) (r : Receiver) (w : Whole) (bytes : List ℕ) (burst : Bool) (noted : Noted) (t : Timer) (x e : Ending)
     → burst ≡ burstAfter (m .burst) (m .noted) (w .header) → noted ≡ notedAfter (m .noted) (w .header) → t ≡ timerAfter m burst (w .header)
@@ -64,58 +64,89 @@ rt1-ends-at s t x p q = q ∙ ap rt1Ends (sym p)
 pub unless-ended-at : (s t : Stage) (x y : Timer) → s ≡ t → x ≡ unlessEnded t y → x ≡ unlessEnded s y
 unless-ended-at s t x y p q = q ∙ ap (λ (z : Stage). unlessEnded z y) (sym p)
 
-pub rt1-parts : (m n : Master) (event : Event) (burst : Bool) (t u : Timer) (e : Ending)
-    → burst ≡ burstCounted m → e ≡ atBreak m → t ≡ timerCounted m → u ≡ unlessEnded (e .message .stage) t → n ≡ behind m (m .receiver) burst (m .noted) u (e .message)
-    → _≡_ {A = MasterTaken} (record { master = n; told = e .told; event = event }) (rt1Ended m event)
-rt1-parts m n event burst t u e p q r s z =
-    let time : u ≡ unlessEnded (atBreak m .message .stage) (timerCounted m) = s ∙ (λ i. unlessEnded (q i .message .stage) (r i)) in
-    let master : n ≡ rt1Ended m event .master = z ∙ (λ i. behind m (m .receiver) (p i) (m .noted) (time i) (q i .message)) in
-    λ i. record { master = master i; told = q i .told; event = event }
+pub waits-parts : (g h : Message) (s : Stage) (told : MasterTold) → s ≡ waited (g .stage) → h ≡ staged g s
+    → _≡_ {A = Ending} (record { message = h; told = told }) (record { message = staged g (waited (g .stage)); told = told })
+waits-parts g h s told p q = λ i. record { message = (q ∙ ap (staged g) p) i; told = told }
 
-pub counted-parts : (m n : Master) (told : MasterTold) (event : Event) (burst : Bool) (t : Timer) (s : Stage) (g : Message)
-    → burst ≡ burstCounted m → t ≡ timerCounted m → s ≡ waited (m .message .stage) → g ≡ staged (m .message) s → n ≡ behind m (m .receiver) burst (m .noted) t g
-    → _≡_ {A = MasterTaken} (record { master = n; told = told; event = event }) (countedOn m told event)
-counted-parts m n told event burst t s g p q r u z =
-    let message : g ≡ staged (m .message) (waited (m .message .stage)) = u ∙ ap (staged (m .message)) r in
-    ap (λ (k : Master). tells k told event) (z ∙ (λ i. behind m (m .receiver) (p i) (m .noted) (q i) (message i)))
+pub ended-parts : (m : Master) (left : Stage) (t u : Timer) → t ≡ timerCounted m → u ≡ unlessEnded left t → u ≡ unlessEnded left (timerCounted m)
+ended-parts m left t u p q = q ∙ ap (unlessEnded left) p
 
-pub silent-parts : (m n : Master) (r : Receiver) (t : MasterTaken) → n ≡ behind m r (m .burst) (m .noted) (m .timer) (m .message) → t ≡ counts n MasterTold.Nothing Event.Nothing
-    → t ≡ onSilence m r Event.Nothing
-silent-parts m n r t p q = q ∙ ap (λ (k : Master). counts k MasterTold.Nothing Event.Nothing) p
+-- a silent tick, by the message and the timer behind it
+by-parts : (m : Master) (told : MasterTold) (event : Event) (ends : Bool)
+    → tells (behind m (m .receiver) (burstCounted m) (m .noted)
+    (if ends then unlessEnded ((if ends then atBreak m else record { message = staged (m .message) (waited (m .message .stage)); told = told }) .message .stage) (timerCounted m) else timerCounted m)
+    ((if ends then atBreak m else record { message = staged (m .message) (waited (m .message .stage)); told = told }) .message))
+    ((if ends then atBreak m else record { message = staged (m .message) (waited (m .message .stage)); told = told }) .told)
+    event
+    ≡ (if ends then
+    tells (behind m (m .receiver) (burstCounted m) (m .noted) (unlessEnded (atBreak m .message .stage) (timerCounted m)) (atBreak m .message)) (atBreak m .told) event
+    else
+    tells (behind m (m .receiver) (burstCounted m) (m .noted) (timerCounted m) (staged (m .message) (waited (m .message .stage)))) told event)
+unfolding if_then_else_
+by-parts m told event true = refl
+by-parts m told event false = refl
 
-pub broken-parts : (m : Master) (r : Receiver) (event : Event) (b t : MasterTaken) → b ≡ afterBreak m r event → t ≡ counts (b .master) (b .told) event
-    → t ≡ counts (afterBreak m r event .master) (afterBreak m r event .told) event
-broken-parts m r event b t p q = q ∙ ap (λ (k : MasterTaken). counts (k .master) (k .told) event) p
+pub count-parts : (m n : Master) (told : MasterTold) (event : Event) (burst : Bool) (e : Ending) (t : Timer)
+    → burst ≡ burstCounted m → e ≡ countedMessage m told → t ≡ countedTimer m (e .message .stage) → n ≡ behind m (m .receiver) burst (m .noted) t (e .message)
+    → _≡_ {A = MasterTaken} (record { master = n; told = e .told; event = event }) (counts m told event)
+count-parts m n told event burst e t p q r z =
+    let time : t ≡ countedTimer m (countedMessage m told .message .stage) = r ∙ ap (λ (x : Ending). countedTimer m (x .message .stage)) q in
+    let master : n ≡ behind m (m .receiver) (burstCounted m) (m .noted) (countedTimer m (countedMessage m told .message .stage)) (countedMessage m told .message) =
+    z ∙ (λ i. behind m (m .receiver) (p i) (m .noted) (time i) (q i .message)) in
+    let parts : _≡_ {A = MasterTaken} (record { master = n; told = e .told; event = event })
+    (tells (behind m (m .receiver) (burstCounted m) (m .noted) (countedTimer m (countedMessage m told .message .stage)) (countedMessage m told .message)) (countedMessage m told .told) event) =
+    λ i. record { master = master i; told = q i .told; event = event } in
+    parts ∙ by-parts m told event (rt1Ends (m .message .stage))
 
-pub on-silence-at : (m : Master) (r : Receiver) (e f : Event) (t : MasterTaken) → e ≡ f → t ≡ onSilence m r f → t ≡ onSilence m r e
-on-silence-at m r e f t p q = q ∙ ap (onSilence m r) (sym p)
+pub line-parts : (m n : Master) (r : Receiver) → n ≡ behind m r (m .burst) (m .noted) (m .timer) (m .message)
+    → _≡_ {A = MasterTaken} (record { master = n; told = MasterTold.Nothing; event = Event.Nothing }) (silentLine m r)
+line-parts m n r p = ap (λ (k : Master). tells k MasterTold.Nothing Event.Nothing) p
+
+pub before-count-at : (m : Master) (r : Receiver) (e f : Event) (t : MasterTaken) → e ≡ f → t ≡ beforeCount m r f → t ≡ beforeCount m r e
+before-count-at m r e f t p q = q ∙ ap (beforeCount m r) (sym p)
+
+by-before : (m : Master) (r : Receiver) (event : Event) → counts (beforeCount m r event .master) (beforeCount m r event .told) event ≡ onSilence m r event
+by-before m r Event.Nothing = refl
+by-before m r Event.PassedOver = refl
+by-before m r Event.Broken = refl
+by-before m r (Frame w) = refl
+by-before m r (Event.Damaged w h) = refl
+
+pub silence-parts : (m : Master) (r : Receiver) (event : Event) (b t : MasterTaken) → b ≡ beforeCount m r event → t ≡ counts (b .master) (b .told) event → t ≡ onSilence m r event
+silence-parts m r event b t p q = q ∙ ap (λ (k : MasterTaken). counts (k .master) (k .told) event) p ∙ by-before m r event
+
+pub hears-silence : (m : Master) (s : Taken) (t : MasterTaken) → s ≡ silence (m .receiver .place) → t ≡ onSilence m (s .receiver) (s .event) → t ≡ hearsSilence m
+hears-silence m s t p q = q ∙ ap (λ (k : Taken). onSilence m (k .receiver) (k .event)) p
+
+pub ruleset events = (refl, frame-parts, break-parts, inside-parts, on-character-at, awaiting-same, waited-at, rt1-ends-at, unless-ended-at, waits-parts, ended-parts, count-parts, line-parts, before-count-at, silence-parts, hears-silence)
 
 -- a tick, by what was heard
 module _ (m : Master) (heard : Heard) (bytes : List ℕ) (x : MasterTaken) where
-  pub takes-deaf : m .deaf ≡ true → x ≡ tells m MasterTold.Nothing Event.Nothing → x ≡ masterTakes m heard bytes
+  pub take-deaf : m .deaf ≡ true → x ≡ tells m MasterTold.Nothing Event.Nothing → TakeIs m heard bytes x bytes
   unfolding masterTakes
-  takes-deaf e p = if-true (m .deaf) x (tells m MasterTold.Nothing Event.Nothing) (onHeard m heard bytes) e p
+  take-deaf d p = record { takes = if-true (m .deaf) _ _ _ d p; buffer = if-true (m .deaf) _ _ _ d refl }
 
-  takes : m .deaf ≡ false → x ≡ onHeard m heard bytes → x ≡ masterTakes m heard bytes
-  unfolding masterTakes
-  takes e p = if-false (m .deaf) x (tells m MasterTold.Nothing Event.Nothing) (onHeard m heard bytes) e p
+  module _ (d : m .deaf ≡ false) where
+    pub take-silence : (s : Bool) → s ≡ isSilence heard → s ≡ true → x ≡ hearsSilence m → TakeIs m heard bytes x bytes
+    unfolding masterTakes taken takenData
+    take-silence s p e q = by heard (sym p ∙ e)
+      where
+        by : (h : Heard) → isSilence h ≡ true → TakeIs m h bytes x bytes
+        by Silence e = record { takes = if-false (m .deaf) _ _ _ d q; buffer = if-false (m .deaf) _ _ _ d refl }
+        by (Character c) e = absurd (true-false (sym e))
+        by (Damaged c k) e = absurd (true-false (sym e))
 
-  module _ (t : Taken) (d : m .deaf ≡ false) (h : t ≡ hears (m .deaf) (m .receiver) heard) where
-    heard-is : t ≡ taken (m .receiver) heard
-    heard-is = h ∙ if-is-false (m .deaf) _ _ d
+    pub take-character : (s : Bool) (t : Taken) (after : List ℕ) → s ≡ isSilence heard → s ≡ false → Reader.TakeIs (m .receiver) heard bytes t after
+        → x ≡ onCharacter m (t .receiver) (t .event) after → TakeIs m heard bytes x after
+    unfolding masterTakes
+    take-character s t after p e is q = by heard (sym p ∙ e) is
+      where
+        heeds : (h : Heard) → t ≡ taken (m .receiver) h → x ≡ onCharacter m (taken (m .receiver) h .receiver) (taken (m .receiver) h .event) after
+        heeds h r = q ∙ ap (λ (k : Taken). onCharacter m (k .receiver) (k .event) after) r
 
-    pub takes-silence : heard ≡ Silence → x ≡ onSilence m (t .receiver) (t .event) → x ≡ masterTakes m heard bytes
-    takes-silence e p =
-        takes d (p ∙ ap (λ (k : Taken). onSilence m (k .receiver) (k .event)) (heard-is ∙ ap (taken (m .receiver)) e) ∙ ap (λ (k : Heard). onHeard m k bytes) (sym e))
+        by : (h : Heard) → isSilence h ≡ false → Reader.TakeIs (m .receiver) h bytes t after → TakeIs m h bytes x after
+        by Silence e is = absurd (true-false e)
+        by (Character c) e is = record { takes = if-false (m .deaf) _ _ _ d (heeds (Character c) (is .reader)); buffer = if-false (m .deaf) _ _ _ d (is .buffer) }
+        by (Damaged c k) e is = record { takes = if-false (m .deaf) _ _ _ d (heeds (Damaged c k) (is .reader)); buffer = if-false (m .deaf) _ _ _ d (is .buffer) }
 
-    pub takes-character : (c : ℕ) → heard ≡ Character c → x ≡ onCharacter m (t .receiver) (t .event) bytes → x ≡ masterTakes m heard bytes
-    takes-character c e p =
-        takes d (p ∙ ap (λ (k : Taken). onCharacter m (k .receiver) (k .event) bytes) (heard-is ∙ ap (taken (m .receiver)) e) ∙ ap (λ (k : Heard). onHeard m k bytes) (sym e))
-
-    pub takes-damaged : (c : ℕ) (k : Damage) → heard ≡ Damaged c k → x ≡ onCharacter m (t .receiver) (t .event) bytes → x ≡ masterTakes m heard bytes
-    takes-damaged c k e p =
-        takes d (p ∙ ap (λ (y : Taken). onCharacter m (y .receiver) (y .event) bytes) (heard-is ∙ ap (taken (m .receiver)) e) ∙ ap (λ (y : Heard). onHeard m y bytes) (sym e))
-
-pub ruleset events = (refl, frame-parts, break-parts, inside-parts, on-character-at, awaiting-same, waited-at, rt1-ends-at, unless-ended-at, rt1-parts, counted-parts, silent-parts, broken-parts, on-silence-at)
-
-pub ruleset ticks = (refl, takes-deaf, takes-silence, takes-character, takes-damaged)
+pub ruleset ticks = (refl, take-deaf, take-silence, take-character)

@@ -3,6 +3,7 @@ use line::Event;
 use line::Heard;
 use line::Receiver;
 use line::Whole;
+use turns::Ending;
 use turns::Master;
 use turns::MasterTaken;
 use turns::MasterTold;
@@ -11,7 +12,7 @@ use turns::Timer;
 ghost use mathlib.Core.Path.{_≡_};
 ghost use Prim.Native.Nat.{_-_};
 ghost use Rattle.turns.specs.Master.{tells, afterFrame, afterBreak, onCharacter, waited, rt1Ends, unlessEnded, counts, onSilence};
-ghost use Rattle.master_heard.specs.Takes.{insideFrame, rt1Ended, countedOn, TakeIs};
+ghost use Rattle.master_heard.specs.Takes.{insideFrame, countedMessage, countedTimer, silentLine, beforeCount, hearsSilence, TakeIs};
 
 // Behind a whole frame: BURST, then the timer, and the message.
 fn after_frame(m: Master, r: Receiver, w: Whole, bytes: &[u8; 255]) -> MasterTaken
@@ -137,92 +138,90 @@ fn unless_ended(stage: Stage, t: Timer) -> Timer
     }
 }
 
-// A silent tick with RT1's end.
-fn rt1_ended(m: Master, event: Event) -> MasterTaken
-    ensures { λ t. ⌜ t ≡ rt1Ended m event ⌝ }
+// The message behind a silent tick, and what is told: RT1's end fails its attempt.
+fn counted_message(m: Master, told: MasterTold) -> Ending
+    ensures { λ e. ⌜ e ≡ countedMessage m told ⌝ }
 {
-    let r = m.receiver;
-    let noted = m.noted;
-    let burst = master_rules::burst_counted(m);
-    let ending = master_rules::at_break(m);
-    let message = ending.message;
-    let told = ending.told;
-    let stage = message.stage;
-    let t = unless_ended(stage, master_rules::timer_counted(m));
-    let master = master_rules::with_parts(m, r, burst, noted, t, message);
-    MasterTaken {
-        master: master,
+    let g = m.message;
+    let stage = g.stage;
+    if rt1_ends(stage) {
+        return master_rules::at_break(m);
+    }
+    let message = master_rules::at_stage(g, waited_at(stage));
+    Ending {
+        message: message,
         told: told,
-        event: event,
     }
 }
 
-// Another silent tick.
-fn counted(m: Master, told: MasterTold, event: Event) -> MasterTaken
-    ensures { λ t. ⌜ t ≡ countedOn m told event ⌝ }
+// The timer behind a silent tick that leaves the message at this stage.
+fn counted_timer(m: Master, left: Stage) -> Timer
+    ensures { λ t. ⌜ t ≡ countedTimer m left ⌝ }
 {
-    let r = m.receiver;
-    let noted = m.noted;
     let g = m.message;
     let stage = g.stage;
-    let burst = master_rules::burst_counted(m);
-    let t = master_rules::timer_counted(m);
-    let message = master_rules::at_stage(g, waited_at(stage));
-    let master = master_rules::with_parts(m, r, burst, noted, t, message);
-    MasterTaken {
-        master: master,
-        told: told,
-        event: event,
+    if rt1_ends(stage) {
+        return unless_ended(left, master_rules::timer_counted(m));
     }
+    master_rules::timer_counted(m)
 }
 
 // A silent tick.
 fn count(m: Master, told: MasterTold, event: Event) -> MasterTaken
     ensures { λ t. ⌜ t ≡ counts m told event ⌝ }
 {
-    let g = m.message;
-    let stage = g.stage;
-    if rt1_ends(stage) {
-        return rt1_ended(m, event);
+    let r = m.receiver;
+    let noted = m.noted;
+    let burst = master_rules::burst_counted(m);
+    let ending = counted_message(m, told);
+    let message = ending.message;
+    let ended = ending.told;
+    let left = message.stage;
+    let t = counted_timer(m, left);
+    let master = master_rules::with_parts(m, r, burst, noted, t, message);
+    MasterTaken {
+        master: master,
+        told: ended,
+        event: event,
     }
-    counted(m, told, event)
 }
 
-// A silent tick that breaks no frame.
+// A silent tick that breaks no frame, before it is counted.
 fn silent_line(m: Master, r: Receiver) -> MasterTaken
-    ensures { λ t. ⌜ t ≡ onSilence m r Event.Nothing ⌝ }
+    ensures { λ t. ⌜ t ≡ silentLine m r ⌝ }
 {
     let noted = m.noted;
     let t = m.timer;
     let g = m.message;
-    count(
-        master_rules::with_parts(m, r, m.burst, noted, t, g),
-        MasterTold::Nothing,
-        Event::Nothing,
-    )
+    let master = master_rules::with_parts(m, r, m.burst, noted, t, g);
+    MasterTaken {
+        master: master,
+        told: MasterTold::Nothing,
+        event: Event::Nothing,
+    }
 }
 
-// A silent tick that breaks a frame.
-fn broken_by_silence(m: Master, r: Receiver, event: Event) -> MasterTaken
-    ensures { λ t. ⌜ t ≡ counts (afterBreak m r event .master) (afterBreak m r event .told) event ⌝ }
-{
-    let b = after_break(m, r, event);
-    let master = b.master;
-    let told = b.told;
-    count(master, told, event)
-}
-
-// Behind a silent tick, by what the reader tells.
-fn on_silence(m: Master, r: Receiver, event: Event) -> MasterTaken
-    ensures { λ t. ⌜ t ≡ onSilence m r event ⌝ }
+// A silent tick, before it is counted, by what the reader tells: it may break a frame.
+fn before_count(m: Master, r: Receiver, event: Event) -> MasterTaken
+    ensures { λ t. ⌜ t ≡ beforeCount m r event ⌝ }
 {
     match event {
         Event::Nothing => silent_line(m, r),
-        Event::PassedOver => broken_by_silence(m, r, Event::PassedOver),
-        Event::Broken => broken_by_silence(m, r, Event::Broken),
-        Event::Frame(w) => broken_by_silence(m, r, Event::Frame(w)),
-        Event::Damaged(w, h) => broken_by_silence(m, r, Event::Damaged(w, h)),
+        Event::PassedOver => after_break(m, r, Event::PassedOver),
+        Event::Broken => after_break(m, r, Event::Broken),
+        Event::Frame(w) => after_break(m, r, Event::Frame(w)),
+        Event::Damaged(w, h) => after_break(m, r, Event::Damaged(w, h)),
     }
+}
+
+// Behind a silent tick.
+fn on_silence(m: Master, r: Receiver, event: Event) -> MasterTaken
+    ensures { λ t. ⌜ t ≡ onSilence m r event ⌝ }
+{
+    let b = before_count(m, r, event);
+    let master = b.master;
+    let told = b.told;
+    count(master, told, event)
 }
 
 // A master that hears nothing.
@@ -236,21 +235,31 @@ fn hears_nothing(m: Master) -> MasterTaken
     }
 }
 
+// Hears silence.
+fn hears_silence(m: Master) -> MasterTaken
+    ensures { λ t. ⌜ t ≡ hearsSilence m ⌝ }
+{
+    let reader = m.receiver;
+    let place = reader.place;
+    let t = tick_reader::silent(place);
+    let r = t.receiver;
+    let event = t.event;
+    on_silence(m, r, event)
+}
+
 // Takes what was heard. The data of the frame being heard are kept in the lent bytes.
 pub fn take(m: Master, heard: Heard, bytes: &mut [u8; 255]) -> MasterTaken
     ensures { λ t. ⌜ TakeIs m heard (now (bytes .entry)) t (now (bytes .exit)) ⌝ }
 {
-    let deaf = m.deaf;
-    let reader = m.receiver;
-    let t = party::hear(deaf, reader, heard, bytes);
-    if deaf {
+    if m.deaf {
         return hears_nothing(m);
     }
+    if party::is_silence(heard) {
+        return hears_silence(m);
+    }
+    let reader = m.receiver;
+    let t = tick_reader::take(reader, heard, bytes);
     let r = t.receiver;
     let event = t.event;
-    match heard {
-        Heard::Silence => on_silence(m, r, event),
-        Heard::Character(_) => on_character(m, r, event, bytes),
-        Heard::Damaged(_, _) => on_character(m, r, event, bytes),
-    }
+    on_character(m, r, event, bytes)
 }

@@ -11,14 +11,12 @@ use turns::Noted;
 use turns::Stage;
 use turns::Timer;
 ghost use mathlib.Core.Path.{_≡_};
-ghost use Rattle.base.specs.Choice.{if_then_else_};
-ghost use Prim.Native.Nat.{_-_};
-ghost use Rattle.turns.specs.Master.{ownRt1, quietTime, behind, staged, timer, burstTimer, opened, countClear, countBurst, timerCounted, burstCounted, addressOf, isNoted, burstAfter, notedAfter, toItself, clearTimer, setTimer, timerAfter, brokenTimer, ends, fails, sameBit, isAnswer, atFrame, atBreak, ifAwaiting};
+ghost use Rattle.turns.specs.Master.{freshMaster, ownRt1, quietTime, behind, staged, timer, burstTimer, opened, countClear, countBurst, timerCounted, burstCounted, addressOf, isNoted, burstAfter, notedAfter, toItself, clearTimer, setTimer, timerAfter, brokenTimer, ends, fails, sameBit, isAnswer, atFrame, atBreak, ifAwaiting};
 ghost use Rattle.master_rules.specs.Parts.{sameRequest, unended};
 
-// RT1, by the master bit.
+// The own RT1 of a master with this master bit, fresh or not.
 pub fn rt1_of(p: Profile, primary: bool) -> u16
-    ensures { λ r. ⌜ r ≡ (if primary then p .rt1p else p .rt1s) ⌝ }
+    ensures { λ r. ⌜ r ≡ ownRt1 (freshMaster p primary 0) ⌝ }
 {
     if primary {
         return p.rt1p;
@@ -110,16 +108,6 @@ fn open_window(p: Profile) -> Timer
     }
 }
 
-// One less, down to 0.
-fn less_one(n: u32) -> u32
-    ensures { λ r. ⌜ r ≡ n - 1 ⌝ }
-{
-    if 0 < n {
-        return n - 1;
-    }
-    0
-}
-
 // A silent tick with BURST clear.
 fn count_clear(p: Profile, t: Timer) -> Timer
     ensures { λ r. ⌜ r ≡ countClear p t ⌝ }
@@ -127,7 +115,7 @@ fn count_clear(p: Profile, t: Timer) -> Timer
     if t.next <= 1 {
         return open_window(p);
     }
-    let window = less_one(t.window);
+    let window = party::one_less(t.window);
     Timer {
         next: t.next - 1,
         window: window,
@@ -139,7 +127,7 @@ fn count_clear(p: Profile, t: Timer) -> Timer
 fn count_burst(p: Profile, t: Timer) -> Timer
     ensures { λ r. ⌜ r ≡ countBurst p t ⌝ }
 {
-    let quiet = less_one(t.quiet);
+    let quiet = party::one_less(t.quiet);
     if t.next == 1 {
         return Timer {
             next: 0,
@@ -147,8 +135,8 @@ fn count_burst(p: Profile, t: Timer) -> Timer
             quiet: quiet,
         };
     }
-    let next = less_one(t.next);
-    let window = less_one(t.window);
+    let next = party::one_less(t.next);
+    let window = party::one_less(t.window);
     Timer {
         next: next,
         window: window,

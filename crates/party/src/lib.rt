@@ -1,25 +1,31 @@
-// What master and device have in common: hearing, the characters of a frame that is sent, and what a broadcast is.
+// What master and device have in common: what silence and a broadcast are, a counter's tick, and the characters of a frame that is sent.
 use frame::Header;
-use line::Event;
 use line::Heard;
-use line::Receiver;
-use line::Taken;
 ghost use mathlib.Core.Path.{_≡_};
+ghost use Prim.Native.Nat.{_-_};
 ghost use Rattle.frame.specs.Address.{byteAt};
 ghost use Rattle.turns.specs.Master.{isBroadcast};
-ghost use Rattle.party.specs.Hears.{HearIs};
+ghost use Rattle.party.specs.Hears.{isSilence};
 
-// A tick of a party's reader, with the buffer that holds the data of the frame being heard. A deaf party hears nothing.
-pub fn hear(deaf: bool, r: Receiver, heard: Heard, bytes: &mut [u8; 255]) -> Taken
-    ensures { λ t. ⌜ HearIs deaf r heard (now (bytes .entry)) t (now (bytes .exit)) ⌝ }
+// Whether a tick was silent.
+pub fn is_silence(heard: Heard) -> bool
+    ensures { λ r. ⌜ r ≡ isSilence heard ⌝ }
 {
-    if deaf {
-        return Taken {
-            receiver: r,
-            event: Event::Nothing,
-        };
+    match heard {
+        Heard::Silence => true,
+        Heard::Character(_) => false,
+        Heard::Damaged(_, _) => false,
     }
-    tick_reader::take(r, heard, bytes)
+}
+
+// One less, down to 0.
+pub fn one_less(n: u32) -> u32
+    ensures { λ r. ⌜ r ≡ n - 1 ⌝ }
+{
+    if 0 < n {
+        return n - 1;
+    }
+    0
 }
 
 // The byte at a place, or 0 behind the last.

@@ -31,10 +31,21 @@ next-same t r h g p q c a b e = e ∙ (λ i. next r (a i) (b i) c)
 pub begins-same : (t : Taken) (c : ℕ) (d g : Delimiter) → d ≡ g → t ≡ begins c d → t ≡ begins c g
 begins-same t c d g p e = e ∙ ap (begins c) p
 
-pub check-same : (r : Receiver) (c : ℕ) (s : Receiver) (wrong : Bool) (e : Event) → s ≡ idle → wrong ≡ (if summed r c =? 0 then false else true) → e ≡ ended (wholeOf r) (withCheck (r .harm) wrong)
-    → _≡_ {A = Taken} (record { receiver = s; event = e }) (atCheck r c)
+pub check-same : (r : Receiver) (c : ℕ) (s : Receiver) (wrong : Bool) (h : Header) (e : Event) → s ≡ idle → wrong ≡ (if summed r c =? 0 then false else true) → h ≡ r .header
+    → e ≡ ended (record { header = h; expansion = r .expansion; count = r .count }) (withCheck (r .harm) wrong) → _≡_ {A = Taken} (record { receiver = s; event = e }) (atCheck r c)
 unfolding atCheck
-check-same r c s wrong e p q f = λ i. record { receiver = p i; event = (f ∙ ap (λ (w : Bool). ended (wholeOf r) (withCheck (r .harm) w)) q) i }
+check-same r c s wrong h e p q g f =
+    λ i. record { receiver = p i; event = (f ∙ (λ j. ended (record { header = g j; expansion = r .expansion; count = r .count }) (withCheck (r .harm) (q j)))) i }
+
+pub header-same : (place : Place) (h g : Header) (expansion count sum : ℕ) (m : Harm) → h ≡ g
+    → _≡_ {A = Receiver} (record { place = place; header = h; expansion = expansion; count = count; sum = sum; harm = m })
+    (record { place = place; header = g; expansion = expansion; count = count; sum = sum; harm = m })
+header-same place h g expansion count sum m p = λ i. record { place = place; header = p i; expansion = expansion; count = count; sum = sum; harm = m }
+
+-- a receiver is what its fields make of it
+pub receiver-same : (r : Receiver) (h : Header) → h ≡ r .header
+    → _≡_ {A = Receiver} (record { place = r .place; header = h; expansion = r .expansion; count = r .count; sum = r .sum; harm = r .harm }) r
+receiver-same r h e = header-same (r .place) h (r .header) (r .expansion) (r .count) (r .sum) (r .harm) e
 
 pub blank-same : (place : Place) (m : Harm) → m ≡ noHarm → _≡_ {A = Receiver} (record { place = place; header = noHeader; expansion = 0; count = 0; sum = 0; harm = m }) (blank place)
 blank-same place m p = ap (λ (x : Harm). record { place = place; header = noHeader; expansion = 0; count = 0; sum = 0; harm = x }) p
@@ -112,6 +123,8 @@ module _ (r : Receiver) (heard : Heard) (t : Taken) (bytes after : List ℕ) whe
   keep-damaged c k e f = f ∙ ap (λ (h : Heard). takenData r h bytes) (sym e)
 
 pub ruleset steps = (refl, tells-same, goes-on-same, next-same, begins-same, check-same, blank-same, silence-at, begins-at)
+
+pub ruleset headers = (refl, goes-on-same, header-same, receiver-same)
 
 pub ruleset places = (refl, kind-at, kept-at, character-at, damaged-at, marked-same)
 

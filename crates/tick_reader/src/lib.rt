@@ -14,6 +14,37 @@ ghost use mathlib.Core.Bool.{true, false};
 ghost use Rattle.base.specs.Choice.{if_then_else_, _=?_};
 ghost use Rattle.line.specs.Reader.{noHarm, blank, idle, passing, breaks, silentInside, silence, tells, next, atIdle, begins, atPreamble, behindAddress, firstHeader, atFirst, addressHeader, atAddress, atExpansion, commandHeader, atCommand, counted, atCount, atData, harmed, ended, atCheck, character, addressHarm, kindHarm, marked, damaged, keptByte, kept, TakeIs};
 
+// The next two give what they take, field by field. Copied as a block, with the unused bytes between its fields, a struct stays in memory; made anew, its fields can stay in registers.
+pub fn same_header(h: Header) -> Header
+    ensures { λ r. ⌜ r ≡ h ⌝ }
+{
+    Header {
+        frame: h.frame,
+        long: h.long,
+        primary: h.primary,
+        burst: h.burst,
+        address: h.address,
+        command: h.command,
+    }
+}
+
+pub fn same_receiver(r: Receiver) -> Receiver
+    ensures { λ s. ⌜ s ≡ r ⌝ }
+{
+    let place = r.place;
+    let h = r.header;
+    let header = same_header(h);
+    let harm = r.harm;
+    Receiver {
+        place: place,
+        header: header,
+        expansion: r.expansion,
+        count: r.count,
+        sum: r.sum,
+        harm: harm,
+    }
+}
+
 fn unharmed() -> Harm
     ensures { λ r. ⌜ r ≡ noHarm ⌝ }
 {
@@ -95,7 +126,7 @@ fn silent_inside() -> Taken
 }
 
 // A silent tick.
-fn silent(place: Place) -> Taken
+pub fn silent(place: Place) -> Taken
     ensures { λ r. ⌜ r ≡ silence place ⌝ }
 {
     match place {
@@ -117,9 +148,10 @@ fn to_next(r: Receiver, h: Header, place: Place, c: u8) -> Taken
     ensures { λ t. ⌜ t ≡ next r h place c ⌝ }
 {
     let harm = r.harm;
+    let header = same_header(h);
     let receiver = Receiver {
         place: place,
-        header: h,
+        header: header,
         expansion: r.expansion,
         count: r.count,
         sum: r.sum ^ c,
@@ -276,9 +308,10 @@ fn with_count(r: Receiver, c: u8, place: Place) -> Taken
 {
     let h = r.header;
     let harm = r.harm;
+    let header = same_header(h);
     let receiver = Receiver {
         place: place,
-        header: h,
+        header: header,
         expansion: r.expansion,
         count: c,
         sum: r.sum ^ c,
@@ -349,8 +382,9 @@ fn at_check(r: Receiver, c: u8) -> Taken
         check: wrong_check(r.sum ^ c),
         address: m.address,
     };
+    let header = same_header(h);
     let whole = Whole {
-        header: h,
+        header: header,
         expansion: r.expansion,
         count: r.count,
     };
@@ -405,7 +439,8 @@ fn with_harm(r: Receiver, harm: Harm) -> Receiver
     ensures { λ s. ⌜ s ≡ marked r harm ⌝ }
 {
     let place = r.place;
-    let header = r.header;
+    let h = r.header;
+    let header = same_header(h);
     Receiver {
         place: place,
         header: header,

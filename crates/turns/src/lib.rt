@@ -35,8 +35,8 @@ pub enum Stage {
 
 // A master's message: its STX stands in the lent frame buffer.
 pub struct Message {
-    pub stage: Stage,
     pub header: Header,
+    pub stage: Stage,
     // how many characters its STX has
     pub length: u16,
     // how many STX frames were begun for it
@@ -45,8 +45,8 @@ pub struct Message {
 
 // The address that BURST was set by.
 pub struct Noted {
-    pub long: bool,
     pub address: u64,
+    pub long: bool,
 }
 
 pub struct Master {
@@ -54,13 +54,13 @@ pub struct Master {
     pub profile: Profile,
     // retries after the first attempt
     pub retries: u8,
-    pub receiver: Receiver,
     // it sent in the tick before, or is fresh, and hears nothing in this one
     pub deaf: bool,
     // BURST
     pub burst: bool,
-    pub noted: Noted,
     pub timer: Timer,
+    pub receiver: Receiver,
+    pub noted: Noted,
     pub message: Message,
 }
 
@@ -126,25 +126,25 @@ pub struct Content {
 }
 
 pub struct Device {
-    pub profile: Profile,
-    pub preamble: u8,
-    pub polling: u8,
     pub unique: u64,
     pub receiver: Receiver,
-    // it sent in the tick before, or is fresh, and hears nothing in this one
-    pub deaf: bool,
-    pub turn: Turn,
     // the request in hand, or the one that is being answered
     pub request: Header,
-    pub wish: Wish,
+    pub profile: Profile,
     // how many characters the frame in the lent frame buffer has
     pub length: u16,
+    // silent line ticks until a bursting device's next BACK; 0 where none is due
+    pub due: u32,
+    pub turn: Turn,
+    pub preamble: u8,
+    pub polling: u8,
+    // it sent in the tick before, or is fresh, and hears nothing in this one
+    pub deaf: bool,
+    pub wish: Wish,
     // burst mode is on
     pub burst: bool,
     // the next BACK is for the primary
     pub primary: bool,
-    // silent line ticks until a bursting device's next BACK; 0 where none is due
-    pub due: u32,
     pub content: Content,
 }
 

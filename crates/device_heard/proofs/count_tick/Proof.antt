@@ -1,6 +1,5 @@
 use borrow.Author.Needs.{needs}
-use Rattle.base.proofs.Choices.{choices}
-use Rattle.device_heard.proofs.Parts.{tells-same, counts-same}
+use Rattle.device_heard.proofs.Parts.{parts}
 use Rattle.device_heard.proofs.count_tick.Statement.{statement}
 use Rattle.device_heard.proofs.count_tick.Tie as tie
 
@@ -10,8 +9,6 @@ count-tick-spec =
     (tie.spec
     (λ c κs. search needs)
     (λ c κs. search needs)
-    (λ c. search (choices, tells-same, counts-same))
     (λ c κs. search needs)
     (λ c κs. search needs)
-    (λ c κs. search needs)
-    (λ c. search (choices, tells-same, counts-same)))
+    (λ c. search (needs, parts)))

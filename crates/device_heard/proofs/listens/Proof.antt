@@ -1,5 +1,5 @@
 use borrow.Author.Needs.{needs}
-use Rattle.device_heard.proofs.Parts.{tells-same}
+use Rattle.device_heard.proofs.Parts.{parts}
 use Rattle.device_heard.proofs.listens.Statement.{statement}
 use Rattle.device_heard.proofs.listens.Tie as tie
 
@@ -8,4 +8,4 @@ listens-spec =
     tie.close
     (tie.spec
     (λ c κs. search needs)
-    (λ c. search tells-same))
+    (λ c. search (needs, parts)))

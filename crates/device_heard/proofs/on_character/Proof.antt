@@ -1,5 +1,5 @@
 use borrow.Author.Needs.{needs}
-use Rattle.device_heard.proofs.Parts.{character-at}
+use Rattle.device_heard.proofs.Parts.{parts}
 use Rattle.device_heard.proofs.on_character.Statement.{statement}
 use Rattle.device_heard.proofs.on_character.Tie as tie
 
@@ -7,19 +7,6 @@ pub on-character-spec : {M : Type 1} → statement M
 on-character-spec =
     tie.close
     (tie.spec
-    (λ c. search needs)
-    (λ c. search needs)
     (λ c κs. search needs)
-    (λ c. search needs)
     (λ c κs. search needs)
-    (λ c. search needs)
-    (λ c κs. search needs)
-    (λ c. search needs)
-    (λ c κs. search needs)
-    (λ c. search needs)
-    (λ c κs. search needs)
-    (λ c. search (needs, character-at))
-    (λ c. search (needs, character-at))
-    (λ c. search (needs, character-at))
-    (λ c. search (needs, character-at))
-    (λ c. search (needs, character-at)))
+    (λ c. search (needs, parts)))

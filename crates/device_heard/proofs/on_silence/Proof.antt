@@ -1,5 +1,5 @@
 use borrow.Author.Needs.{needs}
-use Rattle.device_heard.proofs.Parts.{silence-is}
+use Rattle.device_heard.proofs.Parts.{parts}
 use Rattle.device_heard.proofs.on_silence.Statement.{statement}
 use Rattle.device_heard.proofs.on_silence.Tie as tie
 
@@ -9,4 +9,4 @@ on-silence-spec =
     (tie.spec
     (λ c κs. search needs)
     (λ c κs. search needs)
-    (λ c. search (needs, silence-is)))
+    (λ c. search (needs, parts)))

@@ -1,5 +1,5 @@
 use borrow.Author.Needs.{needs}
-use Rattle.device_heard.proofs.Hearing.{heard-is}
+use Rattle.device_heard.proofs.Hearing.{hearings}
 use Rattle.device_heard.proofs.take.Statement.{statement}
 use Rattle.device_heard.proofs.take.Tie as tie
 
@@ -9,4 +9,10 @@ take-spec =
     (tie.spec
     (λ c κs. search needs)
     (λ c κs. search needs)
-    (λ c. search (needs, heard-is)))
+    (λ c. search (needs, hearings))
+    (λ c κs. search needs)
+    (λ c κs. search needs)
+    (λ c. search (needs, hearings))
+    (λ c κs. search needs)
+    (λ c κs. search needs)
+    (λ c. search (needs, hearings)))

@@ -1,5 +1,4 @@
 use borrow.Author.Needs.{needs}
-use Rattle.base.proofs.Choices.{choices}
 use Rattle.master_heard.proofs.Takes.{events}
 use Rattle.master_heard.proofs.count.Statement.{statement}
 use Rattle.master_heard.proofs.count.Tie as tie
@@ -10,6 +9,6 @@ count-spec =
     (tie.spec
     (λ c κs. search needs)
     (λ c κs. search needs)
-    (λ c. search (needs, choices, events))
     (λ c κs. search needs)
-    (λ c. search (needs, choices, events)))
+    (λ c κs. search needs)
+    (λ c. search (needs, events)))

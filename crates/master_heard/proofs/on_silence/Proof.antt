@@ -7,18 +7,6 @@ pub on-silence-spec : {M : Type 1} → statement M
 on-silence-spec =
     tie.close
     (tie.spec
-    (λ c. search needs)
     (λ c κs. search needs)
-    (λ c. search needs)
     (λ c κs. search needs)
-    (λ c. search needs)
-    (λ c κs. search needs)
-    (λ c. search needs)
-    (λ c κs. search needs)
-    (λ c. search needs)
-    (λ c κs. search needs)
-    (λ c. search (needs, events))
-    (λ c. search (needs, events))
-    (λ c. search (needs, events))
-    (λ c. search (needs, events))
     (λ c. search (needs, events)))

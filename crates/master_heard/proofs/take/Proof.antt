@@ -1,5 +1,4 @@
 use borrow.Author.Needs.{needs}
-use Rattle.base.proofs.Choices.{choices}
 use Rattle.master_heard.proofs.Takes.{ticks}
 use Rattle.master_heard.proofs.take.Statement.{statement}
 use Rattle.master_heard.proofs.take.Tie as tie
@@ -9,14 +8,10 @@ take-spec =
     tie.close
     (tie.spec
     (λ c κs. search needs)
+    (λ c. search (needs, ticks))
     (λ c κs. search needs)
-    (λ c. search (needs, choices, ticks))
-    (λ c. search needs)
     (λ c κs. search needs)
-    (λ c. search needs)
+    (λ c. search (needs, ticks))
     (λ c κs. search needs)
-    (λ c. search needs)
     (λ c κs. search needs)
-    (λ c. search (needs, choices, ticks))
-    (λ c. search (needs, choices, ticks))
-    (λ c. search (needs, choices, ticks)))
+    (λ c. search (needs, ticks)))

@@ -10,4 +10,5 @@ at-check-spec =
     (λ c κs. search (needs, steps))
     (λ c κs. search (needs, steps))
     (λ c κs. search (needs, steps))
+    (λ c κs. search (needs, steps))
     (λ c. search (needs, steps)))

@@ -1,10 +1,10 @@
 use borrow.Author.Needs.{needs}
 use Rattle.base.proofs.Choices.{choices}
-use Rattle.party.proofs.hear.Statement.{statement}
-use Rattle.party.proofs.hear.Tie as tie
+use Rattle.device_heard.proofs.next_turn.Statement.{statement}
+use Rattle.device_heard.proofs.next_turn.Tie as tie
 
-pub hear-spec : {M : Type 1} → statement M
-hear-spec =
+pub next-turn-spec : {M : Type 1} → statement M
+next-turn-spec =
     tie.close
     (tie.spec
     (λ c. search (needs, choices))

@@ -1,0 +1,17 @@
+use borrow.Author.Needs.{needs}
+use Rattle.base.proofs.Choices.{choices}
+use Rattle.device_heard.proofs.Parts.{parts}
+use Rattle.device_heard.proofs.heeds_damage.Statement.{statement}
+use Rattle.device_heard.proofs.heeds_damage.Tie as tie
+
+pub heeds-damage-spec : {M : Type 1} → statement M
+heeds-damage-spec =
+    tie.close
+    (tie.spec
+    (λ c. search needs)
+    (λ c κs. search needs)
+    (λ c κs. search needs)
+    (λ c κs. search needs)
+    (λ c. search (needs, choices, parts))
+    (λ c κs. search needs)
+    (λ c. search (needs, choices, parts)))
