@@ -28,7 +28,7 @@ struct Heeded {
     told: DeviceTold,
 }
 
-// The same device with other parts.
+// The same device with other parts, its profile field by field.
 pub fn with_parts(
     d: Device,
     r: Receiver,
@@ -274,7 +274,7 @@ fn back_due(d: Device, due: u32) -> bool
     false
 }
 
-// The turn behind a silent tick that a BACK begins behind, or none does.
+// The turn behind a silent tick, where a BACK begins and where none does.
 fn next_turn(back: bool, turn: Turn) -> Turn
     ensures { λ t. ⌜ t ≡ nextTurn back turn ⌝ }
 {
@@ -356,7 +356,7 @@ fn hears_silence(d: Device) -> DeviceTaken
     on_silence(d, r, event)
 }
 
-// The same device, field by field, as the parts that the tick reader makes anew.
+// The same device, with the parts that the tick reader makes anew.
 fn same_device(d: Device) -> Device
     ensures { λ r. ⌜ r ≡ d ⌝ }
 {

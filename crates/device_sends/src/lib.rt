@@ -23,7 +23,7 @@ pub fn wished_burst(burst: bool, wish: Wish) -> bool
     }
 }
 
-// What a device sends, and the device behind it.
+// What a device sends, and the device behind it, its profile field by field.
 fn with_sent(
     d: Device,
     deaf: bool,

@@ -97,6 +97,6 @@ tick-is m own heard call put frame bytes frame-after bytes-after t c s same p q 
       found = ap (λ (x : MasterTaken). x .event) takes;
     }
 
-pub ruleset ticks = (refl, call-accepted, call-refused, call-none, call-some, tick-is)
+pub ruleset ticks = (refl, call-accepted, call-refused, call-none, call-some)
 
 pub ruleset sames = (refl, message-same, master-same)

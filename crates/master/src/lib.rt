@@ -369,7 +369,7 @@ fn take_call(m: Master, call: HostCall, put: &[u8], frame: &mut [u8; 284]) -> Ca
     }
 }
 
-// The same master, and parts of it, field by field, as the parts that the tick reader makes anew.
+// The next three give what they take, field by field, for the reason given in the tick reader.
 fn same_noted(n: Noted) -> Noted
     ensures { λ r. ⌜ r ≡ n ⌝ }
 {

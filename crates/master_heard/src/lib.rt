@@ -210,7 +210,7 @@ fn before_count(m: Master, r: Receiver, event: Event) -> MasterTaken
         Event::PassedOver => after_break(m, r, Event::PassedOver),
         Event::Broken => after_break(m, r, Event::Broken),
         Event::Frame(w) => after_break(m, r, Event::Frame(w)),
-        Event::Damaged(w, h) => after_break(m, r, Event::Damaged(w, h)),
+        Event::Damaged(w, harm) => after_break(m, r, Event::Damaged(w, harm)),
     }
 }
 

@@ -1,4 +1,4 @@
-// What master and device hold from tick to tick, and what they tell their hosts. The rules by which they change are the definitions in specs/.
+// What master and device hold from tick to tick, and what they tell their hosts. The rules by which they change are the definitions in specs/. The fields' order is chosen for speed: docs/BENCHMARKS.md, "Master and device".
 use frame::Header;
 use line::Event;
 use line::Profile;

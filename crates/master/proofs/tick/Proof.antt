@@ -1,5 +1,5 @@
 use borrow.Author.Needs.{needs}
-use Rattle.master.proofs.Ticks.{ticks}
+use Rattle.master.proofs.Ticks.{tick-is}
 use Rattle.master.proofs.tick.Statement.{statement}
 use Rattle.master.proofs.tick.Tie as tie
 
@@ -11,4 +11,4 @@ tick-spec =
     (λ c κs. search needs)
     (λ c κs. search needs)
     (λ c κs. search needs)
-    (λ c. search (needs, ticks)))
+    (λ c. search tick-is))
