@@ -1,0 +1,14 @@
+use Rattle.base.proofs.Choices.{choices}
+use Rattle.player_calls.proofs.Wanteds.{wanteds}
+use borrow.Author.Needs.{needs}
+use Rattle.player_calls.proofs.answer_for.Statement.{statement}
+use Rattle.player_calls.proofs.answer_for.Tie as tie
+
+pub answer-for-spec : {M : Type 1} → statement M
+answer-for-spec =
+    tie.close
+    (tie.spec
+    (λ c κs. search needs)
+    (λ c. search (needs, choices, wanteds))
+    (λ c. search (needs, choices, wanteds))
+    (λ c. search (needs, choices, wanteds)))
