@@ -3,3 +3,5 @@ pub mod Example
 pub mod Recorded
 pub mod Steps
 pub mod Going
+pub mod Started
+pub mod Whole

@@ -2,8 +2,10 @@
 use Prim.Native.Nat.{ℕ, _-_}
 use mathlib.Core.Bool.{true, false}
 use mathlib.Core.List.{List, [], _∷_, _++_}
-use lib.ListN.{replicate}
+use mathlib.Core.Path.{_≡_}
+use lib.ListN.{length, replicate}
 use Rattle.base.specs.Choice.{if_then_else_}
+use Rattle.base.specs.Store.{stored}
 use Rattle.line.specs.Profile.{fskProfile}
 use Rattle.line.specs.declared.Heard.the-variants.{Silence}
 use Rattle.turns.specs.Master.{freshMaster}
@@ -52,3 +54,8 @@ badScript = 49 ∷ 54 ∷ 10 ∷ []
 
 unfoldable pub play : List ℕ → List ℕ
 play script = if goodScript script then listing (recordsOf script) else badScript
+
+-- what the player promises: the output at the front of the lent bytes, and its length
+pub record PlayIs (script before : List ℕ) (r : ℕ) (after : List ℕ) : Type 0 where
+  pub returned : r ≡ length (play script)
+  pub output : after ≡ stored before 0 (play script)

@@ -1,5 +1,5 @@
 -- The code's link that stands ready, with zero bytes in its lent buffers.
-use Prim.Native.Nat.{ℕ, _-_}
+use Prim.Native.Nat.{ℕ, _+_, _-_}
 use mathlib.Core.Bool.{true, false}
 use lib.ListN.{replicate}
 use Rattle.line.specs.Profile.{fskProfile}
@@ -18,12 +18,11 @@ use Rattle.link_start.specs.declared.SlotSetting.{SlotSetting}
 abbrev pub settingOf : ℕ → SlotSetting
 settingOf party = SlotSetting.Present (record { preamble = 5; polling = party - 2; unique = party })
 
+abbrev pub pairSettings : ℕ → PairSettings
+pairSettings party = record { left = settingOf party; right = settingOf (party + 1) }
+
 abbrev pub settings : DevicesSettings
-settings = record {
-  low = record { left = settingOf 2; right = settingOf 3 };
-  middle = record { left = settingOf 4; right = settingOf 5 };
-  high = record { left = settingOf 6; right = settingOf 7 };
-}
+settings = record { low = pairSettings 2; middle = pairSettings 4; high = pairSettings 6 }
 
 abbrev pub slotOf : ℕ → Slot
 slotOf party = Present (freshDevice fskProfile 5 (party - 2) party)

@@ -1,0 +1,123 @@
+-- The link that stands ready: its start is accepted, its devices are such as ticks reach, and it is the definition's.
+use Prim.Native.Nat.{ℕ, _+_, _-_}
+use native.Mathlib.Omega.{arith}
+use mathlib.Core.Path.{_≡_, refl, sym, ap, subst, _∙_}
+use mathlib.Core.List.{List, _++_}
+use lib.ListN.{length, replicate}
+use Rattle.base.specs.Choice.{if_then_else_}
+use Rattle.base.specs.declared.Refusal.{Refusal}
+use Rattle.line.specs.Profile.{fskProfile}
+use Rattle.line.specs.declared.Profile.{Profile}
+use Rattle.turns.specs.Master.{Called, accepted, refused}
+use Rattle.turns.specs.Device.{freshDevice, deviceStarts}
+use Rattle.turns.specs.Link as L
+use Rattle.turns.specs.declared.Device.{Device}
+use Rattle.device.proofs.Reached.{Ready, is-started, reached-ready}
+use Rattle.device_tick.specs.Tick.{sideOf}
+use Rattle.script.specs.Script.{recordsOf}
+use Rattle.script.proofs.Ticks.{Reads}
+use Rattle.listing.specs.Lines.{quietEar}
+use Rattle.listing.specs.Put.{PutIs}
+use Rattle.listing.specs.Text.{headLine}
+use Rattle.listing.specs.declared.Ear.{Ear}
+use Rattle.listing.proofs.Puts.{put-then}
+use Rattle.slots.specs.declared.Slot.{Slot}
+use Rattle.slots.specs.declared.Slot.the-variants.{Absent, Present}
+use Rattle.link.specs.Stands.{ofSlot, linkOf, SlotReady, LinkReady}
+use Rattle.link.specs.declared.Link.{Link}
+use Rattle.link_start.specs.Start.{linkStarts, linkAs}
+use Rattle.link_start.specs.declared.DevicesSettings.{DevicesSettings}
+use Rattle.link_start.specs.declared.LinkStarted.{LinkStarted}
+use Rattle.link_start.specs.declared.PairSettings.{PairSettings}
+use Rattle.link_start.specs.declared.SlotSetting.{SlotSetting}
+use Rattle.player.specs.Play.{readyLink}
+use Rattle.player.specs.Ready.{settingOf, pairSettings, settings, slotOf, readyStart, zeroLent, zeroLents}
+use Rattle.player.specs.Step.{There, AllThere, textFrom, Stands}
+use Rattle.player.specs.declared.Playing.{Playing}
+
+-- ---- the start
+
+pub pair-is : (party : ℕ) (a b : SlotSetting) → a ≡ settingOf party → b ≡ settingOf (party + 1) → record { left = a; right = b } ≡ pairSettings party
+pair-is party a b e f = λ i. record { left = e i; right = f i }
+
+pub settings-are : (a b c : PairSettings) → a ≡ pairSettings 2 → b ≡ pairSettings 4 → c ≡ pairSettings 6 → record { low = a; middle = b; high = c } ≡ settings
+settings-are a b c e f g = λ i. record { low = e i; middle = f i; high = g i }
+
+all-accepted : linkStarts fskProfile 3 settings ≡ accepted readyStart
+unfolding if_then_else_
+all-accepted = refl
+
+pub start-is : (p : Profile) (s : DevicesSettings) (x : Called Link) → p ≡ fskProfile → s ≡ settings → x ≡ linkStarts p 3 s → x ≡ accepted readyStart
+start-is p s x e f g = g ∙ ap (λ (q : Profile). linkStarts q 3 s) e ∙ ap (linkStarts fskProfile 3) f ∙ all-accepted
+
+pub started-is : (started : LinkStarted) (l : Link) → linkAs started ≡ accepted readyStart → started ≡ LinkStarted.Started l → l ≡ readyStart
+started-is started l e f = ap link-in (sym (ap linkAs f) ∙ e)
+  where
+    link-in : Called Link → Link
+    link-in (accepted k) = k
+    link-in (refused why) = l
+
+never-refused : (started : LinkStarted) (why : Refusal) → linkAs started ≡ accepted readyStart → started ≡ LinkStarted.Refused why → ⊥
+never-refused started why e f = let k : _≡_ {A = ℕ} 0 1 = ap is (sym (ap linkAs f) ∙ e) in omega arith
+  where
+    is : Called Link → ℕ
+    is (accepted k) = 1
+    is (refused v) = 0
+
+pub refused-none : (started : LinkStarted) (why : Refusal) (text before : List ℕ) (at r : ℕ) → linkAs started ≡ accepted readyStart → started ≡ LinkStarted.Refused why → PutIs text before at r before
+refused-none started why text before at r e f = absurd (never-refused started why e f)
+
+-- ---- its devices
+
+fresh-ready : (party : ℕ) → deviceStarts fskProfile 5 (party - 2) party ≡ accepted (freshDevice fskProfile 5 (party - 2) party)
+    → Ready (freshDevice fskProfile 5 (party - 2) party) (replicate 284 0) (replicate 255 0)
+fresh-ready party e =
+    reached-ready (sideOf (freshDevice fskProfile 5 (party - 2) party) (replicate 284 0) (replicate 255 0) (replicate 255 0))
+    (is-started (record { preamble = 5; polling = party - 2; unique = party; starts = e; room = omega arith; content-room = omega arith }))
+
+slot-ready : (party : ℕ) → deviceStarts fskProfile 5 (party - 2) party ≡ accepted (freshDevice fskProfile 5 (party - 2) party) → SlotReady (slotOf party) (ofSlot zeroLents 0)
+slot-ready party e d q = subst (λ (f : Device). Ready f (replicate 284 0) (replicate 255 0)) (ap device-in q) (fresh-ready party e)
+  where
+    device-in : Slot → Device
+    device-in Absent = d
+    device-in (Present f) = f
+
+all-ready : LinkReady (readyStart .devices) zeroLents
+unfolding if_then_else_
+all-ready = record { first = slot-ready 2 refl; second = slot-ready 3 refl; third = slot-ready 4 refl; fourth = slot-ready 5 refl; fifth = slot-ready 6 refl; sixth = slot-ready 7 refl }
+
+present : (d : Device) → There (Present d)
+present d e = let k : _≡_ {A = ℕ} 1 0 = ap is e in omega arith
+  where
+    is : Slot → ℕ
+    is Absent = 0
+    is (Present f) = 1
+
+all-there : AllThere (readyStart .devices)
+all-there = record { first = present _; second = present _; third = present _; fourth = present _; fifth = present _; sixth = present _ }
+
+pub ready-stands : (script : List ℕ) (l : Link) (ears : List Ear) (at : ℕ) → l ≡ readyStart → Reads script 0 0 → Stands script 0 (record { link = l; ears = ears; next = 0; at = at }) zeroLents
+ready-stands script l ears at e k = record {
+  reads = k;
+  ready = subst (λ (m : Link). LinkReady (m .devices) zeroLents) (sym e) all-ready;
+  there = subst (λ (m : Link). AllThere (m .devices)) (sym e) all-there;
+}
+
+-- ---- the definition's link
+
+ready-is : linkOf readyStart zeroLent zeroLent zeroLents ≡ readyLink
+unfolding readyLink
+ready-is = refl
+
+pub ready-plays : (script : List ℕ) (stop : ℕ) (l : Link) (ears : List Ear) (before between after : List ℕ) (at r : ℕ)
+    → PutIs headLine before 0 at between → PutIs (textFrom 0 stop ears (linkOf l zeroLent zeroLent zeroLents) (recordsOf script)) between at r after → ears ≡ replicate 8 quietEar → l ≡ readyStart
+    → PutIs (headLine ++ textFrom 0 stop (replicate 8 quietEar) readyLink (recordsOf script)) before 0 r after
+ready-plays script stop l ears before between after at r p q e f =
+    put-then headLine _ before between after 0 at r p
+    (subst (λ (text : List ℕ). PutIs text between at r after)
+    (ap (λ (es : List Ear). textFrom 0 stop es (linkOf l zeroLent zeroLent zeroLents) (recordsOf script)) e
+    ∙ ap (λ (m : Link). textFrom 0 stop (replicate 8 quietEar) (linkOf m zeroLent zeroLent zeroLents) (recordsOf script)) f
+    ∙ ap (λ (k : L.Link). textFrom 0 stop (replicate 8 quietEar) k (recordsOf script)) ready-is)
+    q)
+
+pub ruleset started = (pair-is, settings-are, start-is, started-is, refused-none, ready-stands, ready-plays)

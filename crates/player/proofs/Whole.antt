@@ -1,0 +1,79 @@
+-- The whole play: the stop's tick is of 16 bits, so what is printed fits into the lent output.
+use Prim.Native.Nat.{ℕ, zero, suc, _+_, _*_, _≤_, _<_}
+use native.Mathlib.Omega.{arith}
+use mathlib.Core.Bool.{Bool, true, false}
+use mathlib.Core.Path.{_≡_, refl, sym, ap, subst, _∙_}
+use mathlib.Core.List.{List, [], _∷_, _++_}
+use lib.ListN.{length, getD, replicate}
+use Rattle.base.specs.Store.{stored}
+use Rattle.base.proofs.Choices.{if-is-true, if-is-false}
+use Rattle.turns.specs.Link.{linkTick, linkAfter, run}
+use Rattle.turns.specs.Link as L
+use Rattle.script.specs.Script.{recordsOf, goodScript, stopOf, callsAt, callsFrom}
+use Rattle.script.specs.declared.Entry.{Entry}
+use Rattle.listing.specs.Lines.{quietEar}
+use Rattle.listing.specs.Put.{Out, outOf, PutIs}
+use Rattle.listing.specs.Text.{headLine}
+use Rattle.listing.proofs.Lengths.{listing-most}
+use Rattle.listing.proofs.Puts.{put-front}
+use Rattle.player.specs.Play.{readyLink, sentIn, listing, badScript, play, PlayIs}
+use Rattle.player.specs.Step.{textFrom}
+
+-- ---- the stop's tick
+
+stop-onto : (e : Entry) (es : List Entry) → e .tick < 65536 → stopOf es < 65536 → stopOf (e ∷ es) < 65536
+unfolding stopOf
+stop-onto e [] h k = h
+stop-onto e (f ∷ es) h k = k
+
+pub stop-16 : (script : List ℕ) → ((i : ℕ) → getD script i 0 < 256) → stopOf (recordsOf script) < 65536
+unfolding recordsOf stopOf
+stop-16 [] h = omega arith
+stop-16 (a ∷ []) h = omega arith
+stop-16 (a ∷ b ∷ []) h = omega arith
+stop-16 (a ∷ b ∷ c ∷ []) h = omega arith
+stop-16 (a ∷ b ∷ c ∷ d ∷ rest) h =
+    let small : a * 256 + b < 65536 = omega (arith, h 0, h 1) in
+    stop-onto _ (recordsOf rest) small (stop-16 rest (λ i. h (suc (suc (suc (suc i))))))
+
+-- ---- the output's length
+
+ticks-count : (tick n : ℕ) (l : L.Link) (es : List Entry) → length (sentIn (run 255 l (callsFrom tick n es))) ≡ n
+unfolding sentIn run callsFrom
+ticks-count tick zero l es = refl
+ticks-count tick (suc n) l es = ap suc (ticks-count (tick + 1) n (linkAfter (linkTick 255 l (callsAt tick es))) es)
+
+listing-fits : (script : List ℕ) → ((i : ℕ) → getD script i 0 < 256) → length (listing (recordsOf script)) ≤ 1638405
+listing-fits script h =
+    omega (arith, stop-16 script h, ticks-count 0 (stopOf (recordsOf script)) readyLink (recordsOf script), listing-most 0 (replicate 8 quietEar) (sentIn (run 255 readyLink (callsFrom 0 (stopOf (recordsOf script)) (recordsOf script)))))
+
+-- ---- the play
+
+-- what a call answered, where the code tests it
+pub answer-is : (r t x : Bool) → r ≡ t → r ≡ x → t ≡ x
+answer-is r t x e f = sym e ∙ f
+
+-- up to the stop's tick
+pub good-listing : (script before : List ℕ) (stop r : ℕ) (after : List ℕ) → stop ≡ stopOf (recordsOf script) → PutIs (headLine ++ textFrom 0 stop (replicate 8 quietEar) readyLink (recordsOf script)) before 0 r after
+    → PutIs (listing (recordsOf script)) before 0 r after
+good-listing script before stop r after e p = subst (λ (n : ℕ). PutIs (headLine ++ textFrom 0 n (replicate 8 quietEar) readyLink (recordsOf script)) before 0 r after) e p
+
+-- text that fits, put at the front
+prints : (script text before : List ℕ) (r : ℕ) (after : List ℕ) → text ≡ play script → length text ≤ length before → PutIs text before 0 r after → PlayIs script before r after
+prints script text before r after e h p =
+    let all : outOf after r ≡ outOf (stored before 0 text) (length text) = p .out ∙ put-front text before h in
+    record {
+      returned = ap (λ (o : Out). o .at) all ∙ ap length e;
+      output = ap (λ (o : Out). o .bytes) all ∙ ap (stored before 0) e;
+    }
+
+pub plays-good : (script before : List ℕ) (r : ℕ) (after : List ℕ) → ((i : ℕ) → getD script i 0 < 256) → length before ≡ 1638405 → goodScript script ≡ true → PutIs (listing (recordsOf script)) before 0 r after → PlayIs script before r after
+unfolding play
+plays-good script before r after h k g p =
+    prints script (listing (recordsOf script)) before r after
+    (sym (if-is-true (goodScript script) (listing (recordsOf script)) badScript g)) (omega (arith, listing-fits script h)) p
+
+pub plays-bad : (script before : List ℕ) (r : ℕ) (after : List ℕ) → length before ≡ 1638405 → goodScript script ≡ false → PutIs badScript before 0 r after → PlayIs script before r after
+unfolding play
+plays-bad script before r after k g p =
+    prints script badScript before r after (sym (if-is-false (goodScript script) (listing (recordsOf script)) badScript g)) (omega arith) p

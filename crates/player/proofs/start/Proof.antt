@@ -1,0 +1,13 @@
+use Rattle.player.proofs.Started.{started}
+use borrow.Author.Needs.{needs}
+use Rattle.player.proofs.start.Statement.{statement}
+use Rattle.player.proofs.start.Tie as tie
+
+pub start-spec : {M : Type 1} → statement M
+start-spec =
+    tie.close
+    (tie.spec
+    (λ c κs. search needs)
+    (λ c κs. search needs)
+    (λ c κs. search needs)
+    (λ c. search (needs, started)))
