@@ -5,10 +5,10 @@ use Rattle.party_examples.proofs.look.Statement.{statement}
 use Rattle.party_examples.proofs.look.Tie as tie
 
 abbrev Inv-loop : tie.InvT-loop
-Inv-loop script tick kind at₀ at = at ≤ length script
+Inv-loop script tick whom at₀ at = at ≤ length script
 
 abbrev μ-loop : tie.MeasureT-loop
-μ-loop script tick kind at₀ at = length script - at
+μ-loop script tick whom at₀ at = length script - at
 
 pub look-spec : {M : Type 1} → statement M
 look-spec =
@@ -20,7 +20,6 @@ look-spec =
     (λ c. search needs)
     (λ c. search needs)
     (λ c. search needs)
-    (λ c κs. search needs)
     (λ c. search needs)
     (λ c. search needs)
     (λ c. search needs)

@@ -1,14 +1,14 @@
 use Prim.Native.Nat.{_-_, _≤_}
 use lib.ListN.{length}
 use borrow.Author.Needs.{needs}
-use Rattle.party_examples.proofs.hexadecimal.Statement.{statement}
-use Rattle.party_examples.proofs.hexadecimal.Tie as tie
+use Rattle.party_show.proofs.hexadecimal.Statement.{statement}
+use Rattle.party_show.proofs.hexadecimal.Tie as tie
 
 abbrev Inv-loop : tie.InvT-loop
-Inv-loop bytes count i₀ i = i ≤ length bytes
+Inv-loop bytes from to i₀ i = from ≤ i
 
 abbrev μ-loop : tie.MeasureT-loop
-μ-loop bytes count i₀ i = length bytes - i
+μ-loop bytes from to i₀ i = length bytes - i
 
 pub hexadecimal-spec : {M : Type 1} → statement M
 hexadecimal-spec =

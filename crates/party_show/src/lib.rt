@@ -1,0 +1,220 @@
+// Lines of text for what a master and a device do: what one sent, and what a party heard, found, told its host or refused in a tick.
+use device_tick::DeviceTicked;
+use libc::STDOUT_FILENO;
+use line::Damage;
+use line::Event;
+use line::Heard;
+use line::Whole;
+use master::MasterTicked;
+use turns::DeviceTold;
+use turns::MasterTold;
+
+// What a party hears in a tick, and whether the script changed it.
+pub struct Ear {
+    pub heard: Heard,
+    pub changed: bool,
+}
+
+pub fn text(words: &[u8]) {
+    io::write_all(STDOUT_FILENO, words);
+}
+
+// A name and a number.
+fn field(name: &[u8], n: u64) {
+    text(name);
+    io::print_decimal(STDOUT_FILENO, n);
+}
+
+// A byte in hexadecimal, with a space in front.
+fn digits(byte: u8) {
+    text(b" ");
+    io::print_hex(STDOUT_FILENO, byte as u64, 2);
+}
+
+// The bytes from a place to another.
+fn hexadecimal(bytes: &[u8], from: usize, to: usize) {
+    let mut i = from;
+    while i < bytes.len() {
+        if to <= i {
+            return;
+        }
+        digits(bytes[i]);
+        i += 1;
+    }
+}
+
+// A line for what one sent without a pause until the tick before this, if it sent anything. Its characters stand in the log from row on, a place for each tick.
+pub fn show_speech(name: &[u8], from: u32, tick: u16, log: &[u8], row: u16) {
+    let to = tick as u32;
+    if from < to {
+        field(b"  ", from as u64);
+        field(b"-", (to - 1) as u64);
+        text(name);
+        hexadecimal(
+            log,
+            row as usize + from as usize,
+            row as usize + to as usize,
+        );
+        text(b"\n");
+    }
+}
+
+fn damage_name(kind: Damage) {
+    match kind {
+        Damage::Parity => text(b"parity"),
+        Damage::Overrun => text(b"overrun"),
+        Damage::Framing => text(b"framing"),
+    }
+}
+
+fn show_heard(ear: Ear) {
+    let heard = ear.heard;
+    if ear.changed {
+        text(b" hears ");
+        match heard {
+            Heard::Silence => text(b"silence"),
+            Heard::Character(c) => {
+                text(b"character");
+                digits(c);
+            }
+            Heard::Damaged(c, kind) => {
+                damage_name(kind);
+                digits(c);
+            }
+        }
+    }
+}
+
+fn show_event(event: Event) {
+    match event {
+        Event::Nothing => {}
+        Event::PassedOver => {}
+        Event::Broken => text(b" broken"),
+        Event::Frame(_) => text(b" whole"),
+        Event::Damaged(_, _) => text(b" damaged"),
+    }
+}
+
+// Command and data of a frame.
+fn show_frame(name: &[u8], w: Whole, bytes: &[u8; 255]) {
+    let h = w.header;
+    field(name, h.command as u64);
+    text(b" data");
+    hexadecimal(bytes, 0, w.count as usize);
+}
+
+fn show_master_told(told: MasterTold, bytes: &[u8; 255]) {
+    match told {
+        MasterTold::Nothing => {}
+        MasterTold::Answered(w) => show_frame(b" answered ", w, bytes),
+        MasterTold::GivenUp(attempts) => field(b" given up ", attempts as u64),
+        MasterTold::BroadcastSent => text(b" broadcast sent"),
+    }
+}
+
+fn show_device_told(told: DeviceTold, bytes: &[u8; 255]) {
+    match told {
+        DeviceTold::Nothing => {}
+        DeviceTold::Request(w) => show_frame(b" request ", w, bytes),
+        DeviceTold::Broadcast(w) => show_frame(b" broadcast ", w, bytes),
+    }
+}
+
+// The number of a refusal, 0 if nothing was refused.
+fn master_refused(answer: master::CallAnswer) -> u32 {
+    match answer {
+        master::CallAnswer::Nothing => 0,
+        master::CallAnswer::Taken => 0,
+        master::CallAnswer::Refused(why) => why.number(),
+    }
+}
+
+fn device_refused(answer: device_tick::CallAnswer) -> u32 {
+    match answer {
+        device_tick::CallAnswer::Nothing => 0,
+        device_tick::CallAnswer::Taken => 0,
+        device_tick::CallAnswer::Refused(why) => why.number(),
+    }
+}
+
+fn show_end(refused: u32) {
+    if 0 < refused {
+        field(b" refused ", refused as u64);
+    }
+    text(b"\n");
+}
+
+fn event_shows(event: Event) -> bool {
+    match event {
+        Event::Nothing => false,
+        Event::PassedOver => false,
+        Event::Broken => true,
+        Event::Frame(_) => true,
+        Event::Damaged(_, _) => true,
+    }
+}
+
+fn tells(told: MasterTold) -> bool {
+    match told {
+        MasterTold::Nothing => false,
+        MasterTold::Answered(_) => true,
+        MasterTold::GivenUp(_) => true,
+        MasterTold::BroadcastSent => true,
+    }
+}
+
+// Whether a party has a line in this tick. A device tells its host only of a frame that it found.
+fn has_line(ear: Ear, event: Event, refused: u32) -> bool {
+    if ear.changed {
+        return true;
+    }
+    if event_shows(event) {
+        return true;
+    }
+    0 < refused
+}
+
+// What a line of a party begins with.
+fn show_begin(tick: u16, name: &[u8], ear: Ear, event: Event) {
+    field(b"  ", tick as u64);
+    text(name);
+    show_heard(ear);
+    show_event(event);
+}
+
+fn master_line(
+    tick: u16,
+    ear: Ear,
+    event: Event,
+    told: MasterTold,
+    refused: u32,
+    bytes: &[u8; 255],
+) {
+    show_begin(tick, b" master", ear, event);
+    show_master_told(told, bytes);
+    show_end(refused);
+}
+
+pub fn show_master(tick: u16, ear: Ear, t: MasterTicked, bytes: &[u8; 255]) {
+    let told = t.told;
+    let event = t.event;
+    let answer = t.answer;
+    let refused = master_refused(answer);
+    if has_line(ear, event, refused) {
+        master_line(tick, ear, event, told, refused, bytes);
+    } else if tells(told) {
+        master_line(tick, ear, event, told, refused, bytes);
+    }
+}
+
+pub fn show_device(tick: u16, ear: Ear, t: DeviceTicked, bytes: &[u8; 255]) {
+    let told = t.told;
+    let event = t.event;
+    let answer = t.answer;
+    let refused = device_refused(answer);
+    if has_line(ear, event, refused) {
+        show_begin(tick, b" device", ear, event);
+        show_device_told(told, bytes);
+        show_end(refused);
+    }
+}
