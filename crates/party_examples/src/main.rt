@@ -27,20 +27,12 @@ struct Order {
     number: u8,
 }
 
-// The tick from which on each of the three sends without a pause.
-struct Says {
-    m: u32,
-    d: u32,
-    o: u32,
-}
-
 // Both parties, and what each hears in the next tick.
 struct Both {
     master: Master,
     device: Device,
     to_m: Ear,
     to_d: Ear,
-    says: Says,
 }
 
 // The value of a hexadecimal digit.
@@ -140,7 +132,7 @@ fn other_sends(script: &[u8], tick: u16) -> Sent {
 // The first bytes, so many, or all if there are fewer.
 fn front<'a>(bytes: &'a [u8], count: usize) -> &'a [u8] {
     if count <= bytes.len() {
-        return &bytes[..count];
+        return &bytes[0..count];
     }
     bytes
 }
@@ -174,11 +166,13 @@ fn data_count(o: Order) -> usize {
 fn master_ticks(
     m: Master,
     ear: Ear,
-    o: Order,
+    script: &[u8],
+    tick: u16,
     frame: &mut [u8; 284],
     bytes: &mut [u8; 255],
 ) -> MasterTicked {
     let heard = ear.heard;
+    let o = look(script, tick, b'm');
     let five = [5u8; 1];
     let put = front(&five, data_count(o));
     master::tick(m, heard, master_call(o), put, frame, bytes)
@@ -194,47 +188,47 @@ fn device_call(o: Order) -> device_tick::HostCall {
 fn device_ticks(
     d: Device,
     ear: Ear,
-    o: Order,
+    script: &[u8],
+    tick: u16,
     frame: &mut [u8; 284],
     bytes: &mut [u8; 255],
 ) -> DeviceTicked {
     let heard = ear.heard;
+    let o = look(script, tick, b'd');
     let zeros = [0u8; 255];
     let mut contents = [0u8; 255];
     let put = front(&zeros, o.number as usize);
     device_tick::tick(d, heard, device_call(o), put, &mut contents, frame, bytes)
 }
 
-// Notes the character of this tick, or prints what ended before it. From is the tick behind the last in which it was silent.
-fn show_sent(name: &[u8], from: u32, tick: u16, sent: Sent, log: &mut [u8; 3000], row: u16) -> u32 {
+fn noted(sent: Sent) -> u16 {
     match sent {
-        Sent::Silent => {
-            party_show::show_speech(name, from, tick, log, row);
-            tick as u32 + 1
-        }
-        Sent::Character(c) => {
-            let at = row as usize + tick as usize;
-            if at < 3000 {
-                log[at] = c;
-            }
-            from
-        }
+        Sent::Silent => 0,
+        Sent::Character(c) => 256 + c as u16,
     }
 }
 
-// What each of the three sends. The log has a row of 1000 ticks for each.
-fn show_sents(
-    s: Says,
-    tick: u16,
-    by_m: Sent,
-    by_d: Sent,
-    by_o: Sent,
-    log: &mut [u8; 3000],
-) -> Says {
-    Says {
-        m: show_sent(b" master sends", s.m, tick, by_m, log, 0),
-        d: show_sent(b" device sends", s.d, tick, by_d, log, 1000),
-        o: show_sent(b" other sends", s.o, tick, by_o, log, 2000),
+// What the three send, put into the log that party_show reads.
+fn note(by_m: Sent, by_d: Sent, by_o: Sent, tick: u16, log: &mut [u16; 3000]) {
+    let at = tick as usize;
+    if at < 1000 {
+        log[at] = noted(by_m);
+        log[at + 1000] = noted(by_d);
+        log[at + 2000] = noted(by_o);
+    }
+}
+
+// Both behind a tick, by what each and a third party sends.
+fn behind(m: MasterTicked, d: DeviceTicked, by_o: Sent, script: &[u8], tick: u16) -> Both {
+    let by_m = m.sent;
+    let by_d = d.sent;
+    let master = m.master;
+    let device = d.device;
+    Both {
+        master: master,
+        device: device,
+        to_m: hears(script, tick, b'M', by_d, by_o),
+        to_d: hears(script, tick, b'D', by_m, by_o),
     }
 }
 
@@ -247,27 +241,18 @@ fn tick_both(
     of_ack: &mut [u8; 255],
     ack: &mut [u8; 284],
     of_stx: &mut [u8; 255],
-    log: &mut [u8; 3000],
+    log: &mut [u16; 3000],
 ) -> Both {
     let to_m = b.to_m;
     let to_d = b.to_d;
-    let m = master_ticks(b.master, to_m, look(script, tick, b'm'), stx, of_ack);
-    let d = device_ticks(b.device, to_d, look(script, tick, b'd'), ack, of_stx);
+    let m = master_ticks(b.master, to_m, script, tick, stx, of_ack);
+    let d = device_ticks(b.device, to_d, script, tick, ack, of_stx);
     let by_m = m.sent;
     let by_d = d.sent;
     let by_o = other_sends(script, tick);
-    let says = show_sents(b.says, tick, by_m, by_d, by_o, log);
-    party_show::show_master(tick, to_m, m, of_ack);
-    party_show::show_device(tick, to_d, d, of_stx);
-    let master = m.master;
-    let device = d.device;
-    Both {
-        master: master,
-        device: device,
-        to_m: hears(script, tick, b'M', by_d, by_o),
-        to_d: hears(script, tick, b'D', by_m, by_o),
-        says: says,
-    }
+    note(by_m, by_d, by_o, tick, log);
+    party_show::show_tick(tick, to_m, to_d, m, d, log, of_ack, of_stx);
+    behind(m, d, by_o, script, tick)
 }
 
 // Both for so many ticks.
@@ -276,7 +261,7 @@ fn run(start: Both, ticks: u16, script: &[u8]) {
     let mut of_ack = [0u8; 255];
     let mut ack = [0u8; 284];
     let mut of_stx = [0u8; 255];
-    let mut log = [0u8; 3000];
+    let mut log = [0u16; 3000];
     let mut b = start;
     let mut next = 0;
     while next < ticks {
@@ -301,7 +286,6 @@ fn both_of(m: Master, d: Device) -> Both {
         device: d,
         to_m: nothing_heard(),
         to_d: nothing_heard(),
-        says: Says { m: 0, d: 0, o: 0 },
     }
 }
 

@@ -43,19 +43,56 @@ fn hexadecimal(bytes: &[u8], from: usize, to: usize) {
     }
 }
 
-// A line for what one sent without a pause until the tick before this, if it sent anything. Its characters stand in the log from row on, a place for each tick.
-pub fn show_speech(name: &[u8], from: u32, tick: u16, log: &[u8], row: u16) {
-    let to = tick as u32;
+// The characters of a row of the log, from a tick to another.
+fn characters(row: &[u16], from: usize, to: usize) {
+    let mut i = from;
+    while i < row.len() {
+        if to <= i {
+            return;
+        }
+        digits((row[i] % 256) as u8);
+        i += 1;
+    }
+}
+
+// The tick in which that began which ended in front of this tick, or this tick if nothing did.
+fn began(row: &[u16], tick: usize) -> usize {
+    let mut i = tick;
+    if tick < row.len() {
+        if 0 < row[tick] {
+            return tick;
+        }
+    }
+    while 0 < i {
+        if row.len() < i {
+            return tick;
+        }
+        if row[i - 1] == 0 {
+            return i;
+        }
+        i -= 1;
+    }
+    0
+}
+
+// A line for what one sent without a pause until the tick before this.
+fn show_speech(name: &[u8], row: &[u16], tick: u16) {
+    let to = tick as usize;
+    let from = began(row, to);
     if from < to {
         field(b"  ", from as u64);
         field(b"-", (to - 1) as u64);
         text(name);
-        hexadecimal(
-            log,
-            row as usize + from as usize,
-            row as usize + to as usize,
-        );
+        characters(row, from, to);
         text(b"\n");
+    }
+}
+
+fn show_speeches(tick: u16, log: &[u16]) {
+    if 3000 <= log.len() {
+        show_speech(b" master sends", &log[0..1000], tick);
+        show_speech(b" device sends", &log[1000..2000], tick);
+        show_speech(b" other sends", &log[2000..], tick);
     }
 }
 
@@ -195,7 +232,7 @@ fn master_line(
     show_end(refused);
 }
 
-pub fn show_master(tick: u16, ear: Ear, t: MasterTicked, bytes: &[u8; 255]) {
+fn show_master(tick: u16, ear: Ear, t: MasterTicked, bytes: &[u8; 255]) {
     let told = t.told;
     let event = t.event;
     let answer = t.answer;
@@ -207,7 +244,7 @@ pub fn show_master(tick: u16, ear: Ear, t: MasterTicked, bytes: &[u8; 255]) {
     }
 }
 
-pub fn show_device(tick: u16, ear: Ear, t: DeviceTicked, bytes: &[u8; 255]) {
+fn show_device(tick: u16, ear: Ear, t: DeviceTicked, bytes: &[u8; 255]) {
     let told = t.told;
     let event = t.event;
     let answer = t.answer;
@@ -217,4 +254,20 @@ pub fn show_device(tick: u16, ear: Ear, t: DeviceTicked, bytes: &[u8; 255]) {
         show_device_told(told, bytes);
         show_end(refused);
     }
+}
+
+// The lines of a tick. The log has a row of 1000 ticks for each of master, device and a third party: 0 where it is silent, and 256 more than the character that it sends.
+pub fn show_tick(
+    tick: u16,
+    to_m: Ear,
+    to_d: Ear,
+    m: MasterTicked,
+    d: DeviceTicked,
+    log: &[u16; 3000],
+    of_ack: &[u8; 255],
+    of_stx: &[u8; 255],
+) {
+    show_speeches(tick, log);
+    show_master(tick, to_m, m, of_ack);
+    show_device(tick, to_d, d, of_stx);
 }
