@@ -6,6 +6,7 @@ use mathlib.Core.Path.{_≡_, refl, sym, ap, subst, _∙_}
 use mathlib.Core.List.{List, [], _∷_, _++_}
 use lib.ListN.{length, getD, replicate}
 use Rattle.base.specs.Store.{stored}
+use Rattle.base.proofs.Stores.{length-stored}
 use Rattle.base.proofs.Choices.{if-is-true, if-is-false}
 use Rattle.turns.specs.Link.{linkTick, linkAfter, run}
 use Rattle.turns.specs.Link as L
@@ -65,6 +66,7 @@ prints script text before r after e h p =
     record {
       returned = ap (λ (o : Out). o .at) all ∙ ap length e;
       output = ap (λ (o : Out). o .bytes) all ∙ ap (stored before 0) e;
+      within = omega (arith, ap (λ (o : Out). o .at) all, ap (λ (o : Out). length (o .bytes)) all, length-stored before 0 text);
     }
 
 pub plays-good : (script before : List ℕ) (r : ℕ) (after : List ℕ) → ((i : ℕ) → getD script i 0 < 256) → length before ≡ 1638405 → goodScript script ≡ true → PutIs (listing (recordsOf script)) before 0 r after → PlayIs script before r after

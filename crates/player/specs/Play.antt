@@ -1,5 +1,5 @@
 -- Document 01, "The player": the link that stands ready, and the listing.
-use Prim.Native.Nat.{ℕ, _-_}
+use Prim.Native.Nat.{ℕ, _-_, _≤_}
 use mathlib.Core.Bool.{true, false}
 use mathlib.Core.List.{List, [], _∷_, _++_}
 use mathlib.Core.Path.{_≡_}
@@ -55,7 +55,8 @@ badScript = 49 ∷ 54 ∷ 10 ∷ []
 unfoldable pub play : List ℕ → List ℕ
 play script = if goodScript script then listing (recordsOf script) else badScript
 
--- what the player promises: the output at the front of the lent bytes, and its length
+-- what the player promises: the output at the front of the lent bytes, and its length, which is within theirs
 pub record PlayIs (script before : List ℕ) (r : ℕ) (after : List ℕ) : Type 0 where
   pub returned : r ≡ length (play script)
   pub output : after ≡ stored before 0 (play script)
+  pub within : r ≤ length after
