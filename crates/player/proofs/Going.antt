@@ -17,9 +17,10 @@ use Rattle.listing.proofs.Listens.{tick-goes-on}
 use Rattle.listing.proofs.Puts.{put-length}
 use Rattle.link.specs.Link.{MasterLent, DevicesLent}
 use Rattle.link.specs.Stands.{linkOf}
-use Rattle.player.specs.Play.{sentOf, sentIn}
-use Rattle.player.specs.Step.{callsBy, stepAt, StepIs, textFrom, Stands}
-use Rattle.player.specs.declared.Playing.{Playing}
+use Rattle.player_tick.specs.Sents.{sentOf, sentIn}
+use Rattle.player_tick.specs.Step.{callsBy, stepAt, StepIs}
+use Rattle.player_tick.specs.declared.Playing.{Playing}
+use Rattle.player.specs.Ticks.{textFrom, Stands}
 
 pub record Going (script : List ℕ) (stop : ℕ) (text before : List ℕ) (from : ℕ) (p : Playing) (x y : MasterLent) (d : DevicesLent) (out : List ℕ) (tick : ℕ) : Type 0 where
   pub within : tick ≤ stop
@@ -45,7 +46,7 @@ module _ (script : List ℕ) (stop : ℕ) (text before : List ℕ) (from : ℕ) 
       → Going script stop text before from r x-after y-after d-after out-after (tick + 1)
   unfolding sentIn run callsFrom
   going-on r out-after x-after y-after d-after h is =
-      let t = is .steps (g .stands .ready) (g .stands .there) in
+      let t = is .within (g .stands .ready) (g .stands .there) in
       let rest : List Calls = callsFrom (tick + 1) (stop - (tick + 1)) (recordsOf script) in
       let one-less : suc (stop - (tick + 1)) ≡ stop - tick = omega arith in
       record {
@@ -69,4 +70,4 @@ module _ (script : List ℕ) (stop : ℕ) (text before : List ℕ) (from : ℕ) 
       let none : 0 ≡ stop - tick = omega arith in
       record { out = ap (λ (n : ℕ). put (outOf out (p .at)) (textFrom tick n (p .ears) (linkOf (p .link) x y d) (recordsOf script))) none ∙ g .left }
 
-pub ruleset goings = (refl, going-begun, going-on, going-ended)
+pub ruleset goings = (refl, going-begun, going-ended)

@@ -32,8 +32,9 @@ use Rattle.link_start.specs.declared.PairSettings.{PairSettings}
 use Rattle.link_start.specs.declared.SlotSetting.{SlotSetting}
 use Rattle.player.specs.Play.{readyLink}
 use Rattle.player.specs.Ready.{settingOf, pairSettings, settings, slotOf, readyStart, zeroLent, zeroLents}
-use Rattle.player.specs.Step.{There, AllThere, textFrom, Stands}
-use Rattle.player.specs.declared.Playing.{Playing}
+use Rattle.player_tick.specs.Step.{There, AllThere}
+use Rattle.player_tick.specs.declared.Playing.{Playing}
+use Rattle.player.specs.Ticks.{textFrom, Stands}
 
 -- ---- the start
 

@@ -17,8 +17,9 @@ use Rattle.listing.specs.Put.{Out, outOf, PutIs}
 use Rattle.listing.specs.Text.{headLine}
 use Rattle.listing.proofs.Lengths.{listing-most}
 use Rattle.listing.proofs.Puts.{put-front}
-use Rattle.player.specs.Play.{readyLink, sentIn, listing, badScript, play, PlayIs}
-use Rattle.player.specs.Step.{textFrom}
+use Rattle.player.specs.Play.{readyLink, listing, badScript, play, PlayIs}
+use Rattle.player.specs.Ticks.{textFrom}
+use Rattle.player_tick.specs.Sents.{sentIn}
 
 -- ---- the stop's tick
 

@@ -1,4 +1,4 @@
--- The player, from document 01: what is printed for a script; and what the player's code promises of a tick.
+-- The player, from document 01: what is printed for a script, and how its code stands for that.
 pub mod Play
 pub mod Ready
-pub mod Step
+pub mod Ticks

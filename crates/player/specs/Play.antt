@@ -10,12 +10,12 @@ use Rattle.line.specs.Profile.{fskProfile}
 use Rattle.line.specs.declared.Heard.the-variants.{Silence}
 use Rattle.turns.specs.Master.{freshMaster}
 use Rattle.turns.specs.Device.{freshDevice}
-use Rattle.turns.specs.Link.{DeviceSide, DeviceStep, Link, LinkStep, run}
-use Rattle.turns.specs.declared.Sent.{Sent}
+use Rattle.turns.specs.Link.{DeviceSide, Link, run}
 use Rattle.script.specs.Script.{recordsOf, goodScript, stopOf, callsFrom}
 use Rattle.script.specs.declared.Entry.{Entry}
 use Rattle.listing.specs.Lines.{quietEar, linesFrom}
 use Rattle.listing.specs.Text.{headLine, linesText}
+use Rattle.player_tick.specs.Sents.{sentIn}
 
 -- "2 to 7 devices with polling address party − 2 and unique address equal to the party"; "FSK, R 3, preamble 5"
 abbrev pub ready : ℕ → DeviceSide
@@ -28,20 +28,6 @@ readyLink = record {
   devices = ready 2 ∷ ready 3 ∷ ready 4 ∷ ready 5 ∷ ready 6 ∷ ready 7 ∷ [];
   line = Silence;
 }
-
--- ---- what every party sent in each tick of a run
-
-unfoldable pub devicesSent : List DeviceStep → List Sent
-devicesSent [] = []
-devicesSent (s ∷ ss) = s .sent ∷ devicesSent ss
-
--- the parties in their order: "0 primary, 1 secondary, 2 to 7 devices"
-abbrev pub sentOf : LinkStep → List Sent
-sentOf s = s .for-primary .sent ∷ s .for-secondary .sent ∷ devicesSent (s .for-devices)
-
-unfoldable pub sentIn : List LinkStep → List (List Sent)
-sentIn [] = []
-sentIn (s ∷ ss) = sentOf s ∷ sentIn ss
 
 -- ---- the player
 

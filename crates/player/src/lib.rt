@@ -1,14 +1,12 @@
 // The player: it plays a script on a link and lists the frames that were sent to the end.
 use line::Profile;
 use link::Link;
-use link::LinkTicked;
 use link_start::DevicesSettings;
 use link_start::LinkStarted;
 use link_start::PairSettings;
 use link_start::Setting;
 use link_start::SlotSetting;
-use listing::Ears;
-use listing::Sents;
+use player_tick::Playing;
 ghost use mathlib.Core.Path.{_≡_};
 ghost use mathlib.Core.Bool.{true};
 ghost use mathlib.Core.List.{_++_};
@@ -25,88 +23,7 @@ ghost use Rattle.link.specs.Link.{masterLends, devicesLend};
 ghost use Rattle.link_start.specs.Start.{linkAs};
 ghost use Rattle.player.specs.Play.{readyLink, listing, PlayIs};
 ghost use Rattle.player.specs.Ready.{settingOf, pairSettings, settings, readyStart};
-ghost use Rattle.player.specs.Step.{sentsOf, StepIs, textFrom, Stands};
-
-// The link and the ears between two ticks, and the places of the next record in the script and of the next byte in the output.
-struct Playing {
-    link: Link,
-    ears: Ears,
-    next: usize,
-    at: usize,
-}
-
-// What every party sent.
-fn sents_of(t: LinkTicked) -> Sents
-    ensures { λ r. ⌜ r ≡ sentsOf t ⌝ }
-{
-    let m = t.masters;
-    let d = t.devices;
-    let primary = m.primary;
-    let secondary = m.secondary;
-    let low = d.low;
-    let middle = d.middle;
-    let high = d.high;
-    let device2 = low.left;
-    let device3 = low.right;
-    let device4 = middle.left;
-    let device5 = middle.right;
-    let device6 = high.left;
-    let device7 = high.right;
-    let s0 = primary.sent;
-    let s1 = secondary.sent;
-    let s2 = device2.sent;
-    let s3 = device3.sent;
-    let s4 = device4.sent;
-    let s5 = device5.sent;
-    let s6 = device6.sent;
-    let s7 = device7.sent;
-    [s0, s1, s2, s3, s4, s5, s6, s7]
-}
-
-// A tick: its calls from the script, the link's tick, and its lines.
-fn step(
-    p: Playing,
-    tick: u16,
-    script: &[u8],
-    stx: &mut [u8; 284],
-    own: &mut [u8; 255],
-    stxs: &mut [u8; 284],
-    owns: &mut [u8; 255],
-    frames: &mut [[u8; 284]; 6],
-    bytes: &mut [[u8; 255]; 6],
-    contents: &mut [[u8; 255]; 6],
-    out: &mut [u8],
-) -> Playing
-    ensures { λ r. ⌜ StepIs p tick (now (script .entry)) (now (out .entry)) (masterLends (now (stx .entry)) (now (own .entry))) (masterLends (now (stxs .entry)) (now (owns .entry))) (devicesLend (now (frames .entry)) (now (bytes .entry)) (now (contents .entry))) r (now (out .exit)) (masterLends (now (stx .exit)) (now (own .exit))) (masterLends (now (stxs .exit)) (now (owns .exit))) (devicesLend (now (frames .exit)) (now (bytes .exit)) (now (contents .exit))) ⌝ }
-{
-    let put = [0u8; 255];
-    let l = p.link;
-    let ears = p.ears;
-    let wanted = script::calls_at(script, p.next, tick as usize);
-    let calls = player_calls::calls_of(tick as usize, wanted);
-    let t = link::tick(
-        l,
-        calls,
-        &put,
-        stx,
-        own,
-        stxs,
-        owns,
-        frames,
-        bytes,
-        contents,
-    );
-    let behind = link::behind(t);
-    let sents = sents_of(t);
-    let h = listing::tick_lines(tick, ears, sents, out, p.at);
-    let after = h.ears;
-    Playing {
-        link: behind,
-        ears: after,
-        next: wanted.next,
-        at: h.at,
-    }
-}
+ghost use Rattle.player.specs.Ticks.{textFrom, Stands};
 
 // The ticks from 0 up to the stop's; the place behind their lines in the output.
 fn play_from(
@@ -128,9 +45,11 @@ fn play_from(
     let mut p = start;
     let mut tick: u16 = 0;
     while tick < stop {
-        p = step(
+        let now = tick;
+        tick += 1;
+        p = player_tick::step(
             p,
-            tick,
+            now,
             script,
             stx,
             own,
@@ -141,7 +60,6 @@ fn play_from(
             contents,
             out,
         );
-        tick += 1;
     }
     p.at
 }

@@ -27,9 +27,9 @@ use Rattle.link.specs.declared.LinkCalls.{LinkCalls}
 use Rattle.link.specs.declared.LinkTicked.{LinkTicked}
 use Rattle.link.proofs.Agrees.{none-goes, step-agrees, after-agrees, ready-again}
 use Rattle.player_calls.specs.Calls.{zeroBytes, slotCallOf, CallsAre}
-use Rattle.player.specs.Play.{devicesSent, sentOf}
-use Rattle.player.specs.Step.{There, AllThere, sentsOf, callsBy, stepAt, Stepping, StepIs}
-use Rattle.player.specs.declared.Playing.{Playing}
+use Rattle.player_tick.specs.Sents.{devicesSent, sentOf}
+use Rattle.player_tick.specs.Step.{There, AllThere, sentsOf, callsBy, stepAt, Stepping, StepIs}
+use Rattle.player_tick.specs.declared.Playing.{Playing}
 
 -- ---- a slot that has its device
 
@@ -86,7 +86,14 @@ module _ (p : Playing) (tick : ℕ) (script out : List ℕ) (x y : MasterLent) (
   pub step-is : (link : Link) (sents : List Sent) (ears : List Ear) (at : ℕ) → link ≡ after t → sents ≡ sentsOf t → TickIs (tickLines tick (p .ears) sents) out (p .at) ears at out-after
       → StepIs p tick script out x y d (record { link = link; ears = ears; next = w .next; at = at }) out-after x-after y-after d-after
   step-is link sents ears at e f lines = record {
-    steps = λ k there.
+    calls = c;
+    ticked = t;
+    calls-are = subst (λ (v : ScriptTick). CallsAre tick v c) wanted a;
+    ticked-is = is;
+    behind-is = e;
+    lines-are = subst (λ (ss : List Sent). TickIs (tickLines tick (p .ears) ss) out (p .at) ears at out-after) f lines;
+    next-is = ap (λ (v : ScriptTick). v .next) wanted;
+    within = λ k there.
         let step : linkStepOf t x-after y-after d-after ≡ stepAt p tick script x y d =
         step-agrees (p .link) c zeroBytes x y d t x-after y-after d-after is k
         ∙ ap (linkTick 255 (linkOf (p .link) x y d)) (calls-are (p .link) tick w c a there ∙ ap (callsBy tick) wanted) in

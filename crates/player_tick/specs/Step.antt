@@ -2,26 +2,22 @@
 use Prim.Native.Nat.{ℕ}
 use mathlib.Core.Path.{_≡_}
 use mathlib.Core.List.{List, [], _∷_}
-use Rattle.turns.specs.Link.{Calls, LinkStep, linkTick, linkAfter, run}
-use Rattle.turns.specs.Link as L
+use Rattle.turns.specs.Link.{Calls, LinkStep, linkTick, linkAfter}
 use Rattle.turns.specs.declared.Sent.{Sent}
-use Rattle.script.specs.Script.{masterCall, callsFrom, tickAt}
-use Rattle.script.specs.declared.Entry.{Entry}
+use Rattle.script.specs.Script.{masterCall, tickAt}
 use Rattle.script.specs.declared.ScriptTick.{ScriptTick}
-use Rattle.script.proofs.Ticks.{Reads}
-use Rattle.listing.specs.Lines.{tickLines, linesFrom}
+use Rattle.listing.specs.Lines.{tickLines}
 use Rattle.listing.specs.Promises.{TickIs}
-use Rattle.listing.specs.Text.{linesText}
-use Rattle.listing.specs.declared.Ear.{Ear}
 use Rattle.slots.specs.declared.Devices.{Devices}
 use Rattle.slots.specs.declared.Slot.{Slot}
 use Rattle.slots.specs.declared.Slot.the-variants.{Absent}
-use Rattle.link.specs.Link.{MasterLent, DevicesLent}
+use Rattle.link.specs.Link.{MasterLent, DevicesLent, LinkIs, after}
 use Rattle.link.specs.Stands.{linkOf, LinkReady}
+use Rattle.link.specs.declared.LinkCalls.{LinkCalls}
 use Rattle.link.specs.declared.LinkTicked.{LinkTicked}
-use Rattle.player_calls.specs.Calls.{wantedCall}
-use Rattle.player.specs.Play.{sentOf, sentIn}
-use Rattle.player.specs.declared.Playing.{Playing}
+use Rattle.player_calls.specs.Calls.{zeroBytes, wantedCall, CallsAre}
+use Rattle.player_tick.specs.Sents.{sentOf}
+use Rattle.player_tick.specs.declared.Playing.{Playing}
 
 -- every slot has its device
 abbrev pub There : Slot → Type 0
@@ -54,6 +50,7 @@ callsBy tick t = record {
 abbrev pub stepAt : Playing → ℕ → List ℕ → MasterLent → MasterLent → DevicesLent → LinkStep
 stepAt p tick script x y d = linkTick 255 (linkOf (p .link) x y d) (callsBy tick (tickAt script (p .next) tick))
 
+-- what the definitions say of it
 pub record Stepping (p : Playing) (tick : ℕ) (script out : List ℕ) (x y : MasterLent) (d : DevicesLent) (r : Playing) (out-after : List ℕ) (x-after y-after : MasterLent) (d-after : DevicesLent) : Type 0 where
   pub link-is : linkOf (r .link) x-after y-after d-after ≡ linkAfter (stepAt p tick script x y d)
   pub ready : LinkReady (r .link .devices) d-after
@@ -61,18 +58,13 @@ pub record Stepping (p : Playing) (tick : ℕ) (script out : List ℕ) (x y : Ma
   pub lines-are : TickIs (tickLines tick (p .ears) (sentOf (stepAt p tick script x y d))) out (p .at) (r .ears) (r .at) out-after
   pub next-is : r .next ≡ tickAt script (p .next) tick .next
 
--- so it is where the devices are such as a start and ticks reach
+-- what a tick promises: the calls that the script wants, what every party did, and the lines of what they sent; and where the devices are such as a start and ticks reach, what the definitions say
 pub record StepIs (p : Playing) (tick : ℕ) (script out : List ℕ) (x y : MasterLent) (d : DevicesLent) (r : Playing) (out-after : List ℕ) (x-after y-after : MasterLent) (d-after : DevicesLent) : Type 0 where
-  pub steps : LinkReady (p .link .devices) d → AllThere (p .link .devices) → Stepping p tick script out x y d r out-after x-after y-after d-after
-
--- ---- from tick to tick
-
--- the text of so many ticks' lines, from this tick on
-abbrev pub textFrom : ℕ → ℕ → List Ear → L.Link → List Entry → List ℕ
-textFrom tick n ears l es = linesText (linesFrom tick ears (sentIn (run 255 l (callsFrom tick n es))))
-
--- a play before a tick: its place in the script, and its devices
-pub record Stands (script : List ℕ) (tick : ℕ) (p : Playing) (d : DevicesLent) : Type 0 where
-  pub reads : Reads script (p .next) tick
-  pub ready : LinkReady (p .link .devices) d
-  pub there : AllThere (p .link .devices)
+  pub calls : LinkCalls
+  pub ticked : LinkTicked
+  pub calls-are : CallsAre tick (tickAt script (p .next) tick) calls
+  pub ticked-is : LinkIs (p .link) calls zeroBytes x y d ticked x-after y-after d-after
+  pub behind-is : r .link ≡ after ticked
+  pub lines-are : TickIs (tickLines tick (p .ears) (sentsOf ticked)) out (p .at) (r .ears) (r .at) out-after
+  pub next-is : r .next ≡ tickAt script (p .next) tick .next
+  pub within : LinkReady (p .link .devices) d → AllThere (p .link .devices) → Stepping p tick script out x y d r out-after x-after y-after d-after

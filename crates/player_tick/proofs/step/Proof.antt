@@ -1,8 +1,8 @@
 use Rattle.player_calls.specs.Calls.{zeroBytes}
-use Rattle.player.proofs.Steps.{step-is}
+use Rattle.player_tick.proofs.Steps.{step-is}
 use borrow.Author.Needs.{needs}
-use Rattle.player.proofs.step.Statement.{statement}
-use Rattle.player.proofs.step.Tie as tie
+use Rattle.player_tick.proofs.step.Statement.{statement}
+use Rattle.player_tick.proofs.step.Tie as tie
 
 returns : tie.Need-returns
 unfolding zeroBytes

@@ -1,0 +1,26 @@
+-- The ticks of a play, one behind the other.
+use Prim.Native.Nat.{ℕ}
+use mathlib.Core.List.{List}
+use Rattle.turns.specs.Link.{run}
+use Rattle.turns.specs.Link as L
+use Rattle.script.specs.Script.{callsFrom}
+use Rattle.script.specs.declared.Entry.{Entry}
+use Rattle.script.proofs.Ticks.{Reads}
+use Rattle.listing.specs.Lines.{linesFrom}
+use Rattle.listing.specs.Text.{linesText}
+use Rattle.listing.specs.declared.Ear.{Ear}
+use Rattle.link.specs.Link.{DevicesLent}
+use Rattle.link.specs.Stands.{LinkReady}
+use Rattle.player_tick.specs.Sents.{sentIn}
+use Rattle.player_tick.specs.Step.{AllThere}
+use Rattle.player_tick.specs.declared.Playing.{Playing}
+
+-- the text of so many ticks' lines, from this tick on
+abbrev pub textFrom : ℕ → ℕ → List Ear → L.Link → List Entry → List ℕ
+textFrom tick n ears l es = linesText (linesFrom tick ears (sentIn (run 255 l (callsFrom tick n es))))
+
+-- a play before a tick: its place in the script, and its devices
+pub record Stands (script : List ℕ) (tick : ℕ) (p : Playing) (d : DevicesLent) : Type 0 where
+  pub reads : Reads script (p .next) tick
+  pub ready : LinkReady (p .link .devices) d
+  pub there : AllThere (p .link .devices)

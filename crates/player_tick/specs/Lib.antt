@@ -1,0 +1,3 @@
+-- One tick of a play.
+pub mod Sents
+pub mod Step
