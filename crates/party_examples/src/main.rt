@@ -10,6 +10,7 @@ use device::DeviceStarted;
 use device_tick::DeviceTicked;
 use libc::STDIN_FILENO;
 use line::Damage;
+use line::Event;
 use line::Heard;
 use line::Profile;
 use master::MasterStarted;
@@ -17,7 +18,9 @@ use master::MasterTicked;
 use master::Wanted;
 use party_show::Ear;
 use turns::Device;
+use turns::DeviceTold;
 use turns::Master;
+use turns::MasterTold;
 use turns::Sent;
 use turns::Wish;
 
@@ -27,12 +30,27 @@ struct Order {
     number: u8,
 }
 
-// Both parties, and what each hears in the next tick.
+// A master behind a tick, the buffer of its frame, and the data that it heard.
+struct MasterSide {
+    ticked: MasterTicked,
+    frame: [u8; 284],
+    bytes: [u8; 255],
+}
+
+// A device, likewise.
+struct DeviceSide {
+    ticked: DeviceTicked,
+    frame: [u8; 284],
+    bytes: [u8; 255],
+}
+
+// Both parties, what each hears in the next tick, and the log of what was sent.
 struct Both {
-    master: Master,
-    device: Device,
+    m: MasterSide,
+    d: DeviceSide,
     to_m: Ear,
     to_d: Ear,
+    log: [u16; 3000],
 }
 
 // The value of a hexadecimal digit.
@@ -163,19 +181,20 @@ fn data_count(o: Order) -> usize {
     0
 }
 
-fn master_ticks(
-    m: Master,
-    ear: Ear,
-    script: &[u8],
-    tick: u16,
-    frame: &mut [u8; 284],
-    bytes: &mut [u8; 255],
-) -> MasterTicked {
+fn master_ticks(side: MasterSide, ear: Ear, script: &[u8], tick: u16) -> MasterSide {
+    let t = side.ticked;
+    let mut frame = side.frame;
+    let mut bytes = side.bytes;
     let heard = ear.heard;
     let o = look(script, tick, b'm');
     let five = [5u8; 1];
     let put = front(&five, data_count(o));
-    master::tick(m, heard, master_call(o), put, frame, bytes)
+    let ticked = master::tick(t.master, heard, master_call(o), put, &mut frame, &mut bytes);
+    MasterSide {
+        ticked: ticked,
+        frame: frame,
+        bytes: bytes,
+    }
 }
 
 fn device_call(o: Order) -> device_tick::HostCall {
@@ -185,20 +204,30 @@ fn device_call(o: Order) -> device_tick::HostCall {
     device_tick::HostCall::Nothing
 }
 
-fn device_ticks(
-    d: Device,
-    ear: Ear,
-    script: &[u8],
-    tick: u16,
-    frame: &mut [u8; 284],
-    bytes: &mut [u8; 255],
-) -> DeviceTicked {
+fn device_ticks(side: DeviceSide, ear: Ear, script: &[u8], tick: u16) -> DeviceSide {
+    let t = side.ticked;
+    let mut frame = side.frame;
+    let mut bytes = side.bytes;
     let heard = ear.heard;
     let o = look(script, tick, b'd');
     let zeros = [0u8; 255];
     let mut contents = [0u8; 255];
     let put = front(&zeros, o.number as usize);
-    device_tick::tick(d, heard, device_call(o), put, &mut contents, frame, bytes)
+    let call = device_call(o);
+    let ticked = device_tick::tick(
+        t.device,
+        heard,
+        call,
+        put,
+        &mut contents,
+        &mut frame,
+        &mut bytes,
+    );
+    DeviceSide {
+        ticked: ticked,
+        frame: frame,
+        bytes: bytes,
+    }
 }
 
 fn noted(sent: Sent) -> u16 {
@@ -208,93 +237,112 @@ fn noted(sent: Sent) -> u16 {
     }
 }
 
-// What the three send, put into the log that party_show reads.
-fn note(by_m: Sent, by_d: Sent, by_o: Sent, tick: u16, log: &mut [u16; 3000]) {
+// The log with what the three send in this tick.
+fn note(before: [u16; 3000], by_m: Sent, by_d: Sent, by_o: Sent, tick: u16) -> [u16; 3000] {
+    let mut log = before;
     let at = tick as usize;
     if at < 1000 {
         log[at] = noted(by_m);
         log[at + 1000] = noted(by_d);
         log[at + 2000] = noted(by_o);
     }
+    log
 }
 
 // Both behind a tick, by what each and a third party sends.
-fn behind(m: MasterTicked, d: DeviceTicked, by_o: Sent, script: &[u8], tick: u16) -> Both {
-    let by_m = m.sent;
-    let by_d = d.sent;
-    let master = m.master;
-    let device = d.device;
+fn behind(m: MasterSide, d: DeviceSide, log: [u16; 3000], script: &[u8], tick: u16) -> Both {
+    let m_ticked = m.ticked;
+    let d_ticked = d.ticked;
+    let by_m = m_ticked.sent;
+    let by_d = d_ticked.sent;
+    let by_o = other_sends(script, tick);
     Both {
-        master: master,
-        device: device,
+        m: m,
+        d: d,
         to_m: hears(script, tick, b'M', by_d, by_o),
         to_d: hears(script, tick, b'D', by_m, by_o),
+        log: note(log, by_m, by_d, by_o, tick),
     }
 }
 
-// A tick of both, with the buffers of each: its frame and the data that it hears.
-fn tick_both(
-    b: Both,
-    tick: u16,
-    script: &[u8],
-    stx: &mut [u8; 284],
-    of_ack: &mut [u8; 255],
-    ack: &mut [u8; 284],
-    of_stx: &mut [u8; 255],
-    log: &mut [u16; 3000],
-) -> Both {
+fn show(tick: u16, to_m: Ear, to_d: Ear, b: Both) {
+    let m = b.m;
+    let d = b.d;
+    let log = b.log;
+    let m_ticked = m.ticked;
+    let d_ticked = d.ticked;
+    let of_ack = m.bytes;
+    let of_stx = d.bytes;
+    party_show::show_tick(tick, to_m, to_d, m_ticked, d_ticked, &log, &of_ack, &of_stx);
+}
+
+fn tick_both(b: Both, tick: u16, script: &[u8]) -> Both {
     let to_m = b.to_m;
     let to_d = b.to_d;
-    let m = master_ticks(b.master, to_m, script, tick, stx, of_ack);
-    let d = device_ticks(b.device, to_d, script, tick, ack, of_stx);
-    let by_m = m.sent;
-    let by_d = d.sent;
-    let by_o = other_sends(script, tick);
-    note(by_m, by_d, by_o, tick, log);
-    party_show::show_tick(tick, to_m, to_d, m, d, log, of_ack, of_stx);
-    behind(m, d, by_o, script, tick)
+    let log = b.log;
+    let m = master_ticks(b.m, to_m, script, tick);
+    let d = device_ticks(b.d, to_d, script, tick);
+    let next = behind(m, d, log, script, tick);
+    show(tick, to_m, to_d, next);
+    next
 }
 
 // Both for so many ticks.
 fn run(start: Both, ticks: u16, script: &[u8]) {
-    let mut stx = [0u8; 284];
-    let mut of_ack = [0u8; 255];
-    let mut ack = [0u8; 284];
-    let mut of_stx = [0u8; 255];
-    let mut log = [0u16; 3000];
     let mut b = start;
     let mut next = 0;
     while next < ticks {
         let tick = next;
         next += 1;
-        b = tick_both(
-            b,
-            tick,
-            script,
-            &mut stx,
-            &mut of_ack,
-            &mut ack,
-            &mut of_stx,
-            &mut log,
-        );
+        b = tick_both(b, tick, script);
+    }
+}
+
+fn master_side(m: Master) -> MasterSide {
+    MasterSide {
+        ticked: MasterTicked {
+            master: m,
+            sent: Sent::Silent,
+            told: MasterTold::Nothing,
+            event: Event::Nothing,
+            answer: master::CallAnswer::Nothing,
+        },
+        frame: [0; 284],
+        bytes: [0; 255],
+    }
+}
+
+fn device_side(d: Device) -> DeviceSide {
+    DeviceSide {
+        ticked: DeviceTicked {
+            device: d,
+            sent: Sent::Silent,
+            told: DeviceTold::Nothing,
+            event: Event::Nothing,
+            answer: device_tick::CallAnswer::Nothing,
+        },
+        frame: [0; 284],
+        bytes: [0; 255],
     }
 }
 
 fn both_of(m: Master, d: Device) -> Both {
     Both {
-        master: m,
-        device: d,
+        m: master_side(m),
+        d: device_side(d),
         to_m: nothing_heard(),
         to_d: nothing_heard(),
+        log: [0; 3000],
     }
 }
 
 // A primary, and a device with polling address 0 and unique address 2.
 fn scene(ticks: u16, script: &[u8]) {
-    let MasterStarted::Started(m) = master::start(Profile::fsk(), true, 3) else {
+    let profile = Profile::fsk();
+    let MasterStarted::Started(m) = master::start(profile, true, 3) else {
         return;
     };
-    let DeviceStarted::Started(d) = device::start(Profile::fsk(), 5, 0, 2) else {
+    let DeviceStarted::Started(d) = device::start(profile, 5, 0, 2) else {
         return;
     };
     run(both_of(m, d), ticks, script);

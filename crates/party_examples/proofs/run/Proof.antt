@@ -4,10 +4,10 @@ use Rattle.party_examples.proofs.run.Statement.{statement}
 use Rattle.party_examples.proofs.run.Tie as tie
 
 abbrev Inv-loop : tie.InvT-loop
-Inv-loop ticks script stx₀ of-ack₀ ack₀ of-stx₀ log₀ b₀ next₀ stx of-ack ack of-stx log b next = next ≤ ticks
+Inv-loop ticks script b₀ next₀ b next = next ≤ ticks
 
 abbrev μ-loop : tie.MeasureT-loop
-μ-loop ticks script stx₀ of-ack₀ ack₀ of-stx₀ log₀ b₀ next₀ stx of-ack ack of-stx log b next = ticks - next
+μ-loop ticks script b₀ next₀ b next = ticks - next
 
 pub run-spec : {M : Type 1} → statement M
 run-spec =
@@ -18,6 +18,6 @@ run-spec =
     (λ c. search needs)
     (λ c. search needs)
     (λ c κs. search needs)
-    (λ c. search (needs, c .before .before .before .before .before .before .loop-test))
-    (λ c. search (needs, c .before .before .before .before .before .before .loop-test))
+    (λ c. search needs)
+    (λ c. search needs)
     (λ c. search needs))
