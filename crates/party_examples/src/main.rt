@@ -131,13 +131,6 @@ fn hears(script: &[u8], tick: u16, whom: u8, a: Sent, b: Sent) -> Ear {
     }
 }
 
-fn nothing_heard() -> Ear {
-    Ear {
-        heard: Heard::Silence,
-        changed: false,
-    }
-}
-
 // What a third party sends.
 fn other_sends(script: &[u8], tick: u16) -> Sent {
     let o = look(script, tick, b'o');
@@ -273,7 +266,7 @@ fn show(tick: u16, to_m: Ear, to_d: Ear, b: Both) {
     let d_ticked = d.ticked;
     let of_ack = m.bytes;
     let of_stx = d.bytes;
-    party_show::show_tick(tick, to_m, to_d, m_ticked, d_ticked, &log, &of_ack, &of_stx);
+    party_show::show_tick(tick, to_m, to_d, m_ticked, d_ticked, log, of_ack, of_stx);
 }
 
 fn tick_both(b: Both, tick: u16, script: &[u8]) -> Both {
@@ -327,11 +320,15 @@ fn device_side(d: Device) -> DeviceSide {
 }
 
 fn both_of(m: Master, d: Device) -> Both {
+    let ear = Ear {
+        heard: Heard::Silence,
+        changed: false,
+    };
     Both {
         m: master_side(m),
         d: device_side(d),
-        to_m: nothing_heard(),
-        to_d: nothing_heard(),
+        to_m: ear,
+        to_d: ear,
         log: [0; 3000],
     }
 }

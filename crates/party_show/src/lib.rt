@@ -263,11 +263,11 @@ pub fn show_tick(
     to_d: Ear,
     m: MasterTicked,
     d: DeviceTicked,
-    log: &[u16; 3000],
-    of_ack: &[u8; 255],
-    of_stx: &[u8; 255],
+    log: [u16; 3000],
+    of_ack: [u8; 255],
+    of_stx: [u8; 255],
 ) {
-    show_speeches(tick, log);
-    show_master(tick, to_m, m, of_ack);
-    show_device(tick, to_d, d, of_stx);
+    show_speeches(tick, &log);
+    show_master(tick, to_m, m, &of_ack);
+    show_device(tick, to_d, d, &of_stx);
 }
