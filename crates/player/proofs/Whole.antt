@@ -10,6 +10,7 @@ use Rattle.base.proofs.Stores.{length-stored}
 use Rattle.base.proofs.Choices.{if-is-true, if-is-false}
 use Rattle.turns.specs.Link.{linkTick, linkAfter, run}
 use Rattle.turns.specs.Link as L
+use Rattle.turns.proofs.Bursting.{if-both}
 use Rattle.script.specs.Script.{recordsOf, goodScript, stopOf, callsAt, callsFrom}
 use Rattle.script.specs.declared.Entry.{Entry}
 use Rattle.listing.specs.Lines.{quietEar}
@@ -60,23 +61,24 @@ pub good-listing : (script before : List ℕ) (stop r : ℕ) (after : List ℕ) 
     → PutIs (listing (recordsOf script)) before 0 r after
 good-listing script before stop r after e p = subst (λ (n : ℕ). PutIs (headLine ++ textFrom 0 n (replicate 8 quietEar) readyLink (recordsOf script)) before 0 r after) e p
 
--- text that fits, put at the front
-prints : (script text before : List ℕ) (r : ℕ) (after : List ℕ) → text ≡ play script → length text ≤ length before → PutIs text before 0 r after → PlayIs script before r after
-prints script text before r after e h p =
-    let all : outOf after r ≡ outOf (stored before 0 text) (length text) = p .out ∙ put-front text before h in
+pub plays-good : (script before : List ℕ) (r : ℕ) (after : List ℕ) → goodScript script ≡ true → PutIs (listing (recordsOf script)) before 0 r after → PutIs (play script) before 0 r after
+unfolding play
+plays-good script before r after g p = subst (λ (text : List ℕ). PutIs text before 0 r after) (sym (if-is-true (goodScript script) (listing (recordsOf script)) badScript g)) p
+
+pub plays-bad : (script before : List ℕ) (r : ℕ) (after : List ℕ) → goodScript script ≡ false → PutIs badScript before 0 r after → PutIs (play script) before 0 r after
+unfolding play
+plays-bad script before r after g p = subst (λ (text : List ℕ). PutIs text before 0 r after) (sym (if-is-false (goodScript script) (listing (recordsOf script)) badScript g)) p
+
+play-fits : (script : List ℕ) → ((i : ℕ) → getD script i 0 < 256) → length (play script) ≤ 1638405
+unfolding play
+play-fits script h = if-both (λ (text : List ℕ). length text ≤ 1638405) (goodScript script) (listing (recordsOf script)) badScript (listing-fits script h) (omega arith)
+
+-- what fits stands whole at the front
+pub plays : (script before : List ℕ) (r : ℕ) (after : List ℕ) → ((i : ℕ) → getD script i 0 < 256) → length before ≡ 1638405 → PutIs (play script) before 0 r after → PlayIs script before r after
+plays script before r after h k p =
+    let all : outOf after r ≡ outOf (stored before 0 (play script)) (length (play script)) = p .out ∙ put-front (play script) before (omega (arith, play-fits script h)) in
     record {
-      returned = ap (λ (o : Out). o .at) all ∙ ap length e;
-      output = ap (λ (o : Out). o .bytes) all ∙ ap (stored before 0) e;
-      within = omega (arith, ap (λ (o : Out). o .at) all, ap (λ (o : Out). length (o .bytes)) all, length-stored before 0 text);
+      returned = ap (λ (o : Out). o .at) all;
+      output = ap (λ (o : Out). o .bytes) all;
+      within = omega (arith, ap (λ (o : Out). o .at) all, ap (λ (o : Out). length (o .bytes)) all, length-stored before 0 (play script), play-fits script h);
     }
-
-pub plays-good : (script before : List ℕ) (r : ℕ) (after : List ℕ) → ((i : ℕ) → getD script i 0 < 256) → length before ≡ 1638405 → goodScript script ≡ true → PutIs (listing (recordsOf script)) before 0 r after → PlayIs script before r after
-unfolding play
-plays-good script before r after h k g p =
-    prints script (listing (recordsOf script)) before r after
-    (sym (if-is-true (goodScript script) (listing (recordsOf script)) badScript g)) (omega (arith, listing-fits script h)) p
-
-pub plays-bad : (script before : List ℕ) (r : ℕ) (after : List ℕ) → length before ≡ 1638405 → goodScript script ≡ false → PutIs badScript before 0 r after → PlayIs script before r after
-unfolding play
-plays-bad script before r after k g p =
-    prints script badScript before r after (sym (if-is-false (goodScript script) (listing (recordsOf script)) badScript g)) (omega arith) p

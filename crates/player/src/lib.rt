@@ -21,7 +21,7 @@ ghost use Rattle.listing.specs.Put.{PutIs};
 ghost use Rattle.link.specs.Stands.{linkOf};
 ghost use Rattle.link.specs.Link.{masterLends, devicesLend};
 ghost use Rattle.link_start.specs.Start.{linkAs};
-ghost use Rattle.player.specs.Play.{readyLink, listing, PlayIs};
+ghost use Rattle.player.specs.Play.{readyLink, listing, play, PlayIs};
 ghost use Rattle.player.specs.Ready.{settingOf, pairSettings, settings, readyStart};
 ghost use Rattle.player.specs.Ticks.{textFrom, Stands};
 
@@ -153,6 +153,16 @@ fn play_good(script: &[u8], out: &mut [u8]) -> usize
     }
 }
 
+// Plays a script into any output: what it prints, as much as there is room for, and how much that is.
+pub fn play_into(script: &[u8], out: &mut [u8]) -> usize
+    ensures { λ r. ⌜ PutIs (play (now (script .entry))) (now (out .entry)) 0 r (now (out .exit)) ⌝ }
+{
+    if script::is_good(script) {
+        return play_good(script, out);
+    }
+    listing::put_bytes(b"16\n", out, 0)
+}
+
 // The longest listing: the header line, and a line of 25 bytes for each of 65,535 ticks.
 pub const LONGEST: usize = 1_638_405;
 
@@ -160,8 +170,5 @@ pub const LONGEST: usize = 1_638_405;
 pub fn play(script: &[u8], out: &mut [u8; LONGEST]) -> usize
     ensures { λ r. ⌜ PlayIs (now (script .entry)) (now (out .entry)) r (now (out .exit)) ⌝ }
 {
-    if script::is_good(script) {
-        return play_good(script, out);
-    }
-    listing::put_bytes(b"16\n", out, 0)
+    play_into(script, out)
 }
