@@ -2,12 +2,11 @@
 use Prim.Native.Nat.{ℕ, suc, _+_, _-_, _≤_, _<_}
 use native.Mathlib.Omega.{arith}
 use mathlib.Core.Path.{_≡_, refl, sym, ap, subst, _∙_}
-use mathlib.Core.List.{List, [], _∷_}
+use mathlib.Core.List.{List, _∷_}
 use lib.ListN.{length}
 use Rattle.turns.specs.Link.{Calls, LinkStep, linkTick, linkAfter, run}
 use Rattle.turns.specs.Link as L
-use Rattle.script.specs.Script.{recordsOf, callsAt, callsFrom, tickOf, tickAt}
-use Rattle.script.specs.declared.Entry.{Entry}
+use Rattle.script.specs.Script.{recordsOf, callsAt, callsFrom, tickAt}
 use Rattle.script.specs.declared.ScriptTick.{ScriptTick}
 use Rattle.script.proofs.Ticks.{Reads, reads-tick, reads-next}
 use Rattle.listing.specs.Lines.{linesFrom}

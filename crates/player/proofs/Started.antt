@@ -3,7 +3,7 @@ use Prim.Native.Nat.{ℕ, _+_, _-_}
 use native.Mathlib.Omega.{arith}
 use mathlib.Core.Path.{_≡_, refl, sym, ap, subst, _∙_}
 use mathlib.Core.List.{List, _++_}
-use lib.ListN.{length, replicate}
+use lib.ListN.{replicate}
 use Rattle.base.specs.Choice.{if_then_else_}
 use Rattle.base.specs.declared.Refusal.{Refusal}
 use Rattle.line.specs.Profile.{fskProfile}
@@ -33,7 +33,6 @@ use Rattle.link_start.specs.declared.SlotSetting.{SlotSetting}
 use Rattle.player.specs.Play.{readyLink}
 use Rattle.player.specs.Ready.{settingOf, pairSettings, settings, slotOf, readyStart, zeroLent, zeroLents}
 use Rattle.player_tick.specs.Step.{There, AllThere}
-use Rattle.player_tick.specs.declared.Playing.{Playing}
 use Rattle.player.specs.Ticks.{textFrom, Stands}
 
 -- ---- the start

@@ -3,9 +3,8 @@ use Prim.Native.Nat.{ℕ}
 use mathlib.Core.Path.{_≡_, refl, sym, ap, subst, _∙_}
 use mathlib.Core.List.{List, [], _∷_, _++_}
 use Rattle.line.specs.declared.Heard.{Heard}
-use Rattle.turns.specs.Link.{DeviceStep, LinkStep, linkTick, linkAfter}
+use Rattle.turns.specs.Link.{DeviceStep, linkTick, linkAfter}
 use Rattle.turns.specs.Link as L
-use Rattle.turns.specs.declared.Device.{Device}
 use Rattle.turns.specs.declared.Sent.{Sent}
 use Rattle.script.specs.Script.{tickAt}
 use Rattle.script.specs.declared.ScriptTick.{ScriptTick}
@@ -28,7 +27,7 @@ use Rattle.link.specs.declared.LinkTicked.{LinkTicked}
 use Rattle.link.proofs.Agrees.{none-goes, step-agrees, after-agrees, ready-again}
 use Rattle.player_calls.specs.Calls.{zeroBytes, slotCallOf, CallsAre}
 use Rattle.player_tick.specs.Sents.{devicesSent, sentOf}
-use Rattle.player_tick.specs.Step.{There, AllThere, sentsOf, callsBy, stepAt, Stepping, StepIs}
+use Rattle.player_tick.specs.Step.{There, AllThere, sentsOf, callsBy, stepAt, StepIs}
 use Rattle.player_tick.specs.declared.Playing.{Playing}
 
 -- ---- a slot that has its device
