@@ -1,0 +1,1 @@
+// What the player prints for some scripts, as theorems in proofs/. No functions.
