@@ -183,6 +183,21 @@ enum nengapiko_device_step {
 size_t nengapiko_device(const uint8_t *recording, size_t size,
                         uint8_t *events, size_t room);
 
+/* The most that the player prints for any script. */
+#define NENGAPIKO_LONGEST_LISTING 1638405
+
+/*
+ * Plays a script, as the program play does, for tests and measurements.
+ *
+ *   script, size  records of 4 bytes
+ *   out, room     what is printed, at the front of out; with less than
+ *                 NENGAPIKO_LONGEST_LISTING bytes of room it may be cut
+ *
+ * Returns how many bytes were printed.
+ */
+size_t nengapiko_play(const uint8_t *script, size_t size,
+                      uint8_t *out, size_t room);
+
 #ifdef __cplusplus
 }
 #endif
