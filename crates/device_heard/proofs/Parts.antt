@@ -10,16 +10,21 @@ use Rattle.frame.specs.Delimiter.{stx}
 use Rattle.frame.specs.declared.Header.{Header}
 use Rattle.line.specs.declared.Event.{Event}
 use Rattle.line.specs.declared.Event.the-variants.{Nothing, PassedOver, Broken, Frame, Damaged}
+use Rattle.line.specs.declared.Profile.{Profile}
 use Rattle.line.specs.declared.Receiver.{Receiver}
 use Rattle.line.specs.declared.Whole.{Whole}
 use Rattle.turns.specs.Master.{isBroadcast}
 use Rattle.turns.specs.Device.{behind, isOwn, dueAfter, hasError, tells, afterRequest, afterFrame, onCharacter, waited, backDue, counts, onSilence}
+use Rattle.turns.specs.declared.Content.{Content}
 use Rattle.turns.specs.declared.Device.{Device}
+use Rattle.turns.specs.declared.DeviceSent.{DeviceSent}
 use Rattle.turns.specs.declared.DeviceTaken.{DeviceTaken}
 use Rattle.turns.specs.declared.DeviceTold.{DeviceTold}
 use Rattle.turns.specs.declared.DeviceTold.the-variants.{Request}
+use Rattle.turns.specs.declared.Sent.{Sent}
 use Rattle.turns.specs.declared.Turn.{Turn}
 use Rattle.turns.specs.declared.Turn.the-variants.{Asked, Follows}
+use Rattle.turns.specs.declared.Wish.{Wish}
 use Rattle.turns.specs.declared.Wish.the-variants.{Same}
 use Rattle.device_heard.specs.Hearing.{heededAs, listening, heedsRequest, heedsFrame, heedsEvent, nextTurn, nextDue, silentDue}
 use Rattle.device_heard.specs.declared.Heeded.{Heeded}
@@ -32,6 +37,32 @@ pub length-short : (preamble : ℕ) (long : Bool) (count : ℕ) → long ≡ fal
 length-short preamble long count e = omega (arith, if-is-false {A = ℕ} long 5 1 e)
 
 -- equal parts
+abbrev deviceOf : Profile → ℕ → ℕ → ℕ → Receiver → Bool → Turn → Header → Wish → ℕ → Bool → Bool → ℕ → Content → Device
+deviceOf p preamble polling unique r deaf turn request wish length burst primary due content = record {
+  profile = p;
+  preamble = preamble;
+  polling = polling;
+  unique = unique;
+  receiver = r;
+  deaf = deaf;
+  turn = turn;
+  request = request;
+  wish = wish;
+  length = length;
+  burst = burst;
+  primary = primary;
+  due = due;
+  content = content;
+}
+
+module _ (p q : Profile) (preamble polling unique : ℕ) (r : Receiver) (deaf : Bool) (turn : Turn) (request : Header) (wish : Wish) (length : ℕ) (burst primary : Bool) (due : ℕ) (content : Content) where
+  pub profile-same : p ≡ q → deviceOf p preamble polling unique r deaf turn request wish length burst primary due content ≡ deviceOf q preamble polling unique r deaf turn request wish length burst primary due content
+  profile-same e = λ i. deviceOf (e i) preamble polling unique r deaf turn request wish length burst primary due content
+
+  pub sent-same : (sent : Sent) → p ≡ q
+      → _≡_ {A = DeviceSent} (record { device = deviceOf p preamble polling unique r deaf turn request wish length burst primary due content; sent = sent }) (record { device = deviceOf q preamble polling unique r deaf turn request wish length burst primary due content; sent = sent })
+  sent-same sent e = λ i. record { device = profile-same e i; sent = sent }
+
 pub heeded-same : (turn : Turn) (request q : Header) (length n due : ℕ) (told : DeviceTold) → request ≡ q → length ≡ n
     → _≡_ {A = Heeded} (record { turn = turn; request = request; length = length; due = due; told = told }) (record { turn = turn; request = q; length = n; due = due; told = told })
 heeded-same turn request q length n due told p e = λ i. record { turn = turn; request = p i; length = e i; due = due; told = told }

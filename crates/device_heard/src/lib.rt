@@ -3,7 +3,6 @@ use frame::Header;
 use line::Event;
 use line::Harm;
 use line::Heard;
-use line::Profile;
 use line::Receiver;
 use line::Whole;
 use turns::Device;
@@ -28,7 +27,7 @@ struct Heeded {
     told: DeviceTold,
 }
 
-// The same device with other parts, its profile field by field.
+// The same device with other parts.
 pub fn with_parts(
     d: Device,
     r: Receiver,
@@ -41,13 +40,7 @@ pub fn with_parts(
     ensures { λ e. ⌜ e ≡ behind d r turn request wish length due ⌝ }
 {
     let p = d.profile;
-    let profile = Profile {
-        sto: p.sto,
-        hold: p.hold,
-        rt2: p.rt2,
-        rt1p: p.rt1p,
-        rt1s: p.rt1s,
-    };
+    let profile = party::same_profile(p);
     let content = d.content;
     Device {
         profile: profile,

@@ -1,5 +1,4 @@
 // What a device sends from its lent frame buffer, in which a BACK that begins already stands. The functions follow the definitions of crates/turns/specs/Device.antt, in their order.
-use line::Profile;
 use line::Receiver;
 use turns::Device;
 use turns::DeviceSent;
@@ -23,7 +22,7 @@ pub fn wished_burst(burst: bool, wish: Wish) -> bool
     }
 }
 
-// What a device sends, and the device behind it, its profile field by field.
+// What a device sends, and the device behind it.
 fn with_sent(
     d: Device,
     deaf: bool,
@@ -38,13 +37,7 @@ fn with_sent(
     ensures { λ s. ⌜ s ≡ sends d deaf turn length burst primary due r sent ⌝ }
 {
     let p = d.profile;
-    let profile = Profile {
-        sto: p.sto,
-        hold: p.hold,
-        rt2: p.rt2,
-        rt1p: p.rt1p,
-        rt1s: p.rt1s,
-    };
+    let profile = party::same_profile(p);
     let request = d.request;
     let wish = d.wish;
     let content = d.content;

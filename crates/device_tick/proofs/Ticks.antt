@@ -25,9 +25,10 @@ use Rattle.device.proofs.Reached.{Ready, takes-ready, answered-ready, content-r
 use Rattle.device_content.specs.Content.{ContentIs}
 use Rattle.device_tick.specs.declared.DeviceTicked.{DeviceTicked}
 use Rattle.device_tick.specs.declared.HostCall.{HostCall}
-use Rattle.device_tick.specs.declared.CallAnswer.{CallAnswer}
+use Rattle.party.specs.Calls.{answerOf}
+use Rattle.party.specs.declared.CallAnswer.{CallAnswer}
 use Rattle.device_tick.specs.declared.CallTaken.{CallTaken}
-use Rattle.device_tick.specs.Tick.{callOf, answerOf, sideOf, stepOf, sentAt, writtenSent, writtenAnswer, writtenContent, writtenCall, writtenTick, uncalled, calledBy, CallIs, TickIs}
+use Rattle.device_tick.specs.Tick.{callOf, sideOf, stepOf, sentAt, writtenSent, writtenAnswer, writtenContent, writtenCall, writtenTick, uncalled, calledBy, CallIs, TickIs}
 
 -- ---- the call
 

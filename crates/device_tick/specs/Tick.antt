@@ -14,11 +14,12 @@ use Rattle.turns.specs.declared.Device.{Device}
 use Rattle.turns.specs.declared.DeviceTaken.{DeviceTaken}
 use Rattle.turns.specs.declared.DeviceTold.{DeviceTold}
 use Rattle.turns.specs.declared.Wish.{Wish}
+use Rattle.party.specs.Calls.{answerOf}
+use Rattle.party.specs.declared.CallAnswer.{CallAnswer}
 use Rattle.device.specs.declared.DeviceCalled.{DeviceCalled}
 use Rattle.device.specs.Buffers.{errorBuffer, begunBuffer}
 use Rattle.device.proofs.Reached.{Ready}
 use Rattle.device_tick.specs.declared.HostCall.{HostCall}
-use Rattle.device_tick.specs.declared.CallAnswer.{CallAnswer}
 use Rattle.device_tick.specs.declared.CallTaken.{CallTaken}
 use Rattle.device_tick.specs.declared.DeviceTicked.{DeviceTicked}
 
@@ -27,12 +28,6 @@ abbrev pub callOf : HostCall → List ℕ → DeviceCall
 callOf HostCall.Nothing put = no-call
 callOf (HostCall.Answers wish) put = gives-answer wish put
 callOf (HostCall.Content command) put = gives-content command put
-
--- what became of it: none, taken, or refused with its number in document 01's table
-abbrev pub answerOf : CallAnswer → Answer
-answerOf CallAnswer.Nothing = none
-answerOf CallAnswer.Taken = was-taken
-answerOf (CallAnswer.Refused why) = was-refused why
 
 -- a device with its lent buffers
 abbrev pub sideOf : Device → List ℕ → List ℕ → List ℕ → DeviceSide

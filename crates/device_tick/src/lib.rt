@@ -1,8 +1,8 @@
 // A tick of a device: it takes what was heard, then its host's answer or burst content, then sends a character or none.
-use base::Refusal;
 use device::DeviceCalled;
 use line::Event;
 use line::Heard;
+use party::CallAnswer;
 use turns::Device;
 use turns::DeviceTold;
 use turns::Sent;
@@ -16,13 +16,6 @@ pub enum HostCall {
     Answers(Wish),
     // a burst content of this command
     Content(u8),
-}
-
-// What became of it.
-pub enum CallAnswer {
-    Nothing,
-    Taken,
-    Refused(Refusal),
 }
 
 // A device behind its host's call.

@@ -19,13 +19,14 @@ use Rattle.turns.specs.Demand3.{Premises, WaitIn}
 use Rattle.turns.proofs.Wait as W
 use Rattle.link.specs.Stands.{LinkReady}
 use Rattle.link.specs.declared.Link.{Link}
+use Rattle.link_start.specs.Fresh.{devicesFresh, lentFresh}
 use Rattle.link_start.specs.Start.{linkStarts, linkAs}
 use Rattle.link_start.specs.declared.DevicesSettings.{DevicesSettings}
 use Rattle.link_start.specs.declared.LinkStarted.{LinkStarted}
+use Rattle.link_start.proofs.Started.{started-ready, all-start}
 use Rattle.tick_list.specs.Ticks.{ticksOf}
-use Rattle.link_run.specs.Run.{hereOf, freshLends, freshLink, runSteps, stepsBy, stepsOf, devicesBy, numbersOf, ranAs, ranBy, Demand3Of, RunKeeps}
+use Rattle.link_run.specs.Run.{hereOf, runSteps, stepsBy, stepsOf, devicesBy, numbersOf, ranAs, ranBy, Demand3Of, RunKeeps}
 use Rattle.link_run.specs.declared.RunEnded.{RunEnded}
-use Rattle.link_run.proofs.Started.{started-ready, all-start}
 
 -- ---- demand 3
 
@@ -39,9 +40,9 @@ keeps-by : (p : Profile) (retries : ℕ) (s : DevicesSettings) (ticks : List ℕ
     → EachTick NoTwoSend (stepsBy c ticks) × WaitIn 255 p retries (stepsBy c ticks)
 keeps-by p retries s ticks (refused why) e made distinct bursts = (no-tick, no-wait p retries)
 keeps-by p retries s ticks (accepted l) e made distinct bursts =
-    let premises : Premises 255 p retries (freshLink l) (ticksOf (hereOf (l .devices)) ticks) = record { made = made; starts = all-start p retries s l e distinct; one-bursts = bursts } in
+    let premises : Premises 255 p retries (lentFresh l) (ticksOf (hereOf (l .devices)) ticks) = record { made = made; starts = all-start p retries s l e distinct; one-bursts = bursts } in
     let claim = W.demand-3 255 (omega arith) (omega arith) in
-    (claim .0 p retries (freshLink l) (ticksOf (hereOf (l .devices)) ticks) premises, claim .1 p retries (freshLink l) (ticksOf (hereOf (l .devices)) ticks) premises)
+    (claim .0 p retries (lentFresh l) (ticksOf (hereOf (l .devices)) ticks) premises, claim .1 p retries (lentFresh l) (ticksOf (hereOf (l .devices)) ticks) premises)
 
 pub keeps : (p : Profile) (retries : ℕ) (s : DevicesSettings) (ticks : List ℕ) → Demand3Of p retries s ticks
 unfolding stepsOf
@@ -50,7 +51,7 @@ keeps p retries s ticks = record { keeps = keeps-by p retries s ticks (linkStart
 -- ---- the run
 
 module _ (p : Profile) (retries : ℕ) (s : DevicesSettings) (ticks before : List ℕ) (started : LinkStarted) (q : linkAs started ≡ linkStarts p retries s) where
-  pub start-ready : (l : Link) → started ≡ LinkStarted.Started l → LinkReady (l .devices) freshLends
+  pub start-ready : (l : Link) → started ≡ LinkStarted.Started l → LinkReady (l .devices) devicesFresh
   start-ready l e = started-ready p retries s l (sym q ∙ ap linkAs e)
 
   promised : (c : Called Link) (r : RunEnded) (after : List ℕ) → linkStarts p retries s ≡ c → ranAs r ≡ ranBy c (length (take (length before) (numbersOf (stepsBy c ticks)))) → after ≡ stored before 0 (take (length before) (numbersOf (stepsBy c ticks)))
@@ -62,7 +63,7 @@ module _ (p : Profile) (retries : ℕ) (s : DevicesSettings) (ticks before : Lis
     demand-3 = keeps p retries s ticks;
   }
 
-  pub run-accepted : (l : Link) (n : ℕ) (after : List ℕ) → started ≡ LinkStarted.Started l → RunIs (numbersOf (runSteps (freshLink l) (ticksOf (hereOf (l .devices)) ticks))) before n after → RunKeeps p retries s ticks before (RunEnded.Ran n) after
+  pub run-accepted : (l : Link) (n : ℕ) (after : List ℕ) → started ≡ LinkStarted.Started l → RunIs (numbersOf (runSteps (lentFresh l) (ticksOf (hereOf (l .devices)) ticks))) before n after → RunKeeps p retries s ticks before (RunEnded.Ran n) after
   run-accepted l n after e r = promised (accepted l) (RunEnded.Ran n) after (sym q ∙ ap linkAs e) (ap (λ (k : ℕ). accepted k) (r .returned)) (r .events)
 
   pub run-refused : (why : Refusal) → started ≡ LinkStarted.Refused why → RunKeeps p retries s ticks before (RunEnded.Refused why) before

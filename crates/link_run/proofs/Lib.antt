@@ -1,5 +1,4 @@
 -- The laws by which a run is proved.
 pub mod Steps
 pub mod Going
-pub mod Started
 pub mod Kept

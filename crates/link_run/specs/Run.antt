@@ -3,7 +3,7 @@ use Prim.Native.Nat.{ℕ, _+_, _*_}
 use mathlib.Core.Path.{_≡_}
 use mathlib.Core.Bool.{Bool, true, false}
 use mathlib.Core.List.{List, [], _∷_}
-use lib.ListN.{length, take, replicate}
+use lib.ListN.{length, take}
 use Rattle.base.specs.Store.{stored}
 use Rattle.line.specs.Profile.{profileMade}
 use Rattle.line.specs.declared.MadeProfile.the-variants.{Made}
@@ -16,9 +16,9 @@ use Rattle.turns.specs.Demand3.{WaitIn}
 use Rattle.slots.specs.declared.Devices.{Devices}
 use Rattle.slots.specs.declared.Slot.{Slot}
 use Rattle.slots.specs.declared.Slot.the-variants.{Absent, Present}
-use Rattle.link.specs.Link.{MasterLent, DevicesLent, masterLends, devicesLend}
-use Rattle.link.specs.Stands.{devicesOf, linkOf}
+use Rattle.link.specs.Stands.{devicesOf}
 use Rattle.link.specs.declared.Link.{Link}
+use Rattle.link_start.specs.Fresh.{devicesFresh, lentFresh}
 use Rattle.link_start.specs.Start.{linkStarts}
 use Rattle.link_start.specs.declared.DevicesSettings.{DevicesSettings}
 use Rattle.link_start.specs.declared.SlotSetting.{SlotSetting}
@@ -42,30 +42,20 @@ hereOf s = record {
   sixth = isHere (s .high .right);
 }
 
--- fresh parties' buffers
-abbrev pub masterFresh : MasterLent
-masterFresh = masterLends (replicate 284 0) (replicate 255 0)
-
-abbrev pub freshLends : DevicesLent
-freshLends = devicesLend (replicate 6 (replicate 284 0)) (replicate 6 (replicate 255 0)) (replicate 6 (replicate 255 0))
-
-abbrev pub freshLink : Link → L.Link
-freshLink l = linkOf l masterFresh masterFresh freshLends
-
 -- what every party does in each tick; 255 is the longest data
 abbrev pub runSteps : L.Link → List Calls → List LinkStep
 runSteps l ticks = L.run 255 l ticks
 
 -- the same from the parties' start on, with the list as bytes; no tick where a start is refused
 abbrev pub stepsBy : Called Link → List ℕ → List LinkStep
-stepsBy (accepted l) ticks = runSteps (freshLink l) (ticksOf (hereOf (l .devices)) ticks)
+stepsBy (accepted l) ticks = runSteps (lentFresh l) (ticksOf (hereOf (l .devices)) ticks)
 stepsBy (refused why) ticks = []
 
 unfoldable pub stepsOf : Profile → ℕ → DevicesSettings → List ℕ → List LinkStep
 stepsOf p retries s ticks = stepsBy (linkStarts p retries s) ticks
 
 abbrev pub devicesBy : Called Link → List DeviceSide
-devicesBy (accepted l) = devicesOf (l .devices) freshLends
+devicesBy (accepted l) = devicesOf (l .devices) devicesFresh
 devicesBy (refused why) = []
 
 -- ---- what is written of it

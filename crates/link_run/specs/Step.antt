@@ -5,7 +5,7 @@ use mathlib.Core.List.{List}
 use lib.ListN.{length, drop}
 use Rattle.turns.specs.Link.{LinkStep, linkTick, linkAfter}
 use Rattle.turns.specs.Run.{count}
-use Rattle.master.specs.Tick.{answerOf}
+use Rattle.party.specs.Calls.{answerOf}
 use Rattle.master.specs.declared.MasterTicked.{MasterTicked}
 use Rattle.slots.specs.declared.DevicesTicked.{DevicesTicked}
 use Rattle.slots.specs.declared.PairTicked.{PairTicked}

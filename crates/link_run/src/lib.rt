@@ -6,20 +6,21 @@ use link::LinkTicked;
 use link::MastersTicked;
 use link_start::DevicesSettings;
 use link_start::LinkStarted;
-use master::CallAnswer;
 use master::MasterTicked;
+use party::CallAnswer;
 use slots::DevicesTicked;
 use slots::PairTicked;
 use turns::Sent;
 ghost use mathlib.Core.Path.{_≡_};
 ghost use Prim.Native.Nat.{_+_, _≤_};
-ghost use Rattle.master.specs.Tick.{answerOf};
+ghost use Rattle.party.specs.Calls.{answerOf};
 ghost use Rattle.turns.specs.Run.{count};
 ghost use Rattle.line_c.specs.Recording.{RunIs};
 ghost use Rattle.link.specs.Link.{masterLends, devicesLend};
 ghost use Rattle.link.specs.Stands.{linkOf, LinkReady};
+ghost use Rattle.link_start.specs.Fresh.{masterFresh, devicesFresh};
 ghost use Rattle.tick_list.specs.Ticks.{ticksOf};
-ghost use Rattle.link_run.specs.Run.{taken, numbersOf, hereOf, masterFresh, freshLends, RunKeeps, runSteps};
+ghost use Rattle.link_run.specs.Run.{taken, numbersOf, hereOf, RunKeeps, runSteps};
 ghost use Rattle.link_run.specs.Step.{pairSenders, deviceSendersIn, masterNumber, tickedNumber, StepIs};
 
 // 1 for a party that sends.
@@ -173,8 +174,8 @@ fn run_from(
 
 // A run of a link that was started, with buffers of its own.
 fn run_started(start: Link, ticks: &[u8], events: &mut [u8]) -> usize
-    requires { ⌜ LinkReady (start .devices) freshLends ⌝ }
-    ensures { λ r. ⌜ RunIs (numbersOf (runSteps (linkOf start masterFresh masterFresh freshLends) (ticksOf (hereOf (start .devices)) (now (ticks .entry))))) (now (events .entry)) r (now (events .exit)) ⌝ }
+    requires { ⌜ LinkReady (start .devices) devicesFresh ⌝ }
+    ensures { λ r. ⌜ RunIs (numbersOf (runSteps (linkOf start masterFresh masterFresh devicesFresh) (ticksOf (hereOf (start .devices)) (now (ticks .entry))))) (now (events .entry)) r (now (events .exit)) ⌝ }
 {
     let mut stx = [0u8; 284];
     let mut own = [0u8; 255];

@@ -1,2 +1,3 @@
 -- What a link's start promises, by the definitions of turns.
 pub mod Start
+pub mod Fresh

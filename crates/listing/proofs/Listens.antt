@@ -210,6 +210,26 @@ listening-all whole tick lone ss before at es bytes place i v h =
 
 pub ruleset parties = (listening-none, listening-all)
 
+-- nobody sends
+nobody : (tick party : ℕ) (lone : Bool) (es : List Ear) (ss : List Sent) (before : List ℕ) (at : ℕ) → length es ≡ length ss → senders ss ≡ 0
+    → TickIs (linesOf tick party lone es ss) before at (replicate (length ss) quietEar) at before
+unfolding linesOf senders
+nobody tick party lone [] [] before at e h = tick-none before at
+nobody tick party lone [] (s ∷ ss) before at e h = absurd (omega arith)
+nobody tick party lone (f ∷ es) [] before at e h = absurd (omega arith)
+nobody tick party lone (f ∷ es) (Silent ∷ ss) before at e h =
+    tick-besides (listens tick party lone f Silent) (linesOf tick (party + 1) lone es ss) before before before at at at quietEar (replicate (length ss) quietEar)
+    (listens-silent tick party lone f Silent before at quietEar refl refl)
+    (nobody tick (party + 1) lone es ss before at (omega arith) (omega arith))
+nobody tick party lone (f ∷ es) (Sent.Character c ∷ ss) before at e h = absurd (omega arith)
+
+pub tick-silent : (tick n : ℕ) (es fs : List Ear) (ss : List Sent) (before : List ℕ) (at : ℕ)
+    → n ≡ senders ss → n ≡ 0 → length es ≡ 8 → length ss ≡ 8 → fs ≡ replicate 8 quietEar → TickIs (tickLines tick es ss) before at fs at before
+unfolding tickLines
+tick-silent tick n es fs ss before at e z h k q =
+    subst (λ (l : List Ear). TickIs (linesOf tick 0 (senders ss ≤? 1) es ss) before at l at before) (ap (λ (m : ℕ). replicate m quietEar) k ∙ sym q)
+    (nobody tick 0 (senders ss ≤? 1) es ss before at (h ∙ sym k) (sym e ∙ z))
+
 -- a tick
 pub tick-is : (tick n : ℕ) (es : List Ear) (ss : List Sent) (before : List ℕ) (at : ℕ) (fs : List Ear) (r : ℕ) (after : List ℕ)
     → n ≡ senders ss → TickIs (linesOf tick 0 (n ≤? 1) es ss) before at fs r after → TickIs (tickLines tick es ss) before at fs r after

@@ -363,5 +363,12 @@ pub fn tick_lines(tick: u16, ears: Ears, sents: Sents, out: &mut [u8], at: usize
     ensures { λ h. ⌜ TickIs (tickLines tick ears sents) (now (out .entry)) at (h .ears) (h .at) (now (out .exit)) ⌝ }
 {
     let n = senders_of(sents);
+    if n == 0 {
+        let quiet = quiet_ears();
+        return Listened {
+            ears: quiet,
+            at: at,
+        };
+    }
     listen_all(tick, n <= 1, ears, sents, out, at)
 }

@@ -21,8 +21,9 @@ use Rattle.turns.specs.declared.Noted.{Noted}
 use Rattle.master_heard.specs.Takes.{heardBytes, TakeIs}
 use Rattle.master.specs.Answers.{asks, asked, askedFrame, RequestIs}
 use Rattle.master.specs.declared.MasterRequested.{MasterRequested}
-use Rattle.master.specs.Tick.{callOf, answerOf, sideOf, stepOf, uncalled, CallIs, TickIs}
-use Rattle.master.specs.declared.CallAnswer.{CallAnswer}
+use Rattle.party.specs.Calls.{answerOf}
+use Rattle.party.specs.declared.CallAnswer.{CallAnswer}
+use Rattle.master.specs.Tick.{callOf, sideOf, stepOf, uncalled, CallIs, TickIs}
 use Rattle.master.specs.declared.CallTaken.{CallTaken}
 use Rattle.master.specs.declared.HostCall.{HostCall}
 use Rattle.master.specs.declared.MasterTicked.{MasterTicked}

@@ -5,12 +5,13 @@ use mathlib.Core.Path.{_≡_}
 use Rattle.line.specs.declared.Event.{Event}
 use Rattle.line.specs.declared.Heard.{Heard}
 use Rattle.turns.specs.Master.{tells, masterTakes, masterSends}
-use Rattle.turns.specs.Link.{MasterCall, no-request, requests, Answer, none, was-taken, was-refused, MasterSide, MasterStep, masterSent, masterCalls, masterTick}
+use Rattle.turns.specs.Link.{MasterCall, no-request, requests, MasterSide, MasterStep, masterSent, masterCalls, masterTick}
 use Rattle.turns.specs.declared.Master.{Master}
 use Rattle.turns.specs.declared.MasterTold.{MasterTold}
+use Rattle.party.specs.Calls.{answerOf}
+use Rattle.party.specs.declared.CallAnswer.{CallAnswer}
 use Rattle.master.specs.Answers.{asks}
 use Rattle.master.specs.declared.HostCall.{HostCall}
-use Rattle.master.specs.declared.CallAnswer.{CallAnswer}
 use Rattle.master.specs.declared.CallTaken.{CallTaken}
 use Rattle.master.specs.declared.MasterTicked.{MasterTicked}
 
@@ -18,12 +19,6 @@ use Rattle.master.specs.declared.MasterTicked.{MasterTicked}
 abbrev pub callOf : HostCall → List ℕ → MasterCall
 callOf HostCall.Nothing put = no-request
 callOf (HostCall.Requests q) put = requests (asks (q .preamble) (q .long) (q .address) (q .command)) put
-
--- what became of it: none, taken, or refused with its number in document 01's table
-abbrev pub answerOf : CallAnswer → Answer
-answerOf CallAnswer.Nothing = none
-answerOf CallAnswer.Taken = was-taken
-answerOf (CallAnswer.Refused why) = was-refused why
 
 -- a master with its lent buffers
 abbrev pub sideOf : Master → List ℕ → List ℕ → MasterSide

@@ -6,6 +6,7 @@ use line::Event;
 use line::Heard;
 use line::Profile;
 use line::Receiver;
+use party::CallAnswer;
 use turns::Master;
 use turns::MasterSent;
 use turns::MasterTold;
@@ -48,13 +49,6 @@ pub struct Wanted {
 pub enum HostCall {
     Nothing,
     Requests(Wanted),
-}
-
-// What became of it.
-pub enum CallAnswer {
-    Nothing,
-    Taken,
-    Refused(Refusal),
 }
 
 // A master behind its host's call.

@@ -1,11 +1,21 @@
-// What master and device have in common: what silence and a broadcast are, a counter's tick, and the characters of a frame that is sent.
+// What master and device have in common: what silence and a broadcast are, a counter's tick, the characters of a frame that is sent, and what becomes of a host's call.
+use base::Refusal;
 use frame::Header;
 use line::Heard;
+use line::Profile;
 ghost use mathlib.Core.Path.{_≡_};
 ghost use Prim.Native.Nat.{_-_};
 ghost use Rattle.frame.specs.Address.{byteAt};
 ghost use Rattle.turns.specs.Master.{isBroadcast};
 ghost use Rattle.party.specs.Hears.{isSilence};
+
+// What became of a host's call in a tick.
+pub enum CallAnswer {
+    // there was none
+    Nothing,
+    Taken,
+    Refused(Refusal),
+}
 
 // Whether a tick was silent.
 pub fn is_silence(heard: Heard) -> bool
@@ -53,4 +63,17 @@ pub fn is_broadcast(h: Header) -> bool
         return h.address == 0;
     }
     false
+}
+
+// The same profile, field by field, for the reason given in the tick reader.
+pub fn same_profile(p: Profile) -> Profile
+    ensures { λ r. ⌜ r ≡ p ⌝ }
+{
+    Profile {
+        sto: p.sto,
+        hold: p.hold,
+        rt2: p.rt2,
+        rt1p: p.rt1p,
+        rt1s: p.rt1s,
+    }
 }

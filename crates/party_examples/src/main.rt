@@ -16,6 +16,7 @@ use line::Profile;
 use master::MasterStarted;
 use master::MasterTicked;
 use master::Wanted;
+use party::CallAnswer;
 use party_show::Ear;
 use turns::Device;
 use turns::DeviceTold;
@@ -298,7 +299,7 @@ fn master_side(m: Master) -> MasterSide {
             sent: Sent::Silent,
             told: MasterTold::Nothing,
             event: Event::Nothing,
-            answer: master::CallAnswer::Nothing,
+            answer: CallAnswer::Nothing,
         },
         frame: [0; 284],
         bytes: [0; 255],
@@ -312,7 +313,7 @@ fn device_side(d: Device) -> DeviceSide {
             sent: Sent::Silent,
             told: DeviceTold::Nothing,
             event: Event::Nothing,
-            answer: device_tick::CallAnswer::Nothing,
+            answer: CallAnswer::Nothing,
         },
         frame: [0; 284],
         bytes: [0; 255],

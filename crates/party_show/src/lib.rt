@@ -6,6 +6,7 @@ use line::Event;
 use line::Heard;
 use line::Whole;
 use master::MasterTicked;
+use party::CallAnswer;
 use turns::DeviceTold;
 use turns::MasterTold;
 
@@ -158,19 +159,11 @@ fn show_device_told(told: DeviceTold, bytes: &[u8; 255]) {
 }
 
 // The number of a refusal, 0 if nothing was refused.
-fn master_refused(answer: master::CallAnswer) -> u32 {
+fn refused_by(answer: CallAnswer) -> u32 {
     match answer {
-        master::CallAnswer::Nothing => 0,
-        master::CallAnswer::Taken => 0,
-        master::CallAnswer::Refused(why) => why.number(),
-    }
-}
-
-fn device_refused(answer: device_tick::CallAnswer) -> u32 {
-    match answer {
-        device_tick::CallAnswer::Nothing => 0,
-        device_tick::CallAnswer::Taken => 0,
-        device_tick::CallAnswer::Refused(why) => why.number(),
+        CallAnswer::Nothing => 0,
+        CallAnswer::Taken => 0,
+        CallAnswer::Refused(why) => why.number(),
     }
 }
 
@@ -236,7 +229,7 @@ fn show_master(tick: u16, ear: Ear, t: MasterTicked, bytes: &[u8; 255]) {
     let told = t.told;
     let event = t.event;
     let answer = t.answer;
-    let refused = master_refused(answer);
+    let refused = refused_by(answer);
     if has_line(ear, event, refused) {
         master_line(tick, ear, event, told, refused, bytes);
     } else if tells(told) {
@@ -248,7 +241,7 @@ fn show_device(tick: u16, ear: Ear, t: DeviceTicked, bytes: &[u8; 255]) {
     let told = t.told;
     let event = t.event;
     let answer = t.answer;
-    let refused = device_refused(answer);
+    let refused = refused_by(answer);
     if has_line(ear, event, refused) {
         show_begin(tick, b" device", ear, event);
         show_device_told(told, bytes);

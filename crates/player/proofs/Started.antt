@@ -9,11 +9,8 @@ use Rattle.base.specs.declared.Refusal.{Refusal}
 use Rattle.line.specs.Profile.{fskProfile}
 use Rattle.line.specs.declared.Profile.{Profile}
 use Rattle.turns.specs.Master.{Called, accepted, refused}
-use Rattle.turns.specs.Device.{freshDevice, deviceStarts}
 use Rattle.turns.specs.Link as L
 use Rattle.turns.specs.declared.Device.{Device}
-use Rattle.device.proofs.Reached.{Ready, is-started, reached-ready}
-use Rattle.device_tick.specs.Tick.{sideOf}
 use Rattle.script.specs.Script.{recordsOf}
 use Rattle.script.proofs.Ticks.{Reads}
 use Rattle.listing.specs.Lines.{quietEar}
@@ -23,15 +20,17 @@ use Rattle.listing.specs.declared.Ear.{Ear}
 use Rattle.listing.proofs.Puts.{put-then}
 use Rattle.slots.specs.declared.Slot.{Slot}
 use Rattle.slots.specs.declared.Slot.the-variants.{Absent, Present}
-use Rattle.link.specs.Stands.{ofSlot, linkOf, SlotReady, LinkReady}
+use Rattle.link.specs.Stands.{LinkReady}
 use Rattle.link.specs.declared.Link.{Link}
+use Rattle.link_start.specs.Fresh.{devicesFresh, lentFresh}
 use Rattle.link_start.specs.Start.{linkStarts, linkAs}
 use Rattle.link_start.specs.declared.DevicesSettings.{DevicesSettings}
 use Rattle.link_start.specs.declared.LinkStarted.{LinkStarted}
 use Rattle.link_start.specs.declared.PairSettings.{PairSettings}
 use Rattle.link_start.specs.declared.SlotSetting.{SlotSetting}
+use Rattle.link_start.proofs.Started.{started-ready}
 use Rattle.player.specs.Play.{readyLink}
-use Rattle.player.specs.Ready.{settingOf, pairSettings, settings, slotOf, readyStart, zeroLent, zeroLents}
+use Rattle.player.specs.Ready.{settingOf, pairSettings, settings, readyStart}
 use Rattle.player_tick.specs.Step.{There, AllThere}
 use Rattle.player.specs.Ticks.{textFrom, Stands}
 
@@ -69,22 +68,8 @@ refused-none started why text before at r e f = absurd (never-refused started wh
 
 -- ---- its devices
 
-fresh-ready : (party : ℕ) → deviceStarts fskProfile 5 (party - 2) party ≡ accepted (freshDevice fskProfile 5 (party - 2) party)
-    → Ready (freshDevice fskProfile 5 (party - 2) party) (replicate 284 0) (replicate 255 0)
-fresh-ready party e =
-    reached-ready (sideOf (freshDevice fskProfile 5 (party - 2) party) (replicate 284 0) (replicate 255 0) (replicate 255 0))
-    (is-started (record { preamble = 5; polling = party - 2; unique = party; starts = e; room = omega arith; content-room = omega arith }))
-
-slot-ready : (party : ℕ) → deviceStarts fskProfile 5 (party - 2) party ≡ accepted (freshDevice fskProfile 5 (party - 2) party) → SlotReady (slotOf party) (ofSlot zeroLents 0)
-slot-ready party e d q = subst (λ (f : Device). Ready f (replicate 284 0) (replicate 255 0)) (ap device-in q) (fresh-ready party e)
-  where
-    device-in : Slot → Device
-    device-in Absent = d
-    device-in (Present f) = f
-
-all-ready : LinkReady (readyStart .devices) zeroLents
-unfolding if_then_else_
-all-ready = record { first = slot-ready 2 refl; second = slot-ready 3 refl; third = slot-ready 4 refl; fourth = slot-ready 5 refl; fifth = slot-ready 6 refl; sixth = slot-ready 7 refl }
+all-ready : LinkReady (readyStart .devices) devicesFresh
+all-ready = started-ready fskProfile 3 settings readyStart all-accepted
 
 present : (d : Device) → There (Present d)
 present d e = let k : _≡_ {A = ℕ} 1 0 = ap is e in omega arith
@@ -96,27 +81,27 @@ present d e = let k : _≡_ {A = ℕ} 1 0 = ap is e in omega arith
 all-there : AllThere (readyStart .devices)
 all-there = record { first = present _; second = present _; third = present _; fourth = present _; fifth = present _; sixth = present _ }
 
-pub ready-stands : (script : List ℕ) (l : Link) (ears : List Ear) (at : ℕ) → l ≡ readyStart → Reads script 0 0 → Stands script 0 (record { link = l; ears = ears; next = 0; at = at }) zeroLents
+pub ready-stands : (script : List ℕ) (l : Link) (ears : List Ear) (at : ℕ) → l ≡ readyStart → Reads script 0 0 → Stands script 0 (record { link = l; ears = ears; next = 0; at = at }) devicesFresh
 ready-stands script l ears at e k = record {
   reads = k;
-  ready = subst (λ (m : Link). LinkReady (m .devices) zeroLents) (sym e) all-ready;
+  ready = subst (λ (m : Link). LinkReady (m .devices) devicesFresh) (sym e) all-ready;
   there = subst (λ (m : Link). AllThere (m .devices)) (sym e) all-there;
 }
 
 -- ---- the definition's link
 
-ready-is : linkOf readyStart zeroLent zeroLent zeroLents ≡ readyLink
+ready-is : lentFresh readyStart ≡ readyLink
 unfolding readyLink
 ready-is = refl
 
 pub ready-plays : (script : List ℕ) (stop : ℕ) (l : Link) (ears : List Ear) (before between after : List ℕ) (at r : ℕ)
-    → PutIs headLine before 0 at between → PutIs (textFrom 0 stop ears (linkOf l zeroLent zeroLent zeroLents) (recordsOf script)) between at r after → ears ≡ replicate 8 quietEar → l ≡ readyStart
+    → PutIs headLine before 0 at between → PutIs (textFrom 0 stop ears (lentFresh l) (recordsOf script)) between at r after → ears ≡ replicate 8 quietEar → l ≡ readyStart
     → PutIs (headLine ++ textFrom 0 stop (replicate 8 quietEar) readyLink (recordsOf script)) before 0 r after
 ready-plays script stop l ears before between after at r p q e f =
     put-then headLine _ before between after 0 at r p
     (subst (λ (text : List ℕ). PutIs text between at r after)
-    (ap (λ (es : List Ear). textFrom 0 stop es (linkOf l zeroLent zeroLent zeroLents) (recordsOf script)) e
-    ∙ ap (λ (m : Link). textFrom 0 stop (replicate 8 quietEar) (linkOf m zeroLent zeroLent zeroLents) (recordsOf script)) f
+    (ap (λ (es : List Ear). textFrom 0 stop es (lentFresh l) (recordsOf script)) e
+    ∙ ap (λ (m : Link). textFrom 0 stop (replicate 8 quietEar) (lentFresh m) (recordsOf script)) f
     ∙ ap (λ (k : L.Link). textFrom 0 stop (replicate 8 quietEar) k (recordsOf script)) ready-is)
     q)
 

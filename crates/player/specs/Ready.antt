@@ -1,14 +1,12 @@
--- The code's link that stands ready, with zero bytes in its lent buffers.
+-- The code's link that stands ready, and the settings that start it.
 use Prim.Native.Nat.{ℕ, _+_, _-_}
 use mathlib.Core.Bool.{true, false}
-use lib.ListN.{replicate}
 use Rattle.line.specs.Profile.{fskProfile}
 use Rattle.line.specs.declared.Heard.the-variants.{Silence}
 use Rattle.turns.specs.Master.{freshMaster}
 use Rattle.turns.specs.Device.{freshDevice}
 use Rattle.slots.specs.declared.Slot.{Slot}
 use Rattle.slots.specs.declared.Slot.the-variants.{Present}
-use Rattle.link.specs.Link.{MasterLent, DevicesLent, masterLends, devicesLend}
 use Rattle.link.specs.declared.Link.{Link}
 use Rattle.link_start.specs.declared.DevicesSettings.{DevicesSettings}
 use Rattle.link_start.specs.declared.PairSettings.{PairSettings}
@@ -38,9 +36,3 @@ readyStart = record {
   };
   line = Silence;
 }
-
-abbrev pub zeroLent : MasterLent
-zeroLent = masterLends (replicate 284 0) (replicate 255 0)
-
-abbrev pub zeroLents : DevicesLent
-zeroLents = devicesLend (replicate 6 (replicate 284 0)) (replicate 6 (replicate 255 0)) (replicate 6 (replicate 255 0))

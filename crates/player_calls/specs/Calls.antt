@@ -1,4 +1,4 @@
--- Document 01, "The player": how the calls of the code's link stand for those that a script wants in a tick. Their data lie in 255 zero bytes.
+-- Document 01, "The player": how the calls of the code's link stand for those that a script wants in a tick. Their data lie in 255 zero bytes, and the part that names them is left open: many parts of zero bytes are the same.
 use Prim.Native.Nat.{ℕ}
 use mathlib.Core.List.{List, [], _∷_}
 use mathlib.Core.Path.{_≡_}

@@ -63,19 +63,8 @@ pub fn step(
     let l = p.link;
     let ears = p.ears;
     let wanted = script::calls_at(script, p.next, tick as usize);
-    let calls = player_calls::calls_of(tick as usize, wanted);
-    let t = link::tick(
-        l,
-        calls,
-        &put,
-        stx,
-        own,
-        stxs,
-        owns,
-        frames,
-        bytes,
-        contents,
-    );
+    let list = player_calls::calls_of(tick as usize, wanted);
+    let t = link::tick(l, list, &put, stx, own, stxs, owns, frames, bytes, contents);
     let behind = link::behind(t);
     let sents = sents_of(t);
     let h = listing::tick_lines(tick, ears, sents, out, p.at);

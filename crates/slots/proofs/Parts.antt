@@ -5,6 +5,7 @@ use mathlib.Core.Path.{_≡_, refl, sym, ap, _∙_}
 use mathlib.Core.List.{List, [], _∷_}
 use lib.ListN.{length, take, drop, length-drop}
 use lib.Seq.{take-all, take-nil}
+use Rattle.base.proofs.Choices.{if-below, if-not-below}
 use Rattle.slots.specs.Part.{PartIs}
 
 -- nothing stands behind the last byte
@@ -17,6 +18,7 @@ past-end put n h = empty (drop n put) (omega (arith, length-drop n put))
 
 pub part-outside : (from count room : ℕ) → room ≤ from → PartIs from count room (record { start = room; end = room })
 part-outside from count room h = record {
+  bounds = if-not-below from room (record { start = room; end = room }) _ _ h refl;
   in-order = omega arith;
   inside = omega arith;
   is = λ put e.
@@ -29,6 +31,7 @@ part-outside from count room h = record {
 module _ (start count room : ℕ) (h : start < room) where
   pub part-cut : room - start < count → PartIs start count room (record { start = start; end = room })
   part-cut k = record {
+    bounds = if-below start room (record { start = start; end = room }) _ _ h (λ i. record { start = start; end = if-below (room - start) count room room (start + count) k refl i });
     in-order = omega arith;
     inside = omega arith;
     is = λ put e.
@@ -38,6 +41,7 @@ module _ (start count room : ℕ) (h : start < room) where
 
   pub part-whole : count ≤ room - start → PartIs start count room (record { start = start; end = start + count })
   part-whole k = record {
+    bounds = if-below start room (record { start = start; end = start + count }) _ _ h (λ i. record { start = start; end = if-not-below (room - start) count (start + count) room (start + count) k refl i });
     in-order = omega arith;
     inside = omega arith;
     is = λ put e. let n : start + count - start ≡ count = omega arith in ap (λ (m : ℕ). take m (drop start put)) n;

@@ -7,8 +7,9 @@ use Rattle.turns.specs.Link.{DeviceSide, DeviceStep}
 use Rattle.turns.specs.Link as L
 use Rattle.turns.specs.declared.Sent.{Sent}
 use Rattle.turns.specs.declared.DeviceTold.{DeviceTold}
-use Rattle.device_tick.specs.Tick.{callOf, answerOf, sideOf, writtenTick}
-use Rattle.device_tick.specs.declared.CallAnswer.{CallAnswer}
+use Rattle.party.specs.Calls.{answerOf}
+use Rattle.party.specs.declared.CallAnswer.{CallAnswer}
+use Rattle.device_tick.specs.Tick.{callOf, sideOf, writtenTick}
 use Rattle.device_tick.specs.declared.DeviceTicked.{DeviceTicked}
 use Rattle.device_tick.specs.declared.HostCall.{HostCall}
 use Rattle.slots.specs.declared.Slot.{Slot}

@@ -1,8 +1,8 @@
 // Six slots for devices on one line, each present or absent, and their tick.
-use device_tick::CallAnswer;
 use device_tick::DeviceTicked;
 use device_tick::HostCall;
 use line::Heard;
+use party::CallAnswer;
 use turns::Device;
 use turns::DeviceTold;
 use turns::Sent;

@@ -1,4 +1,4 @@
--- What reading a list of ticks promises: the calls in front of the rest from a place on, and the place behind them.
+-- What reading a list of ticks promises: the calls in front of the rest from a place on, and the place behind them. A call's data are fixed, and not the part that names them: no data can be named in many ways.
 use Prim.Native.Nat.{ℕ, _≤_, _<_}
 use mathlib.Core.Path.{_≡_}
 use mathlib.Core.List.{List}
@@ -13,7 +13,7 @@ use Rattle.tick_list.specs.declared.PairRead.{PairRead}
 use Rattle.tick_list.specs.declared.SlotRead.{SlotRead}
 use Rattle.tick_list.specs.declared.TickRead.{TickRead}
 
--- so many places on, or the end
+-- so many places on, or the end: a place within the list, fixed by what stands from there on
 pub record ForwardIs (at n end r : ℕ) : Type 0 where
   pub within : r ≤ end
   pub onward : at ≤ r

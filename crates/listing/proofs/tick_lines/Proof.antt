@@ -1,5 +1,5 @@
 use borrow.Author.Needs.{needs}
-use Rattle.listing.proofs.Listens.{tick-is}
+use Rattle.listing.proofs.Listens.{tick-silent, tick-is}
 use Rattle.listing.proofs.tick_lines.Statement.{statement}
 use Rattle.listing.proofs.tick_lines.Tie as tie
 
@@ -8,6 +8,8 @@ tick-lines-spec =
     tie.close
     (tie.spec
     (λ c κs. search needs)
+    (λ c κs. search needs)
+    (λ c. search (needs, tick-silent))
     (λ c κs. search needs)
     (λ c. search needs)
     (λ c. search (needs, tick-is)))

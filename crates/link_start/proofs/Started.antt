@@ -22,13 +22,12 @@ use Rattle.slots.specs.declared.Slot.the-variants.{Absent, Present}
 use Rattle.link.specs.Stands.{ofSlot, devicesOf, SlotReady, LinkReady}
 use Rattle.link.specs.declared.Link.{Link}
 use Rattle.link.specs.declared.Masters.{Masters}
+use Rattle.link_start.specs.Fresh.{devicesFresh, lentFresh}
 use Rattle.link_start.specs.Start.{lower, lowest, slotBegun, slotStarts, pairStarts, devicesStart, bothMasters, mastersStart, linkBegun, linkStarts}
-use Rattle.link_start.specs.Start as S
 use Rattle.link_start.specs.declared.DevicesSettings.{DevicesSettings}
 use Rattle.link_start.specs.declared.SlotSetting.{SlotSetting}
 use Rattle.link_start.specs.declared.Verdict.{Verdict}
 use Rattle.link_start.specs.declared.Verdict.the-variants.{Taken}
-use Rattle.link_run.specs.Run.{masterFresh, freshLends, freshLink}
 
 -- ---- what was accepted was not refused
 
@@ -120,8 +119,8 @@ link-accepted (refused v) d Taken l e = absurd (unlike v l e)
 link-accepted (refused v) d (Verdict.Refused w) l e = absurd (unlike (lower v w) l e)
 
 pub record SixStarted (p : Profile) (s : Devices) : Type 0 where
-  pub starts : All (DeviceStarts p) (devicesOf s freshLends)
-  pub ready : LinkReady s freshLends
+  pub starts : All (DeviceStarts p) (devicesOf s devicesFresh)
+  pub ready : LinkReady s devicesFresh
 
 six-started : (p : Profile) (s : DevicesSettings) → devicesStart p s .verdict ≡ Taken → SixStarted p (devicesStart p s .devices)
 six-started p s v =
@@ -130,12 +129,12 @@ six-started p s v =
     let low = both-taken (slotStarts p (s .low .left) .verdict) (slotStarts p (s .low .right) .verdict) (a .0) in
     let middle = both-taken (slotStarts p (s .middle .left) .verdict) (slotStarts p (s .middle .right) .verdict) (b .0) in
     let high = both-taken (slotStarts p (s .high .left) .verdict) (slotStarts p (s .high .right) .verdict) (b .1) in
-    let c0 = slot-started p (s .low .left) (ofSlot freshLends 0) (low .0) (omega arith) (omega arith) in
-    let c1 = slot-started p (s .low .right) (ofSlot freshLends 1) (low .1) (omega arith) (omega arith) in
-    let c2 = slot-started p (s .middle .left) (ofSlot freshLends 2) (middle .0) (omega arith) (omega arith) in
-    let c3 = slot-started p (s .middle .right) (ofSlot freshLends 3) (middle .1) (omega arith) (omega arith) in
-    let c4 = slot-started p (s .high .left) (ofSlot freshLends 4) (high .0) (omega arith) (omega arith) in
-    let c5 = slot-started p (s .high .right) (ofSlot freshLends 5) (high .1) (omega arith) (omega arith) in
+    let c0 = slot-started p (s .low .left) (ofSlot devicesFresh 0) (low .0) (omega arith) (omega arith) in
+    let c1 = slot-started p (s .low .right) (ofSlot devicesFresh 1) (low .1) (omega arith) (omega arith) in
+    let c2 = slot-started p (s .middle .left) (ofSlot devicesFresh 2) (middle .0) (omega arith) (omega arith) in
+    let c3 = slot-started p (s .middle .right) (ofSlot devicesFresh 3) (middle .1) (omega arith) (omega arith) in
+    let c4 = slot-started p (s .high .left) (ofSlot devicesFresh 4) (high .0) (omega arith) (omega arith) in
+    let c5 = slot-started p (s .high .right) (ofSlot devicesFresh 5) (high .1) (omega arith) (omega arith) in
     record {
       starts = append-all (c0 .starts) (append-all (c1 .starts) (append-all (c2 .starts) (append-all (c3 .starts) (append-all (c4 .starts) (append-all (c5 .starts) none)))));
       ready = record { first = c0 .ready; second = c1 .ready; third = c2 .ready; fourth = c3 .ready; fifth = c4 .ready; sixth = c5 .ready };
@@ -148,11 +147,11 @@ module _ (p : Profile) (retries : ℕ) (s : DevicesSettings) (l : Link) (e : lin
   slots : SixStarted p (l .devices)
   slots = subst (SixStarted p) (parts .1) (six-started p s (parts .2))
 
-  pub started-ready : LinkReady (l .devices) freshLends
+  pub started-ready : LinkReady (l .devices) devicesFresh
   started-ready = slots .ready
 
   -- "a primary master, a secondary master and devices that share no address all start in the same tick with one profile and one retry limit R"
-  pub all-start : Distinct (devicesOf (l .devices) freshLends) → Starts p retries (freshLink l)
+  pub all-start : Distinct (devicesOf (l .devices) devicesFresh) → Starts p retries (lentFresh l)
   all-start distinct =
       let both = masters-accepted (masterStarts p true retries) (masterStarts p false retries) (l .masters) (parts .0) in
       record {
