@@ -6,11 +6,12 @@
 mod called;
 #[path = "../tests/line_archive.rs"]
 mod line_archive;
+#[path = "../tests/oracles.rs"]
+mod oracles;
 mod recordings;
 mod rounds;
-#[path = "../tests/tick_oracle.rs"]
-mod tick_oracle;
 
+use oracles::tick_oracle;
 use recordings::{frame, head, noise, silent, SILENCE};
 
 const TICKS: usize = 1_000_000;

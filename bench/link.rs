@@ -3,41 +3,25 @@
 
 #[path = "../tests/called.rs"]
 mod called;
-#[path = "../tests/device_oracle.rs"]
-#[allow(dead_code)]
-mod device_oracle;
-#[path = "../tests/frame_oracle.rs"]
-#[allow(dead_code)]
-mod frame_oracle;
 #[path = "../tests/link_archive.rs"]
 mod link_archive;
-#[path = "../tests/link_oracle.rs"]
-mod link_oracle;
-#[path = "../tests/master_oracle.rs"]
-#[allow(dead_code)]
-mod master_oracle;
-#[path = "../tests/party_oracle.rs"]
-mod party_oracle;
+#[path = "../tests/oracles.rs"]
+mod oracles;
 #[allow(dead_code)]
 mod recordings;
 mod rounds;
-#[path = "../tests/tick_oracle.rs"]
+#[path = "../tests/scripts.rs"]
 #[allow(dead_code)]
-mod tick_oracle;
+mod scripts;
 
+use oracles::link_oracle;
 use recordings::{head, row};
 use rounds::by_turns;
+use scripts::{record, room, stop, ANSWER, ASK, BURST_ON};
 use std::hint::black_box;
 
 const TICKS: u16 = 60_000;
 const CALLS: usize = 1;
-
-/// The most that the output of so many ticks can need.
-const ROOM: usize = 30 + 25 * TICKS as usize;
-
-const ANSWER: u8 = 2;
-const ASK: u8 = 3;
-const BURST_ON: u8 = 4;
 
 /// The first window, the characters of an STX and of an ACK or BACK with 2 bytes, all by unique
 /// address.
@@ -45,13 +29,8 @@ const FIRST_WINDOW: u16 = 33;
 const STX: u16 = 14;
 const ANSWER_LENGTH: u16 = 16;
 
-fn record(tick: u16, party: u8, action: u8, argument: u8) -> [u8; 4] {
-    let [high, low] = tick.to_be_bytes();
-    [high, low, party << 4 | action, argument]
-}
-
 fn silent() -> Vec<u8> {
-    record(TICKS, 0, 0, 0).to_vec()
+    stop(TICKS).to_vec()
 }
 
 /// Messages directly behind each other, of the masters by turns, each answered two ticks behind its
@@ -75,7 +54,7 @@ fn busy(bursts: bool) -> Vec<u8> {
         }
         messages += 1;
     }
-    script.extend(record(TICKS, 0, 0, 0));
+    script.extend(stop(TICKS));
     let answered = lines(&link_oracle::play(&script), " ACK ");
     assert!(answered == messages, "{answered} of {messages} answered");
     script
@@ -88,7 +67,7 @@ fn lines(listing: &[u8], with: &str) -> usize {
 
 /// Sees that both give the same listing, measures the two by turns and prints one row.
 fn compare(name: &str, script: &[u8]) {
-    let mut out = vec![0; ROOM];
+    let mut out = vec![0; room(TICKS)];
     let length = link_archive::play(script, &mut out);
     assert!(
         out[..length] == link_oracle::play(script),

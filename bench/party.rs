@@ -3,26 +3,14 @@
 
 #[path = "../tests/called.rs"]
 mod called;
-#[path = "../tests/device_oracle.rs"]
-#[allow(dead_code)]
-mod device_oracle;
-#[path = "../tests/frame_oracle.rs"]
-#[allow(dead_code)]
-mod frame_oracle;
-#[path = "../tests/master_oracle.rs"]
-#[allow(dead_code)]
-mod master_oracle;
+#[path = "../tests/oracles.rs"]
+mod oracles;
 #[path = "../tests/party_archive.rs"]
 mod party_archive;
-#[path = "../tests/party_oracle.rs"]
-#[allow(dead_code)]
-mod party_oracle;
 mod recordings;
 mod rounds;
-#[path = "../tests/tick_oracle.rs"]
-#[allow(dead_code)]
-mod tick_oracle;
 
+use oracles::{device_oracle, master_oracle};
 use recordings::{compare, frame, head, noise, silent, SILENCE};
 
 const TICKS: usize = 200_000;

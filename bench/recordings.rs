@@ -1,7 +1,12 @@
 //! Recordings of the line, two bytes for each tick, and the row of a table that compares two runs
 //! over one.
 
+#[path = "../tests/frames.rs"]
+#[allow(dead_code)]
+mod frames;
+
 use crate::rounds::{by_turns, Measured};
+use frames::{sealed, Xorshift};
 use std::hint::black_box;
 
 pub const SILENCE: [u8; 2] = [0, 0];
@@ -11,9 +16,7 @@ pub type Run = fn(&[u8], &mut [u8]) -> usize;
 
 /// Five preambles, the bytes from delimiter to the last data byte, and the check byte.
 pub fn frame(body: &[u8]) -> Vec<u8> {
-    let check = body.iter().fold(0, |sum, byte| sum ^ byte);
-    [&[0xFF; 5], body, &[check]]
-        .concat()
+    sealed(5, body)
         .into_iter()
         .flat_map(|byte| [CHARACTER, byte])
         .collect()
@@ -25,14 +28,7 @@ pub fn silent(ticks: usize) -> Vec<u8> {
 
 /// Every kind and every character, at random.
 pub fn noise(ticks: usize) -> Vec<u8> {
-    let mut state: u64 = 0x2545_F491_4F6C_DD1D;
-    let mut byte = || {
-        state ^= state << 13;
-        state ^= state >> 7;
-        state ^= state << 17;
-        (state >> 32) as u8
-    };
-    (0..2 * ticks).map(|_| byte()).collect()
+    Xorshift(0x2545_F491_4F6C_DD1D).bytes(2 * ticks)
 }
 
 pub fn head() {

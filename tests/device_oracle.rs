@@ -2,9 +2,9 @@
 //! what it hears. It shares nothing with the archive; over a recording it takes the same arguments
 //! and gives the same answers.
 
-use crate::frame_oracle::{ACK, BACK, STX};
-use crate::party_oracle::{Outgoing, BROADCAST, RT1_PRIMARY, RT2, STO};
-use crate::tick_oracle::{over, Event, Frame, Harm, Heard, Reader};
+use super::frame_oracle::{ACK, BACK, STX};
+use super::party_oracle::{Outgoing, BROADCAST, RT1_PRIMARY, RT2, SENDS, STO};
+use super::tick_oracle::{over, Event, Frame, Harm, Heard, Reader};
 
 #[derive(Clone, Copy)]
 enum Turn {
@@ -277,14 +277,11 @@ const UNIQUE_ADDRESS: u64 = 2;
 #[inline(never)]
 pub fn ticks(recording: &[u8], events: &mut [u8]) -> usize {
     let mut device = Device::start(POLLING_ADDRESS, UNIQUE_ADDRESS);
-    over(recording, events, |first, character| {
-        let told = device.take(Heard::recorded(first, character));
-        if first % 32 == 1 {
+    over(recording, events, |tick| {
+        let told = device.take(tick.heard());
+        if tick.has_call() {
             device.answer(&[0, 0], Wish::AsItIs);
         }
-        match device.send() {
-            Some(_) => 4,
-            None => told as u8,
-        }
+        device.send().map_or(told as u8, |_| SENDS)
     })
 }

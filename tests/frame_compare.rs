@@ -1,15 +1,13 @@
 //! Compares the archive with the oracle: answer, end and whole buffer of the writer, answer and
 //! all fields of the reader. The inputs are the same in every run.
 
-#[path = "archive.rs"]
 mod archive;
-#[path = "frame_oracle.rs"]
-mod frame_oracle;
-#[path = "frames.rs"]
 mod frames;
+#[path = "oracles.rs"]
+mod oracles;
 
-use frame_oracle::*;
 use frames::*;
+use oracles::frame_oracle::{self, *};
 use std::process::ExitCode;
 
 const WRITE_ANSWERS: [u32; 7] = [

@@ -1,6 +1,6 @@
 //! Random frames; the same seed gives the same frames.
 
-use crate::frame_oracle::{exclusive_or, ACK, BACK, LONG, PREAMBLE, STX};
+use crate::oracles::frame_oracle::{exclusive_or, ACK, BACK, LONG, PREAMBLE, STX};
 
 pub const TYPES: [u8; 3] = [STX, ACK, BACK];
 

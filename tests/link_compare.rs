@@ -1,52 +1,22 @@
 //! Compares the archive's player with the oracle: the output's length, and the whole lent buffer.
 //! The scripts are the same in every run.
 
-#[path = "called.rs"]
 mod called;
-#[path = "device_oracle.rs"]
-#[allow(dead_code)]
-mod device_oracle;
-#[path = "frame_oracle.rs"]
-#[allow(dead_code)]
-mod frame_oracle;
-#[path = "frames.rs"]
 #[allow(dead_code)]
 mod frames;
-#[path = "link_archive.rs"]
 mod link_archive;
-#[path = "link_oracle.rs"]
-mod link_oracle;
-#[path = "master_oracle.rs"]
-#[allow(dead_code)]
-mod master_oracle;
-#[path = "party_oracle.rs"]
-mod party_oracle;
-#[path = "tick_oracle.rs"]
-#[allow(dead_code)]
-mod tick_oracle;
+#[path = "oracles.rs"]
+mod oracles;
+mod scripts;
 
 use frames::Xorshift;
-use link_oracle::BAD_SCRIPT;
+use oracles::link_oracle::{self, BAD_SCRIPT};
+use scripts::{record, room, stop, ANSWER, ASK, BURST_OFF, BURST_ON, POLL};
 use std::process::ExitCode;
 
 const SCRIPTS: usize = 3_000;
 
 const FILL: u8 = 0xA5;
-
-/// The most that the output of so many ticks can need.
-const HEADER_ROOM: usize = 30;
-const LINE_ROOM: usize = 25;
-
-const POLL: u8 = 1;
-const ANSWER: u8 = 2;
-const ASK: u8 = 3;
-const BURST_ON: u8 = 4;
-const BURST_OFF: u8 = 5;
-
-fn record(tick: usize, party: usize, action: u8, argument: u8) -> [u8; 4] {
-    let [high, low] = (tick as u16).to_be_bytes();
-    [high, low, (party as u8) << 4 | action, argument]
-}
 
 /// A good script: both masters ask, and the hosts answer at random ticks, so that most answers are
 /// refused and the others come early or late. None, one or all devices may burst.
@@ -70,7 +40,7 @@ fn good_script(random: &mut Xorshift) -> Vec<[u8; 4]> {
             }
         }
     }
-    records.push(record(ticks, 0, 0, 0));
+    records.push(stop(ticks));
     records
 }
 
@@ -105,7 +75,7 @@ fn changed(random: &mut Xorshift, mut records: Vec<[u8; 4]>) -> Vec<u8> {
             records.pop();
         }
         1 => records.insert(at, records[at]),
-        2 => records.insert(at, record(0, 0, 0, 0)),
+        2 => records.insert(at, stop(0)),
         3 => records[at][2] = random.byte(),
         4 => records.swap(0, at),
         _ => {
@@ -125,13 +95,12 @@ fn script(random: &mut Xorshift) -> Vec<u8> {
     }
 }
 
-/// By the tick of the last record, which is the stop of a good script.
-fn room(script: &[u8]) -> usize {
-    let ticks = match script.last_chunk::<4>() {
-        Some(&[high, low, ..]) => usize::from(u16::from_be_bytes([high, low])),
+/// The tick of the last record, which is the stop of a good script.
+fn last_tick(script: &[u8]) -> u16 {
+    match script.last_chunk::<4>() {
+        Some(&[high, low, ..]) => u16::from_be_bytes([high, low]),
         None => 0,
-    };
-    HEADER_ROOM + LINE_ROOM * ticks
+    }
 }
 
 /// How many lines have each type, and whether BACKs of two devices are among them.
@@ -172,7 +141,7 @@ fn main() -> ExitCode {
     for at in 0..SCRIPTS {
         let script = script(&mut random);
         let by_oracle = link_oracle::play(&script);
-        let mut out = vec![FILL; room(&script)];
+        let mut out = vec![FILL; room(last_tick(&script))];
         let length = link_archive::play(&script, &mut out);
         let untouched = out.iter().skip(length).all(|&byte| byte == FILL);
         if out.get(..length) != Some(&by_oracle[..]) || !untouched {

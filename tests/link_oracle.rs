@@ -1,10 +1,10 @@
 //! The link and the player of document 01 in plain Rust. It shares nothing with the archive.
 
-use crate::device_oracle::{Device, Wish};
-use crate::frame_oracle::{self, Fields, BACK, STX};
-use crate::master_oracle::Master;
-use crate::party_oracle::Outgoing;
-use crate::tick_oracle::{Damage, Heard};
+use super::device_oracle::{Device, Wish};
+use super::frame_oracle::{self, Fields, BACK, STX};
+use super::master_oracle::Master;
+use super::party_oracle::Outgoing;
+use super::tick_oracle::{Damage, Heard};
 use std::io::Write;
 
 pub const BAD_SCRIPT: &[u8] = b"16\n";

@@ -2,9 +2,9 @@
 //! of what it hears. It shares nothing with the archive; over a recording it takes the same
 //! arguments and gives the same answers.
 
-use crate::frame_oracle::{ACK, BACK, STX};
-use crate::party_oracle::{Outgoing, BROADCAST, HOLD, RT1_PRIMARY, RT1_SECONDARY, RT2};
-use crate::tick_oracle::{over, Event, Frame, Heard, Reader};
+use super::frame_oracle::{ACK, BACK, STX};
+use super::party_oracle::{Outgoing, BROADCAST, HOLD, RT1_PRIMARY, RT1_SECONDARY, RT2, SENDS};
+use super::tick_oracle::{over, Event, Frame, Heard, Reader};
 
 const RETRIES: u32 = 3;
 
@@ -246,14 +246,11 @@ const COMMAND: u8 = 3;
 #[inline(never)]
 pub fn ticks(recording: &[u8], events: &mut [u8]) -> usize {
     let mut master = Master::start(true);
-    over(recording, events, |first, character| {
-        let told = master.take(Heard::recorded(first, character));
-        if first % 32 == 1 {
+    over(recording, events, |tick| {
+        let told = master.take(tick.heard());
+        if tick.has_call() {
             master.request(true, UNIQUE_ADDRESS, COMMAND);
         }
-        match master.send() {
-            Some(_) => 4,
-            None => told as u8,
-        }
+        master.send().map_or(told as u8, |_| SENDS)
     })
 }

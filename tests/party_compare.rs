@@ -1,30 +1,15 @@
 //! Compares the archive's master and device with the oracles: the number of ticks, and the whole
 //! buffer of events. The recordings are the same in every run.
 
-#[path = "called.rs"]
 mod called;
-#[path = "device_oracle.rs"]
-#[allow(dead_code)]
-mod device_oracle;
-#[path = "frame_oracle.rs"]
-#[allow(dead_code)]
-mod frame_oracle;
-#[path = "frames.rs"]
 #[allow(dead_code)]
 mod frames;
-#[path = "master_oracle.rs"]
-#[allow(dead_code)]
-mod master_oracle;
-#[path = "party_archive.rs"]
+#[path = "oracles.rs"]
+mod oracles;
 mod party_archive;
-#[path = "party_oracle.rs"]
-#[allow(dead_code)]
-mod party_oracle;
-#[path = "tick_oracle.rs"]
-#[allow(dead_code)]
-mod tick_oracle;
 
 use frames::{random_frame, sealed, Xorshift};
+use oracles::{device_oracle, master_oracle};
 use std::process::ExitCode;
 
 const RECORDINGS: usize = 5_000;

@@ -1,8 +1,8 @@
 //! What the masters and devices in plain Rust have in common: FSK's numbers, and the frame that a
 //! party sends.
 
-use crate::frame_oracle::{write, LONGEST_FRAME, TAKEN};
-use crate::tick_oracle::Frame;
+use super::frame_oracle::{write, LONGEST_FRAME, TAKEN};
+use super::tick_oracle::Frame;
 
 pub const STO: u32 = 28;
 pub const HOLD: u32 = 2;
@@ -11,6 +11,9 @@ pub const RT1_PRIMARY: u32 = 33;
 pub const RT1_SECONDARY: u32 = 41;
 
 pub const BROADCAST: u64 = 0;
+
+/// The number of a tick in which a party sends; any other has that of what it tells.
+pub const SENDS: u8 = 4;
 
 const PREAMBLES: usize = 5;
 

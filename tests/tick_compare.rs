@@ -1,20 +1,15 @@
 //! Compares the archive's tick reader with the oracle: the number of ticks, and the whole buffer of
 //! events. The recordings are the same in every run.
 
-#[path = "called.rs"]
 mod called;
-#[path = "frame_oracle.rs"]
-#[allow(dead_code)]
-mod frame_oracle;
-#[path = "frames.rs"]
 mod frames;
-#[path = "line_archive.rs"]
 mod line_archive;
-#[path = "tick_oracle.rs"]
-mod tick_oracle;
+#[path = "oracles.rs"]
+mod oracles;
 
-use frame_oracle::PREAMBLE;
 use frames::*;
+use oracles::frame_oracle::PREAMBLE;
+use oracles::tick_oracle;
 use std::process::ExitCode;
 
 const EVENTS: [&str; 5] = ["nothing", "passed over", "broken", "whole", "damaged"];

@@ -1,11 +1,7 @@
 //! The tick reader of document 01 in plain Rust, over recordings of two bytes for each tick. It
 //! shares nothing with the archive, takes the same arguments and gives the same answers.
 
-const PREAMBLE: u8 = 0xFF;
-
-const BACK: u8 = 1;
-const STX: u8 = 2;
-const ACK: u8 = 6;
+use super::frame_oracle::{ACK, BACK, PREAMBLE, STX};
 
 #[derive(Clone, Copy)]
 pub enum Damage {
@@ -21,9 +17,7 @@ pub enum Heard {
     Damaged(u8, Damage),
 }
 
-/// The events' numbers do not show a frame's fields; the reader keeps them all the same.
 #[derive(Clone, Copy, Default)]
-#[allow(dead_code)]
 pub struct Frame {
     pub frame_type: u8,
     pub long_address: bool,
@@ -46,7 +40,6 @@ pub struct Harm {
     pub address: bool,
 }
 
-#[allow(dead_code)]
 pub enum Event {
     Nothing,
     PassedOver,
@@ -98,13 +91,11 @@ impl Reader {
     }
 
     /// As after its own sending.
-    #[allow(dead_code)]
     pub fn pass_over(&mut self) {
         self.next = Next::PassedOver;
     }
 
     /// The first data byte of a whole ACK.
-    #[allow(dead_code)]
     pub fn first_data_byte(&self) -> u8 {
         self.data[0]
     }
@@ -240,18 +231,6 @@ impl Reader {
     }
 }
 
-impl Heard {
-    pub fn recorded(kind: u8, character: u8) -> Heard {
-        match kind >> 5 {
-            1 => Heard::Character(character),
-            2 => Heard::Damaged(character, Damage::Parity),
-            3 => Heard::Damaged(character, Damage::Overrun),
-            4 => Heard::Damaged(character, Damage::Framing),
-            _ => Heard::Silence,
-        }
-    }
-}
-
 impl Event {
     fn number(&self) -> u8 {
         match self {
@@ -264,14 +243,38 @@ impl Event {
     }
 }
 
+/// The two bytes of a tick in a recording.
+pub struct Recorded {
+    first: u8,
+    character: u8,
+}
+
+impl Recorded {
+    pub fn heard(&self) -> Heard {
+        match self.first >> 5 {
+            1 => Heard::Character(self.character),
+            2 => Heard::Damaged(self.character, Damage::Parity),
+            3 => Heard::Damaged(self.character, Damage::Overrun),
+            4 => Heard::Damaged(self.character, Damage::Framing),
+            _ => Heard::Silence,
+        }
+    }
+
+    /// Whether a party's host calls; the reader has none.
+    pub fn has_call(&self) -> bool {
+        self.first % 32 == 1
+    }
+}
+
 /// A number for each tick of a recording, for as many ticks as both slices hold; returns how many
 /// these are.
 #[inline(always)]
-pub fn over(recording: &[u8], events: &mut [u8], mut tick: impl FnMut(u8, u8) -> u8) -> usize {
+pub fn over(recording: &[u8], events: &mut [u8], mut number: impl FnMut(Recorded) -> u8) -> usize {
     let ticks = recording.chunks_exact(2);
     let taken = ticks.len().min(events.len());
     for (bytes, event) in ticks.zip(events) {
-        *event = tick(bytes[0], bytes[1]);
+        let (first, character) = (bytes[0], bytes[1]);
+        *event = number(Recorded { first, character });
     }
     taken
 }
@@ -280,7 +283,5 @@ pub fn over(recording: &[u8], events: &mut [u8], mut tick: impl FnMut(u8, u8) ->
 #[inline(never)]
 pub fn ticks(recording: &[u8], events: &mut [u8]) -> usize {
     let mut reader = Reader::start();
-    over(recording, events, |kind, character| {
-        reader.take(Heard::recorded(kind, character)).number()
-    })
+    over(recording, events, |tick| reader.take(tick.heard()).number())
 }
