@@ -13,11 +13,11 @@ use turns::DeviceTaken;
 use turns::Turn;
 use turns::Wish;
 ghost use mathlib.Core.Path.{_≡_};
-ghost use Prim.Native.Nat.{_+_, _≤_};
+ghost use Prim.Native.Nat.{_≤_};
 ghost use lib.ListN.{length, take};
-ghost use Rattle.frame.specs.Address.{addressLength};
 ghost use Rattle.frame.specs.Write.{writeBuffer};
 ghost use Rattle.turns.specs.Device.{behind, errorStatus, errorData, answerHeader, wished, wishRefused, answersAt, answeredBy, answered, backHeader, freshDevice, deviceStarts};
+ghost use Rattle.device_heard.specs.Hearing.{lengthBy};
 ghost use Rattle.device.specs.Calls.{startedAs, calledAs};
 ghost use Rattle.device.specs.Buffers.{errorBuffer, begunBuffer};
 ghost use Rattle.device.specs.Promises.{TakeIs, AnswerIs, SendIs};
@@ -154,7 +154,7 @@ fn answers_at(d: Device, left: u16) -> Turn
 
 // The device with an answer of so many data bytes.
 fn answering(d: Device, wish: Wish, count: u8, left: u16) -> Device
-    ensures { λ r. ⌜ r ≡ behind d (d .receiver) (answersAt d left) (d .request) wish (d .preamble + (addressLength (d .request .long) + 3 + count + 1)) (d .due) ⌝ }
+    ensures { λ r. ⌜ r ≡ behind d (d .receiver) (answersAt d left) (d .request) wish (lengthBy (d .preamble) (d .request .long) count) (d .due) ⌝ }
 {
     let receiver = d.receiver;
     let request = d.request;

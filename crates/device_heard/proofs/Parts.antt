@@ -5,7 +5,6 @@ use mathlib.Core.Bool.{Bool, true, false}
 use mathlib.Core.Path.{_≡_, refl, sym, ap, _∙_}
 use Rattle.base.specs.Choice.{if_then_else_, _=?_}
 use Rattle.base.proofs.Choices.{if-is-true, if-is-false}
-use Rattle.frame.specs.Address.{addressLength}
 use Rattle.frame.specs.Delimiter.{stx}
 use Rattle.frame.specs.declared.Header.{Header}
 use Rattle.line.specs.declared.Event.{Event}
@@ -26,14 +25,14 @@ use Rattle.turns.specs.declared.Turn.{Turn}
 use Rattle.turns.specs.declared.Turn.the-variants.{Asked, Follows}
 use Rattle.turns.specs.declared.Wish.{Wish}
 use Rattle.turns.specs.declared.Wish.the-variants.{Same}
-use Rattle.device_heard.specs.Hearing.{heededAs, listening, heedsRequest, heedsFrame, heedsEvent, nextTurn, nextDue, silentDue}
+use Rattle.device_heard.specs.Hearing.{lengthBy, heededAs, listening, heedsRequest, heedsFrame, heedsEvent, nextTurn, nextDue, silentDue}
 use Rattle.device_heard.specs.declared.Heeded.{Heeded}
 
 -- how many characters a frame has, by the address's form
-pub length-long : (preamble : ℕ) (long : Bool) (count : ℕ) → long ≡ true → preamble + (8 + count + 1) ≡ preamble + (addressLength long + 3 + count + 1)
+pub length-long : (preamble : ℕ) (long : Bool) (count : ℕ) → long ≡ true → preamble + (8 + count + 1) ≡ lengthBy preamble long count
 length-long preamble long count e = omega (arith, if-is-true {A = ℕ} long 5 1 e)
 
-pub length-short : (preamble : ℕ) (long : Bool) (count : ℕ) → long ≡ false → preamble + (4 + count + 1) ≡ preamble + (addressLength long + 3 + count + 1)
+pub length-short : (preamble : ℕ) (long : Bool) (count : ℕ) → long ≡ false → preamble + (4 + count + 1) ≡ lengthBy preamble long count
 length-short preamble long count e = omega (arith, if-is-false {A = ℕ} long 5 1 e)
 
 -- equal parts

@@ -1,9 +1,10 @@
 -- What a device makes of what it hears, by the definitions of turns, and what taking promises.
-use Prim.Native.Nat.{ℕ, _-_}
+use Prim.Native.Nat.{ℕ, _+_, _-_}
 use mathlib.Core.Bool.{Bool}
 use mathlib.Core.Path.{_≡_}
 use mathlib.Core.List.{List, []}
 use Rattle.base.specs.Choice.{if_then_else_, _=?_}
+use Rattle.frame.specs.Address.{addressLength}
 use Rattle.frame.specs.Delimiter.{stx}
 use Rattle.frame.specs.Frame.{frameLength}
 use Rattle.line.specs.Reader.{silence}
@@ -24,6 +25,10 @@ use Rattle.turns.specs.declared.Turn.{Turn}
 use Rattle.turns.specs.declared.Turn.the-variants.{Listens, Asked, Accepted, Follows}
 use Rattle.turns.specs.declared.Wish.the-variants.{Same}
 use Rattle.device_heard.specs.declared.Heeded.{Heeded}
+
+-- how many characters a frame has, by the form of its address: `frameLength` of crates/frame/specs/Frame.antt
+abbrev pub lengthBy : ℕ → Bool → ℕ → ℕ
+lengthBy preamble long count = preamble + (addressLength long + 3 + count + 1)
 
 -- a device with the data buffer that it is lent
 abbrev pub lent : Device → List ℕ → DeviceSide

@@ -12,11 +12,9 @@ use turns::Turn;
 use turns::Wish;
 ghost use mathlib.Core.Path.{_≡_};
 ghost use mathlib.Core.Bool.{false};
-ghost use Prim.Native.Nat.{_+_};
 ghost use Rattle.base.specs.Choice.{if_then_else_};
-ghost use Rattle.frame.specs.Address.{addressLength};
 ghost use Rattle.turns.specs.Device.{behind, isOwn, dueAfter, hasError, tells, onCharacter, waited, backDue, counts, onSilence};
-ghost use Rattle.device_heard.specs.Hearing.{listening, toldOfOther, heedsRequest, heedsFrame, heedsDamage, heedsEvent, nextTurn, nextDue, silentDue, hearsSilence, HeardIs};
+ghost use Rattle.device_heard.specs.Hearing.{lengthBy, listening, toldOfOther, heedsRequest, heedsFrame, heedsDamage, heedsEvent, nextTurn, nextDue, silentDue, hearsSilence, HeardIs};
 
 // What a device makes of a character, its reader and its wish aside, and what it tells.
 struct Heeded {
@@ -86,7 +84,7 @@ fn due_after(d: Device, h: Header) -> u32
 
 // How many characters a frame has.
 pub fn frame_length(preamble: u8, long: bool, count: u8) -> u16
-    ensures { λ r. ⌜ r ≡ preamble + (addressLength long + 3 + count + 1) ⌝ }
+    ensures { λ r. ⌜ r ≡ lengthBy preamble long count ⌝ }
 {
     if long {
         return (preamble as u16) + (8 + (count as u16) + 1);
