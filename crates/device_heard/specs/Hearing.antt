@@ -1,10 +1,9 @@
 -- What a device makes of what it hears, by the definitions of turns, and what taking promises.
-use Prim.Native.Nat.{ℕ, _+_, _-_}
-use mathlib.Core.Bool.{Bool}
+use Prim.Native.Nat.{ℕ, _-_}
+use mathlib.Core.Bool.{Bool, false}
 use mathlib.Core.Path.{_≡_}
 use mathlib.Core.List.{List, []}
 use Rattle.base.specs.Choice.{if_then_else_, _=?_}
-use Rattle.frame.specs.Address.{addressLength}
 use Rattle.frame.specs.Delimiter.{stx}
 use Rattle.frame.specs.Frame.{frameLength}
 use Rattle.line.specs.Reader.{silence}
@@ -26,9 +25,9 @@ use Rattle.turns.specs.declared.Turn.the-variants.{Listens, Asked, Accepted, Fo
 use Rattle.turns.specs.declared.Wish.the-variants.{Same}
 use Rattle.device_heard.specs.declared.Heeded.{Heeded}
 
--- how many characters a frame has, by the form of its address: `frameLength` of crates/frame/specs/Frame.antt
+-- how many characters a frame has: of its header only the form of its address counts
 abbrev pub lengthBy : ℕ → Bool → ℕ → ℕ
-lengthBy preamble long count = preamble + (addressLength long + 3 + count + 1)
+lengthBy preamble long count = frameLength preamble (record { frame = 0; long = long; primary = false; burst = false; address = 0; command = 0 }) count
 
 -- a device with the data buffer that it is lent
 abbrev pub lent : Device → List ℕ → DeviceSide

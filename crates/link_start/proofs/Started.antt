@@ -31,7 +31,7 @@ use Rattle.link_start.specs.declared.Verdict.the-variants.{Taken}
 
 -- ---- what was accepted was not refused
 
-unlike : {A : Type 0} (why : Refusal) (x : A) → _≡_ {A = Called A} (refused why) (accepted x) → ⊥
+pub unlike : {A : Type 0} (why : Refusal) (x : A) → _≡_ {A = Called A} (refused why) (accepted x) → ⊥
 unlike {A} why x e = let k : _≡_ {A = ℕ} 0 1 = ap is e in omega arith
   where
     is : Called A → ℕ
@@ -68,20 +68,21 @@ masters-accepted (refused v) (refused w) m e = absurd (unlike (lower v w) m e)
 
 -- ---- the slots
 
+-- a slot is present or absent
+pub not-both : (d : Device) → Present d ≡ Absent → ⊥
+not-both d e = let z : _≡_ {A = ℕ} 1 0 = ap is e in omega arith
+  where
+    is : Slot → ℕ
+    is Absent = 0
+    is (Present f) = 1
+
 -- a slot's device was accepted, and is one that its start reaches
 pub record SlotStarted (p : Profile) (s : Slot) (x : Lent) : Type 0 where
   pub starts : All (DeviceStarts p) (slotSides s x)
   pub ready : SlotReady s x
 
 slot-started : (p : Profile) (s : SlotSetting) (x : Lent) → slotStarts p s .verdict ≡ Taken → 284 ≤ length (x .frame) → 255 ≤ length (x .contents) → SlotStarted p (slotStarts p s .slot) x
-slot-started p SlotSetting.Absent x v h k = record { starts = none; ready = λ d e. absurd (not-there d e) }
-  where
-    not-there : (d : Device) → Absent ≡ Present d → ⊥
-    not-there d e = let z : _≡_ {A = ℕ} 0 1 = ap is e in omega arith
-      where
-        is : Slot → ℕ
-        is Absent = 0
-        is (Present f) = 1
+slot-started p SlotSetting.Absent x v h k = record { starts = none; ready = λ d e. absurd (not-both d (sym e)) }
 slot-started p (SlotSetting.Present s) x v h k = by (deviceStarts p (s .preamble) (s .polling) (s .unique)) refl v
   where
     device-in : Device → Slot → Device

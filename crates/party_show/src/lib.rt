@@ -9,6 +9,8 @@ use master::MasterTicked;
 use party::CallAnswer;
 use turns::DeviceTold;
 use turns::MasterTold;
+ghost use mathlib.Core.Path.{_≡_};
+ghost use Rattle.party_show.specs.Lines.{eventShows, tellsHost, refusedBy, hasLine};
 
 // What a party hears in a tick, and whether the script changed it.
 pub struct Ear {
@@ -159,7 +161,9 @@ fn show_device_told(told: DeviceTold, bytes: &[u8; 255]) {
 }
 
 // The number of a refusal, 0 if nothing was refused.
-fn refused_by(answer: CallAnswer) -> u32 {
+fn refused_by(answer: CallAnswer) -> u32
+    ensures { λ r. ⌜ r ≡ refusedBy answer ⌝ }
+{
     match answer {
         CallAnswer::Nothing => 0,
         CallAnswer::Taken => 0,
@@ -174,7 +178,9 @@ fn show_end(refused: u32) {
     text(b"\n");
 }
 
-fn event_shows(event: Event) -> bool {
+fn event_shows(event: Event) -> bool
+    ensures { λ r. ⌜ r ≡ eventShows event ⌝ }
+{
     match event {
         Event::Nothing => false,
         Event::PassedOver => false,
@@ -184,7 +190,9 @@ fn event_shows(event: Event) -> bool {
     }
 }
 
-fn tells(told: MasterTold) -> bool {
+fn tells(told: MasterTold) -> bool
+    ensures { λ r. ⌜ r ≡ tellsHost told ⌝ }
+{
     match told {
         MasterTold::Nothing => false,
         MasterTold::Answered(_) => true,
@@ -194,7 +202,9 @@ fn tells(told: MasterTold) -> bool {
 }
 
 // Whether a party has a line in this tick. A device tells its host only of a frame that it found.
-fn has_line(ear: Ear, event: Event, refused: u32) -> bool {
+fn has_line(ear: Ear, event: Event, refused: u32) -> bool
+    ensures { λ r. ⌜ r ≡ hasLine (ear .changed) event refused ⌝ }
+{
     if ear.changed {
         return true;
     }

@@ -28,7 +28,7 @@ use Rattle.link_start.specs.declared.DevicesSettings.{DevicesSettings}
 use Rattle.link_start.specs.declared.LinkStarted.{LinkStarted}
 use Rattle.link_start.specs.declared.PairSettings.{PairSettings}
 use Rattle.link_start.specs.declared.SlotSetting.{SlotSetting}
-use Rattle.link_start.proofs.Started.{started-ready}
+use Rattle.link_start.proofs.Started.{unlike, not-both, started-ready}
 use Rattle.player.specs.Play.{readyLink}
 use Rattle.player.specs.Ready.{settingOf, pairSettings, settings, readyStart}
 use Rattle.player_tick.specs.Step.{There, AllThere}
@@ -57,11 +57,7 @@ started-is started l e f = ap link-in (sym (ap linkAs f) ∙ e)
     link-in (refused why) = l
 
 never-refused : (started : LinkStarted) (why : Refusal) → linkAs started ≡ accepted readyStart → started ≡ LinkStarted.Refused why → ⊥
-never-refused started why e f = let k : _≡_ {A = ℕ} 0 1 = ap is (sym (ap linkAs f) ∙ e) in omega arith
-  where
-    is : Called Link → ℕ
-    is (accepted k) = 1
-    is (refused v) = 0
+never-refused started why e f = unlike why readyStart (sym (ap linkAs f) ∙ e)
 
 pub refused-none : (started : LinkStarted) (why : Refusal) (text before : List ℕ) (at r : ℕ) → linkAs started ≡ accepted readyStart → started ≡ LinkStarted.Refused why → PutIs text before at r before
 refused-none started why text before at r e f = absurd (never-refused started why e f)
@@ -71,15 +67,8 @@ refused-none started why text before at r e f = absurd (never-refused started wh
 all-ready : LinkReady (readyStart .devices) devicesFresh
 all-ready = started-ready fskProfile 3 settings readyStart all-accepted
 
-present : (d : Device) → There (Present d)
-present d e = let k : _≡_ {A = ℕ} 1 0 = ap is e in omega arith
-  where
-    is : Slot → ℕ
-    is Absent = 0
-    is (Present f) = 1
-
 all-there : AllThere (readyStart .devices)
-all-there = record { first = present _; second = present _; third = present _; fourth = present _; fifth = present _; sixth = present _ }
+all-there = record { first = not-both _; second = not-both _; third = not-both _; fourth = not-both _; fifth = not-both _; sixth = not-both _ }
 
 pub ready-stands : (script : List ℕ) (l : Link) (ears : List Ear) (at : ℕ) → l ≡ readyStart → Reads script 0 0 → Stands script 0 (record { link = l; ears = ears; next = 0; at = at }) devicesFresh
 ready-stands script l ears at e k = record {

@@ -1,4 +1,4 @@
--- What reading a list of ticks promises: the calls in front of the rest from a place on, and the place behind them. A call's data are fixed, and not the part that names them: no data can be named in many ways.
+-- What reading a list of ticks promises: the calls in front of the rest from a place on, and the place behind them. A call's data are fixed, and not the part that names them: where there are none, any empty part will do.
 use Prim.Native.Nat.{ℕ, _≤_, _<_}
 use mathlib.Core.Path.{_≡_}
 use mathlib.Core.List.{List}

@@ -1,0 +1,2 @@
+-- Which ticks of a party have a line.
+pub mod Lines
