@@ -1,12 +1,13 @@
--- Theorems on single ticks: a silent tick leads to the idle reader from any state, and no byte inside a frame's data starts another frame.
+-- Theorems on single ticks: a silent tick leads to the idle reader from any state, no byte inside a frame's data starts another frame, and damage in the byte count breaks it.
 use Prim.Native.Nat.{ℕ, _+_}
 use mathlib.Core.Path.{_≡_, refl, sym, subst}
 use mathlib.Core.Bool.{Bool, true, false}
 use Rattle.base.specs.Choice.{if_then_else_, _<?_}
-use Rattle.line.specs.Reader.{idle, silence, next, character, atData, taken}
+use Rattle.line.specs.Reader.{idle, passing, tells, silence, next, character, damaged, atData, taken}
+use Rattle.line.specs.declared.Damage.{Damage}
 use Rattle.line.specs.declared.Event.{Event}
-use Rattle.line.specs.declared.Event.the-variants.{Nothing, Broken}
-use Rattle.line.specs.declared.Heard.the-variants.{Silence, Character}
+use Rattle.line.specs.declared.Event.the-variants.{Nothing, PassedOver, Broken}
+use Rattle.line.specs.declared.Heard.the-variants.{Silence, Character, Damaged}
 use Rattle.line.specs.declared.Place.{Place}
 use Rattle.line.specs.declared.Place.the-variants.{Passing, Idle, Preamble, First, Address, Expansion, Command, Count, Data, Check}
 use Rattle.line.specs.declared.Receiver.{Receiver}
@@ -69,3 +70,12 @@ silence-breaks in-check = refl
 pub silent-breaks : (r : Receiver) → Inside (r .place) → taken r Silence .event ≡ Broken
 unfolding taken
 silent-breaks r i = silence-breaks i
+
+-- damage in the byte count breaks the frame; the character behind it, whatever it is, is passed over and told so, and so is the next
+pub record CountBroken (t : Taken) : Type 0 where
+  pub told : t .event ≡ Broken
+  pub passed : (c : ℕ) → taken (t .receiver) (Character c) ≡ tells passing PassedOver
+
+pub count-damage : (r : Receiver) (c : ℕ) (kind : Damage) → r .place ≡ Count → CountBroken (taken r (Damaged c kind))
+unfolding taken
+count-damage r c kind e = subst (λ (p : Place). CountBroken (damaged p r c kind)) (sym e) (record { told = refl; passed = λ n. refl })
