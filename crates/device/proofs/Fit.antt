@@ -36,6 +36,7 @@ use Rattle.turns.specs.declared.Wish.the-variants.{Same, On, Off}
 use Rattle.turns.proofs.Bursting.{if-both}
 use Rattle.turns.proofs.Devices.{AnswerView, ContentView, answer-view, content-view}
 use Rattle.device.specs.Buffers.{ContentLimits}
+use Rattle.device.specs.Ready.{TurnFits, Fit}
 use Rattle.device.proofs.Kept.{started-as, not-accepted}
 
 -- by the value of a test
@@ -43,21 +44,6 @@ if-by : {A : Type 0} (P : A → Type 0) (t : Bool) (a b : A) → (t ≡ true →
 unfolding if_then_else_
 if-by P true a b f q = f refl
 if-by P false a b f q = q
-
--- a request in hand is for this device; burst goes on only with content; a BACK follows only while burst is on
-abbrev pub TurnFits : Turn → Device → Type 0
-TurnFits Listens d = Unit {0}
-TurnFits (Asked n) d = isOwn d (d .request) ≡ true
-TurnFits Accepted d = wished (d .burst) (d .wish) ≡ true → d .content .given ≡ true
-TurnFits Begins d = wished (d .burst) (d .wish) ≡ true → d .content .given ≡ true
-TurnFits (Answers n) d = Unit {0}
-TurnFits Follows d = d .burst ≡ true
-TurnFits (Bursts n) d = Unit {0}
-
-pub record Fit (d : Device) (contents : List ℕ) : Type 0 where
-  pub turn-fits : TurnFits (d .turn) d
-  pub bursts-given : d .burst ≡ true → d .content .given ≡ true
-  pub given-within : d .content .given ≡ true → ContentLimits d contents
 
 -- what the promises ask of the turn
 pub fit-own : (d : Device) (contents : List ℕ) → Fit d contents → (n : ℕ) → d .turn ≡ Asked n → isOwn d (d .request) ≡ true

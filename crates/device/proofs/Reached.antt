@@ -21,19 +21,14 @@ use Rattle.turns.specs.declared.Turn.{Turn}
 use Rattle.turns.specs.declared.Turn.the-variants.{Listens, Asked, Accepted, Begins, Answers, Follows, Bursts}
 use Rattle.turns.specs.declared.Wish.{Wish}
 use Rattle.turns.proofs.Bursting.{if-both}
-use Rattle.device.specs.Buffers.{Limits}
+use Rattle.device.specs.Ready.{Ready}
 use Rattle.device.proofs.Kept.{start-within, same-within, takes-kept, answered-kept, content-kept, sends-kept}
-use Rattle.device.proofs.Fit.{Fit, start-fit, takes-fit, answered-fit, content-fit, sends-fit}
+use Rattle.device.proofs.Fit.{start-fit, takes-fit, answered-fit, content-fit, sends-fit}
 
 -- from its start, by ticks: 255 is the longest data
 pub data Reached : DeviceSide → Type 0 where
   is-started : {x : DeviceSide} {p : Profile} → DeviceStarts p x → Reached x
   is-ticked : {x : DeviceSide} (heard : Heard) (call : DeviceCall) → Reached x → Reached (deviceTick 255 x heard call .side)
-
-pub record Ready (d : Device) (frame contents : List ℕ) : Type 0 where
-  pub limits : Limits d frame
-  pub fit : Fit d contents
-  pub contents-room : 255 ≤ length contents
 
 -- the buffers keep their length
 error-length : (d : Device) (event : Event) (frame : List ℕ) → length (errorFrame d event frame) ≡ length frame

@@ -21,7 +21,8 @@ use Rattle.device.specs.Buffers.{errorBuffer, answerBuffer, storedBy}
 use Rattle.device.specs.Promises.{TakeIs, AnswerIs, SendIs}
 use Rattle.device.proofs.Limits.{error-agrees, answer-agrees, begun-agrees}
 use Rattle.device.proofs.Fit.{fit-own, fit-content}
-use Rattle.device.proofs.Reached.{Ready, takes-ready, answered-ready, content-ready}
+use Rattle.device.specs.Ready.{Ready}
+use Rattle.device.proofs.Reached.{takes-ready, answered-ready, content-ready}
 use Rattle.device_content.specs.Content.{ContentIs}
 use Rattle.device_tick.specs.declared.DeviceTicked.{DeviceTicked}
 use Rattle.device_tick.specs.declared.HostCall.{HostCall}

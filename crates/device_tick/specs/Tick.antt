@@ -18,7 +18,7 @@ use Rattle.party.specs.Calls.{answerOf}
 use Rattle.party.specs.declared.CallAnswer.{CallAnswer}
 use Rattle.device.specs.declared.DeviceCalled.{DeviceCalled}
 use Rattle.device.specs.Buffers.{errorBuffer, begunBuffer}
-use Rattle.device.proofs.Reached.{Ready}
+use Rattle.device.specs.Ready.{Ready}
 use Rattle.device_tick.specs.declared.HostCall.{HostCall}
 use Rattle.device_tick.specs.declared.CallTaken.{CallTaken}
 use Rattle.device_tick.specs.declared.DeviceTicked.{DeviceTicked}

@@ -8,7 +8,8 @@ use Rattle.line.specs.declared.Heard.{Heard}
 use Rattle.turns.specs.Link.{DeviceSide, DeviceStep, LinkStep, joins, sides, carried, deviceTick, deviceTicks, linkTick, linkAfter}
 use Rattle.turns.specs.Link as L
 use Rattle.turns.specs.declared.Device.{Device}
-use Rattle.device.proofs.Reached.{Ready, SideReady, tick-ready}
+use Rattle.device.specs.Ready.{Ready}
+use Rattle.device.proofs.Reached.{SideReady, tick-ready}
 use Rattle.device_tick.specs.Tick.{callOf, sideOf, writtenTick}
 use Rattle.device_tick.specs.declared.HostCall.{HostCall}
 use Rattle.device_tick.proofs.Ticks.{tick-agrees}

@@ -5,7 +5,7 @@ use mathlib.Core.Path.{_≡_}
 use Rattle.turns.specs.Link.{DeviceSide, DeviceStep, LinkStep, Calls}
 use Rattle.turns.specs.Link as L
 use Rattle.turns.specs.declared.Device.{Device}
-use Rattle.device.proofs.Reached.{Ready}
+use Rattle.device.specs.Ready.{Ready}
 use Rattle.master.specs.Tick as M
 use Rattle.slots.specs.Part.{dataOf}
 use Rattle.slots.specs.Slot.{Lent, slotSides, slotCalls, slotSteps}

@@ -13,7 +13,8 @@ use Rattle.turns.specs.Link.{DeviceSide}
 use Rattle.turns.specs.Run.{All, none, and, MasterStarts, DeviceStarts, Distinct, Starts}
 use Rattle.turns.specs.declared.Device.{Device}
 use Rattle.turns.specs.declared.Master.{Master}
-use Rattle.device.proofs.Reached.{Ready, is-started, reached-ready}
+use Rattle.device.specs.Ready.{Ready}
+use Rattle.device.proofs.Reached.{is-started, reached-ready}
 use Rattle.device_tick.specs.Tick.{sideOf}
 use Rattle.slots.specs.Slot.{Lent, slotSides}
 use Rattle.slots.specs.declared.Devices.{Devices}

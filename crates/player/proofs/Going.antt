@@ -8,7 +8,8 @@ use Rattle.turns.specs.Link.{Calls, LinkStep, linkTick, linkAfter, run}
 use Rattle.turns.specs.Link as L
 use Rattle.script.specs.Script.{recordsOf, callsAt, callsFrom, tickAt}
 use Rattle.script.specs.declared.ScriptTick.{ScriptTick}
-use Rattle.script.proofs.Ticks.{Reads, reads-tick, reads-next}
+use Rattle.script.specs.Reads.{Reads}
+use Rattle.script.proofs.Ticks.{reads-tick, reads-next}
 use Rattle.listing.specs.Lines.{linesFrom}
 use Rattle.listing.specs.Put.{outOf, put, PutIs}
 use Rattle.listing.specs.Text.{linesText}

@@ -12,7 +12,7 @@ use Rattle.turns.specs.Master.{Called, accepted, refused}
 use Rattle.turns.specs.Link as L
 use Rattle.turns.specs.declared.Device.{Device}
 use Rattle.script.specs.Script.{recordsOf}
-use Rattle.script.proofs.Ticks.{Reads}
+use Rattle.script.specs.Reads.{Reads}
 use Rattle.listing.specs.Lines.{quietEar}
 use Rattle.listing.specs.Put.{PutIs}
 use Rattle.listing.specs.Text.{headLine}

@@ -5,7 +5,7 @@ use Rattle.turns.specs.Link.{run}
 use Rattle.turns.specs.Link as L
 use Rattle.script.specs.Script.{callsFrom}
 use Rattle.script.specs.declared.Entry.{Entry}
-use Rattle.script.proofs.Ticks.{Reads}
+use Rattle.script.specs.Reads.{Reads}
 use Rattle.listing.specs.Lines.{linesFrom}
 use Rattle.listing.specs.Text.{linesText}
 use Rattle.listing.specs.declared.Ear.{Ear}

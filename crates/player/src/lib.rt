@@ -14,7 +14,7 @@ ghost use Prim.Native.Nat.{_≤_};
 ghost use lib.ListN.{replicate};
 ghost use Rattle.turns.specs.Master.{accepted};
 ghost use Rattle.script.specs.Script.{recordsOf, goodScript};
-ghost use Rattle.script.proofs.Ticks.{Reads};
+ghost use Rattle.script.specs.Reads.{Reads};
 ghost use Rattle.listing.specs.Lines.{quietEar};
 ghost use Rattle.listing.specs.Text.{headLine};
 ghost use Rattle.listing.specs.Put.{PutIs};

@@ -12,21 +12,12 @@ use Rattle.base.specs.Choice.{if_then_else_, _=?_}
 use Rattle.base.proofs.Choices.{if-is-false}
 use Rattle.base.proofs.Tables.{chain-second}
 use Rattle.script.specs.Script.{entryOf, recordsOf, calledBefore, isGood, goodScript, isOf, wantedAt, leading, tickOf, tickAt}
+use Rattle.script.specs.Reads.{Rising, none, more, Reads}
 use Rattle.script.specs.declared.Entry.{Entry}
 use Rattle.script.specs.declared.ScriptTick.{ScriptTick}
 use Rattle.script.specs.declared.Wanted.{Wanted}
 use Rattle.script.specs.declared.Wanted.the-variants.{Nothing, Call}
 use Rattle.script.proofs.Good.{good-end, good-call}
-
--- ticks that do not fall, from this one on
-pub data Rising : ℕ → List Entry → Type 0 where
-  none : {low : ℕ} → Rising low []
-  more : {low : ℕ} {e : Entry} {es : List Entry} → low ≤ e .tick → Rising (e .tick) es → Rising low (e ∷ es)
-
--- the records from a place on do not fall below this tick; and for this tick and each later one they want what the whole script wants
-pub record Reads (script : List ℕ) (at tick : ℕ) : Type 0 where
-  pub rising : Rising tick (recordsOf (drop at script))
-  pub rest : (later party : ℕ) → tick ≤ later → wantedAt later party (recordsOf (drop at script)) ≡ wantedAt later party (recordsOf script)
 
 -- ---- from the start
 
