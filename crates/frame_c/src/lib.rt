@@ -4,9 +4,6 @@ use frame::Header;
 use frame::Read;
 use frame::Written;
 ghost use mathlib.Core.Path.{_≡_};
-ghost use lib.ListN.{length};
-ghost use Rattle.frame.specs.Write.{writeAnswer, writeBuffer};
-ghost use Rattle.frame.specs.Read.{readFrame};
 ghost use Rattle.frame_c.specs.Numbers.{bit, foundNumbers, header, WriteCall, ReadCall};
 
 // Writes a frame, and sets end to where it ends; or gives the refusal's number and changes nothing.

@@ -7,7 +7,7 @@ use frame::Read;
 ghost use mathlib.Core.Path.{_≡_};
 ghost use Prim.Native.Nat.{_+_, _^_, _≤_, _<_};
 ghost use lib.ListN.{length};
-ghost use Rattle.frame.specs.Address.{addressOf, pollingAddress, uniqueAddress};
+ghost use Rattle.frame.specs.Address.{addressOf, uniqueAddress};
 ghost use Rattle.frame.specs.Read.{preambles, commandPlace, headerOf, withCount, withCommand, readBody, readFrame, partOf};
 
 // How many 0xFF stand in front.

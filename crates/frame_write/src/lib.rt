@@ -13,7 +13,6 @@ ghost use Rattle.frame.specs.Address.{addressTooLarge, largestAddress, firstByt
 ghost use Rattle.frame.specs.Check.{xorFrom};
 ghost use Rattle.frame.specs.Frame.{headerBytes, bodyBytes, preambleBytes, frameBytes, headerLength, frameLength};
 ghost use Rattle.frame.specs.Write.{byRoom, writeAnswer, WriteIs};
-ghost use Rattle.frame.proofs.Taken.{Fits};
 
 // The first n bytes become 0xFF.
 fn put_preamble(part: &mut [u8], n: usize)
