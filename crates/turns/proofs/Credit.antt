@@ -6,8 +6,7 @@ use mathlib.Core.Bool.{Bool, true, false}
 use mathlib.Core.List.{List, [], _∷_}
 use mathlib.Core.Logic.{_⊎_, inl, inr}
 use lib.ListN.{length, take, getD}
-use borrow.Author.Tests.{eqb-true}
-use Rattle.base.specs.Choice.{if_then_else_, _=?_}
+use Rattle.base.specs.Choice.{if_then_else_}
 use Rattle.base.proofs.Choices.{true-false, if-is-true, if-is-false}
 use Rattle.frame.specs.Delimiter.{stx, ack, back}
 use Rattle.frame.specs.declared.Header.{Header}
@@ -20,7 +19,7 @@ use Rattle.line.specs.declared.Receiver.{Receiver}
 use Rattle.line.specs.declared.Taken.{Taken}
 use Rattle.line.specs.declared.Whole.{Whole}
 use Rattle.line.proofs.Leads.{readerAfter, dataAfter}
-use Rattle.turns.specs.Master.{toItself, sameBit, isAnswer}
+use Rattle.turns.specs.Master.{toItself, isAnswer}
 use Rattle.turns.specs.Device.{isOwn, answerHeader}
 use Rattle.turns.specs.Link.{MasterCall, DeviceCall, no-call, MasterSide, MasterStep, DeviceSide, DeviceStep, Link, LinkStep, Calls, masterTick, deviceTick, deviceTicks, linkTick, linkAfter, run, sides}
 use Rattle.turns.specs.Run.{All, none, and, EachTick, OneBursts}
@@ -34,6 +33,7 @@ use Rattle.turns.proofs.Turns.{listens-asked}
 use Rattle.turns.specs.declared.MasterTold.{MasterTold}
 use Rattle.turns.specs.declared.MasterTold.the-variants.{Answered, GivenUp, BroadcastSent}
 use Rattle.turns.specs.declared.Turn.the-variants.{Listens, Answers}
+use Rattle.turns.proofs.Sentences.{answer-repeats}
 use Rattle.turns.proofs.Spoken.{Spoken}
 use Rattle.turns.proofs.Masters.{Holds, left}
 use Rattle.turns.proofs.Devices.{own-kept}
@@ -100,26 +100,13 @@ module _ (limit : ℕ) (x : MasterSide) (call : MasterCall) where
         r .hears,
       )
 
--- an answer is an ACK with the master's own bit
-answer-ack : (m : Master) (h : Header) → isAnswer m h ≡ true → (h .frame ≡ ack) × (toItself m h ≡ true)
-unfolding if_then_else_
-answer-ack m h e = go (h .frame =? ack) refl (toItself m h) refl e
-  where
-    by : Bool → Bool → Bool
-    by a b = if a then (if b then (if sameBit (m .message .header .long) (h .long) then (if m .message .header .address =? h .address then m .message .header .command =? h .command else false) else false) else false) else false
-
-    go : (a : Bool) → (h .frame =? ack) ≡ a → (b : Bool) → toItself m h ≡ b → by a b ≡ true → (h .frame ≡ ack) × (toItself m h ≡ true)
-    go true p true q z = (eqb-true (h .frame) ack p, q)
-    go true p false q z = absurd (true-false (sym z))
-    go false p b q z = absurd (true-false (sym z))
-
 -- not at the end of another frame
 other-reports : (limit : ℕ) (x : MasterSide) (call : MasterCall) (w : List ℕ) (message : Whole) (k : ℕ) → Spoken w message → suc k ≡ length w → x .master .receiver ≡ readerAfter idle (take k w) → (message .header .frame ≡ ack → ⊥)
     → NoReport (masterTick limit x (Character (getD w k 0)) call)
 unfolding NoReport
 other-reports limit x call w message k s last q f v e =
     let r = end-reports limit x call w message k s last q v e in
-    f (ap (λ (z : Whole). z .header .frame) (sym (r .0)) ∙ answer-ack (x .master) (v .header) (r .1) .0)
+    f (ap (λ (z : Whole). z .header .frame) (sym (r .0)) ∙ answer-repeats (x .master) (v .header) (r .1) .is-ack)
 
 -- ---- the device that answers, and what the masters have heard of its ACK
 
@@ -490,7 +477,7 @@ module _ (limit : ℕ) (low : 2 ≤ limit) (high : limit ≤ 255) (p : Profile) 
         let t = end-reports limit x d w message k (f .speaks .held .speaks) last r told e in
         let o = f .owes in
         let v-is = t .0 ∙ message-sent (o .gives) (f .speaks .held) k last in
-        let request-is = asked-by bit (x .master) (told .header) (f .x) pr (answer-ack (x .master) (told .header) (t .1) .1) (ap (λ (z : Whole). z .header .primary) v-is) o in
+        let request-is = asked-by bit (x .master) (told .header) (f .x) pr (answer-repeats (x .master) (told .header) (t .1) .own-bit) (ap (λ (z : Whole). z .header .primary) v-is) o in
         let w-is = frame-sent (o .gives) (f .speaks .held) in
         record {
           put = o .gives .put;

@@ -1,4 +1,5 @@
 -- The theorems on the rules of turns.
+pub mod Sentences
 pub mod AckBack
 pub mod Beginning
 pub mod Begun
