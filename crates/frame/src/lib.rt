@@ -14,6 +14,7 @@ pub const BACK: u8 = 1;
 
 // What a frame says, preamble and data aside.
 pub struct Header {
+    pub address: u64,
     // the frame type: STX, ACK or BACK
     pub frame: u8,
     // a unique address of 38 bits, or a polling address of 6
@@ -22,7 +23,6 @@ pub struct Header {
     pub primary: bool,
     // the burst flag
     pub burst: bool,
-    pub address: u64,
     pub command: u8,
 }
 

@@ -70,8 +70,8 @@ pub struct Harm {
 
 // What the tick reader holds from tick to tick: its place, and what it has heard of the frame so far.
 pub struct Receiver {
-    pub place: Place,
     pub header: Header,
+    pub place: Place,
     pub expansion: u8,
     pub count: u8,
     // the exclusive-or of the characters from the delimiter on

@@ -1,5 +1,5 @@
 -- Laws of a tick's lines: for one party, and for several one behind the other.
-use Prim.Native.Nat.{ℕ, _+_, _≤_, _<_}
+use Prim.Native.Nat.{ℕ, suc, _+_, _≤_, _<_}
 use native.Mathlib.Numerals.{add-one}
 use native.Mathlib.Omega.{arith}
 use mathlib.Core.Bool.{Bool, true, false}
@@ -9,10 +9,9 @@ use lib.ListN.{length, take, drop, getD, set, replicate, length-set, drop-of-len
 use lib.Seq.{drop-cons, drop-set-lt, take-all, take-suc-set}
 use Rattle.base.specs.Choice.{if_then_else_, _≤?_}
 use Rattle.base.proofs.Choices.{if-is-true, if-is-false}
-use Rattle.line.specs.Reader.{idle, taken}
+use Rattle.line.specs.Reader.{idle, character, taken}
 use Rattle.line.specs.declared.Event.{Event}
 use Rattle.line.specs.declared.Event.the-variants.{Nothing, PassedOver, Broken, Frame, Damaged}
-use Rattle.line.specs.declared.Heard.the-variants.{Character}
 use Rattle.line.specs.declared.Receiver.{Receiver}
 use Rattle.line.specs.declared.Taken.{Taken}
 use Rattle.line.specs.declared.Whole.{Whole}
@@ -95,9 +94,9 @@ pub ruleset tells = (refl, told-nothing, told-passed-over, told-broken, told-dam
 
 -- a character
 pub hears : (tick party : ℕ) (lone : Bool) (e : Ear) (c : ℕ) (n : ℕ) (alone : Bool) (t : Taken) (before after : List ℕ) (at : ℕ) (f : Ear) (r : ℕ)
-    → t ≡ taken (e .receiver) (Character c) → n ≡ oneMore (e .count) → alone ≡ (if e .alone then lone else false) → PartyIs (endsWith tick party n alone t) before at f r after
+    → t ≡ character (e .receiver .place) (e .receiver) c → n ≡ oneMore (e .count) → alone ≡ (if e .alone then lone else false) → PartyIs (endsWith tick party n alone t) before at f r after
     → PartyIs (listens tick party lone e (Sent.Character c)) before at f r after
-unfolding listens
+unfolding listens taken
 hears tick party lone e c n alone t before after at f r p q s v =
     subst (λ (x : PartyLines). PartyIs x before at f r after) (λ i. endsWith tick party (q i) (s i) (p i)) v
 
@@ -229,6 +228,41 @@ unfolding tickLines
 tick-silent tick n es fs ss before at e z h k q =
     subst (λ (l : List Ear). TickIs (linesOf tick 0 (senders ss ≤? 1) es ss) before at l at before) (ap (λ (m : ℕ). replicate m quietEar) k ∙ sym q)
     (nobody tick 0 (senders ss ≤? 1) es ss before at (h ∙ sym k) (sym e ∙ z))
+
+-- one party sends, and no other
+pub data AloneIn (c : ℕ) : ℕ → List Sent → Type 0 where
+  speaks-here : {ss : List Sent} → senders ss ≡ 0 → AloneIn c 0 (Sent.Character c ∷ ss)
+  speaks-behind : {k : ℕ} {ss : List Sent} → AloneIn c k ss → AloneIn c (suc k) (Silent ∷ ss)
+
+alone-senders : (c k : ℕ) (ss : List Sent) → AloneIn c k ss → senders ss ≡ 1
+unfolding senders
+alone-senders c _ _ (speaks-here h) = omega (arith, h)
+alone-senders c _ _ (speaks-behind {k} {ss} a) = omega (arith, alone-senders c k ss a)
+
+alone-lines : (tick party : ℕ) (lone : Bool) (c k : ℕ) (es : List Ear) (ss : List Sent) (before after : List ℕ) (at r : ℕ) (d e : Ear) → AloneIn c k ss → length es ≡ length ss
+    → PartyIs (listens tick (party + k) lone (getD es k d) (Sent.Character c)) before at e r after → TickIs (linesOf tick party lone es ss) before at (set (replicate (length ss) quietEar) k e) r after
+unfolding linesOf
+alone-lines tick party lone c _ [] _ before after at r d e (speaks-here h) l p = absurd (omega (arith, l))
+alone-lines tick party lone c _ (f ∷ es) _ before after at r d e (speaks-here {ss} h) l p =
+    let here : party + 0 ≡ party = omega arith in
+    tick-besides (listens tick party lone f (Sent.Character c)) (linesOf tick (party + 1) lone es ss) before after after at r r e (replicate (length ss) quietEar)
+    (subst (λ (n : ℕ). PartyIs (listens tick n lone f (Sent.Character c)) before at e r after) here p)
+    (nobody tick (party + 1) lone es ss after r (omega (arith, l)) h)
+alone-lines tick party lone c _ [] _ before after at r d e (speaks-behind a) l p = absurd (omega (arith, l))
+alone-lines tick party lone c _ (f ∷ es) _ before after at r d e (speaks-behind {k} {ss} a) l p =
+    let behind : party + suc k ≡ party + 1 + k = omega arith in
+    tick-besides (listens tick party lone f Silent) (linesOf tick (party + 1) lone es ss) before before after at at r quietEar (set (replicate (length ss) quietEar) k e)
+    (listens-silent tick party lone f Silent before at quietEar refl refl)
+    (alone-lines tick (party + 1) lone c k es ss before after at r d e a (omega (arith, l)) (subst (λ (n : ℕ). PartyIs (listens tick n lone (getD es k d) (Sent.Character c)) before at e r after) behind p))
+
+pub tick-alone : (tick c k : ℕ) (es : List Ear) (ss : List Sent) (before after : List ℕ) (at r : ℕ) (d e : Ear) → AloneIn c k ss → length es ≡ 8 → length ss ≡ 8
+    → PartyIs (listens tick k true (getD es k d) (Sent.Character c)) before at e r after → TickIs (tickLines tick es ss) before at (set (replicate 8 quietEar) k e) r after
+unfolding tickLines
+tick-alone tick c k es ss before after at r d e a h l p =
+    let one : true ≡ (senders ss ≤? 1) = ap (λ (n : ℕ). n ≤? 1) (sym (alone-senders c k ss a)) in
+    let lines = alone-lines tick 0 true c k es ss before after at r d e a (h ∙ sym l) (subst (λ (n : ℕ). PartyIs (listens tick n true (getD es k d) (Sent.Character c)) before at e r after) (omega arith) p) in
+    subst (λ (n : ℕ). TickIs (linesOf tick 0 (senders ss ≤? 1) es ss) before at (set (replicate n quietEar) k e) r after) l
+    (subst (λ (b : Bool). TickIs (linesOf tick 0 b es ss) before at (set (replicate (length ss) quietEar) k e) r after) one lines)
 
 -- a tick
 pub tick-is : (tick n : ℕ) (es : List Ear) (ss : List Sent) (before : List ℕ) (at : ℕ) (fs : List Ear) (r : ℕ) (after : List ℕ)

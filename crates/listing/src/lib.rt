@@ -1,7 +1,6 @@
 // The player's output: an ear for each party that listens to what it sends, and the lines of the frames that it hears, put as text into a lent buffer.
 use frame::Header;
 use line::Event;
-use line::Heard;
 use line::Receiver;
 use line::Taken;
 use turns::Sent;
@@ -11,7 +10,6 @@ ghost use mathlib.Core.Bool.{false};
 ghost use lib.ListN.{replicate};
 ghost use Prim.Native.Nat.{_<_, _+_};
 ghost use Rattle.base.specs.Choice.{if_then_else_};
-ghost use Rattle.line.specs.Reader as Reader;
 ghost use Rattle.listing.specs.Lines.{lineOf, quietEar, frameEnds, endsWith, oneMore, listens, linesOf, senders, tickLines};
 ghost use Rattle.listing.specs.Text.{decimalOf, decimal, headLine, typeName, masterDigit, word, lineText};
 ghost use Rattle.listing.specs.Put.{PutIs};
@@ -39,9 +37,9 @@ pub struct Listened {
 }
 
 // The same of one party.
-struct EarHeard {
-    ear: Ear,
-    at: usize,
+pub struct EarHeard {
+    pub ear: Ear,
+    pub at: usize,
 }
 
 // A byte at a place of the output, if there is room for it; the next place.
@@ -265,20 +263,20 @@ fn both(a: bool, b: bool) -> bool
     false
 }
 
-// A reader behind a character. The frame's data are of no interest here.
-fn taken(r: Receiver, c: u8) -> Taken
-    ensures { λ t. ⌜ t ≡ Reader.taken r (Heard.Character c) ⌝ }
-{
-    let mut bytes = [0u8; 255];
-    tick_reader::take(r, Heard::Character(c), &mut bytes)
-}
-
 // A party sends a character.
-fn hear(tick: u16, party: u16, lone: bool, ear: Ear, c: u8, out: &mut [u8], at: usize) -> EarHeard
+pub fn hear(
+    tick: u16,
+    party: u16,
+    lone: bool,
+    ear: Ear,
+    c: u8,
+    out: &mut [u8],
+    at: usize,
+) -> EarHeard
     ensures { λ h. ⌜ PartyIs (listens tick party lone ear (Sent.Character c)) (now (out .entry)) at (h .ear) (h .at) (now (out .exit)) ⌝ }
 {
     let r = ear.receiver;
-    let t = taken(r, c);
+    let t = tick_reader::heard_character(r, c);
     let count = one_more(ear.count);
     let alone = both(ear.alone, lone);
     ends_with(tick, party, count, alone, t, out, at)

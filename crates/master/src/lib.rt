@@ -40,8 +40,8 @@ pub enum MasterRequested {
 // A host's request, its data aside.
 pub struct Wanted {
     pub preamble: usize,
-    pub long: bool,
     pub address: u64,
+    pub long: bool,
     pub command: u8,
 }
 

@@ -109,7 +109,7 @@ fn open_window(p: Profile) -> Timer
 }
 
 // A silent tick with BURST clear.
-fn count_clear(p: Profile, t: Timer) -> Timer
+pub fn count_clear(p: Profile, t: Timer) -> Timer
     ensures { λ r. ⌜ r ≡ countClear p t ⌝ }
 {
     if t.next <= 1 {

@@ -17,10 +17,12 @@ use Rattle.listing.proofs.Listens.{tick-goes-on}
 use Rattle.listing.proofs.Puts.{put-length}
 use Rattle.link.specs.Link.{MasterLent, DevicesLent}
 use Rattle.link.specs.Stands.{linkOf}
-use Rattle.player_tick.specs.Sents.{sentOf, sentIn}
+use Rattle.link.specs.Sents.{sentOf, sentIn}
 use Rattle.player_tick.specs.Step.{callsBy, stepAt, StepIs}
 use Rattle.player_tick.specs.declared.Playing.{Playing}
+use Rattle.player.specs.Ahead.{GoneIs}
 use Rattle.player.specs.Ticks.{textFrom, Stands}
+use Rattle.player.specs.declared.Gone.{Gone}
 
 pub record Going (script : List ℕ) (stop : ℕ) (text before : List ℕ) (from : ℕ) (p : Playing) (x y : MasterLent) (d : DevicesLent) (out : List ℕ) (tick : ℕ) : Type 0 where
   pub within : tick ≤ stop
@@ -38,31 +40,14 @@ going-begun script stop before p x y d k = record {
 }
 
 module _ (script : List ℕ) (stop : ℕ) (text before : List ℕ) (from : ℕ) (p : Playing) (x y : MasterLent) (d : DevicesLent) (out : List ℕ) (tick : ℕ) (g : Going script stop text before from p x y d out tick) where
-  -- the step that the code made is that of the script's calls
-  here : stepAt p tick script x y d ≡ linkTick 255 (linkOf (p .link) x y d) (callsAt tick (recordsOf script))
-  here = ap (λ (w : ScriptTick). linkTick 255 (linkOf (p .link) x y d) (callsBy tick w)) (reads-tick script (p .next) tick (tickAt script (p .next) tick) (g .stands .reads) refl)
-
-  pub going-on : (r : Playing) (out-after : List ℕ) (x-after y-after : MasterLent) (d-after : DevicesLent) → tick < stop → StepIs p tick script out x y d r out-after x-after y-after d-after
-      → Going script stop text before from r x-after y-after d-after out-after (tick + 1)
-  unfolding sentIn run callsFrom
-  going-on r out-after x-after y-after d-after h is =
-      let t = is .within (g .stands .ready) (g .stands .there) in
-      let rest : List Calls = callsFrom (tick + 1) (stop - (tick + 1)) (recordsOf script) in
-      let one-less : suc (stop - (tick + 1)) ≡ stop - tick = omega arith in
-      record {
-        within = omega arith;
-        same-length = put-length _ _ _ _ _ (t .lines-are .text) ∙ g .same-length;
-        stands = record {
-          reads = subst (λ (n : ℕ). Reads script n (tick + 1)) (sym (t .next-is)) (reads-next script (p .next) tick (tickAt script (p .next) tick) (g .stands .reads) refl);
-          ready = t .ready;
-          there = t .there;
-        };
-        left = ap (λ (l : L.Link). put (outOf out-after (r .at)) (linesText (linesFrom (tick + 1) (r .ears) (sentIn (run 255 l rest))))) (t .link-is)
-            ∙ sym (tick-goes-on tick (p .ears) (r .ears) (sentOf (stepAt p tick script x y d)) (sentIn (run 255 (linkAfter (stepAt p tick script x y d)) rest)) out out-after (p .at) (r .at) (t .lines-are))
-            ∙ ap (λ (s : LinkStep). put (outOf out (p .at)) (linesText (linesFrom tick (p .ears) (sentOf s ∷ sentIn (run 255 (linkAfter s) rest))))) here
-            ∙ ap (λ (n : ℕ). put (outOf out (p .at)) (textFrom tick n (p .ears) (linkOf (p .link) x y d) (recordsOf script))) one-less
-            ∙ g .left;
-      }
+  pub going-on : (r : Gone) (x-after y-after : MasterLent) (d-after : DevicesLent) (out-after : List ℕ) → GoneIs script tick stop p x y d out r x-after y-after d-after out-after
+      → Going script stop text before from (r .playing) x-after y-after d-after out-after (tick + r .ticks)
+  going-on r x-after y-after d-after out-after is = record {
+    within = is .within;
+    same-length = is .same-length ∙ g .same-length;
+    stands = is .stands;
+    left = is .left ∙ g .left;
+  }
 
   pub going-ended : stop ≤ tick → PutIs text before from (p .at) out
   unfolding sentIn run callsFrom linesFrom linesText put
@@ -70,4 +55,13 @@ module _ (script : List ℕ) (stop : ℕ) (text before : List ℕ) (from : ℕ) 
       let none : 0 ≡ stop - tick = omega arith in
       record { out = ap (λ (n : ℕ). put (outOf out (p .at)) (textFrom tick n (p .ears) (linkOf (p .link) x y d) (recordsOf script))) none ∙ g .left }
 
-pub ruleset goings = (refl, going-begun, going-ended)
+-- what the loop's numbers need
+pub gone-room : (script : List ℕ) (tick stop : ℕ) (p : Playing) (x y : MasterLent) (d : DevicesLent) (out : List ℕ) (r : Gone) (x-after y-after : MasterLent) (d-after : DevicesLent) (out-after : List ℕ)
+    → GoneIs script tick stop p x y d out r x-after y-after d-after out-after → stop < 65536 → tick + r .ticks < 65536
+gone-room script tick stop p x y d out r x-after y-after d-after out-after is h = omega (arith, is .within)
+
+pub gone-less : (script : List ℕ) (tick stop : ℕ) (p : Playing) (x y : MasterLent) (d : DevicesLent) (out : List ℕ) (r : Gone) (x-after y-after : MasterLent) (d-after : DevicesLent) (out-after : List ℕ)
+    → GoneIs script tick stop p x y d out r x-after y-after d-after out-after → tick < stop → stop - (tick + r .ticks) < stop - tick
+gone-less script tick stop p x y d out r x-after y-after d-after out-after is h = omega (arith, is .some)
+
+pub ruleset goings = (refl, going-begun, going-on, going-ended, gone-room, gone-less)

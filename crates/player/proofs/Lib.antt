@@ -2,3 +2,5 @@
 pub mod Going
 pub mod Started
 pub mod Whole
+pub mod Following
+pub mod Ahead

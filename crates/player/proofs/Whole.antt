@@ -20,7 +20,7 @@ use Rattle.listing.proofs.Lengths.{listing-most}
 use Rattle.listing.proofs.Puts.{put-front}
 use Rattle.player.specs.Play.{readyLink, listing, badScript, play, PlayIs}
 use Rattle.player.specs.Ticks.{textFrom}
-use Rattle.player_tick.specs.Sents.{sentIn}
+use Rattle.link.specs.Sents.{sentIn}
 
 -- ---- the stop's tick
 

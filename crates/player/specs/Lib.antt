@@ -2,3 +2,4 @@
 pub mod Play
 pub mod Ready
 pub mod Ticks
+pub mod Ahead

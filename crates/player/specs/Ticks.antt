@@ -11,7 +11,7 @@ use Rattle.listing.specs.Text.{linesText}
 use Rattle.listing.specs.declared.Ear.{Ear}
 use Rattle.link.specs.Link.{DevicesLent}
 use Rattle.link.specs.Stands.{LinkReady}
-use Rattle.player_tick.specs.Sents.{sentIn}
+use Rattle.link.specs.Sents.{sentIn}
 use Rattle.player_tick.specs.Step.{AllThere}
 use Rattle.player_tick.specs.declared.Playing.{Playing}
 

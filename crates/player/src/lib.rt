@@ -1,20 +1,24 @@
 // The player: it plays a script on a link and lists the frames that were sent to the end.
 use line::Profile;
 use link::Link;
+use link_speaks::Speaker;
 use link_start::DevicesSettings;
 use link_start::LinkStarted;
 use link_start::PairSettings;
 use link_start::Setting;
 use link_start::SlotSetting;
+use listing::Ear;
+use listing::Ears;
 use player_tick::Playing;
 ghost use mathlib.Core.Path.{_≡_};
 ghost use mathlib.Core.Bool.{true};
 ghost use mathlib.Core.List.{_++_};
-ghost use Prim.Native.Nat.{_≤_};
-ghost use lib.ListN.{replicate};
+ghost use Prim.Native.Nat.{_+_, _≤_, _<_};
+ghost use lib.ListN.{length, getD, replicate};
 ghost use Rattle.turns.specs.Master.{accepted};
 ghost use Rattle.script.specs.Script.{recordsOf, goodScript};
 ghost use Rattle.script.specs.Reads.{Reads};
+ghost use Rattle.script.specs.Walk.{freeTicks};
 ghost use Rattle.listing.specs.Lines.{quietEar};
 ghost use Rattle.listing.specs.Text.{headLine};
 ghost use Rattle.listing.specs.Put.{PutIs};
@@ -24,6 +28,311 @@ ghost use Rattle.link_start.specs.Start.{linkAs};
 ghost use Rattle.player.specs.Play.{readyLink, listing, play, PlayIs};
 ghost use Rattle.player.specs.Ready.{settingOf, pairSettings, settings, readyStart};
 ghost use Rattle.player.specs.Ticks.{textFrom, Stands};
+ghost use Rattle.link_speaks.specs.Speaks.{frameOf};
+ghost use Rattle.player.specs.Ahead.{GoneIs, Follows, hasMore, earsBut, restedPlaying, SpokeOn};
+
+// A play behind one tick or more, and how many they were.
+struct Gone {
+    playing: Playing,
+    ticks: u16,
+}
+
+// The ear of a party behind some ticks, and the place behind their lines in the output.
+struct Followed {
+    ear: Ear,
+    at: usize,
+}
+
+// A party speaks alone, so many characters of its frame.
+fn follow_frame(
+    tick: u16,
+    party: u16,
+    start: Ear,
+    frame: &[u8; 284],
+    from: u16,
+    ticks: u16,
+    out: &mut [u8],
+    at: usize,
+) -> Followed
+    requires { ⌜ (tick + ticks < 65536) × (from + ticks < 65536) ⌝ }
+    ensures { λ r. ⌜ Follows tick party (now (frame .entry)) from start at (now (out .entry)) ticks (r .ear) (r .at) (now (out .exit)) ⌝ }
+{
+    let mut f = Followed { ear: start, at: at };
+    let mut i: u16 = 0;
+    while i < ticks {
+        let e = f.ear;
+        let c = party::character_at(frame, from + i);
+        let h = listing::hear(tick + i, party, true, e, c, out, f.at);
+        let next = h.ear;
+        f = Followed {
+            ear: next,
+            at: h.at,
+        };
+        i += 1;
+    }
+    f
+}
+
+// The same of the party with this number.
+fn follow(
+    tick: u16,
+    speaker: usize,
+    start: Ear,
+    from: u16,
+    ticks: u16,
+    stx: &[u8; 284],
+    stxs: &[u8; 284],
+    frames: &[[u8; 284]; 6],
+    out: &mut [u8],
+    at: usize,
+) -> Followed
+    requires { ⌜ (speaker < 8) × ((tick + ticks < 65536) × (from + ticks < 65536)) ⌝ }
+    ensures { λ r. ⌜ Follows tick speaker (frameOf speaker (now (stx .entry)) (now (stxs .entry)) (now (frames .entry))) from start at (now (out .entry)) ticks (r .ear) (r .at) (now (out .exit)) ⌝ }
+{
+    if speaker == 0 {
+        return follow_frame(tick, 0, start, stx, from, ticks, out, at);
+    }
+    if speaker == 1 {
+        return follow_frame(tick, 1, start, stxs, from, ticks, out, at);
+    }
+    let n = speaker - 2;
+    follow_frame(
+        tick,
+        speaker as u16,
+        start,
+        &frames[n],
+        from,
+        ticks,
+        out,
+        at,
+    )
+}
+
+// Ears that have heard nothing of a frame, but for one.
+fn ears_but(party: usize, ear: Ear) -> Ears
+    requires { ⌜ party < 8 ⌝ }
+    ensures { λ r. ⌜ r ≡ earsBut party ear ⌝ }
+{
+    let mut ears = listing::quiet_ears();
+    ears[party] = ear;
+    ears
+}
+
+// There is an ear for each party: what the array's type says, in words that the promises below need.
+fn ear_of(ears: Ears, party: usize) -> Ear
+    requires { ⌜ party < 8 ⌝ }
+    ensures { λ r. ⌜ (r ≡ getD ears party quietEar) × (length ears ≡ 8) ⌝ }
+{
+    ears[party]
+}
+
+// Ticks in which one party speaks and all the others hear it, so many at most.
+fn speak_on(
+    p: Playing,
+    tick: u16,
+    most: u16,
+    stx: &[u8; 284],
+    own: &mut [u8; 255],
+    stxs: &[u8; 284],
+    owns: &mut [u8; 255],
+    frames: &[[u8; 284]; 6],
+    bytes: &mut [[u8; 255]; 6],
+    out: &mut [u8],
+) -> Gone
+    requires { ⌜ tick + most < 65536 ⌝ }
+    ensures { λ r. ⌜ SpokeOn p tick most (now (stx .entry)) (now (stxs .entry)) (now (frames .entry)) (now (own .entry)) (now (owns .entry)) (now (bytes .entry)) (now (out .entry)) r (now (own .exit)) (now (owns .exit)) (now (bytes .exit)) (now (out .exit)) ⌝ }
+{
+    let l = p.link;
+    let ears = p.ears;
+    let s = link_speaks::speak(l, most, stx, own, stxs, owns, frames, bytes);
+    let link = s.link;
+    let ear = ear_of(ears, s.party);
+    let f = follow(
+        tick,
+        s.party,
+        ear,
+        s.from,
+        s.ticks,
+        stx,
+        stxs,
+        frames,
+        out,
+        p.at,
+    );
+    let last = f.ear;
+    let after = ears_but(s.party, last);
+    let playing = Playing {
+        link: link,
+        ears: after,
+        next: p.next,
+        at: f.at,
+    };
+    Gone {
+        playing: playing,
+        ticks: s.ticks,
+    }
+}
+
+// So many ticks of a link that rests.
+fn rest_on(p: Playing, ticks: u16) -> Gone
+    ensures { λ r. ⌜ (r ≡ restedPlaying ticks p) × (length (p .ears) ≡ 8) ⌝ }
+{
+    let l = p.link;
+    let heard = p.ears;
+    ear_of(heard, 0);
+    let link = link_rests::link_rested(l, ticks);
+    let ears = listing::quiet_ears();
+    let playing = Playing {
+        link: link,
+        ears: ears,
+        next: p.next,
+        at: p.at,
+    };
+    Gone {
+        playing: playing,
+        ticks: ticks,
+    }
+}
+
+fn has_more(who: Speaker) -> bool
+    ensures { λ r. ⌜ r ≡ hasMore who ⌝ }
+{
+    match who {
+        Speaker::Nobody => false,
+        Speaker::Party(_, from, length) => (from as u32) + 1 < (length as u32),
+    }
+}
+
+// One tick.
+fn one_tick(
+    p: Playing,
+    tick: u16,
+    stop: u16,
+    script: &[u8],
+    stx: &mut [u8; 284],
+    own: &mut [u8; 255],
+    stxs: &mut [u8; 284],
+    owns: &mut [u8; 255],
+    frames: &mut [[u8; 284]; 6],
+    bytes: &mut [[u8; 255]; 6],
+    contents: &mut [[u8; 255]; 6],
+    out: &mut [u8],
+) -> Gone
+    requires { ⌜ Stands (now script) tick p (devicesLend (now frames) (now bytes) (now contents)) × (tick < stop) ⌝ }
+    ensures { λ r. ⌜ GoneIs (now (script .entry)) tick stop p (masterLends (now (stx .entry)) (now (own .entry))) (masterLends (now (stxs .entry)) (now (owns .entry))) (devicesLend (now (frames .entry)) (now (bytes .entry)) (now (contents .entry))) (now (out .entry)) r (masterLends (now (stx .exit)) (now (own .exit))) (masterLends (now (stxs .exit)) (now (owns .exit))) (devicesLend (now (frames .exit)) (now (bytes .exit)) (now (contents .exit))) (now (out .exit)) ⌝ }
+{
+    let next = player_tick::step(
+        p,
+        tick,
+        script,
+        stx,
+        own,
+        stxs,
+        owns,
+        frames,
+        bytes,
+        contents,
+        out,
+    );
+    Gone {
+        playing: next,
+        ticks: 1,
+    }
+}
+
+// Some ticks in which no host calls, so many at most: as many as a link that rests or a party that speaks takes, else one.
+fn uncalled(
+    p: Playing,
+    tick: u16,
+    stop: u16,
+    free: u16,
+    script: &[u8],
+    stx: &mut [u8; 284],
+    own: &mut [u8; 255],
+    stxs: &mut [u8; 284],
+    owns: &mut [u8; 255],
+    frames: &mut [[u8; 284]; 6],
+    bytes: &mut [[u8; 255]; 6],
+    contents: &mut [[u8; 255]; 6],
+    out: &mut [u8],
+) -> Gone
+    requires { ⌜ Stands (now script) tick p (devicesLend (now frames) (now bytes) (now contents)) × ((tick < stop) × ((free ≡ freeTicks (now script) (p .next) tick stop) × (0 < free))) ⌝ }
+    ensures { λ r. ⌜ GoneIs (now (script .entry)) tick stop p (masterLends (now (stx .entry)) (now (own .entry))) (masterLends (now (stxs .entry)) (now (owns .entry))) (devicesLend (now (frames .entry)) (now (bytes .entry)) (now (contents .entry))) (now (out .entry)) r (masterLends (now (stx .exit)) (now (own .exit))) (masterLends (now (stxs .exit)) (now (owns .exit))) (devicesLend (now (frames .exit)) (now (bytes .exit)) (now (contents .exit))) (now (out .exit)) ⌝ }
+{
+    let l = p.link;
+    if link_rests::link_rests(l) {
+        return rest_on(p, free);
+    }
+    if has_more(link_speaks::who_speaks(l)) {
+        return speak_on(p, tick, free, stx, own, stxs, owns, frames, bytes, out);
+    }
+    one_tick(
+        p,
+        tick,
+        stop,
+        script,
+        stx,
+        own,
+        stxs,
+        owns,
+        frames,
+        bytes,
+        contents,
+        out,
+    )
+}
+
+// One tick or more.
+fn onward(
+    p: Playing,
+    tick: u16,
+    stop: u16,
+    script: &[u8],
+    stx: &mut [u8; 284],
+    own: &mut [u8; 255],
+    stxs: &mut [u8; 284],
+    owns: &mut [u8; 255],
+    frames: &mut [[u8; 284]; 6],
+    bytes: &mut [[u8; 255]; 6],
+    contents: &mut [[u8; 255]; 6],
+    out: &mut [u8],
+) -> Gone
+    requires { ⌜ Stands (now script) tick p (devicesLend (now frames) (now bytes) (now contents)) × (tick < stop) ⌝ }
+    ensures { λ r. ⌜ GoneIs (now (script .entry)) tick stop p (masterLends (now (stx .entry)) (now (own .entry))) (masterLends (now (stxs .entry)) (now (owns .entry))) (devicesLend (now (frames .entry)) (now (bytes .entry)) (now (contents .entry))) (now (out .entry)) r (masterLends (now (stx .exit)) (now (own .exit))) (masterLends (now (stxs .exit)) (now (owns .exit))) (devicesLend (now (frames .exit)) (now (bytes .exit)) (now (contents .exit))) (now (out .exit)) ⌝ }
+{
+    let free = script::free_ticks(script, p.next, tick, stop);
+    if 0 < free {
+        return uncalled(
+            p,
+            tick,
+            stop,
+            free,
+            script,
+            stx,
+            own,
+            stxs,
+            owns,
+            frames,
+            bytes,
+            contents,
+            out,
+        );
+    }
+    one_tick(
+        p,
+        tick,
+        stop,
+        script,
+        stx,
+        own,
+        stxs,
+        owns,
+        frames,
+        bytes,
+        contents,
+        out,
+    )
+}
 
 // The ticks from 0 up to the stop's; the place behind their lines in the output.
 fn play_from(
@@ -45,11 +354,10 @@ fn play_from(
     let mut p = start;
     let mut tick: u16 = 0;
     while tick < stop {
-        let now = tick;
-        tick += 1;
-        p = player_tick::step(
+        let g = onward(
             p,
-            now,
+            tick,
+            stop,
             script,
             stx,
             own,
@@ -60,6 +368,9 @@ fn play_from(
             contents,
             out,
         );
+        let next = g.playing;
+        p = next;
+        tick += g.ticks;
     }
     p.at
 }

@@ -26,7 +26,7 @@ use Rattle.link.specs.declared.LinkCalls.{LinkCalls}
 use Rattle.link.specs.declared.LinkTicked.{LinkTicked}
 use Rattle.link.proofs.Agrees.{none-goes, step-agrees, after-agrees, ready-again}
 use Rattle.player_calls.specs.Calls.{zeroBytes, slotCallOf, CallsAre}
-use Rattle.player_tick.specs.Sents.{devicesSent, sentOf}
+use Rattle.link.specs.Sents.{devicesSent, sentOf}
 use Rattle.player_tick.specs.Step.{There, AllThere, sentsOf, callsBy, stepAt, StepIs}
 use Rattle.player_tick.specs.declared.Playing.{Playing}
 

@@ -1,3 +1,2 @@
 -- One tick of a play.
-pub mod Sents
 pub mod Step

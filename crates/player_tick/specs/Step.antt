@@ -16,7 +16,7 @@ use Rattle.link.specs.Stands.{linkOf, LinkReady}
 use Rattle.link.specs.declared.LinkCalls.{LinkCalls}
 use Rattle.link.specs.declared.LinkTicked.{LinkTicked}
 use Rattle.player_calls.specs.Calls.{zeroBytes, wantedCall, CallsAre}
-use Rattle.player_tick.specs.Sents.{sentOf}
+use Rattle.link.specs.Sents.{sentOf}
 use Rattle.player_tick.specs.declared.Playing.{Playing}
 
 -- every slot has its device

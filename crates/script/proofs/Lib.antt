@@ -3,4 +3,5 @@ pub mod Records
 pub mod Good
 pub mod Calls
 pub mod Ticks
+pub mod Free
 pub mod Length

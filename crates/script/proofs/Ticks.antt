@@ -67,7 +67,7 @@ other-tick : (tick party : ℕ) (e : Entry) (es : List Entry) → (e .tick ≡ t
 unfolding wantedAt
 other-tick tick party e es n = if-is-false (isOf tick party e) _ _ (if-is-false (e .tick =? tick) _ _ (ne-eqb (e .tick) tick n))
 
-later-none : (low tick party : ℕ) (es : List Entry) → Rising low es → tick < low → wantedAt tick party es ≡ Nothing
+pub later-none : (low tick party : ℕ) (es : List Entry) → Rising low es → tick < low → wantedAt tick party es ≡ Nothing
 unfolding wantedAt
 later-none low tick party [] none h = refl
 later-none low tick party (e ∷ es) (more l r) h = other-tick tick party e es (λ q. omega arith) ∙ later-none (e .tick) tick party es r (omega arith)

@@ -1,10 +1,10 @@
--- One record more in a walk over a tick's records: what the code's steps are.
-use Prim.Native.Nat.{ℕ, _+_}
+-- One record more in a walk over a tick's records: what the code's steps are; and how many ticks have none.
+use Prim.Native.Nat.{ℕ, _+_, _-_}
 use mathlib.Core.Bool.{Bool}
-use mathlib.Core.List.{List}
-use lib.ListN.{getD}
-use Rattle.base.specs.Choice.{if_then_else_, _=?_}
-use Rattle.script.specs.Script.{entryOf}
+use mathlib.Core.List.{List, [], _∷_}
+use lib.ListN.{getD, drop}
+use Rattle.base.specs.Choice.{if_then_else_, _<?_, _=?_}
+use Rattle.script.specs.Script.{entryOf, recordsOf}
 use Rattle.script.specs.declared.Entry.{Entry}
 use Rattle.script.specs.declared.ScriptTick.{ScriptTick}
 use Rattle.script.specs.declared.Wanted.{Wanted}
@@ -49,3 +49,11 @@ noCalls at = record {
   device7 = Nothing;
   next = at;
 }
+
+-- how many ticks from this one on have no record, before the stop; in tick 0 the burst contents are given
+abbrev pub freeBefore : ℕ → ℕ → List Entry → ℕ
+freeBefore tick stop [] = stop - tick
+freeBefore tick stop (e ∷ es) = (if e .tick <? stop then e .tick else stop) - tick
+
+unfoldable pub freeTicks : List ℕ → ℕ → ℕ → ℕ → ℕ
+freeTicks script at tick stop = if tick =? 0 then 0 else freeBefore tick stop (recordsOf (drop at script))

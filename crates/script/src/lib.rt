@@ -1,10 +1,11 @@
 // The player's script: whether it is good, its stop's tick, and the calls of each tick.
 ghost use mathlib.Core.Path.{_≡_};
 ghost use mathlib.Core.List.{[]};
-ghost use Prim.Native.Nat.{_+_, _<_, _≤_};
+ghost use Prim.Native.Nat.{_+_, _-_, _<_, _≤_};
+ghost use Rattle.base.specs.Choice.{if_then_else_, _<?_};
 ghost use lib.ListN.{length, drop};
 ghost use Rattle.script.specs.Script.{entryOf, recordsOf, isStop, isMasters, isDevices, isCall, isGood, goodScript, stopOf, tickAt};
-ghost use Rattle.script.specs.Walk.{entryAt, wantedBy, kept, withRecord, noCalls};
+ghost use Rattle.script.specs.Walk.{entryAt, wantedBy, kept, withRecord, noCalls, freeTicks};
 
 // A record of a script.
 pub struct Entry {
@@ -249,4 +250,41 @@ pub fn calls_at(script: &[u8], at: usize, tick: usize) -> ScriptTick
         }
     }
     t
+}
+
+// The ticks up to the next record's, or up to the stop's if that is earlier.
+fn free_before(next: usize, tick: u16, stop: u16) -> u16
+    requires { ⌜ next < 65536 ⌝ }
+    ensures { λ r. ⌜ r ≡ (if next <? stop then next else stop) - tick ⌝ }
+{
+    if next < (stop as usize) {
+        return ticks_to(next as u16, tick);
+    }
+    ticks_to(stop, tick)
+}
+
+fn ticks_to(end: u16, tick: u16) -> u16
+    ensures { λ r. ⌜ r ≡ end - tick ⌝ }
+{
+    if tick < end {
+        return end - tick;
+    }
+    0
+}
+
+// How many ticks from this one on have no record, before the stop. The next record stands at this place.
+pub fn free_ticks(script: &[u8], at: usize, tick: u16, stop: u16) -> u16
+    ensures { λ r. ⌜ r ≡ freeTicks (now (script .entry)) at tick stop ⌝ }
+{
+    if tick == 0 {
+        return 0;
+    }
+    if script.len() < at {
+        return ticks_to(stop, tick);
+    }
+    if script.len() - at < 4 {
+        return ticks_to(stop, tick);
+    }
+    let e = entry_at(script, at);
+    free_before(e.tick, tick, stop)
 }

@@ -407,7 +407,7 @@ fn wrong_check(sum: u8) -> bool
 }
 
 // A character.
-fn heard_character(r: Receiver, c: u8) -> Taken
+pub fn heard_character(r: Receiver, c: u8) -> Taken
     ensures { λ t. ⌜ t ≡ character (r .place) r c ⌝ }
 {
     let place = r.place;
@@ -517,7 +517,8 @@ fn keep_byte(n: u8, c: u8, bytes: &mut [u8; 255])
     }
 }
 
-fn keep(place: Place, c: u8, bytes: &mut [u8; 255])
+// The data buffer behind a character.
+pub fn keep(place: Place, c: u8, bytes: &mut [u8; 255])
     ensures { λ _. ⌜ now (bytes .exit) ≡ kept place c (now (bytes .entry)) ⌝ }
 {
     match place {

@@ -1,0 +1,13 @@
+use Rattle.base.proofs.Choices.{choices}
+use Rattle.link_rests.proofs.Parts.{parts}
+use borrow.Author.Needs.{needs}
+use Rattle.link_rests.proofs.pair_rested.Statement.{statement}
+use Rattle.link_rests.proofs.pair_rested.Tie as tie
+
+pub pair-rested-spec : {M : Type 1} → statement M
+pair-rested-spec =
+    tie.close
+    (tie.spec
+    (λ c κs. search needs)
+    (λ c κs. search needs)
+    (λ c. search (needs, choices, parts)))

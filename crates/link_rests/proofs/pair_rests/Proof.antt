@@ -1,0 +1,14 @@
+use Rattle.base.proofs.Choices.{choices}
+use Rattle.link_rests.proofs.Parts.{parts}
+use borrow.Author.Needs.{needs}
+use Rattle.link_rests.proofs.pair_rests.Statement.{statement}
+use Rattle.link_rests.proofs.pair_rests.Tie as tie
+
+pub pair-rests-spec : {M : Type 1} → statement M
+pair-rests-spec =
+    tie.close
+    (tie.spec
+    (λ c κs. search needs)
+    (λ c κs. search needs)
+    (λ c. search (needs, choices, parts))
+    (λ c. search (needs, choices, parts)))

@@ -1,0 +1,13 @@
+use Rattle.link_speaks.proofs.Behind.{spokens}
+use borrow.Author.Needs.{needs}
+use Rattle.link_speaks.proofs.link_spoken.Statement.{statement}
+use Rattle.link_speaks.proofs.link_spoken.Tie as tie
+
+pub link-spoken-spec : {M : Type 1} → statement M
+link-spoken-spec =
+    tie.close
+    (tie.spec
+    (λ c κs. search needs)
+    (λ c κs. search needs)
+    (λ c κs. search needs)
+    (λ c. search (needs, spokens)))

@@ -1,0 +1,2 @@
+-- A link in which one party speaks.
+pub mod Speaks
