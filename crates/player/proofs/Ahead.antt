@@ -55,7 +55,7 @@ use Rattle.link_speaks.proofs.Behind.{ticks-go-on, ticks-most}
 use Rattle.link_speaks.proofs.SpeakingLink.{GoesOn, goes-on, speaker-few, spoken-agrees, spoken-sent, spoken-ready}
 use Rattle.player_tick.specs.Step.{There, AllThere, callsBy, stepAt, StepIs}
 use Rattle.player_tick.specs.declared.Playing.{Playing}
-use Rattle.player.specs.Ahead.{GoneIs, Follows, begun, more, hasMore, earsBut, restedPlaying, SpokeOn}
+use Rattle.player.specs.Ahead.{GoneIs, OneGone, Follows, begun, more, hasMore, earsBut, restedPlaying, SpokeOn}
 use Rattle.player.specs.Ticks.{textFrom, Stands}
 use Rattle.player.specs.declared.Gone.{Gone}
 
@@ -95,7 +95,7 @@ module _ (tick stop : ℕ) (es : List Entry) (ears ears-after : List Ear) (l : L
 
 -- ---- a tick of its own
 
-pub step-gone : (script : List ℕ) (tick stop : ℕ) (p : Playing) (x y : MasterLent) (d : DevicesLent) (out : List ℕ) (r : Playing) (x-after y-after : MasterLent) (d-after : DevicesLent) (out-after : List ℕ)
+step-gone : (script : List ℕ) (tick stop : ℕ) (p : Playing) (x y : MasterLent) (d : DevicesLent) (out : List ℕ) (r : Playing) (x-after y-after : MasterLent) (d-after : DevicesLent) (out-after : List ℕ)
     → Stands script tick p d → tick < stop → StepIs p tick script out x y d r out-after x-after y-after d-after
     → GoneIs script tick stop p x y d out (record { playing = r; ticks = 1 }) x-after y-after d-after out-after
 step-gone script tick stop p x y d out r x-after y-after d-after out-after k h is =
@@ -116,6 +116,12 @@ step-gone script tick stop p x y d out r x-after y-after d-after out-after k h i
   where
     here : linkTick 255 (linkOf (p .link) x y d) (callsAt tick (recordsOf script)) ≡ stepAt p tick script x y d
     here = sym (ap (λ (w : ScriptTick). linkTick 255 (linkOf (p .link) x y d) (callsBy tick w)) (reads-tick script (p .next) tick (tickAt script (p .next) tick) (k .reads) refl))
+
+pub one-gone : (script : List ℕ) (tick stop : ℕ) (p : Playing) (x y : MasterLent) (d : DevicesLent) (out : List ℕ) (r : Gone) (x-after y-after : MasterLent) (d-after : DevicesLent) (out-after : List ℕ)
+    → Stands script tick p d → tick < stop → OneGone p tick script out x y d r out-after x-after y-after d-after → GoneIs script tick stop p x y d out r x-after y-after d-after out-after
+one-gone script tick stop p x y d out r x-after y-after d-after out-after k h o =
+    let same : record { playing = r .playing; ticks = 1 } ≡ r = λ i. record { playing = r .playing; ticks = sym (o .one) i } in
+    subst (λ (z : Gone). GoneIs script tick stop p x y d out z x-after y-after d-after out-after) same (step-gone script tick stop p x y d out (r .playing) x-after y-after d-after out-after k h (o .is))
 
 -- ---- a link that rests
 
@@ -381,8 +387,6 @@ speak-gone script tick stop most p stx own stxs owns frames bytes contents out o
         → GoneIs script tick stop p (masterLends stx own) (masterLends stxs owns) (devicesLend frames bytes contents) out r (masterLends stx own-after) (masterLends stxs owns-after) (devicesLend frames bytes-after contents) out-after
     go Nobody w t = absurd (true-false (sym t))
     go (Party n from len) w t = party-gone script tick stop most p stx own stxs owns frames bytes contents out own-after owns-after bytes-after out-after n from len k free (v .eight) w t h r v
-
-pub ruleset gones = (rest-gone, speak-gone, step-gone)
 
 -- a speaker's ticks are 16-bit numbers
 pub free-room : (script : List ℕ) (at tick stop ticks : ℕ) → Reads script at tick → ticks ≡ freeTicks script at tick stop → 0 < ticks → stop < 65536 → tick + ticks < 65536

@@ -21,7 +21,7 @@ use Rattle.link_speaks.proofs.Behind.{spoken-few, spoken-most}
 use Rattle.link.specs.declared.Link.{Link}
 use Rattle.link_rests.specs.Rests.{linkRested}
 use Rattle.player_tick.specs.declared.Playing.{Playing}
-use Rattle.player.specs.Ahead.{Follows, begun, more, hasMore, earsBut, restedPlaying, SpokeOn}
+use Rattle.player.specs.Ahead.{Follows, begun, more, hasMore, earsBut, restedPlaying, goneBy, SpokeOn}
 use Rattle.player.specs.declared.Followed.{Followed}
 use Rattle.player.specs.declared.Gone.{Gone}
 
@@ -100,16 +100,21 @@ spoken-room l tick most stx stxs frames own owns bytes s own-after owns-after by
 
 -- the play of a link in which a party spoke
 module _ (p : Playing) (tick most : ℕ) (stx stxs : List ℕ) (frames : List (List ℕ)) (own owns : List ℕ) (bytes : List (List ℕ)) (s : Spoken) (own-after owns-after : List ℕ) (bytes-after : List (List ℕ)) (is : SpokenIs (p .link) most stx stxs frames own owns bytes s own-after owns-after bytes-after) where
-  pub spoke-on : (f : Followed) (ear : Ear) (es : List Ear) (out out-after : List ℕ) → length (p .ears) ≡ 8 → ear ≡ getD (p .ears) (s .party) quietEar
-      → Follows tick (s .party) (frameOf (s .party) stx stxs frames) (s .from) ear (p .at) out (s .ticks) (f .ear) (f .at) out-after → es ≡ earsBut (s .party) (f .ear)
-      → SpokeOn p tick most stx stxs frames own owns bytes out (record { playing = record { link = s .link; ears = es; next = p .next; at = f .at }; ticks = s .ticks }) own-after owns-after bytes-after out-after
-  spoke-on f ear es out out-after l e v q = record {
+  pub spoke-on : (f : Followed) (ear : Ear) (r : Gone) (out out-after : List ℕ) → length (p .ears) ≡ 8 → ear ≡ getD (p .ears) (s .party) quietEar
+      → Follows tick (s .party) (frameOf (s .party) stx stxs frames) (s .from) ear (p .at) out (s .ticks) (f .ear) (f .at) out-after → r ≡ goneBy p s f
+      → SpokeOn p tick most stx stxs frames own owns bytes out r own-after owns-after bytes-after out-after
+  spoke-on f ear r out out-after l e v q = record {
     spoken = s;
     last = f;
     is = is;
     eight = l;
     follows = subst (λ (x : Ear). Follows tick (s .party) (frameOf (s .party) stx stxs frames) (s .from) x (p .at) out (s .ticks) (f .ear) (f .at) out-after) e v;
-    gone = λ i. record { playing = record { link = s .link; ears = q i; next = p .next; at = f .at }; ticks = s .ticks };
+    gone = q;
   }
 
-pub ruleset speaking = (spoken-room, spoke-on)
+-- the play behind it
+pub gone-by : (p : Playing) (s : Spoken) (f : Followed) (es : List Ear) → es ≡ earsBut (s .party) (f .ear)
+    → _≡_ {A = Gone} (record { playing = record { link = s .link; ears = es; next = p .next; at = f .at }; ticks = s .ticks }) (goneBy p s f)
+gone-by p s f es q = λ i. record { playing = record { link = s .link; ears = q i; next = p .next; at = f .at }; ticks = s .ticks }
+
+pub ruleset speaking = (spoke-on, gone-by)

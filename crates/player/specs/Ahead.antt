@@ -19,6 +19,7 @@ use Rattle.link_speaks.specs.Speaks.{frameOf, SpokenIs}
 use Rattle.link_speaks.specs.declared.Speaker.{Speaker}
 use Rattle.link_speaks.specs.declared.Speaker.the-variants.{Nobody, Party}
 use Rattle.link_speaks.specs.declared.Spoken.{Spoken}
+use Rattle.player_tick.specs.Step.{StepIs}
 use Rattle.player_tick.specs.declared.Playing.{Playing}
 use Rattle.player.specs.Ticks.{textFrom, Stands}
 use Rattle.player.specs.declared.Followed.{Followed}
@@ -32,6 +33,11 @@ pub record GoneIs (script : List ℕ) (tick stop : ℕ) (p : Playing) (x y : Mas
   pub stands : Stands script (tick + r .ticks) (r .playing) d-after
   pub left : put (outOf out-after (r .playing .at)) (textFrom (tick + r .ticks) (stop - (tick + r .ticks)) (r .playing .ears) (linkOf (r .playing .link) x-after y-after d-after) (recordsOf script))
       ≡ put (outOf out (p .at)) (textFrom tick (stop - tick) (p .ears) (linkOf (p .link) x y d) (recordsOf script))
+
+-- a tick of its own
+pub record OneGone (p : Playing) (tick : ℕ) (script out : List ℕ) (x y : MasterLent) (d : DevicesLent) (r : Gone) (out-after : List ℕ) (x-after y-after : MasterLent) (d-after : DevicesLent) : Type 0 where
+  pub one : r .ticks ≡ 1
+  pub is : StepIs p tick script out x y d (r .playing) out-after x-after y-after d-after
 
 -- a party that speaks alone, heard from tick to tick
 pub data Follows (tick party : ℕ) (frame : List ℕ) (from : ℕ) (start : Ear) (at : ℕ) (out : List ℕ) : ℕ → Ear → ℕ → List ℕ → Type 0 where
@@ -53,10 +59,13 @@ abbrev pub restedPlaying : ℕ → Playing → Gone
 restedPlaying n p = record { playing = record { link = linkRested n (p .link); ears = replicate 8 quietEar; next = p .next; at = p .at }; ticks = n }
 
 -- the play of a link in which a party spoke
+abbrev pub goneBy : Playing → Spoken → Followed → Gone
+goneBy p s f = record { playing = record { link = s .link; ears = earsBut (s .party) (f .ear); next = p .next; at = f .at }; ticks = s .ticks }
+
 pub record SpokeOn (p : Playing) (tick most : ℕ) (stx stxs : List ℕ) (frames : List (List ℕ)) (own owns : List ℕ) (bytes : List (List ℕ)) (out : List ℕ) (r : Gone) (own-after owns-after : List ℕ) (bytes-after : List (List ℕ)) (out-after : List ℕ) : Type 0 where
   pub spoken : Spoken
   pub last : Followed
   pub is : SpokenIs (p .link) most stx stxs frames own owns bytes spoken own-after owns-after bytes-after
   pub eight : length (p .ears) ≡ 8
   pub follows : Follows tick (spoken .party) (frameOf (spoken .party) stx stxs frames) (spoken .from) (getD (p .ears) (spoken .party) quietEar) (p .at) out (spoken .ticks) (last .ear) (last .at) out-after
-  pub gone : r ≡ record { playing = record { link = spoken .link; ears = earsBut (spoken .party) (last .ear); next = p .next; at = last .at }; ticks = spoken .ticks }
+  pub gone : r ≡ goneBy p spoken last

@@ -2,6 +2,7 @@
 use line::Profile;
 use link::Link;
 use link_speaks::Speaker;
+use link_speaks::Spoken;
 use link_start::DevicesSettings;
 use link_start::LinkStarted;
 use link_start::PairSettings;
@@ -29,7 +30,7 @@ ghost use Rattle.player.specs.Play.{readyLink, listing, play, PlayIs};
 ghost use Rattle.player.specs.Ready.{settingOf, pairSettings, settings, readyStart};
 ghost use Rattle.player.specs.Ticks.{textFrom, Stands};
 ghost use Rattle.link_speaks.specs.Speaks.{frameOf};
-ghost use Rattle.player.specs.Ahead.{GoneIs, Follows, hasMore, earsBut, restedPlaying, SpokeOn};
+ghost use Rattle.player.specs.Ahead.{GoneIs, OneGone, Follows, hasMore, earsBut, restedPlaying, goneBy, SpokeOn};
 
 // A play behind one tick or more, and how many they were.
 struct Gone {
@@ -126,6 +127,26 @@ fn ear_of(ears: Ears, party: usize) -> Ear
     ears[party]
 }
 
+// The play behind what a party spoke, and how its ear heard it.
+fn gone_by(p: Playing, s: Spoken, f: Followed) -> Gone
+    requires { ⌜ s .party < 8 ⌝ }
+    ensures { λ r. ⌜ r ≡ goneBy p s f ⌝ }
+{
+    let link = s.link;
+    let last = f.ear;
+    let ears = ears_but(s.party, last);
+    let playing = Playing {
+        link: link,
+        ears: ears,
+        next: p.next,
+        at: f.at,
+    };
+    Gone {
+        playing: playing,
+        ticks: s.ticks,
+    }
+}
+
 // Ticks in which one party speaks and all the others hear it, so many at most.
 fn speak_on(
     p: Playing,
@@ -145,7 +166,6 @@ fn speak_on(
     let l = p.link;
     let ears = p.ears;
     let s = link_speaks::speak(l, most, stx, own, stxs, owns, frames, bytes);
-    let link = s.link;
     let ear = ear_of(ears, s.party);
     let f = follow(
         tick,
@@ -159,18 +179,7 @@ fn speak_on(
         out,
         p.at,
     );
-    let last = f.ear;
-    let after = ears_but(s.party, last);
-    let playing = Playing {
-        link: link,
-        ears: after,
-        next: p.next,
-        at: f.at,
-    };
-    Gone {
-        playing: playing,
-        ticks: s.ticks,
-    }
+    gone_by(p, s, f)
 }
 
 // So many ticks of a link that rests.
@@ -203,37 +212,23 @@ fn has_more(who: Speaker) -> bool
     }
 }
 
-// One tick.
+// One tick. From here on the devices' frame buffers are acks, and their burst contents backs.
 fn one_tick(
     p: Playing,
-    tick: u16,
-    stop: u16,
+    t: u16,
     script: &[u8],
     stx: &mut [u8; 284],
     own: &mut [u8; 255],
     stxs: &mut [u8; 284],
     owns: &mut [u8; 255],
-    frames: &mut [[u8; 284]; 6],
+    acks: &mut [[u8; 284]; 6],
     bytes: &mut [[u8; 255]; 6],
-    contents: &mut [[u8; 255]; 6],
+    backs: &mut [[u8; 255]; 6],
     out: &mut [u8],
 ) -> Gone
-    requires { ⌜ Stands (now script) tick p (devicesLend (now frames) (now bytes) (now contents)) × (tick < stop) ⌝ }
-    ensures { λ r. ⌜ GoneIs (now (script .entry)) tick stop p (masterLends (now (stx .entry)) (now (own .entry))) (masterLends (now (stxs .entry)) (now (owns .entry))) (devicesLend (now (frames .entry)) (now (bytes .entry)) (now (contents .entry))) (now (out .entry)) r (masterLends (now (stx .exit)) (now (own .exit))) (masterLends (now (stxs .exit)) (now (owns .exit))) (devicesLend (now (frames .exit)) (now (bytes .exit)) (now (contents .exit))) (now (out .exit)) ⌝ }
+    ensures { λ r. ⌜ OneGone p t (now (script .entry)) (now (out .entry)) (masterLends (now (stx .entry)) (now (own .entry))) (masterLends (now (stxs .entry)) (now (owns .entry))) (devicesLend (now (acks .entry)) (now (bytes .entry)) (now (backs .entry))) r (now (out .exit)) (masterLends (now (stx .exit)) (now (own .exit))) (masterLends (now (stxs .exit)) (now (owns .exit))) (devicesLend (now (acks .exit)) (now (bytes .exit)) (now (backs .exit))) ⌝ }
 {
-    let next = player_tick::step(
-        p,
-        tick,
-        script,
-        stx,
-        own,
-        stxs,
-        owns,
-        frames,
-        bytes,
-        contents,
-        out,
-    );
+    let next = player_tick::step(p, t, script, stx, own, stxs, owns, acks, bytes, backs, out);
     Gone {
         playing: next,
         ticks: 1,
@@ -243,7 +238,7 @@ fn one_tick(
 // Some ticks in which no host calls, so many at most: as many as a link that rests or a party that speaks takes, else one.
 fn uncalled(
     p: Playing,
-    tick: u16,
+    t: u16,
     stop: u16,
     free: u16,
     script: &[u8],
@@ -251,60 +246,47 @@ fn uncalled(
     own: &mut [u8; 255],
     stxs: &mut [u8; 284],
     owns: &mut [u8; 255],
-    frames: &mut [[u8; 284]; 6],
+    acks: &mut [[u8; 284]; 6],
     bytes: &mut [[u8; 255]; 6],
-    contents: &mut [[u8; 255]; 6],
+    backs: &mut [[u8; 255]; 6],
     out: &mut [u8],
 ) -> Gone
-    requires { ⌜ Stands (now script) tick p (devicesLend (now frames) (now bytes) (now contents)) × ((tick < stop) × ((free ≡ freeTicks (now script) (p .next) tick stop) × (0 < free))) ⌝ }
-    ensures { λ r. ⌜ GoneIs (now (script .entry)) tick stop p (masterLends (now (stx .entry)) (now (own .entry))) (masterLends (now (stxs .entry)) (now (owns .entry))) (devicesLend (now (frames .entry)) (now (bytes .entry)) (now (contents .entry))) (now (out .entry)) r (masterLends (now (stx .exit)) (now (own .exit))) (masterLends (now (stxs .exit)) (now (owns .exit))) (devicesLend (now (frames .exit)) (now (bytes .exit)) (now (contents .exit))) (now (out .exit)) ⌝ }
+    requires { ⌜ Stands (now script) t p (devicesLend (now acks) (now bytes) (now backs)) × ((t < stop) × ((free ≡ freeTicks (now script) (p .next) t stop) × (0 < free))) ⌝ }
+    ensures { λ r. ⌜ GoneIs (now (script .entry)) t stop p (masterLends (now (stx .entry)) (now (own .entry))) (masterLends (now (stxs .entry)) (now (owns .entry))) (devicesLend (now (acks .entry)) (now (bytes .entry)) (now (backs .entry))) (now (out .entry)) r (masterLends (now (stx .exit)) (now (own .exit))) (masterLends (now (stxs .exit)) (now (owns .exit))) (devicesLend (now (acks .exit)) (now (bytes .exit)) (now (backs .exit))) (now (out .exit)) ⌝ }
 {
     let l = p.link;
     if link_rests::link_rests(l) {
         return rest_on(p, free);
     }
     if has_more(link_speaks::who_speaks(l)) {
-        return speak_on(p, tick, free, stx, own, stxs, owns, frames, bytes, out);
+        return speak_on(p, t, free, stx, own, stxs, owns, acks, bytes, out);
     }
-    one_tick(
-        p,
-        tick,
-        stop,
-        script,
-        stx,
-        own,
-        stxs,
-        owns,
-        frames,
-        bytes,
-        contents,
-        out,
-    )
+    one_tick(p, t, script, stx, own, stxs, owns, acks, bytes, backs, out)
 }
 
 // One tick or more.
 fn onward(
     p: Playing,
-    tick: u16,
+    t: u16,
     stop: u16,
     script: &[u8],
     stx: &mut [u8; 284],
     own: &mut [u8; 255],
     stxs: &mut [u8; 284],
     owns: &mut [u8; 255],
-    frames: &mut [[u8; 284]; 6],
+    acks: &mut [[u8; 284]; 6],
     bytes: &mut [[u8; 255]; 6],
-    contents: &mut [[u8; 255]; 6],
+    backs: &mut [[u8; 255]; 6],
     out: &mut [u8],
 ) -> Gone
-    requires { ⌜ Stands (now script) tick p (devicesLend (now frames) (now bytes) (now contents)) × (tick < stop) ⌝ }
-    ensures { λ r. ⌜ GoneIs (now (script .entry)) tick stop p (masterLends (now (stx .entry)) (now (own .entry))) (masterLends (now (stxs .entry)) (now (owns .entry))) (devicesLend (now (frames .entry)) (now (bytes .entry)) (now (contents .entry))) (now (out .entry)) r (masterLends (now (stx .exit)) (now (own .exit))) (masterLends (now (stxs .exit)) (now (owns .exit))) (devicesLend (now (frames .exit)) (now (bytes .exit)) (now (contents .exit))) (now (out .exit)) ⌝ }
+    requires { ⌜ Stands (now script) t p (devicesLend (now acks) (now bytes) (now backs)) × (t < stop) ⌝ }
+    ensures { λ r. ⌜ GoneIs (now (script .entry)) t stop p (masterLends (now (stx .entry)) (now (own .entry))) (masterLends (now (stxs .entry)) (now (owns .entry))) (devicesLend (now (acks .entry)) (now (bytes .entry)) (now (backs .entry))) (now (out .entry)) r (masterLends (now (stx .exit)) (now (own .exit))) (masterLends (now (stxs .exit)) (now (owns .exit))) (devicesLend (now (acks .exit)) (now (bytes .exit)) (now (backs .exit))) (now (out .exit)) ⌝ }
 {
-    let free = script::free_ticks(script, p.next, tick, stop);
+    let free = script::free_ticks(script, p.next, t, stop);
     if 0 < free {
         return uncalled(
             p,
-            tick,
+            t,
             stop,
             free,
             script,
@@ -312,26 +294,13 @@ fn onward(
             own,
             stxs,
             owns,
-            frames,
+            acks,
             bytes,
-            contents,
+            backs,
             out,
         );
     }
-    one_tick(
-        p,
-        tick,
-        stop,
-        script,
-        stx,
-        own,
-        stxs,
-        owns,
-        frames,
-        bytes,
-        contents,
-        out,
-    )
+    one_tick(p, t, script, stx, own, stxs, owns, acks, bytes, backs, out)
 }
 
 // The ticks from 0 up to the stop's; the place behind their lines in the output.
