@@ -116,9 +116,9 @@ enum nengapiko_heard {
 
 /* What the reader tells in a tick. */
 enum nengapiko_event {
-    NENGAPIKO_NOTHING = 0,     /* silence outside a frame, or a character of a frame that goes on */
+    NENGAPIKO_NOTHING = 0,     /* silence outside a frame, a silent tick inside one that is passed over, or a character of a frame that goes on */
     NENGAPIKO_PASSED_OVER = 1, /* a character that is passed over until a silent tick */
-    NENGAPIKO_BROKEN = 2,      /* a frame broke in this tick */
+    NENGAPIKO_BROKEN = 2,      /* a frame broke in this tick: by its character, or by the second silent tick in a row */
     NENGAPIKO_WHOLE = 3,       /* this tick's character ends a frame, which is whole and undamaged */
     NENGAPIKO_DAMAGED = 4      /* this tick's character ends a frame in which a character is damaged or the check byte is wrong */
 };
@@ -127,6 +127,10 @@ enum nengapiko_event {
  * Reads a recording of the line, one tick after the other, and tells of each
  * what became of a frame in it. The reader begins at its start: it passes over
  * characters until the first silent tick.
+ *
+ * Inside a frame, from behind its first 0xFF up to its check byte, one silent
+ * tick is passed over: what follows is taken as if the tick had not been. The
+ * second in a row breaks the frame, and the next character may start another.
  *
  *   recording, size  two bytes for each tick: 32 times an enum nengapiko_heard, then the
  *                    character. The kinds 5 to 7 are heard as silence; the first byte's bits
@@ -151,7 +155,8 @@ enum nengapiko_step {
 
 /*
  * Runs a primary of the FSK profile with 3 retries over a recording of what it hears,
- * for tests and measurements.
+ * for tests and measurements. A silent tick that its reader passes over inside a frame
+ * counts in no timer; if a second follows and breaks the frame, both count then.
  *
  *   recording, size  as for nengapiko_ticks, but for the first byte's bits 4 to 0: 1 is the
  *                    host's request in this tick, command 3 of unique address 2
@@ -172,7 +177,8 @@ enum nengapiko_device_step {
 
 /*
  * Runs a device of the FSK profile with 5 preamble characters, polling address 0 and unique
- * address 2 over a recording of what it hears, for tests and measurements.
+ * address 2 over a recording of what it hears, for tests and measurements. Silent ticks
+ * inside a frame are as for nengapiko_master.
  *
  *   recording, size  as for nengapiko_ticks, but for the first byte's bits 4 to 0: 1 is the
  *                    host's answer in this tick, with two zero bytes

@@ -1,6 +1,6 @@
-//! A device of document 01 in plain Rust, with FSK, and one that never bursts over recordings of
-//! what it hears. It shares nothing with the archive; over a recording it takes the same arguments
-//! and gives the same answers.
+//! A device of document 01 in plain Rust, with document 02's item 1 and FSK, and two over recordings
+//! of what they hear: one that never bursts and one that may. It shares nothing with the archive;
+//! over a recording the first takes the same arguments and gives the same answers.
 
 use super::frame_oracle::{ACK, BACK, STX};
 use super::party_oracle::{Outgoing, BROADCAST, RT1_PRIMARY, RT2, SENDS, STO};
@@ -83,17 +83,15 @@ impl Device {
             return Told::Nothing;
         }
         let event = self.reader.take(heard);
-        let silent = matches!(heard, Heard::Silence);
-        if !silent {
+        if !matches!(heard, Heard::Silence) {
             self.turn = Turn::Listening;
             self.back_in = 0;
         }
         if self.bursting {
             self.time_back(&event);
         }
-        if silent {
+        for _ in 0..self.reader.silent_ticks(heard, &event) {
             self.count();
-            return Told::Nothing;
         }
         match event {
             Event::Whole(frame) if is_request(&frame) => self.requested(frame),
@@ -273,14 +271,38 @@ fn error_status(harm: Harm) -> u8 {
 const POLLING_ADDRESS: u64 = 0;
 const UNIQUE_ADDRESS: u64 = 2;
 
+/// The numbers of the host's calls in a recording.
+const ANSWER: u8 = 1;
+const BURST_ON: u8 = 2;
+const BURST_OFF: u8 = 3;
+
 /// The number of what a device does in each tick.
 #[inline(never)]
 pub fn ticks(recording: &[u8], events: &mut [u8]) -> usize {
     let mut device = Device::start(POLLING_ADDRESS, UNIQUE_ADDRESS);
     over(recording, events, |tick| {
         let told = device.take(tick.heard());
-        if tick.has_call() {
+        if tick.call() == ANSWER {
             device.answer(&[0, 0], Wish::AsItIs);
+        }
+        device.send().map_or(told as u8, |_| SENDS)
+    })
+}
+
+/// The same of a device that has burst content from tick 0 on and whose host may turn burst on and off.
+pub fn burst_ticks(recording: &[u8], events: &mut [u8]) -> usize {
+    let mut device = Device::start(POLLING_ADDRESS, UNIQUE_ADDRESS);
+    device.burst_content(3, &[0, 0]);
+    over(recording, events, |tick| {
+        let told = device.take(tick.heard());
+        let wish = match tick.call() {
+            ANSWER => Some(Wish::AsItIs),
+            BURST_ON => Some(Wish::On),
+            BURST_OFF => Some(Wish::Off),
+            _ => None,
+        };
+        if let Some(wish) = wish {
+            device.answer(&[0, 0], wish);
         }
         device.send().map_or(told as u8, |_| SENDS)
     })

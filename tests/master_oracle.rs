@@ -1,10 +1,10 @@
-//! A master of document 01 in plain Rust, with FSK and three retries, and a primary over recordings
-//! of what it hears. It shares nothing with the archive; over a recording it takes the same
-//! arguments and gives the same answers.
+//! A master of document 01 in plain Rust, with document 02's item 1, FSK and three retries, and a
+//! primary over recordings of what it hears. It shares nothing with the archive; over a recording it
+//! takes the same arguments and gives the same answers.
 
 use super::frame_oracle::{ACK, BACK, STX};
 use super::party_oracle::{Outgoing, BROADCAST, HOLD, RT1_PRIMARY, RT1_SECONDARY, RT2, SENDS};
-use super::tick_oracle::{over, Event, Frame, Heard, Reader};
+use super::tick_oracle::{over, Event, Frame, Heard, Reader, Recorded};
 
 const RETRIES: u32 = 3;
 
@@ -72,9 +72,9 @@ impl Master {
         if self.deaf {
             return Told::Nothing;
         }
-        let silent = matches!(heard, Heard::Silence);
         let event = self.reader.take(heard);
-        if !silent {
+        let silent_ticks = self.reader.silent_ticks(heard, &event);
+        if !matches!(heard, Heard::Silence) {
             self.timer(0, 0);
         }
         let told = match event {
@@ -85,10 +85,7 @@ impl Master {
                 self.ended_unanswered()
             }
         };
-        if silent {
-            return self.count(told);
-        }
-        told
+        (0..silent_ticks).fold(told, |told, _| self.count(told))
     }
 
     fn timer(&mut self, next: u32, quiet: u32) {
@@ -242,15 +239,24 @@ impl Master {
 const UNIQUE_ADDRESS: u64 = 2;
 const COMMAND: u8 = 3;
 
+/// The number of the host's call in a recording.
+const REQUEST: u8 = 1;
+
+impl Master {
+    /// A tick of a recording; the number of what it does.
+    #[inline(always)]
+    pub fn tick(&mut self, tick: Recorded) -> u8 {
+        let told = self.take(tick.heard());
+        if tick.call() == REQUEST {
+            self.request(true, UNIQUE_ADDRESS, COMMAND);
+        }
+        self.send().map_or(told as u8, |_| SENDS)
+    }
+}
+
 /// The number of what a primary does in each tick.
 #[inline(never)]
 pub fn ticks(recording: &[u8], events: &mut [u8]) -> usize {
     let mut master = Master::start(true);
-    over(recording, events, |tick| {
-        let told = master.take(tick.heard());
-        if tick.has_call() {
-            master.request(true, UNIQUE_ADDRESS, COMMAND);
-        }
-        master.send().map_or(told as u8, |_| SENDS)
-    })
+    over(recording, events, |tick| master.tick(tick))
 }

@@ -9,7 +9,11 @@ mod oracles;
 mod party_archive;
 
 use frames::{random_frame, sealed, Xorshift};
-use oracles::{device_oracle, master_oracle};
+use oracles::device_oracle;
+use oracles::master_oracle::{self, Master};
+use oracles::party_oracle::SENDS;
+use oracles::tick_oracle::{silences, Recorded, Silences};
+use std::collections::VecDeque;
 use std::process::ExitCode;
 
 const RECORDINGS: usize = 5_000;
@@ -19,12 +23,14 @@ const KIND: u8 = 0x20;
 const CALLS: u8 = 1;
 
 type Run = fn(&[u8], &mut [u8]) -> usize;
+/// The two bytes of a tick.
+type Tick = [u8; 2];
 
 struct Party {
     name: &'static str,
     archive: Run,
     oracle: Run,
-    frame: fn(&mut Xorshift) -> Vec<u8>,
+    recording: fn(&mut Xorshift) -> Vec<u8>,
     /// What its events' numbers say; each must occur.
     numbers: &'static [(u8, &'static str)],
 }
@@ -33,7 +39,7 @@ const MASTER: Party = Party {
     name: "master",
     archive: party_archive::master,
     oracle: master_oracle::ticks,
-    frame: answer,
+    recording: master_recording,
     numbers: &[
         (0, "silent"),
         (1, "answered"),
@@ -46,7 +52,7 @@ const DEVICE: Party = Party {
     name: "device",
     archive: party_archive::device,
     oracle: device_oracle::ticks,
-    frame: request,
+    recording: device_recording,
     numbers: &[
         (0, "silent"),
         (1, "request"),
@@ -54,6 +60,9 @@ const DEVICE: Party = Party {
         (4, "sends"),
     ],
 };
+
+/// The answer that the master waits for, from delimiter to the last data byte.
+const OWN_ACK: [u8; 10] = [0x86, 0x80, 0, 0, 0, 2, 3, 2, 0, 0];
 
 /// An answer to the master or a bursting device's frame, or one that is not for it.
 fn answer(random: &mut Xorshift) -> Vec<u8> {
@@ -80,43 +89,119 @@ fn request(random: &mut Xorshift) -> Vec<u8> {
     sealed(2 + random.below(4), &body)
 }
 
-/// Frames with silence between them, now and then damaged or cut, and the host's calls.
-fn recording(random: &mut Xorshift, frame: fn(&mut Xorshift) -> Vec<u8>) -> Vec<u8> {
-    let ticks_to_damage = random.pick(&[20, 200, 100_000]);
-    let ticks_to_call = random.pick(&[1, 10, 200]);
-    let pauses = random.pick(&[[0, 1, 2, 9], [9, 17, 34, 35], [30, 40, 67, 80]]);
-    let mut ticks = Vec::with_capacity(2 * TICKS);
-    while ticks.len() < 2 * TICKS {
-        for _ in 0..random.pick(&pauses) {
-            ticks.extend([0, 0]);
+/// How often a character of a frame is damaged or lost, how often silence stands before one, and
+/// how often the host calls: once in so many ticks.
+struct Rates {
+    damage: usize,
+    silence: usize,
+    call: usize,
+}
+
+impl Rates {
+    fn pick(random: &mut Xorshift) -> Rates {
+        Rates {
+            damage: random.pick(&[20, 200, 100_000]),
+            silence: random.pick(&[5, 50, 100_000]),
+            call: random.pick(&[1, 10, 200]),
         }
+    }
+
+    /// The ticks of a frame.
+    fn frame(&self, random: &mut Xorshift, frame: &[u8]) -> Vec<Tick> {
+        let mut ticks = Vec::new();
+        for &character in frame {
+            if random.below(self.silence) == 0 {
+                ticks.extend(silent(random.pick(&[1, 1, 1, 1, 1, 1, 2, 3])));
+            }
+            let kind = match random.below(self.damage) {
+                0 => random.pick(&[0, 2, 3, 4]),
+                _ => 1,
+            };
+            ticks.push([kind * KIND, character]);
+        }
+        ticks
+    }
+
+    fn with_call(&self, random: &mut Xorshift, mut tick: Tick) -> Tick {
+        if random.below(self.call) == 0 {
+            tick[0] |= CALLS;
+        }
+        tick
+    }
+}
+
+fn silent(ticks: usize) -> Vec<Tick> {
+    vec![[0, 0]; ticks]
+}
+
+/// Frames with silence between them, now and then damaged, cut or with silent ticks inside, and the
+/// host's calls.
+fn frames(random: &mut Xorshift, frame: fn(&mut Xorshift) -> Vec<u8>) -> Vec<u8> {
+    let rates = Rates::pick(random);
+    let pauses = random.pick(&[[0, 1, 2, 9], [9, 17, 34, 35], [30, 40, 67, 80]]);
+    let mut ticks = Vec::new();
+    while ticks.len() < TICKS {
+        ticks.extend(silent(random.pick(&pauses)));
         let frame = match random.below(8) {
             0 => random_frame(random),
             _ => frame(random),
         };
-        for character in frame {
-            let kind = match random.below(ticks_to_damage) {
-                0 => random.pick(&[0, 2, 3, 4]),
-                _ => 1,
-            };
-            ticks.extend([kind * KIND, character]);
-        }
+        ticks.extend(rates.frame(random, &frame));
     }
-    for tick in ticks.chunks_exact_mut(2) {
-        if random.below(ticks_to_call) == 0 {
-            tick[0] |= CALLS;
-        }
-    }
-    ticks
+    let called = ticks.into_iter().map(|tick| rates.with_call(random, tick));
+    called.collect::<Vec<Tick>>().concat()
 }
 
-/// Whether both give the same in every recording, and each number occurs.
+/// A frame behind most STX that the oracle's master sends, now and then damaged, cut or with silent
+/// ticks inside, and the host's calls.
+fn answers(random: &mut Xorshift) -> Vec<u8> {
+    let rates = Rates::pick(random);
+    let mut master = Master::start(true);
+    let mut was_sending = false;
+    let mut coming = VecDeque::new();
+    let mut ticks = Vec::new();
+    for _ in 0..TICKS {
+        let tick = rates.with_call(random, coming.pop_front().unwrap_or([0, 0]));
+        let sends = master.tick(Recorded::of(&tick)) == SENDS;
+        if was_sending && !sends && random.below(8) > 0 {
+            let frame = match random.flag() {
+                true => sealed(5, &OWN_ACK),
+                false => answer(random),
+            };
+            coming = silent(random.pick(&[0, 1, 2, 10, 30, 31, 32, 33])).into();
+            coming.extend(rates.frame(random, &frame));
+        }
+        was_sending = sends;
+        ticks.push(tick);
+    }
+    ticks.concat()
+}
+
+fn master_recording(random: &mut Xorshift) -> Vec<u8> {
+    match random.flag() {
+        true => frames(random, answer),
+        false => answers(random),
+    }
+}
+
+fn device_recording(random: &mut Xorshift) -> Vec<u8> {
+    frames(random, request)
+}
+
+/// Whether both give the same in every recording, and each number and both silences occur.
 fn agrees(party: &Party) -> bool {
     let mut random = Xorshift(0x2545_F491_4F6C_DD1D);
     let mut counts = [0; 5];
+    let mut inside = Silences::default();
     let mut differences = 0;
     for _ in 0..RECORDINGS {
-        let recording = recording(&mut random, party.frame);
+        let recording = (party.recording)(&mut random);
+        let Silences {
+            passed_over,
+            breaks,
+        } = silences(&recording);
+        inside.passed_over += passed_over;
+        inside.breaks += breaks;
         let room = recording.len() / 2 - random.below(3) + 1;
         let mut by_archive = vec![0xA5; room];
         let mut by_oracle = by_archive.clone();
@@ -135,9 +220,13 @@ fn agrees(party: &Party) -> bool {
     for &(number, name) in party.numbers {
         print!(", {} {name}", counts[usize::from(number)]);
     }
-    println!(", {differences} differences");
+    println!(
+        ", in frames {} silent ticks to pass over and {} that break, {differences} differences",
+        inside.passed_over, inside.breaks
+    );
     let occurs = |&(number, _): &(u8, &str)| counts[usize::from(number)] > 0;
-    differences == 0 && party.numbers.iter().all(occurs)
+    let all_occur = inside.passed_over > 0 && inside.breaks > 0;
+    differences == 0 && all_occur && party.numbers.iter().all(occurs)
 }
 
 fn main() -> ExitCode {

@@ -9,7 +9,7 @@ mod oracles;
 
 use frames::*;
 use oracles::frame_oracle::PREAMBLE;
-use oracles::tick_oracle;
+use oracles::tick_oracle::{self, Silences};
 use std::process::ExitCode;
 
 const EVENTS: [&str; 5] = ["nothing", "passed over", "broken", "whole", "damaged"];
@@ -48,6 +48,7 @@ struct Family {
 struct Comparison {
     families: Vec<Family>,
     events: [u64; EVENTS.len()],
+    silences: Silences,
     differences: u64,
 }
 
@@ -80,6 +81,9 @@ impl Comparison {
         for &event in &by_oracle[..oracle_ticks] {
             self.events[usize::from(event)] += 1;
         }
+        let silences = tick_oracle::silences(&recording[..2 * oracle_ticks]);
+        self.silences.passed_over += silences.passed_over;
+        self.silences.breaks += silences.breaks;
         if (archive_ticks, &by_archive) != (oracle_ticks, &by_oracle) {
             self.difference(
                 recording,
@@ -99,7 +103,7 @@ impl Comparison {
         }
     }
 
-    /// Prints the counts; tells whether all agreed and every event occurred.
+    /// Prints the counts; tells whether all agreed, and every event and both silences occurred.
     fn report(&self) -> bool {
         println!("{:<44}{:>10}{:>12}", "family", "runs", "ticks");
         for family in &self.families {
@@ -117,6 +121,16 @@ impl Comparison {
                 all = false;
             }
         }
+        let Silences {
+            passed_over,
+            breaks,
+        } = self.silences;
+        println!(
+            "{:<44}{passed_over:>22}",
+            "silence inside a frame, passed over"
+        );
+        println!("{:<44}{breaks:>22}", "silence that breaks a frame");
+        all &= passed_over > 0 && breaks > 0;
         println!(
             "tick_compare: {} ticks, {} differences",
             self.ticks(),
@@ -256,6 +270,25 @@ fn silence_at_each_place(comparison: &mut Comparison, random: &mut Xorshift) {
     }
 }
 
+fn silence_at_random_places(comparison: &mut Comparison, random: &mut Xorshift) {
+    comparison.family("frames with silent ticks at several places");
+    for _ in 0..20_000 {
+        let ticks_to_silence = random.pick(&[1, 2, 5, 20]);
+        let ticks_to_second = random.pick(&[5, 30, 1000]);
+        let mut recording = SILENCE.to_vec();
+        for _ in 0..1 + random.below(4) {
+            for character in short_frame(random) {
+                if random.below(ticks_to_silence) == 0 {
+                    let second = random.below(ticks_to_second) == 0;
+                    recording.extend(SILENCE.repeat(1 + usize::from(second)));
+                }
+                recording.extend(tick(CHARACTER, character));
+            }
+        }
+        comparison.run(&recording);
+    }
+}
+
 fn back_to_back(comparison: &mut Comparison, random: &mut Xorshift) {
     comparison.family("frames back to back");
     for _ in 0..5_000 {
@@ -298,6 +331,7 @@ fn main() -> ExitCode {
     damage_at_each_place(&mut comparison, &mut random);
     wrong_at_each_place(&mut comparison, &mut random);
     silence_at_each_place(&mut comparison, &mut random);
+    silence_at_random_places(&mut comparison, &mut random);
     back_to_back(&mut comparison, &mut random);
     headers(&mut comparison, &mut random);
     preambles(&mut comparison, &mut random);

@@ -1,5 +1,6 @@
-//! The tick reader of document 01 in plain Rust, over recordings of two bytes for each tick. It
-//! shares nothing with the archive, takes the same arguments and gives the same answers.
+//! The tick reader of document 01 in plain Rust, with document 02's item 1, over recordings of two
+//! bytes for each tick. It shares nothing with the archive, takes the same arguments and gives the
+//! same answers.
 
 use super::frame_oracle::{ACK, BACK, PREAMBLE, STX};
 
@@ -73,6 +74,8 @@ enum Next {
 
 pub struct Reader {
     next: Next,
+    /// Whether the tick before was silent, inside a frame, and passed over.
+    gap: bool,
     frame: Frame,
     harm: Harm,
     exclusive_or: u8,
@@ -83,6 +86,7 @@ impl Reader {
     pub fn start() -> Reader {
         Reader {
             next: Next::PassedOver,
+            gap: false,
             frame: Frame::default(),
             harm: Harm::default(),
             exclusive_or: 0,
@@ -93,6 +97,17 @@ impl Reader {
     /// As after its own sending.
     pub fn pass_over(&mut self) {
         self.next = Next::PassedOver;
+        self.gap = false;
+    }
+
+    /// The silent ticks that count in the timers, by what was heard and what became of it: none in a
+    /// tick that is passed over, and both in the second in a row inside a frame.
+    pub fn silent_ticks(&self, heard: Heard, event: &Event) -> u32 {
+        match (heard, event) {
+            (Heard::Silence, Event::Broken) => 2,
+            (Heard::Silence, _) if !self.gap => 1,
+            _ => 0,
+        }
     }
 
     /// The first data byte of a whole ACK.
@@ -112,14 +127,23 @@ impl Reader {
                 character
             }
         };
+        self.gap = false;
         self.character(character)
     }
 
+    /// One silent tick inside a frame is passed over. The second in a row breaks the frame.
     fn silence(&mut self) -> Event {
-        let before_frame = Next::Preamble { heard: 0 };
-        match std::mem::replace(&mut self.next, before_frame) {
-            Next::PassedOver | Next::Preamble { heard: 0 } => Event::Nothing,
-            _ => Event::Broken,
+        let inside = !matches!(self.next, Next::PassedOver | Next::Preamble { heard: 0 });
+        if inside && !self.gap {
+            self.gap = true;
+            return Event::Nothing;
+        }
+        self.next = Next::Preamble { heard: 0 };
+        self.gap = false;
+        if inside {
+            Event::Broken
+        } else {
+            Event::Nothing
         }
     }
 
@@ -226,7 +250,7 @@ impl Reader {
     }
 
     fn broken(&mut self) -> Event {
-        self.next = Next::PassedOver;
+        self.pass_over();
         Event::Broken
     }
 }
@@ -250,6 +274,11 @@ pub struct Recorded {
 }
 
 impl Recorded {
+    pub fn of(bytes: &[u8]) -> Recorded {
+        let (first, character) = (bytes[0], bytes[1]);
+        Recorded { first, character }
+    }
+
     pub fn heard(&self) -> Heard {
         match self.first >> 5 {
             1 => Heard::Character(self.character),
@@ -260,9 +289,9 @@ impl Recorded {
         }
     }
 
-    /// Whether a party's host calls; the reader has none.
-    pub fn has_call(&self) -> bool {
-        self.first % 32 == 1
+    /// The number of the call of a party's host; the reader has none.
+    pub fn call(&self) -> u8 {
+        self.first % 32
     }
 }
 
@@ -273,8 +302,7 @@ pub fn over(recording: &[u8], events: &mut [u8], mut number: impl FnMut(Recorded
     let ticks = recording.chunks_exact(2);
     let taken = ticks.len().min(events.len());
     for (bytes, event) in ticks.zip(events) {
-        let (first, character) = (bytes[0], bytes[1]);
-        *event = number(Recorded { first, character });
+        *event = number(Recorded::of(bytes));
     }
     taken
 }
@@ -284,4 +312,28 @@ pub fn over(recording: &[u8], events: &mut [u8], mut number: impl FnMut(Recorded
 pub fn ticks(recording: &[u8], events: &mut [u8]) -> usize {
     let mut reader = Reader::start();
     over(recording, events, |tick| reader.take(tick.heard()).number())
+}
+
+/// The silent ticks inside frames.
+#[derive(Clone, Copy, Default)]
+pub struct Silences {
+    pub passed_over: u64,
+    /// The second in a row.
+    pub breaks: u64,
+}
+
+/// Those that a reader hears in a recording.
+pub fn silences(recording: &[u8]) -> Silences {
+    let mut reader = Reader::start();
+    let mut silences = Silences::default();
+    for bytes in recording.chunks_exact(2) {
+        let heard = Recorded::of(bytes).heard();
+        let event = reader.take(heard);
+        match (heard, reader.silent_ticks(heard, &event)) {
+            (Heard::Silence, 0) => silences.passed_over += 1,
+            (Heard::Silence, 2) => silences.breaks += 1,
+            _ => {}
+        }
+    }
+    silences
 }

@@ -22,7 +22,7 @@ use Rattle.line.specs.declared.Heard.the-variants.{Silence, Character}
 use Rattle.line.specs.declared.Profile.{Profile}
 use Rattle.line.specs.declared.Receiver.{Receiver}
 use Rattle.turns.specs.Master.{accepted, isBroadcast}
-use Rattle.turns.specs.Device.{behind, isOwn, dueAfter, hasError, answerHeader, waited, backDue, counts, onSilence, onCharacter, onHeard, deviceTakes, wished, wishRefused, answersAt, answeredBy, answered, withContent, contentGiven, sends, firstFor, answersFrom, burstsFrom, backLength, sendsBy, deviceSends, deviceStarts}
+use Rattle.turns.specs.Device.{behind, isOwn, dueAfter, hasError, answerHeader, waited, backDue, counts, onSilence, onCharacter, onHeard, deviceTakes, wished, wishRefused, answersAt, answeredBy, answered, withContent, contentGiven, sends, firstFor, answersFrom, burstsFrom, backLength, sendsBy, deviceSends, deviceStarts, brokenDue}
 use Rattle.turns.specs.declared.Content.{Content}
 use Rattle.turns.specs.declared.Device.{Device}
 use Rattle.turns.specs.declared.DeviceSent.{DeviceSent}
@@ -83,6 +83,15 @@ module _ (d : Device) (contents : List ℕ) (f : Fit d contents) where
   waited-fits r next due Follows t = t
   waited-fits r next due (Bursts n) t = tt
 
+  stays-fit : (r : Receiver) (turn : Turn) → TurnFits turn d → TurnFits turn (behind d r (d .turn) (d .request) (d .wish) (d .length) (d .due))
+  stays-fit r Listens t = tt
+  stays-fit r (Asked n) t = t
+  stays-fit r Accepted t = t
+  stays-fit r Begins t = t
+  stays-fit r (Answers n) t = tt
+  stays-fit r Follows t = t
+  stays-fit r (Bursts n) t = tt
+
   due-bursts : (due : ℕ) → backDue d due ≡ true → d .burst ≡ true
   due-bursts due e = went-then (d .burst) (due =? 1) false true e (λ q. true-false (sym q)) .0
 
@@ -93,9 +102,9 @@ module _ (d : Device) (contents : List ℕ) (f : Fit d contents) where
       (turned r (waited (d .turn)) (d .request) (d .wish) (d .length) (due - 1) (waited-fits r (waited (d .turn)) (due - 1) (d .turn) (f .turn-fits)))
 
   silence-fit : (r : Receiver) (event : Event) → Behind (onSilence d r event)
-  silence-fit r Nothing = counts-fit r (d .due) Nothing
+  silence-fit r Nothing = if-both Behind (r .gap) _ _ (turned r (d .turn) (d .request) (d .wish) (d .length) (d .due) (stays-fit r (d .turn) (f .turn-fits))) (counts-fit r (d .due) Nothing)
   silence-fit r PassedOver = counts-fit r (d .profile .rt1p) PassedOver
-  silence-fit r Broken = counts-fit r (d .profile .rt1p) Broken
+  silence-fit r Broken = counts-fit r (brokenDue d) Broken
   silence-fit r (Frame w) = counts-fit r (d .profile .rt1p) (Frame w)
   silence-fit r (Damaged w m) = counts-fit r (d .profile .rt1p) (Damaged w m)
 

@@ -22,7 +22,7 @@ use Rattle.line.specs.declared.Heard.the-variants.{Silence, Character}
 use Rattle.line.specs.declared.Profile.{Profile}
 use Rattle.line.specs.declared.Receiver.{Receiver}
 use Rattle.turns.specs.Master.{accepted, refused, isBroadcast}
-use Rattle.turns.specs.Device.{behind, isOwn, dueAfter, hasError, answerHeader, waited, backDue, counts, onSilence, onCharacter, onHeard, deviceTakes, wished, answersAt, answeredBy, answered, withContent, contentGiven, sends, firstFor, behindAck, answersFrom, burstsFrom, backLength, sendsBy, deviceSends, freshDevice, deviceStarts}
+use Rattle.turns.specs.Device.{behind, isOwn, dueAfter, hasError, answerHeader, waited, backDue, counts, onSilence, onCharacter, onHeard, deviceTakes, wished, answersAt, answeredBy, answered, withContent, contentGiven, sends, firstFor, behindAck, answersFrom, burstsFrom, backLength, sendsBy, deviceSends, freshDevice, deviceStarts, brokenDue}
 use Rattle.turns.specs.declared.Device.{Device}
 use Rattle.turns.specs.declared.DeviceSent.{DeviceSent}
 use Rattle.turns.specs.declared.DeviceTaken.{DeviceTaken}
@@ -94,9 +94,9 @@ module _ (d : Device) where
   counts-kept r due event = if-both Behind (backDue d due) _ _ (moved d r Follows (d .request) (d .wish) (d .length) 0) (moved d r (waited (d .turn)) (d .request) (d .wish) (d .length) (due - 1))
 
   silence-kept : (r : Receiver) (event : Event) → Behind (onSilence d r event)
-  silence-kept r Nothing = counts-kept r (d .due) Nothing
+  silence-kept r Nothing = if-both Behind (r .gap) _ _ (moved d r (d .turn) (d .request) (d .wish) (d .length) (d .due)) (counts-kept r (d .due) Nothing)
   silence-kept r PassedOver = counts-kept r (d .profile .rt1p) PassedOver
-  silence-kept r Broken = counts-kept r (d .profile .rt1p) Broken
+  silence-kept r Broken = counts-kept r (brokenDue d) Broken
   silence-kept r (Frame w) = counts-kept r (d .profile .rt1p) (Frame w)
   silence-kept r (Damaged w m) = counts-kept r (d .profile .rt1p) (Damaged w m)
 

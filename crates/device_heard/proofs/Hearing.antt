@@ -4,22 +4,19 @@ use mathlib.Core.Bool.{Bool, true, false}
 use mathlib.Core.List.{List}
 use mathlib.Core.Path.{_≡_, refl, sym, ap, _∙_}
 use Rattle.base.proofs.Choices.{if-true, if-false, true-false}
-use Rattle.line.specs.Reader.{silence, taken, takenData}
+use Rattle.line.specs.Reader.{taken, takenData}
 use Rattle.line.specs.Reader as Reader
 use Rattle.line.specs.declared.Event.{Event}
 use Rattle.line.specs.declared.Heard.{Heard}
 use Rattle.line.specs.declared.Heard.the-variants.{Silence, Character, Damaged}
 use Rattle.line.specs.declared.Taken.{Taken}
 use Rattle.party.specs.Hears.{isSilence}
-use Rattle.turns.specs.Device.{tells, onSilence, onCharacter, deviceTakes}
+use Rattle.turns.specs.Device.{tells, onCharacter, deviceTakes}
 use Rattle.turns.specs.Link.{deviceData}
 use Rattle.turns.specs.declared.Device.{Device}
 use Rattle.turns.specs.declared.DeviceTaken.{DeviceTaken}
 use Rattle.turns.specs.declared.DeviceTold.{DeviceTold}
 use Rattle.device_heard.specs.Hearing.{hearsSilence, lent, HeardIs}
-
-pub hears-silence : (d : Device) (s : Taken) (t : DeviceTaken) → s ≡ silence (d .receiver .place) → t ≡ onSilence d (s .receiver) (s .event) → t ≡ hearsSilence d
-hears-silence d s t p q = q ∙ ap (λ (k : Taken). onSilence d (k .receiver) (k .event)) p
 
 -- `own` is the device made anew
 module _ (d own : Device) (heard : Heard) (bytes : List ℕ) (x : DeviceTaken) (same : own ≡ d) where
@@ -55,4 +52,4 @@ module _ (d own : Device) (heard : Heard) (bytes : List ℕ) (x : DeviceTaken) (
         by (Character c) f is = record { taken = if-false (own .deaf) _ _ _ e (heeds (Character c) (is .reader)); data-is = if-false (own .deaf) _ _ _ e (is .buffer) }
         by (Damaged c k) f is = record { taken = if-false (own .deaf) _ _ _ e (heeds (Damaged c k) (is .reader)); data-is = if-false (own .deaf) _ _ _ e (is .buffer) }
 
-pub ruleset hearings = (refl, hears-silence, take-deaf, take-silence, take-character)
+pub ruleset hearings = (refl, take-deaf, take-silence, take-character)

@@ -7,13 +7,18 @@ use Rattle.base.specs.Choice.{if_then_else_, _=?_}
 use Rattle.base.proofs.Choices.{if-is-true, if-is-false}
 use Rattle.frame.specs.Delimiter.{stx}
 use Rattle.frame.specs.declared.Header.{Header}
+use Rattle.line.specs.Reader.{idle, gapped, insideFrame, taken}
+use Rattle.line.specs.Reader as Reader
 use Rattle.line.specs.declared.Event.{Event}
 use Rattle.line.specs.declared.Event.the-variants.{Nothing, PassedOver, Broken, Frame, Damaged}
 use Rattle.line.specs.declared.Profile.{Profile}
 use Rattle.line.specs.declared.Receiver.{Receiver}
+use Rattle.line.specs.declared.Heard.the-variants.{Silence}
+use Rattle.line.specs.declared.Taken.{Taken}
 use Rattle.line.specs.declared.Whole.{Whole}
+use Rattle.line.proofs.Ticks.{outside-idle, gap-passed, gap-breaks}
 use Rattle.turns.specs.Master.{isBroadcast}
-use Rattle.turns.specs.Device.{behind, isOwn, dueAfter, hasError, tells, afterRequest, afterFrame, onCharacter, waited, backDue, counts, onSilence}
+use Rattle.turns.specs.Device.{behind, isOwn, dueAfter, hasError, tells, afterRequest, afterFrame, onCharacter, waited, backDue, counts, brokenDue, onSilence}
 use Rattle.turns.specs.declared.Content.{Content}
 use Rattle.turns.specs.declared.Device.{Device}
 use Rattle.turns.specs.declared.DeviceSent.{DeviceSent}
@@ -25,7 +30,7 @@ use Rattle.turns.specs.declared.Turn.{Turn}
 use Rattle.turns.specs.declared.Turn.the-variants.{Asked, Follows}
 use Rattle.turns.specs.declared.Wish.{Wish}
 use Rattle.turns.specs.declared.Wish.the-variants.{Same}
-use Rattle.device_heard.specs.Hearing.{lengthBy, heededAs, listening, heedsRequest, heedsFrame, heedsEvent, nextTurn, nextDue, silentDue}
+use Rattle.device_heard.specs.Hearing.{lengthBy, heededAs, listening, heedsRequest, heedsFrame, heedsEvent, nextTurn, nextDue, passedOver, hearsSilence}
 use Rattle.device_heard.specs.declared.Heeded.{Heeded}
 
 -- how many characters a frame has, by the address's form
@@ -75,9 +80,6 @@ device-same d e r request p q f = f ∙ (λ i. behind d (p i) (d .turn) (q i) (d
 -- a definition by cases, at a case that a `match` has told
 pub waited-at : (p q t : Turn) → p ≡ q → t ≡ waited q → t ≡ waited p
 waited-at p q t e f = f ∙ ap waited (sym e)
-
-pub due-at : (d : Device) (p q : Event) (n : ℕ) → p ≡ q → n ≡ silentDue d q → n ≡ silentDue d p
-due-at d p q n e f = f ∙ ap (silentDue d) (sym e)
 
 pub heeds-at : (d : Device) (p q : Event) (h : Heeded) → p ≡ q → h ≡ heedsEvent d q → h ≡ heedsEvent d p
 heeds-at d p q h e f = f ∙ ap (heedsEvent d) (sym e)
@@ -131,15 +133,25 @@ count-parts d e r due n event back turn p q u f =
     let device : e ≡ at back = f ∙ (λ i. behind d r (q i) (d .request) (d .wish) (d .length) (u i)) in
     ap (λ (x : Device). tells x DeviceTold.Nothing event) (device ∙ ap at p) ∙ by-back d r due event (backDue d due)
 
--- a silent tick counts, whatever the reader tells
-by-due : (d : Device) (r : Receiver) (event : Event) → counts d r (silentDue d event) event ≡ onSilence d r event
-by-due d r Nothing = refl
-by-due d r PassedOver = refl
-by-due d r Broken = refl
-by-due d r (Frame w) = refl
-by-due d r (Damaged w m) = refl
+-- a silent tick that is passed over
+pub passed-parts : (d e : Device) (r : Receiver) → r ≡ gapped (d .receiver) → e ≡ behind d r (d .turn) (d .request) (d .wish) (d .length) (d .due)
+    → _≡_ {A = DeviceTaken} (record { device = e; told = DeviceTold.Nothing; event = Nothing }) (passedOver d)
+passed-parts d e r p q = ap (λ (x : Device). tells x DeviceTold.Nothing Nothing) (q ∙ ap (λ (x : Receiver). behind d x (d .turn) (d .request) (d .wish) (d .length) (d .due)) p)
 
-pub silence-is : (d : Device) (r : Receiver) (event : Event) (n : ℕ) (t : DeviceTaken) → n ≡ silentDue d event → t ≡ counts d r n event → t ≡ onSilence d r event
-silence-is d r event n t e f = f ∙ ap (λ (x : ℕ). counts d r x event) e ∙ by-due d r event
+-- silence, by where the reader stands
+module _ (d : Device) (t : DeviceTaken) (inside : Bool) (is : inside ≡ insideFrame (d .receiver .place)) where
+  as-taken : (k : Taken) → taken (d .receiver) Silence ≡ k → t ≡ onSilence d (k .receiver) (k .event) → t ≡ hearsSilence d
+  as-taken k e p = p ∙ sym (ap (λ (x : Taken). onSilence d (x .receiver) (x .event)) e)
 
-pub ruleset parts = (refl, heeded-same, listens-same, device-same, waited-at, due-at, heeds-at, character-parts, count-parts, silence-is)
+  pub hears-outside : (r : Receiver) → inside ≡ false → r ≡ idle → t ≡ counts d r (d .due) Nothing → t ≡ hearsSilence d
+  hears-outside r o q p = as-taken (Reader.tells idle Nothing) (outside-idle (d .receiver) (sym is ∙ o)) (p ∙ ap (λ (x : Receiver). counts d x (d .due) Nothing) q ∙ sym (if-is-false (idle .gap) _ _ refl))
+
+  pub hears-passed : inside ≡ true → d .receiver .gap ≡ false → t ≡ passedOver d → t ≡ hearsSilence d
+  hears-passed i g p = as-taken (Reader.tells (gapped (d .receiver)) Nothing) (gap-passed (d .receiver) (sym is ∙ i) g) (p ∙ sym (if-is-true (gapped (d .receiver) .gap) _ _ refl))
+
+  pub hears-second : (r : Receiver) (due : ℕ) → inside ≡ true → d .receiver .gap ≡ true → r ≡ idle → due ≡ brokenDue d → t ≡ counts d r due Broken → t ≡ hearsSilence d
+  hears-second r due i g q u p = as-taken (Reader.tells idle Broken) (gap-breaks (d .receiver) (sym is ∙ i) g) (p ∙ (λ k. counts d (q k) (u k) Broken))
+
+pub ruleset silences = (refl, passed-parts, hears-outside, hears-passed, hears-second)
+
+pub ruleset parts = (refl, heeded-same, listens-same, device-same, waited-at, heeds-at, character-parts, count-parts)

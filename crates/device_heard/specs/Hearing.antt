@@ -6,8 +6,9 @@ use mathlib.Core.List.{List, []}
 use Rattle.base.specs.Choice.{if_then_else_, _=?_}
 use Rattle.frame.specs.Delimiter.{stx}
 use Rattle.frame.specs.Frame.{frameLength}
-use Rattle.line.specs.Reader.{silence}
+use Rattle.line.specs.Reader.{gapped, taken}
 use Rattle.line.specs.declared.Heard.{Heard}
+use Rattle.line.specs.declared.Heard.the-variants.{Silence}
 use Rattle.line.specs.declared.Event.{Event}
 use Rattle.line.specs.declared.Event.the-variants.{Nothing, PassedOver, Broken, Frame, Damaged}
 use Rattle.line.specs.declared.Harm.{Harm}
@@ -83,14 +84,10 @@ nextTurn back turn = if back then Follows else waited turn
 abbrev pub nextDue : Bool → ℕ → ℕ
 nextDue back due = if back then 0 else due - 1
 
--- the ticks before the next BACK, as a silent tick finds them
-abbrev pub silentDue : Device → Event → ℕ
-silentDue d Nothing = d .due
-silentDue d PassedOver = d .profile .rt1p
-silentDue d Broken = d .profile .rt1p
-silentDue d (Frame w) = d .profile .rt1p
-silentDue d (Damaged w m) = d .profile .rt1p
+-- one that is passed over inside a frame
+abbrev pub passedOver : Device → DeviceTaken
+passedOver d = tells (behind d (gapped (d .receiver)) (d .turn) (d .request) (d .wish) (d .length) (d .due)) DeviceTold.Nothing Nothing
 
 -- silence, as the reader takes it
 abbrev pub hearsSilence : Device → DeviceTaken
-hearsSilence d = onSilence d (silence (d .receiver .place) .receiver) (silence (d .receiver .place) .event)
+hearsSilence d = onSilence d (taken (d .receiver) Silence .receiver) (taken (d .receiver) Silence .event)

@@ -13,8 +13,8 @@ use turns::Wish;
 ghost use mathlib.Core.Path.{_≡_};
 ghost use mathlib.Core.Bool.{false};
 ghost use Rattle.base.specs.Choice.{if_then_else_};
-ghost use Rattle.turns.specs.Device.{behind, isOwn, dueAfter, hasError, tells, onCharacter, waited, backDue, counts, onSilence};
-ghost use Rattle.device_heard.specs.Hearing.{lengthBy, listening, toldOfOther, heedsRequest, heedsFrame, heedsDamage, heedsEvent, nextTurn, nextDue, silentDue, hearsSilence, HeardIs};
+ghost use Rattle.turns.specs.Device.{behind, isOwn, dueAfter, hasError, tells, onCharacter, waited, backDue, counts, brokenDue};
+ghost use Rattle.device_heard.specs.Hearing.{lengthBy, listening, toldOfOther, heedsRequest, heedsFrame, heedsDamage, heedsEvent, nextTurn, nextDue, passedOver, hearsSilence, HeardIs};
 
 // What a device makes of a character, its reader and its wish aside, and what it tells.
 struct Heeded {
@@ -302,26 +302,29 @@ fn count_tick(d: Device, r: Receiver, due: u32, event: Event) -> DeviceTaken
     }
 }
 
-// The ticks before the next BACK, as a silent tick finds them: behind a frame that it breaks they count anew.
-fn silent_due(d: Device, event: Event) -> u32
-    ensures { λ r. ⌜ r ≡ silentDue d event ⌝ }
+// The ticks before the next BACK behind a frame that broke, before its second silent tick is counted.
+fn broken_due(d: Device) -> u32
+    ensures { λ r. ⌜ r ≡ brokenDue d ⌝ }
 {
     let profile = d.profile;
-    let broken = profile.rt1p as u32;
-    match event {
-        Event::Nothing => d.due,
-        Event::PassedOver => broken,
-        Event::Broken => broken,
-        Event::Frame(_) => broken,
-        Event::Damaged(_, _) => broken,
-    }
+    party::one_less(profile.rt1p as u32)
 }
 
-// A silent tick, by what the reader tells.
-fn on_silence(d: Device, r: Receiver, event: Event) -> DeviceTaken
-    ensures { λ t. ⌜ t ≡ onSilence d r event ⌝ }
+// A silent tick inside a frame that is passed over.
+fn passed_over(d: Device) -> DeviceTaken
+    ensures { λ t. ⌜ t ≡ passedOver d ⌝ }
 {
-    count_tick(d, r, silent_due(d, event), event)
+    let reader = d.receiver;
+    let r = tick_reader::gapped_reader(reader);
+    let request = d.request;
+    let wish = d.wish;
+    let turn = d.turn;
+    let device = with_parts(d, r, turn, request, wish, d.length, d.due);
+    DeviceTaken {
+        device: device,
+        told: DeviceTold::Nothing,
+        event: Event::Nothing,
+    }
 }
 
 // A device that hears nothing.
@@ -335,16 +338,19 @@ fn hears_nothing(d: Device) -> DeviceTaken
     }
 }
 
-// Hears silence.
+// Hears silence. The second silent tick in a row inside a frame breaks it, and both count.
 fn hears_silence(d: Device) -> DeviceTaken
     ensures { λ t. ⌜ t ≡ hearsSilence d ⌝ }
 {
     let reader = d.receiver;
     let place = reader.place;
-    let t = tick_reader::silent(place);
-    let r = t.receiver;
-    let event = t.event;
-    on_silence(d, r, event)
+    if tick_reader::is_inside(place) {
+        if reader.gap {
+            return count_tick(d, tick_reader::idle_reader(), broken_due(d), Event::Broken);
+        }
+        return passed_over(d);
+    }
+    count_tick(d, tick_reader::idle_reader(), d.due, Event::Nothing)
 }
 
 // The same device, with the parts that the tick reader makes anew.

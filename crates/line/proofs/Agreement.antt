@@ -119,7 +119,7 @@ AllBytes (x ∷ xs) = (x ≤ 255) × AllBytes xs
 
 -- a reader behind the delimiter and before the byte count, of a frame without damage
 abbrev atPlace : Place → Header → ℕ → ℕ → Receiver
-atPlace place h expansion sum = record { place = place; header = h; expansion = expansion; count = 0; sum = sum; harm = noHarm }
+atPlace place h expansion sum = record { place = place; header = h; expansion = expansion; count = 0; sum = sum; harm = noHarm; gap = false }
 
 -- the byte count breaks the frame, or leads to the check byte or the data
 data NextCount (h : Header) (expansion sum k : ℕ) : Type 0 where

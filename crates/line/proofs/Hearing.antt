@@ -33,10 +33,10 @@ use Rattle.line.proofs.Leads.{Leads, stays, hears, leads-on, preamble-l
 
 -- the reader behind a delimiter, and at the command, the byte count
 abbrev opened : ℕ → Bool → ℕ → Receiver
-opened frame long sum = record { place = First; header = record { frame = frame; long = long; primary = false; burst = false; address = 0; command = 0 }; expansion = 0; count = 0; sum = sum; harm = noHarm }
+opened frame long sum = record { place = First; header = record { frame = frame; long = long; primary = false; burst = false; address = 0; command = 0 }; expansion = 0; count = 0; sum = sum; harm = noHarm; gap = false }
 
 abbrev atCountWith : Header → ℕ → Receiver
-atCountWith h sum = record { place = Count; header = h; expansion = 0; count = 0; sum = sum; harm = noHarm }
+atCountWith h sum = record { place = Count; header = h; expansion = 0; count = 0; sum = sum; harm = noHarm; gap = false }
 
 -- the delimiter
 delimiter-leads : (b : List ℕ) (frame : ℕ) (long : Bool) → isType frame ≡ true

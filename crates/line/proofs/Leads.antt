@@ -43,10 +43,10 @@ preamble-leads b n = hears refl refl (hears refl refl (more-preamble b n))
 
 -- in the data, and at the check byte, of a frame without damage
 abbrev pub inData : Header → ℕ → ℕ → ℕ → ℕ → Receiver
-inData h expansion count n sum = record { place = Data n; header = h; expansion = expansion; count = count; sum = sum; harm = noHarm }
+inData h expansion count n sum = record { place = Data n; header = h; expansion = expansion; count = count; sum = sum; harm = noHarm; gap = false }
 
 abbrev pub atEnd : Header → ℕ → ℕ → ℕ → Receiver
-atEnd h expansion count sum = record { place = Check; header = h; expansion = expansion; count = count; sum = sum; harm = noHarm }
+atEnd h expansion count sum = record { place = Check; header = h; expansion = expansion; count = count; sum = sum; harm = noHarm; gap = false }
 
 -- the data bytes are stored one behind the other, whatever they are, and lead to the check byte: none of them starts another frame
 pub data-leads : (h : Header) (expansion count n sum : ℕ) (b : List ℕ) (c : ℕ) (cs : List ℕ) → count ≡ n + length (c ∷ cs) → count ≤ 255

@@ -1,33 +1,85 @@
--- Theorems on single ticks: a silent tick leads to the idle reader from any state, no byte inside a frame's data starts another frame, and damage in the byte count breaks it.
+-- Theorems on single ticks: one silent tick inside a frame is passed over and the second breaks it, no byte inside a frame's data starts another frame, and damage in the byte count breaks it.
 use Prim.Native.Nat.{ℕ, _+_}
-use mathlib.Core.Path.{_≡_, refl, sym, subst}
+use mathlib.Core.Path.{_≡_, refl, sym, ap, subst, _∙_}
 use mathlib.Core.Bool.{Bool, true, false}
 use Rattle.base.specs.Choice.{if_then_else_, _<?_}
-use Rattle.line.specs.Reader.{idle, passing, tells, silence, next, character, damaged, atData, taken}
+use Rattle.base.proofs.Choices.{if-is-true, if-is-false}
+use Rattle.line.specs.Gaps.{IsCharacter, is-sound, is-damaged}
+use Rattle.line.specs.Reader.{idle, passing, tells, gapped, silentInside, insideFrame, next, character, damaged, atFirst, atAddress, atExpansion, atCommand, atCount, atData, atCheck, taken}
 use Rattle.line.specs.declared.Damage.{Damage}
-use Rattle.line.specs.declared.Event.{Event}
 use Rattle.line.specs.declared.Event.the-variants.{Nothing, PassedOver, Broken}
+use Rattle.line.specs.declared.Heard.{Heard}
 use Rattle.line.specs.declared.Heard.the-variants.{Silence, Character, Damaged}
 use Rattle.line.specs.declared.Place.{Place}
 use Rattle.line.specs.declared.Place.the-variants.{Passing, Idle, Preamble, First, Address, Expansion, Command, Count, Data, Check}
 use Rattle.line.specs.declared.Receiver.{Receiver}
 use Rattle.line.specs.declared.Taken.{Taken}
 
-silence-idle : (place : Place) → silence place .receiver ≡ idle
-silence-idle Passing = refl
-silence-idle Idle = refl
-silence-idle (Preamble n) = refl
-silence-idle First = refl
-silence-idle (Address n) = refl
-silence-idle (Expansion n) = refl
-silence-idle Command = refl
-silence-idle Count = refl
-silence-idle (Data n) = refl
-silence-idle Check = refl
+-- inside a frame
+abbrev pub Inside : Place → Type 0
+Inside place = insideFrame place ≡ true
 
-pub silent-to-idle : (r : Receiver) → taken r Silence .receiver ≡ idle
+-- outside a frame a silent tick leads to the idle reader
+pub outside-idle : (r : Receiver) → insideFrame (r .place) ≡ false → taken r Silence ≡ tells idle Nothing
 unfolding taken
-silent-to-idle r = silence-idle (r .place)
+outside-idle r o = if-is-false (insideFrame (r .place)) _ _ o
+
+-- "One silent tick inside a frame is now passed over."
+pub gap-passed : (r : Receiver) → Inside (r .place) → r .gap ≡ false → taken r Silence ≡ tells (gapped r) Nothing
+unfolding taken silentInside
+gap-passed r i e = if-is-true (insideFrame (r .place)) _ _ i ∙ if-is-false (r .gap) _ _ e
+
+-- "The second in a row breaks the frame"
+pub gap-breaks : (r : Receiver) → Inside (r .place) → r .gap ≡ true → taken r Silence ≡ tells idle Broken
+unfolding taken silentInside
+gap-breaks r i e = if-is-true (insideFrame (r .place)) _ _ i ∙ if-is-true (r .gap) _ _ e
+
+-- two silent ticks lead to the idle reader from any state
+pub two-silent-idle : (r : Receiver) → taken (taken r Silence .receiver) Silence .receiver ≡ idle
+two-silent-idle r = go (insideFrame (r .place)) refl (r .gap) refl
+  where
+    behind : (t : Taken) → taken r Silence ≡ t → taken (t .receiver) Silence .receiver ≡ idle → taken (taken r Silence .receiver) Silence .receiver ≡ idle
+    behind t e f = ap (λ (u : Taken). taken (u .receiver) Silence .receiver) e ∙ f
+
+    still : taken idle Silence .receiver ≡ idle
+    still = ap (λ (t : Taken). t .receiver) (outside-idle idle refl)
+
+    go : (inside : Bool) → insideFrame (r .place) ≡ inside → (gap : Bool) → r .gap ≡ gap → taken (taken r Silence .receiver) Silence .receiver ≡ idle
+    go false o gap e = behind (tells idle Nothing) (outside-idle r o) still
+    go true i true e = behind (tells idle Broken) (gap-breaks r i e) still
+    go true i false e = behind (tells (gapped r) Nothing) (gap-passed r i e) (ap (λ (t : Taken). t .receiver) (gap-breaks (gapped r) i refl))
+
+-- a character behind a silent tick that was passed over is taken as if the tick had not been
+character-gapped : (place : Place) (r : Receiver) (c : ℕ) → character place (gapped r) c ≡ character place r c
+unfolding atFirst atAddress atExpansion atCommand atCount atData atCheck
+character-gapped Passing r c = refl
+character-gapped Idle r c = refl
+character-gapped (Preamble n) r c = refl
+character-gapped First r c = refl
+character-gapped (Address n) r c = refl
+character-gapped (Expansion n) r c = refl
+character-gapped Command r c = refl
+character-gapped Count r c = refl
+character-gapped (Data n) r c = refl
+character-gapped Check r c = refl
+
+damaged-gapped : (place : Place) (r : Receiver) (c : ℕ) (kind : Damage) → damaged place (gapped r) c kind ≡ damaged place r c kind
+unfolding atFirst atAddress atExpansion atCommand atCount atData atCheck
+damaged-gapped Passing r c kind = refl
+damaged-gapped Idle r c kind = refl
+damaged-gapped (Preamble n) r c kind = refl
+damaged-gapped First r c kind = refl
+damaged-gapped (Address n) r c kind = refl
+damaged-gapped (Expansion n) r c kind = refl
+damaged-gapped Command r c kind = refl
+damaged-gapped Count r c kind = refl
+damaged-gapped (Data n) r c kind = refl
+damaged-gapped Check r c kind = refl
+
+pub gapped-takes : (r : Receiver) {h : Heard} → IsCharacter h → taken (gapped r) h ≡ taken r h
+unfolding taken
+gapped-takes r (is-sound {c}) = character-gapped (r .place) r c
+gapped-takes r (is-damaged {c} {kind}) = damaged-gapped (r .place) r c kind
 
 -- behind a data byte, whatever it is, the reader stands at the next data byte or at the check byte, with the same header, and has told nothing
 pub data DataGoesOn (r : Receiver) (n : ℕ) (t : Taken) : Type 0 where
@@ -45,31 +97,6 @@ data-goes-on r n c = go (n + 1 <? r .count)
 pub data-starts-no-frame : (r : Receiver) (n c : ℕ) → r .place ≡ Data n → DataGoesOn r n (taken r (Character c))
 unfolding taken
 data-starts-no-frame r n c e = subst (λ (p : Place). DataGoesOn r n (character p r c)) (sym e) (data-goes-on r n c)
-
--- a silent tick inside a frame breaks it, and tells so
-pub data Inside : Place → Type 0 where
-  in-preamble : {n : ℕ} → Inside (Preamble n)
-  in-first : Inside First
-  in-address : {n : ℕ} → Inside (Address n)
-  in-expansion : {n : ℕ} → Inside (Expansion n)
-  in-command : Inside Command
-  in-count : Inside Count
-  in-data : {n : ℕ} → Inside (Data n)
-  in-check : Inside Check
-
-silence-breaks : {place : Place} → Inside place → silence place .event ≡ Broken
-silence-breaks in-preamble = refl
-silence-breaks in-first = refl
-silence-breaks in-address = refl
-silence-breaks in-expansion = refl
-silence-breaks in-command = refl
-silence-breaks in-count = refl
-silence-breaks in-data = refl
-silence-breaks in-check = refl
-
-pub silent-breaks : (r : Receiver) → Inside (r .place) → taken r Silence .event ≡ Broken
-unfolding taken
-silent-breaks r i = silence-breaks i
 
 -- damage in the byte count breaks the frame; the character behind it, whatever it is, is passed over and told so, and so is the next
 pub record CountBroken (t : Taken) : Type 0 where

@@ -1,4 +1,4 @@
--- The tick reader: document 01, "Frames", the paragraph on the line. It takes what is heard in a tick, and tells what became of a frame.
+-- The tick reader: document 01, "Frames", the paragraph on the line, with document 02, item 1, for a silent tick inside a frame. It takes what is heard in a tick, and tells what became of a frame.
 use Prim.Native.Nat.{ℕ, _+_, _-_, _*_, _/_, _%_, _^_}
 use mathlib.Core.Bool.{Bool, true, false}
 use mathlib.Core.Path.{_≡_}
@@ -32,7 +32,7 @@ abbrev pub noHarm : Harm
 noHarm = record { parity = false; overrun = false; framing = false; check = false; address = false }
 
 abbrev pub blank : Place → Receiver
-blank place = record { place = place; header = noHeader; expansion = 0; count = 0; sum = 0; harm = noHarm }
+blank place = record { place = place; header = noHeader; expansion = 0; count = 0; sum = 0; harm = noHarm; gap = false }
 
 -- before a frame
 abbrev pub idle : Receiver
@@ -49,21 +49,30 @@ tells r e = record { receiver = r; event = e }
 abbrev pub breaks : Taken
 breaks = tells passing Broken
 
--- "A silent tick inside a frame breaks it, and the next character may start another."
-abbrev pub silentInside : Taken
-silentInside = tells idle Broken
+-- the reader behind a silent tick that is passed over
+abbrev pub gapped : Receiver → Receiver
+gapped r = record { place = r .place; header = r .header; expansion = r .expansion; count = r .count; sum = r .sum; harm = r .harm; gap = true }
 
-abbrev pub silence : Place → Taken
-silence Passing = tells idle Nothing
-silence Idle = tells idle Nothing
-silence (Preamble n) = silentInside
-silence First = silentInside
-silence (Address n) = silentInside
-silence (Expansion n) = silentInside
-silence Command = silentInside
-silence Count = silentInside
-silence (Data n) = silentInside
-silence Check = silentInside
+-- a silent tick inside a frame: "One silent tick inside a frame is now passed over. The second in a row breaks the frame"; then, as in document 01, "the next character may start another"
+unfoldable pub silentInside : Receiver → Taken
+silentInside r = if r .gap then tells idle Broken else tells (gapped r) Nothing
+
+-- inside a frame: behind its first 0xFF, up to its check byte
+abbrev pub insideFrame : Place → Bool
+insideFrame Passing = false
+insideFrame Idle = false
+insideFrame (Preamble n) = true
+insideFrame First = true
+insideFrame (Address n) = true
+insideFrame (Expansion n) = true
+insideFrame Command = true
+insideFrame Count = true
+insideFrame (Data n) = true
+insideFrame Check = true
+
+-- a silent tick; outside a frame the reader is then before one
+abbrev pub silence : Receiver → Taken
+silence r = if insideFrame (r .place) then silentInside r else tells idle Nothing
 
 -- the exclusive-or from the delimiter on, with one character more
 abbrev pub summed : Receiver → ℕ → ℕ
@@ -71,7 +80,7 @@ summed r c = bitXor (r .sum) c
 
 -- the reader with one character more of the frame, at its next place
 abbrev pub next : Receiver → Header → Place → ℕ → Taken
-next r h place c = tells (record { place = place; header = h; expansion = r .expansion; count = r .count; sum = summed r c; harm = r .harm }) Nothing
+next r h place c = tells (record { place = place; header = h; expansion = r .expansion; count = r .count; sum = summed r c; harm = r .harm; gap = false }) Nothing
 
 -- before a frame: 0xFF, or a character "that is neither 0xFF nor a delimiter"
 unfoldable pub atIdle : ℕ → Taken
@@ -88,6 +97,7 @@ begins c (Is frame long expansion) =
       count = 0;
       sum = c;
       harm = noHarm;
+      gap = false;
     }) Nothing
 
 -- in the preamble: another 0xFF, or "a delimiter behind two 0xFF"
@@ -123,7 +133,7 @@ atCommand r c = next r (commandHeader (r .header) c) Count c
 
 -- the byte count: "an ACK or BACK with count below 2" breaks the frame
 abbrev pub counted : Receiver → ℕ → Place → Taken
-counted r c place = tells (record { place = place; header = r .header; expansion = r .expansion; count = c; sum = summed r c; harm = r .harm }) Nothing
+counted r c place = tells (record { place = place; header = r .header; expansion = r .expansion; count = c; sum = summed r c; harm = r .harm; gap = false }) Nothing
 
 unfoldable pub atCount : Receiver → ℕ → Taken
 atCount r c = if tooFew (r .header .frame) c then breaks else if c =? 0 then counted r c Check else counted r c (Data 0)
@@ -171,7 +181,7 @@ kindHarm Overrun m = record { parity = m .parity; overrun = true; framing = m .f
 kindHarm Framing m = record { parity = m .parity; overrun = m .overrun; framing = true; check = m .check; address = m .address }
 
 abbrev pub marked : Receiver → Harm → Receiver
-marked r m = record { place = r .place; header = r .header; expansion = r .expansion; count = r .count; sum = r .sum; harm = m }
+marked r m = record { place = r .place; header = r .header; expansion = r .expansion; count = r .count; sum = r .sum; harm = m; gap = r .gap }
 
 -- a damaged character, by the reader's place: "So does damage in preamble, delimiter or byte count"; elsewhere the frame goes on, damaged
 abbrev pub damaged : Place → Receiver → ℕ → Damage → Taken
@@ -188,7 +198,7 @@ damaged Check r c kind = atCheck (marked r (kindHarm kind (r .harm))) c
 
 -- a tick of the reader
 unfoldable pub taken : Receiver → Heard → Taken
-taken r Silence = silence (r .place)
+taken r Silence = silence r
 taken r (Character c) = character (r .place) r c
 taken r (Damaged c kind) = damaged (r .place) r c kind
 

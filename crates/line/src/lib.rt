@@ -77,6 +77,8 @@ pub struct Receiver {
     // the exclusive-or of the characters from the delimiter on
     pub sum: u8,
     pub harm: Harm,
+    // one silent tick inside the frame has just been passed over
+    pub gap: bool,
 }
 
 // A frame that was heard to its end; its data are the first count bytes of the lent buffer.

@@ -140,8 +140,8 @@ fn broken_frames() {
         b" \xFF \xFF \x02 \x80 \x00 \x00 \x82\x00\x00 \xFF \xFF \x02 \x80 \x00 \x00 \x82",
     );
     show_run(
-        b"a frame cut by a silent tick, a good one behind it",
-        b"\x00\x00 \xFF \xFF \x06 \x80 \x00 \x02 \x00\x00\x00 \xFF \xFF \x06 \x80 \x00 \x02 \x00 \x00 \x84",
+        b"a frame cut by two silent ticks, a good one behind it",
+        b"\x00\x00 \xFF \xFF \x06 \x80 \x00 \x02 \x00\x00\x00\x00\x00 \xFF \xFF \x06 \x80 \x00 \x02 \x00 \x00 \x84",
     );
     show_run(
         b"an ACK with count 1, a good frame behind the next silent tick",
@@ -199,9 +199,149 @@ fn damaged_frames() {
     );
 }
 
+fn silent_ticks_passed_over() {
+    show_run(
+        b"a silent tick between two 0xff",
+        b"\x00\x00 \xFF\x00\x00 \xFF \xFF \xC6 \x80 \x00 \x00 \x00 \x02 \xAA \xBB \x03 \x02 \x00 \x40 \x14",
+    );
+    show_run(
+        b"a silent tick before the delimiter",
+        b"\x00\x00 \xFF \xFF \xFF\x00\x00 \xC6 \x80 \x00 \x00 \x00 \x02 \xAA \xBB \x03 \x02 \x00 \x40 \x14",
+    );
+    show_run(
+        b"a silent tick before the first address byte",
+        b"\x00\x00 \xFF \xFF \xFF \xC6\x00\x00 \x80 \x00 \x00 \x00 \x02 \xAA \xBB \x03 \x02 \x00 \x40 \x14",
+    );
+    show_run(
+        b"a silent tick before another address byte",
+        b"\x00\x00 \xFF \xFF \xFF \xC6 \x80 \x00\x00\x00 \x00 \x00 \x02 \xAA \xBB \x03 \x02 \x00 \x40 \x14",
+    );
+    show_run(
+        b"a silent tick before the first expansion byte",
+        b"\x00\x00 \xFF \xFF \xFF \xC6 \x80 \x00 \x00 \x00 \x02\x00\x00 \xAA \xBB \x03 \x02 \x00 \x40 \x14",
+    );
+    show_run(
+        b"a silent tick before the second expansion byte",
+        b"\x00\x00 \xFF \xFF \xFF \xC6 \x80 \x00 \x00 \x00 \x02 \xAA\x00\x00 \xBB \x03 \x02 \x00 \x40 \x14",
+    );
+    show_run(
+        b"a silent tick before the command",
+        b"\x00\x00 \xFF \xFF \xFF \xC6 \x80 \x00 \x00 \x00 \x02 \xAA \xBB\x00\x00 \x03 \x02 \x00 \x40 \x14",
+    );
+    show_run(
+        b"a silent tick before the byte count",
+        b"\x00\x00 \xFF \xFF \xFF \xC6 \x80 \x00 \x00 \x00 \x02 \xAA \xBB \x03\x00\x00 \x02 \x00 \x40 \x14",
+    );
+    show_run(
+        b"a silent tick before the first data byte",
+        b"\x00\x00 \xFF \xFF \xFF \xC6 \x80 \x00 \x00 \x00 \x02 \xAA \xBB \x03 \x02\x00\x00 \x00 \x40 \x14",
+    );
+    show_run(
+        b"a silent tick before another data byte",
+        b"\x00\x00 \xFF \xFF \xFF \xC6 \x80 \x00 \x00 \x00 \x02 \xAA \xBB \x03 \x02 \x00\x00\x00 \x40 \x14",
+    );
+    show_run(
+        b"a silent tick before the check byte",
+        b"\x00\x00 \xFF \xFF \xFF \xC6 \x80 \x00 \x00 \x00 \x02 \xAA \xBB \x03 \x02 \x00 \x40\x00\x00 \x14",
+    );
+    show_run(
+        b"a silent tick before each character but the first",
+        b"\x00\x00 \xFF\x00\x00 \xFF\x00\x00 \xFF\x00\x00 \xC6\x00\x00 \x80\x00\x00 \x00\x00\x00 \x00\x00\x00 \x00\x00\x00 \x02\x00\x00 \xAA\x00\x00 \xBB\x00\x00 \x03\x00\x00 \x02\x00\x00 \x00\x00\x00 \x40\x00\x00 \x14",
+    );
+}
+
+fn frames_cut_by_silence() {
+    show_run(
+        b"two silent ticks between two 0xff, and another frame",
+        b"\x00\x00 \xFF\x00\x00\x00\x00 \xFF \xFF \x02 \x80 \x00 \x00 \x82",
+    );
+    show_run(
+        b"two silent ticks before the delimiter, and another frame",
+        b"\x00\x00 \xFF \xFF \xFF\x00\x00\x00\x00 \xFF \xFF \x02 \x80 \x00 \x00 \x82",
+    );
+    show_run(
+        b"two silent ticks before the first address byte, and another frame",
+        b"\x00\x00 \xFF \xFF \xFF \xC6\x00\x00\x00\x00 \xFF \xFF \x02 \x80 \x00 \x00 \x82",
+    );
+    show_run(
+        b"two silent ticks before another address byte, and another frame",
+        b"\x00\x00 \xFF \xFF \xFF \xC6 \x80 \x00\x00\x00\x00\x00 \xFF \xFF \x02 \x80 \x00 \x00 \x82",
+    );
+    show_run(
+        b"two silent ticks before the first expansion byte, and another frame",
+        b"\x00\x00 \xFF \xFF \xFF \xC6 \x80 \x00 \x00 \x00 \x02\x00\x00\x00\x00 \xFF \xFF \x02 \x80 \x00 \x00 \x82",
+    );
+    show_run(
+        b"two silent ticks before the second expansion byte, and another frame",
+        b"\x00\x00 \xFF \xFF \xFF \xC6 \x80 \x00 \x00 \x00 \x02 \xAA\x00\x00\x00\x00 \xFF \xFF \x02 \x80 \x00 \x00 \x82",
+    );
+    show_run(
+        b"two silent ticks before the command, and another frame",
+        b"\x00\x00 \xFF \xFF \xFF \xC6 \x80 \x00 \x00 \x00 \x02 \xAA \xBB\x00\x00\x00\x00 \xFF \xFF \x02 \x80 \x00 \x00 \x82",
+    );
+    show_run(
+        b"two silent ticks before the byte count, and another frame",
+        b"\x00\x00 \xFF \xFF \xFF \xC6 \x80 \x00 \x00 \x00 \x02 \xAA \xBB \x03\x00\x00\x00\x00 \xFF \xFF \x02 \x80 \x00 \x00 \x82",
+    );
+    show_run(
+        b"two silent ticks before the first data byte, and another frame",
+        b"\x00\x00 \xFF \xFF \xFF \xC6 \x80 \x00 \x00 \x00 \x02 \xAA \xBB \x03 \x02\x00\x00\x00\x00 \xFF \xFF \x02 \x80 \x00 \x00 \x82",
+    );
+    show_run(
+        b"two silent ticks before another data byte, and another frame",
+        b"\x00\x00 \xFF \xFF \xFF \xC6 \x80 \x00 \x00 \x00 \x02 \xAA \xBB \x03 \x02 \x00\x00\x00\x00\x00 \xFF \xFF \x02 \x80 \x00 \x00 \x82",
+    );
+    show_run(
+        b"two silent ticks before the check byte, and another frame",
+        b"\x00\x00 \xFF \xFF \xFF \xC6 \x80 \x00 \x00 \x00 \x02 \xAA \xBB \x03 \x02 \x00 \x40\x00\x00\x00\x00 \xFF \xFF \x02 \x80 \x00 \x00 \x82",
+    );
+    show_run(
+        b"two silent ticks before the first data byte, and the rest of the frame",
+        b"\x00\x00 \xFF \xFF \xFF \xC6 \x80 \x00 \x00 \x00 \x02 \xAA \xBB \x03 \x02\x00\x00\x00\x00 \x00 \x40 \x14",
+    );
+    show_run(
+        b"a frame cut, one silent tick, a frame that is taken for the rest of it, and two silent ticks",
+        b"\x00\x00 \xFF \xFF \x06 \x80\x00\x00 \xFF \xFF \x02 \x80 \x00 \x00 \x82\x00\x00\x00\x00",
+    );
+}
+
+fn damage_behind_silence() {
+    show_run(
+        b"parity damage in the address behind a silent tick",
+        b"\x00\x00 \xFF \xFF \xFF \xC6\x00\x00P\x80 \x00 \x00 \x00 \x02 \xAA \xBB \x03 \x02 \x00 \x40 \x14",
+    );
+    show_run(
+        b"overrun in an expansion byte behind a silent tick",
+        b"\x00\x00 \xFF \xFF \xFF \xC6 \x80 \x00 \x00 \x00 \x02 \xAA\x00\x00o\xBB \x03 \x02 \x00 \x40 \x14",
+    );
+    show_run(
+        b"parity damage in the data behind a silent tick",
+        b"\x00\x00 \xFF \xFF \xFF \xC6 \x80 \x00 \x00 \x00 \x02 \xAA \xBB \x03 \x02\x00\x00P\x00 \x40 \x14",
+    );
+    show_run(
+        b"a wrong check byte behind a silent tick",
+        b"\x00\x00 \xFF \xFF \xFF \xC6 \x80 \x00 \x00 \x00 \x02 \xAA \xBB \x03 \x02 \x00 \x40\x00\x00 \x15",
+    );
+    show_run(
+        b"framing damage in the preamble behind a silent tick, and another frame",
+        b"\x00\x00 \xFF \xFF\x00\x00\x80\xFF\x00\x00 \xFF \xFF \x02 \x80 \x00 \x00 \x82",
+    );
+    show_run(
+        b"framing damage in the delimiter behind a silent tick, and another frame",
+        b"\x00\x00 \xFF \xFF \xFF\x00\x00\x80\xC6\x00\x00 \xFF \xFF \x02 \x80 \x00 \x00 \x82",
+    );
+    show_run(
+        b"framing damage in the byte count behind a silent tick, and another frame",
+        b"\x00\x00 \xFF \xFF \xFF \xC6 \x80 \x00 \x00 \x00 \x02 \xAA \xBB \x03\x00\x00\x80\x02\x00\x00 \xFF \xFF \x02 \x80 \x00 \x00 \x82",
+    );
+}
+
 fn main() {
     whole_frames();
     broken_frames();
     broken_by_damage();
     damaged_frames();
+    silent_ticks_passed_over();
+    frames_cut_by_silence();
+    damage_behind_silence();
 }

@@ -101,8 +101,8 @@ deviceSide n x = record { device = deviceRested n (x .device); frame = x .frame;
 abbrev pub deviceStep : DeviceSide → DeviceStep
 deviceStep x = record { side = deviceSide 1 x; sent = Silent; told = DeviceTold.Nothing; answer = none }
 
-at-place : (r : Receiver) → r .place ≡ Idle → r ≡ record { place = Idle; header = r .header; expansion = r .expansion; count = r .count; sum = r .sum; harm = r .harm }
-at-place r e = λ i. record { place = e i; header = r .header; expansion = r .expansion; count = r .count; sum = r .sum; harm = r .harm }
+at-place : (r : Receiver) → r .place ≡ Idle → r ≡ record { place = Idle; header = r .header; expansion = r .expansion; count = r .count; sum = r .sum; harm = r .harm; gap = r .gap }
+at-place r e = λ i. record { place = e i; header = r .header; expansion = r .expansion; count = r .count; sum = r .sum; harm = r .harm; gap = r .gap }
 
 -- the same device, with what is known of it in place
 abbrev restingDevice : Device → Device
@@ -111,7 +111,7 @@ restingDevice d = record {
   preamble = d .preamble;
   polling = d .polling;
   unique = d .unique;
-  receiver = record { place = Idle; header = d .receiver .header; expansion = d .receiver .expansion; count = d .receiver .count; sum = d .receiver .sum; harm = d .receiver .harm };
+  receiver = record { place = Idle; header = d .receiver .header; expansion = d .receiver .expansion; count = d .receiver .count; sum = d .receiver .sum; harm = d .receiver .harm; gap = d .receiver .gap };
   deaf = false;
   turn = Listens;
   request = d .request;
@@ -171,7 +171,7 @@ restingMaster m = record {
   primary = m .primary;
   profile = m .profile;
   retries = m .retries;
-  receiver = record { place = Idle; header = m .receiver .header; expansion = m .receiver .expansion; count = m .receiver .count; sum = m .receiver .sum; harm = m .receiver .harm };
+  receiver = record { place = Idle; header = m .receiver .header; expansion = m .receiver .expansion; count = m .receiver .count; sum = m .receiver .sum; harm = m .receiver .harm; gap = m .receiver .gap };
   deaf = false;
   burst = false;
   noted = m .noted;

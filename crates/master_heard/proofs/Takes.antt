@@ -2,10 +2,10 @@
 use Prim.Native.Nat.{ℕ}
 use mathlib.Core.Bool.{Bool, true, false}
 use mathlib.Core.List.{List}
-use mathlib.Core.Path.{_≡_, refl, sym, ap, _∙_}
-use Rattle.base.specs.Choice.{if_then_else_}
-use Rattle.base.proofs.Choices.{if-true, if-false, true-false}
-use Rattle.line.specs.Reader.{silence, taken, takenData}
+use mathlib.Core.Path.{_≡_, refl, sym, ap, subst, _∙_}
+use Rattle.base.specs.Choice.{if_then_else_, _≤?_}
+use Rattle.base.proofs.Choices.{if-is-true, if-is-false, if-true, if-false, true-false}
+use Rattle.line.specs.Reader.{idle, gapped, insideFrame, taken, takenData}
 use Rattle.line.specs.Reader as Reader
 use Rattle.line.specs.declared.Event.{Event}
 use Rattle.line.specs.declared.Event.the-variants.{Frame}
@@ -14,18 +14,20 @@ use Rattle.line.specs.declared.Heard.the-variants.{Silence, Character, Damaged}
 use Rattle.line.specs.declared.Receiver.{Receiver}
 use Rattle.line.specs.declared.Taken.{Taken}
 use Rattle.line.specs.declared.Whole.{Whole}
+use Rattle.line.proofs.Ticks.{outside-idle, gap-passed, gap-breaks}
 use Rattle.party.specs.Hears.{isSilence}
-use Rattle.turns.specs.Master.{behind, staged, timer, burstCounted, timerCounted, burstAfter, notedAfter, timerAfter, brokenTimer, ifAwaiting, atFrame, atBreak, tells, afterFrame, afterBreak, onCharacter, waited, rt1Ends, unlessEnded, counts, onSilence, onHeard, masterTakes}
+use Rattle.turns.specs.Master.{behind, isBroadcast, ends, staged, timer, burstCounted, timerCounted, burstAfter, notedAfter, timerAfter, brokenTimer, ifAwaiting, atFrame, atBreak, tells, afterFrame, afterBreak, onCharacter, waited, rt1Ends, unlessEnded, counts, onSilence, masterTakes}
 use Rattle.turns.specs.declared.Timer.{Timer}
 use Rattle.turns.specs.declared.Stage.{Stage}
-use Rattle.turns.specs.declared.Stage.the-variants.{Awaiting}
+use Rattle.turns.specs.declared.Stage.the-variants.{Free, Waiting, Sending, Awaiting}
 use Rattle.turns.specs.declared.Message.{Message}
 use Rattle.turns.specs.declared.Noted.{Noted}
 use Rattle.turns.specs.declared.Ending.{Ending}
 use Rattle.turns.specs.declared.Master.{Master}
 use Rattle.turns.specs.declared.MasterTold.{MasterTold}
+use Rattle.turns.specs.declared.MasterTold.the-variants.{GivenUp, BroadcastSent}
 use Rattle.turns.specs.declared.MasterTaken.{MasterTaken}
-use Rattle.master_heard.specs.Takes.{insideFrame, countedMessage, countedTimer, silentLine, beforeCount, hearsSilence, TakeIs}
+use Rattle.master_heard.specs.Takes.{frameGoesOn, countedMessage, countedTimer, withReader, timerTicked, silentOutside, passedOver, secondSilent, hearsSilence, TakeIs}
 
 pub frame-parts : (m n : Master) (r : Receiver) (w : Whole) (bytes : List ℕ) (burst : Bool) (noted : Noted) (t : Timer) (x e : Ending)
     → burst ≡ burstAfter (m .burst) (m .noted) (w .header) → noted ≡ notedAfter (m .noted) (w .header) → t ≡ timerAfter m burst (w .header)
@@ -46,7 +48,7 @@ break-parts m n r event t x e u v y z =
     λ i. record { master = master i; told = ending i .told; event = event }
 
 pub inside-parts : (m n : Master) (r : Receiver) (t : Timer) → t ≡ timer 0 → n ≡ behind m r (m .burst) (m .noted) t (m .message)
-    → _≡_ {A = MasterTaken} (record { master = n; told = MasterTold.Nothing; event = Event.Nothing }) (insideFrame m r)
+    → _≡_ {A = MasterTaken} (record { master = n; told = MasterTold.Nothing; event = Event.Nothing }) (frameGoesOn m r)
 inside-parts m n r t u z = ap (λ (k : Master). tells k MasterTold.Nothing Event.Nothing) (z ∙ ap (λ (k : Timer). behind m r (m .burst) (m .noted) k (m .message)) u)
 
 pub on-character-at : (m : Master) (r : Receiver) (e f : Event) (bytes : List ℕ) (t : MasterTaken) → e ≡ f → t ≡ onCharacter m r f bytes → t ≡ onCharacter m r e bytes
@@ -98,27 +100,77 @@ count-parts m n told event burst e t p q r z =
     λ i. record { master = master i; told = q i .told; event = event } in
     parts ∙ by-parts m told event (rt1Ends (m .message .stage))
 
-pub line-parts : (m n : Master) (r : Receiver) → n ≡ behind m r (m .burst) (m .noted) (m .timer) (m .message)
-    → _≡_ {A = MasterTaken} (record { master = n; told = MasterTold.Nothing; event = Event.Nothing }) (silentLine m r)
-line-parts m n r p = ap (λ (k : Master). tells k MasterTold.Nothing Event.Nothing) p
+-- a silent tick outside a frame, one that is passed over inside a frame, and the second in a row
+pub outside-parts : (m n : Master) (r : Receiver) (t : MasterTaken) → r ≡ idle → n ≡ withReader m r → t ≡ counts n MasterTold.Nothing Event.Nothing → t ≡ silentOutside m
+outside-parts m n r t p q u = u ∙ ap (λ (k : Master). counts k MasterTold.Nothing Event.Nothing) (q ∙ ap (withReader m) p)
 
-pub before-count-at : (m : Master) (r : Receiver) (e f : Event) (t : MasterTaken) → e ≡ f → t ≡ beforeCount m r f → t ≡ beforeCount m r e
-before-count-at m r e f t p q = q ∙ ap (beforeCount m r) (sym p)
+pub passed-parts : (m n : Master) (r : Receiver) → r ≡ gapped (m .receiver) → n ≡ withReader m r
+    → _≡_ {A = MasterTaken} (record { master = n; told = MasterTold.Nothing; event = Event.Nothing }) (passedOver m)
+passed-parts m n r p q = ap (λ (k : Master). tells k MasterTold.Nothing Event.Nothing) (q ∙ ap (withReader m) p)
 
-by-before : (m : Master) (r : Receiver) (event : Event) → counts (beforeCount m r event .master) (beforeCount m r event .told) event ≡ onSilence m r event
-by-before m r Event.Nothing = refl
-by-before m r Event.PassedOver = refl
-by-before m r Event.Broken = refl
-by-before m r (Frame w) = refl
-by-before m r (Event.Damaged w h) = refl
+pub ticked-parts : (m n : Master) (burst : Bool) (t : Timer) → burst ≡ burstCounted m → t ≡ timerCounted m → n ≡ behind m (m .receiver) burst (m .noted) t (m .message) → n ≡ timerTicked m
+ticked-parts m n burst t p q z = z ∙ (λ i. behind m (m .receiver) (p i) (m .noted) (q i) (m .message))
 
-pub silence-parts : (m : Master) (r : Receiver) (event : Event) (b t : MasterTaken) → b ≡ beforeCount m r event → t ≡ counts (b .master) (b .told) event → t ≡ onSilence m r event
-silence-parts m r event b t p q = q ∙ ap (λ (k : MasterTaken). counts (k .master) (k .told) event) p ∙ by-before m r event
+-- behind a break no ACK is awaited, so a count is the timer's alone
+counted-free : (m : Master) (told : MasterTold) (event : Event) → rt1Ends (m .message .stage) ≡ false → waited (m .message .stage) ≡ m .message .stage → counts m told event ≡ tells (timerTicked m) told event
+counted-free m told event r w =
+    if-is-false (rt1Ends (m .message .stage)) _ _ r
+    ∙ ap (λ (s : Stage). tells (behind m (m .receiver) (burstCounted m) (m .noted) (timerCounted m) (staged (m .message) s)) told event) w
 
-pub hears-silence : (m : Master) (s : Taken) (t : MasterTaken) → s ≡ silence (m .receiver .place) → t ≡ onSilence m (s .receiver) (s .event) → t ≡ hearsSilence m
-hears-silence m s t p q = q ∙ ap (λ (k : Taken). onSilence m (k .receiver) (k .event)) p
+record Unawaited (s : Stage) : Type 0 where
+  goes-on : rt1Ends s ≡ false
+  same : waited s ≡ s
 
-pub ruleset events = (refl, frame-parts, break-parts, inside-parts, on-character-at, awaiting-same, waited-at, rt1-ends-at, unless-ended-at, waits-parts, ended-parts, count-parts, line-parts, before-count-at, silence-parts, hears-silence)
+free-ends : (m : Master) → Unawaited (atBreak m .message .stage)
+unfolding if_then_else_
+free-ends m = by (isBroadcast (m .message .header)) (m .message .attempts ≤? m .retries)
+  where
+    by : (a b : Bool) → Unawaited ((if a then ends (m .message) BroadcastSent else (if b then record { message = staged (m .message) Waiting; told = MasterTold.Nothing } else ends (m .message) (GivenUp (m .message .attempts)))) .message .stage)
+    by true b = record { goes-on = refl; same = refl }
+    by false true = record { goes-on = refl; same = refl }
+    by false false = record { goes-on = refl; same = refl }
+
+behind-break : (m : Master) → Unawaited (ifAwaiting (m .message .stage) (m .message) (atBreak m) .message .stage)
+behind-break m = go (m .message .stage) refl
+  where
+    on : (s : Stage) → m .message .stage ≡ s → Unawaited s → Unawaited (m .message .stage)
+    on s e u = subst Unawaited (sym e) u
+
+    go : (s : Stage) → m .message .stage ≡ s → Unawaited (ifAwaiting s (m .message) (atBreak m) .message .stage)
+    go Free e = on Free e (record { goes-on = refl; same = refl })
+    go Waiting e = on Waiting e (record { goes-on = refl; same = refl })
+    go (Sending n) e = on (Sending n) e (record { goes-on = refl; same = refl })
+    go (Awaiting n) e = free-ends m
+
+pub second-parts : (m once twice : Master) (r : Receiver) (b : MasterTaken) → r ≡ idle → b ≡ afterBreak m r Event.Broken → once ≡ timerTicked (b .master) → twice ≡ timerTicked once
+    → _≡_ {A = MasterTaken} (record { master = twice; told = b .told; event = Event.Broken }) (secondSilent m)
+second-parts m once twice r b p q u v =
+    let f : Master = afterBreak m idle Event.Broken .master in
+    let told : MasterTold = afterBreak m idle Event.Broken .told in
+    let is = q ∙ ap (λ (x : Receiver). afterBreak m x Event.Broken) p in
+    let w = behind-break m in
+    let first = counted-free f told Event.Broken (w .goes-on) (w .same) in
+    let second = counted-free (timerTicked f) told Event.Broken (w .goes-on) (w .same) in
+    (λ i. record { master = (v ∙ ap timerTicked (u ∙ ap (λ (k : MasterTaken). timerTicked (k .master)) is)) i; told = is i .told; event = Event.Broken })
+    ∙ sym second ∙ sym (ap (λ (k : MasterTaken). counts (k .master) (k .told) Event.Broken) first)
+
+-- silence, by where the reader stands
+module _ (m : Master) (t : MasterTaken) (inside : Bool) (is : inside ≡ insideFrame (m .receiver .place)) where
+  as-taken : (k : Taken) → taken (m .receiver) Silence ≡ k → t ≡ onSilence m (k .receiver) (k .event) → t ≡ hearsSilence m
+  as-taken k e p = p ∙ sym (ap (λ (x : Taken). onSilence m (x .receiver) (x .event)) e)
+
+  pub hears-outside : inside ≡ false → t ≡ silentOutside m → t ≡ hearsSilence m
+  hears-outside o p = as-taken (Reader.tells idle Event.Nothing) (outside-idle (m .receiver) (sym is ∙ o)) (p ∙ sym (if-is-false (idle .gap) _ _ refl))
+
+  pub hears-passed : inside ≡ true → m .receiver .gap ≡ false → t ≡ passedOver m → t ≡ hearsSilence m
+  hears-passed i g p = as-taken (Reader.tells (gapped (m .receiver)) Event.Nothing) (gap-passed (m .receiver) (sym is ∙ i) g) (p ∙ sym (if-is-true (gapped (m .receiver) .gap) _ _ refl))
+
+  pub hears-second : inside ≡ true → m .receiver .gap ≡ true → t ≡ secondSilent m → t ≡ hearsSilence m
+  hears-second i g p = as-taken (Reader.tells idle Event.Broken) (gap-breaks (m .receiver) (sym is ∙ i) g) p
+
+pub ruleset events = (refl, frame-parts, break-parts, inside-parts, on-character-at, awaiting-same, waited-at, rt1-ends-at, unless-ended-at, waits-parts, ended-parts, count-parts)
+
+pub ruleset silences = (refl, outside-parts, passed-parts, ticked-parts, second-parts, hears-outside, hears-passed, hears-second)
 
 -- a tick, by what was heard
 module _ (m : Master) (heard : Heard) (bytes : List ℕ) (x : MasterTaken) where

@@ -3,13 +3,13 @@ use Prim.Native.Nat.{ℕ}
 use mathlib.Core.List.{List, []}
 use mathlib.Core.Path.{_≡_}
 use Rattle.base.specs.Choice.{if_then_else_}
-use Rattle.line.specs.Reader.{silence}
+use Rattle.line.specs.Reader.{idle, gapped, taken}
 use Rattle.line.specs.declared.Event.{Event}
-use Rattle.line.specs.declared.Event.the-variants.{PassedOver, Broken, Frame, Damaged}
 use Rattle.line.specs.declared.Heard.{Heard}
+use Rattle.line.specs.declared.Heard.the-variants.{Silence}
 use Rattle.line.specs.declared.Receiver.{Receiver}
 use Rattle.turns.specs.Link.{masterData}
-use Rattle.turns.specs.Master.{behind, staged, timer, timerCounted, atBreak, tells, afterBreak, waited, rt1Ends, unlessEnded, onSilence, masterTakes}
+use Rattle.turns.specs.Master.{behind, staged, timer, timerCounted, burstCounted, atBreak, tells, afterBreak, waited, rt1Ends, unlessEnded, counts, countsTwice, onSilence, masterTakes}
 use Rattle.turns.specs.declared.Ending.{Ending}
 use Rattle.turns.specs.declared.Master.{Master}
 use Rattle.turns.specs.declared.MasterTaken.{MasterTaken}
@@ -28,9 +28,9 @@ pub record TakeIs (m : Master) (heard : Heard) (bytes : List ℕ) (t : MasterTak
 
 -- ---- names for parts of the definitions
 
--- inside a frame
-abbrev pub insideFrame : Master → Receiver → MasterTaken
-insideFrame m r = tells (behind m r (m .burst) (m .noted) (timer 0) (m .message)) MasterTold.Nothing Event.Nothing
+-- a character of a frame that goes on
+abbrev pub frameGoesOn : Master → Receiver → MasterTaken
+frameGoesOn m r = tells (behind m r (m .burst) (m .noted) (timer 0) (m .message)) MasterTold.Nothing Event.Nothing
 
 -- the message behind a silent tick, and what is told
 abbrev pub countedMessage : Master → MasterTold → Ending
@@ -40,17 +40,24 @@ countedMessage m told = if rt1Ends (m .message .stage) then atBreak m else recor
 abbrev pub countedTimer : Master → Stage → Timer
 countedTimer m left = if rt1Ends (m .message .stage) then unlessEnded left (timerCounted m) else timerCounted m
 
--- a silent tick before it is counted: it breaks no frame, or one
-abbrev pub silentLine : Master → Receiver → MasterTaken
-silentLine m r = tells (behind m r (m .burst) (m .noted) (m .timer) (m .message)) MasterTold.Nothing Event.Nothing
+-- the same master with another reader
+abbrev pub withReader : Master → Receiver → Master
+withReader m r = behind m r (m .burst) (m .noted) (m .timer) (m .message)
 
-abbrev pub beforeCount : Master → Receiver → Event → MasterTaken
-beforeCount m r Event.Nothing = silentLine m r
-beforeCount m r PassedOver = afterBreak m r PassedOver
-beforeCount m r Broken = afterBreak m r Broken
-beforeCount m r (Frame w) = afterBreak m r (Frame w)
-beforeCount m r (Damaged w h) = afterBreak m r (Damaged w h)
+-- the timer's count alone
+abbrev pub timerTicked : Master → Master
+timerTicked m = behind m (m .receiver) (burstCounted m) (m .noted) (timerCounted m) (m .message)
+
+-- a silent tick outside a frame, one that is passed over inside a frame, and the second in a row
+abbrev pub silentOutside : Master → MasterTaken
+silentOutside m = counts (withReader m idle) MasterTold.Nothing Event.Nothing
+
+abbrev pub passedOver : Master → MasterTaken
+passedOver m = tells (withReader m (gapped (m .receiver))) MasterTold.Nothing Event.Nothing
+
+abbrev pub secondSilent : Master → MasterTaken
+secondSilent m = countsTwice (afterBreak m idle Event.Broken .master) (afterBreak m idle Event.Broken .told) Event.Broken
 
 -- silence, as the reader takes it
 abbrev pub hearsSilence : Master → MasterTaken
-hearsSilence m = onSilence m (silence (m .receiver .place) .receiver) (silence (m .receiver .place) .event)
+hearsSilence m = onSilence m (taken (m .receiver) Silence .receiver) (taken (m .receiver) Silence .event)

@@ -11,8 +11,8 @@ use turns::Stage;
 use turns::Timer;
 ghost use mathlib.Core.Path.{_≡_};
 ghost use Prim.Native.Nat.{_-_};
-ghost use Rattle.turns.specs.Master.{tells, afterFrame, afterBreak, onCharacter, waited, rt1Ends, unlessEnded, counts, onSilence};
-ghost use Rattle.master_heard.specs.Takes.{insideFrame, countedMessage, countedTimer, silentLine, beforeCount, hearsSilence, TakeIs};
+ghost use Rattle.turns.specs.Master.{tells, afterFrame, afterBreak, onCharacter, waited, rt1Ends, unlessEnded, counts};
+ghost use Rattle.master_heard.specs.Takes.{frameGoesOn, countedMessage, countedTimer, withReader, timerTicked, silentOutside, passedOver, secondSilent, hearsSilence, TakeIs};
 
 // Behind a whole frame: BURST, then the timer, and the message.
 fn after_frame(m: Master, r: Receiver, w: Whole, bytes: &[u8; 255]) -> MasterTaken
@@ -57,7 +57,7 @@ fn after_break(m: Master, r: Receiver, event: Event) -> MasterTaken
 
 // Inside a frame.
 fn inside_frame(m: Master, r: Receiver) -> MasterTaken
-    ensures { λ t. ⌜ t ≡ insideFrame m r ⌝ }
+    ensures { λ t. ⌜ t ≡ frameGoesOn m r ⌝ }
 {
     let noted = m.noted;
     let g = m.message;
@@ -186,14 +186,31 @@ fn count(m: Master, told: MasterTold, event: Event) -> MasterTaken
     }
 }
 
-// A silent tick that breaks no frame, before it is counted.
-fn silent_line(m: Master, r: Receiver) -> MasterTaken
-    ensures { λ t. ⌜ t ≡ silentLine m r ⌝ }
+// The same master with another reader.
+fn with_reader(m: Master, r: Receiver) -> Master
+    ensures { λ n. ⌜ n ≡ withReader m r ⌝ }
 {
     let noted = m.noted;
     let t = m.timer;
     let g = m.message;
-    let master = master_rules::with_parts(m, r, m.burst, noted, t, g);
+    master_rules::with_parts(m, r, m.burst, noted, t, g)
+}
+
+// A silent tick outside a frame is counted.
+fn silent_outside(m: Master) -> MasterTaken
+    ensures { λ t. ⌜ t ≡ silentOutside m ⌝ }
+{
+    let r = tick_reader::idle_reader();
+    count(with_reader(m, r), MasterTold::Nothing, Event::Nothing)
+}
+
+// A silent tick inside a frame that is passed over.
+fn passed_over(m: Master) -> MasterTaken
+    ensures { λ t. ⌜ t ≡ passedOver m ⌝ }
+{
+    let reader = m.receiver;
+    let r = tick_reader::gapped_reader(reader);
+    let master = with_reader(m, r);
     MasterTaken {
         master: master,
         told: MasterTold::Nothing,
@@ -201,27 +218,32 @@ fn silent_line(m: Master, r: Receiver) -> MasterTaken
     }
 }
 
-// A silent tick, before it is counted, by what the reader tells: it may break a frame.
-fn before_count(m: Master, r: Receiver, event: Event) -> MasterTaken
-    ensures { λ t. ⌜ t ≡ beforeCount m r event ⌝ }
+// The timer's count alone: behind a break no ACK is awaited.
+fn timer_ticked(m: Master) -> Master
+    ensures { λ n. ⌜ n ≡ timerTicked m ⌝ }
 {
-    match event {
-        Event::Nothing => silent_line(m, r),
-        Event::PassedOver => after_break(m, r, Event::PassedOver),
-        Event::Broken => after_break(m, r, Event::Broken),
-        Event::Frame(w) => after_break(m, r, Event::Frame(w)),
-        Event::Damaged(w, harm) => after_break(m, r, Event::Damaged(w, harm)),
-    }
+    let r = m.receiver;
+    let noted = m.noted;
+    let g = m.message;
+    let burst = master_rules::burst_counted(m);
+    let t = master_rules::timer_counted(m);
+    master_rules::with_parts(m, r, burst, noted, t, g)
 }
 
-// Behind a silent tick.
-fn on_silence(m: Master, r: Receiver, event: Event) -> MasterTaken
-    ensures { λ t. ⌜ t ≡ onSilence m r event ⌝ }
+// The second silent tick in a row breaks the frame, and both count.
+fn second_silent(m: Master) -> MasterTaken
+    ensures { λ t. ⌜ t ≡ secondSilent m ⌝ }
 {
-    let b = before_count(m, r, event);
-    let master = b.master;
+    let r = tick_reader::idle_reader();
+    let b = after_break(m, r, Event::Broken);
+    let broken = b.master;
     let told = b.told;
-    count(master, told, event)
+    let twice = timer_ticked(timer_ticked(broken));
+    MasterTaken {
+        master: twice,
+        told: told,
+        event: Event::Broken,
+    }
 }
 
 // A master that hears nothing.
@@ -241,10 +263,13 @@ fn hears_silence(m: Master) -> MasterTaken
 {
     let reader = m.receiver;
     let place = reader.place;
-    let t = tick_reader::silent(place);
-    let r = t.receiver;
-    let event = t.event;
-    on_silence(m, r, event)
+    if tick_reader::is_inside(place) {
+        if reader.gap {
+            return second_silent(m);
+        }
+        return passed_over(m);
+    }
+    silent_outside(m)
 }
 
 // Takes what was heard. The data of the frame being heard are kept in the lent bytes.

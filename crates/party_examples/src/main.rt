@@ -3,7 +3,8 @@
 // A line of the input with a colon behind three digits is a scene: its number of ticks, and its orders. Any other line is printed as it is. An order is its tick in three digits, a letter for whom it is for, a letter for what is done, a number of two hexadecimal digits, and a semicolon:
 //
 //     mr mu     the master's host requests command 0 of that polling address, or command 3 of that unique address
-//     da        the device's host answers with that many zero bytes
+//     da dn     the device's host answers with that many zero bytes, and dn turns burst on
+//     dc        it gives burst content, command 3 with that many zero bytes
 //     M.. D..   the master or the device hears what it would hear damaged by parity (p), overrun (o) or framing (f), with the bits of the number changed; silence (s); or the character of the number (c)
 //     oc        a third party sends the character of the number
 use device::DeviceStarted;
@@ -38,9 +39,10 @@ struct MasterSide {
     bytes: [u8; 255],
 }
 
-// A device, likewise.
+// A device, likewise, and its burst content.
 struct DeviceSide {
     ticked: DeviceTicked,
+    contents: [u8; 255],
     frame: [u8; 284],
     bytes: [u8; 255],
 }
@@ -192,20 +194,23 @@ fn master_ticks(side: MasterSide, ear: Ear, script: &[u8], tick: u16) -> MasterS
 }
 
 fn device_call(o: Order) -> device_tick::HostCall {
-    if o.what == b'a' {
-        return device_tick::HostCall::Answers(Wish::Same);
+    let what = o.what;
+    match what {
+        b'a' => device_tick::HostCall::Answers(Wish::Same),
+        b'n' => device_tick::HostCall::Answers(Wish::On),
+        b'c' => device_tick::HostCall::Content(3),
+        _ => device_tick::HostCall::Nothing,
     }
-    device_tick::HostCall::Nothing
 }
 
 fn device_ticks(side: DeviceSide, ear: Ear, script: &[u8], tick: u16) -> DeviceSide {
     let t = side.ticked;
+    let mut contents = side.contents;
     let mut frame = side.frame;
     let mut bytes = side.bytes;
     let heard = ear.heard;
     let o = look(script, tick, b'd');
     let zeros = [0u8; 255];
-    let mut contents = [0u8; 255];
     let put = front(&zeros, o.number as usize);
     let call = device_call(o);
     let ticked = device_tick::tick(
@@ -219,6 +224,7 @@ fn device_ticks(side: DeviceSide, ear: Ear, script: &[u8], tick: u16) -> DeviceS
     );
     DeviceSide {
         ticked: ticked,
+        contents: contents,
         frame: frame,
         bytes: bytes,
     }
@@ -315,6 +321,7 @@ fn device_side(d: Device) -> DeviceSide {
             event: Event::Nothing,
             answer: CallAnswer::Nothing,
         },
+        contents: [0; 255],
         frame: [0; 284],
         bytes: [0; 255],
     }
@@ -370,7 +377,7 @@ fn lines(words: &[u8]) {
 }
 
 fn main() {
-    let mut input = io::buffer();
+    let mut input = io::large_buffer();
     let count = io::read_full(STDIN_FILENO, &mut input);
     lines(&input[..count]);
 }

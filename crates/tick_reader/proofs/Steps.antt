@@ -6,12 +6,13 @@ use mathlib.Core.List.{List, [], _∷_}
 use lib.ListN.{set}
 use Rattle.base.specs.Choice.{if_then_else_, _=?_}
 use Rattle.base.specs.Store.{stored}
+use Rattle.base.proofs.Choices.{if-is-true, if-is-false}
 use Rattle.frame.specs.declared.Delimiter.{Delimiter}
 use Rattle.frame.specs.declared.Header.{Header}
-use Rattle.line.specs.Reader.{noHeader, noHarm, blank, silence, tells, summed, next, begins, idle, ended, wholeOf, withCheck, atFirst, atAddress, atExpansion, atCommand, atData, atCheck, kindHarm, marked, character, damaged, kept, taken, takenData}
+use Rattle.line.specs.Reader.{noHeader, noHarm, blank, gapped, silentInside, insideFrame, silence, tells, summed, next, begins, idle, ended, wholeOf, withCheck, atFirst, atAddress, atExpansion, atCommand, atData, atCheck, kindHarm, marked, character, damaged, kept, taken, takenData}
 use Rattle.line.specs.declared.Damage.{Damage}
 use Rattle.line.specs.declared.Event.{Event}
-use Rattle.line.specs.declared.Event.the-variants.{Nothing}
+use Rattle.line.specs.declared.Event.the-variants.{Nothing, Broken}
 use Rattle.line.specs.declared.Harm.{Harm}
 use Rattle.line.specs.declared.Heard.{Heard}
 use Rattle.line.specs.declared.Heard.the-variants.{Silence, Character, Damaged}
@@ -37,22 +38,38 @@ unfolding atCheck
 check-same r c s wrong h e p q g f =
     λ i. record { receiver = p i; event = (f ∙ (λ j. ended (record { header = g j; expansion = r .expansion; count = r .count }) (withCheck (r .harm) (q j)))) i }
 
-pub header-same : (place : Place) (h g : Header) (expansion count sum : ℕ) (m : Harm) → h ≡ g
-    → _≡_ {A = Receiver} (record { place = place; header = h; expansion = expansion; count = count; sum = sum; harm = m })
-    (record { place = place; header = g; expansion = expansion; count = count; sum = sum; harm = m })
-header-same place h g expansion count sum m p = λ i. record { place = place; header = p i; expansion = expansion; count = count; sum = sum; harm = m }
+pub header-same : (place : Place) (h g : Header) (expansion count sum : ℕ) (m : Harm) (gap : Bool) → h ≡ g
+    → _≡_ {A = Receiver} (record { place = place; header = h; expansion = expansion; count = count; sum = sum; harm = m; gap = gap })
+    (record { place = place; header = g; expansion = expansion; count = count; sum = sum; harm = m; gap = gap })
+header-same place h g expansion count sum m gap p = λ i. record { place = place; header = p i; expansion = expansion; count = count; sum = sum; harm = m; gap = gap }
 
 -- a receiver is what its fields make of it
 pub receiver-same : (r : Receiver) (h : Header) → h ≡ r .header
-    → _≡_ {A = Receiver} (record { place = r .place; header = h; expansion = r .expansion; count = r .count; sum = r .sum; harm = r .harm }) r
-receiver-same r h e = header-same (r .place) h (r .header) (r .expansion) (r .count) (r .sum) (r .harm) e
+    → _≡_ {A = Receiver} (record { place = r .place; header = h; expansion = r .expansion; count = r .count; sum = r .sum; harm = r .harm; gap = r .gap }) r
+receiver-same r h e = header-same (r .place) h (r .header) (r .expansion) (r .count) (r .sum) (r .harm) (r .gap) e
 
-pub blank-same : (place : Place) (m : Harm) → m ≡ noHarm → _≡_ {A = Receiver} (record { place = place; header = noHeader; expansion = 0; count = 0; sum = 0; harm = m }) (blank place)
-blank-same place m p = ap (λ (x : Harm). record { place = place; header = noHeader; expansion = 0; count = 0; sum = 0; harm = x }) p
+pub blank-same : (place : Place) (m : Harm) → m ≡ noHarm → _≡_ {A = Receiver} (record { place = place; header = noHeader; expansion = 0; count = 0; sum = 0; harm = m; gap = false }) (blank place)
+blank-same place m p = ap (λ (x : Harm). record { place = place; header = noHeader; expansion = 0; count = 0; sum = 0; harm = x; gap = false }) p
+
+-- a silent tick inside a frame
+pub inside-first : (r : Receiver) (t : Taken) → r .gap ≡ false → t ≡ tells (gapped r) Nothing → t ≡ silentInside r
+unfolding silentInside
+inside-first r t e f = f ∙ sym (if-is-false (r .gap) _ _ e)
+
+pub inside-second : (r : Receiver) (t : Taken) → r .gap ≡ true → t ≡ tells idle Broken → t ≡ silentInside r
+unfolding silentInside
+inside-second r t e f = f ∙ sym (if-is-true (r .gap) _ _ e)
+
+-- a silent tick at a place that a `match` has told, inside a frame or outside
+pub silence-inside : (r : Receiver) (p : Place) (t : Taken) → r .place ≡ p → insideFrame p ≡ true → t ≡ silentInside r → t ≡ silence r
+silence-inside r p t e i f = f ∙ sym (if-is-true (insideFrame (r .place)) _ _ (ap insideFrame e ∙ i))
+
+pub silence-outside : (r : Receiver) (p : Place) (t : Taken) → r .place ≡ p → insideFrame p ≡ false → t ≡ tells idle Nothing → t ≡ silence r
+silence-outside r p t e o f = f ∙ sym (if-is-false (insideFrame (r .place)) _ _ (ap insideFrame e ∙ o))
 
 -- a definition by the reader's place, at a place that a `match` has told
-pub silence-at : (p q : Place) (t : Taken) → p ≡ q → t ≡ silence q → t ≡ silence p
-silence-at p q t e f = f ∙ ap silence (sym e)
+pub inside-at : (p q : Place) (b : Bool) → p ≡ q → b ≡ insideFrame q → b ≡ insideFrame p
+inside-at p q b e f = f ∙ ap insideFrame (sym e)
 
 pub begins-at : (c : ℕ) (d g : Delimiter) (t : Taken) → d ≡ g → t ≡ begins c g → t ≡ begins c d
 begins-at c d g t e f = f ∙ ap (begins c) (sym e)
@@ -98,7 +115,7 @@ stored-one bytes n c = refl
 
 -- a tick, by what was heard
 module _ (r : Receiver) (heard : Heard) (t : Taken) (bytes after : List ℕ) where
-  pub take-silence : heard ≡ Silence → t ≡ silence (r .place) → t ≡ taken r heard
+  pub take-silence : heard ≡ Silence → t ≡ silence r → t ≡ taken r heard
   unfolding taken
   take-silence e f = f ∙ ap (taken r) (sym e)
 
@@ -122,7 +139,9 @@ module _ (r : Receiver) (heard : Heard) (t : Taken) (bytes after : List ℕ) whe
   unfolding takenData
   keep-damaged c k e f = f ∙ ap (λ (h : Heard). takenData r h bytes) (sym e)
 
-pub ruleset steps = (refl, tells-same, goes-on-same, next-same, begins-same, check-same, blank-same, silence-at, begins-at)
+pub ruleset steps = (refl, tells-same, goes-on-same, next-same, begins-same, check-same, blank-same, begins-at)
+
+pub ruleset insides = (refl, tells-same, goes-on-same, inside-first, inside-second, inside-at, silence-inside, silence-outside)
 
 pub ruleset headers = (refl, goes-on-same, header-same, receiver-same)
 

@@ -12,7 +12,7 @@ use line::Whole;
 ghost use mathlib.Core.Path.{_≡_};
 ghost use mathlib.Core.Bool.{true, false};
 ghost use Rattle.base.specs.Choice.{if_then_else_, _=?_};
-ghost use Rattle.line.specs.Reader.{noHarm, blank, idle, passing, breaks, silentInside, silence, tells, next, atIdle, begins, atPreamble, behindAddress, firstHeader, atFirst, addressHeader, atAddress, atExpansion, commandHeader, atCommand, counted, atCount, atData, harmed, ended, atCheck, character, addressHarm, kindHarm, marked, damaged, keptByte, kept, TakeIs};
+ghost use Rattle.line.specs.Reader.{noHarm, blank, idle, passing, breaks, gapped, silentInside, insideFrame, silence, tells, next, atIdle, begins, atPreamble, behindAddress, firstHeader, atFirst, addressHeader, atAddress, atExpansion, commandHeader, atCommand, counted, atCount, atData, harmed, ended, atCheck, character, addressHarm, kindHarm, marked, damaged, keptByte, kept, TakeIs};
 
 // The next two give what they take, field by field. Copied as a block, with the unused bytes between its fields, a struct stays in memory; made anew, its fields can stay in registers.
 pub fn same_header(h: Header) -> Header
@@ -42,6 +42,7 @@ pub fn same_receiver(r: Receiver) -> Receiver
         count: r.count,
         sum: r.sum,
         harm: harm,
+        gap: r.gap,
     }
 }
 
@@ -77,6 +78,7 @@ fn blank_at(place: Place) -> Receiver
         count: 0,
         sum: 0,
         harm: harm,
+        gap: false,
     }
 }
 
@@ -115,31 +117,73 @@ fn goes_on(r: Receiver) -> Taken
     }
 }
 
-fn silent_inside() -> Taken
-    ensures { λ r. ⌜ r ≡ silentInside ⌝ }
+// The reader behind a silent tick that is passed over.
+pub fn gapped_reader(r: Receiver) -> Receiver
+    ensures { λ s. ⌜ s ≡ gapped r ⌝ }
 {
-    let r = idle_reader();
-    Taken {
-        receiver: r,
-        event: Event::Broken,
+    let place = r.place;
+    let h = r.header;
+    let header = same_header(h);
+    let harm = r.harm;
+    Receiver {
+        place: place,
+        header: header,
+        expansion: r.expansion,
+        count: r.count,
+        sum: r.sum,
+        harm: harm,
+        gap: true,
+    }
+}
+
+// A silent tick inside a frame: one is passed over, the second in a row breaks the frame.
+fn silent_inside(r: Receiver) -> Taken
+    ensures { λ t. ⌜ t ≡ silentInside r ⌝ }
+{
+    if r.gap {
+        let before = idle_reader();
+        return Taken {
+            receiver: before,
+            event: Event::Broken,
+        };
+    }
+    goes_on(gapped_reader(r))
+}
+
+// Inside a frame: behind its first 0xFF, up to its check byte.
+pub fn is_inside(place: Place) -> bool
+    ensures { λ b. ⌜ b ≡ insideFrame place ⌝ }
+{
+    match place {
+        Place::Passing => false,
+        Place::Idle => false,
+        Place::Preamble(_) => true,
+        Place::First => true,
+        Place::Address(_) => true,
+        Place::Expansion(_) => true,
+        Place::Command => true,
+        Place::Count => true,
+        Place::Data(_) => true,
+        Place::Check => true,
     }
 }
 
 // A silent tick.
-pub fn silent(place: Place) -> Taken
-    ensures { λ r. ⌜ r ≡ silence place ⌝ }
+fn silent(r: Receiver) -> Taken
+    ensures { λ t. ⌜ t ≡ silence r ⌝ }
 {
+    let place = r.place;
     match place {
         Place::Passing => goes_on(idle_reader()),
         Place::Idle => goes_on(idle_reader()),
-        Place::Preamble(_) => silent_inside(),
-        Place::First => silent_inside(),
-        Place::Address(_) => silent_inside(),
-        Place::Expansion(_) => silent_inside(),
-        Place::Command => silent_inside(),
-        Place::Count => silent_inside(),
-        Place::Data(_) => silent_inside(),
-        Place::Check => silent_inside(),
+        Place::Preamble(_) => silent_inside(r),
+        Place::First => silent_inside(r),
+        Place::Address(_) => silent_inside(r),
+        Place::Expansion(_) => silent_inside(r),
+        Place::Command => silent_inside(r),
+        Place::Count => silent_inside(r),
+        Place::Data(_) => silent_inside(r),
+        Place::Check => silent_inside(r),
     }
 }
 
@@ -156,6 +200,7 @@ fn to_next(r: Receiver, h: Header, place: Place, c: u8) -> Taken
         count: r.count,
         sum: r.sum ^ c,
         harm: harm,
+        gap: false,
     };
     goes_on(receiver)
 }
@@ -189,6 +234,7 @@ fn begun(c: u8, frame: u8, long: bool, expansion: u8) -> Taken
         count: 0,
         sum: c,
         harm: harm,
+        gap: false,
     };
     goes_on(receiver)
 }
@@ -316,6 +362,7 @@ fn with_count(r: Receiver, c: u8, place: Place) -> Taken
         count: c,
         sum: r.sum ^ c,
         harm: harm,
+        gap: false,
     };
     goes_on(receiver)
 }
@@ -448,6 +495,7 @@ fn with_harm(r: Receiver, harm: Harm) -> Receiver
         count: r.count,
         sum: r.sum,
         harm: harm,
+        gap: r.gap,
     }
 }
 
@@ -541,7 +589,7 @@ pub fn take(r: Receiver, heard: Heard, bytes: &mut [u8; 255]) -> Taken
 {
     let place = r.place;
     match heard {
-        Heard::Silence => silent(place),
+        Heard::Silence => silent(r),
         Heard::Character(c) => {
             keep(place, c, bytes);
             heard_character(r, c)

@@ -19,7 +19,7 @@ use Rattle.line.specs.declared.Heard.the-variants.{Silence, Character}
 use Rattle.line.specs.declared.Profile.{Profile}
 use Rattle.line.specs.declared.Receiver.{Receiver}
 use Rattle.turns.specs.Master.{Called, isBroadcast}
-use Rattle.turns.specs.Device.{behind, isOwn, hasError, waited, wished, behindAck, backLength, counts, onSilence, onCharacter, onHeard, deviceTakes, answeredBy, answered, answerFrame, withContent, contentGiven, sendsBy, deviceSends, begunFrame}
+use Rattle.turns.specs.Device.{behind, isOwn, hasError, waited, brokenDue, wished, behindAck, backLength, counts, onSilence, onCharacter, onHeard, deviceTakes, answeredBy, answered, answerFrame, withContent, contentGiven, sendsBy, deviceSends, begunFrame}
 use Rattle.turns.specs.Link.{DeviceCall, no-call, gives-answer, gives-content, Answer, was-taken, was-refused, DeviceSide, DeviceStep, deviceSent, answerCalled, contentCalled, deviceCalls, deviceTick, deviceData, heardFrame}
 use Rattle.turns.specs.Bursts.{Wished, no-wish, wishes, BurstLog, droppedBy, wishedBy, effective, sentWith, logAfter, DeviceInput, Agrees, no-tick, tick-and, BurstsAsSaid}
 use Rattle.turns.specs.declared.Turn.{Turn}
@@ -80,18 +80,18 @@ module _ (p : Profile) (v : Valid p) (on : Bool) (pending : Wished) (d : Device)
   waited-turned (Bursts n) e due t = t
 
   -- the timer of a BACK does not end where an answer waits
-  due-free : (turn : Turn) → d .turn ≡ turn → Turned p pending (d .wish) (d .due) turn → (due : ℕ) → (due ≡ d .due) ⊎ (due ≡ p .rt1p) → due ≡ 1 → pending ≡ no-wish
+  due-free : (turn : Turn) → d .turn ≡ turn → Turned p pending (d .wish) (d .due) turn → (due : ℕ) → (due ≡ d .due) ⊎ (p .rt1p ≤ due + 1) → due ≡ 1 → pending ≡ no-wish
   unfolding Turned Rests
   due-free Listens e t due f one = t
   due-free (Asked n) e t due f one = t .0
   due-free Accepted e t due (inl f) one = absurd (omega (arith, f, t .1, v .rt2-short, v .hold-short))
-  due-free Accepted e t due (inr f) one = absurd (omega (arith, f, v .rt2-short, v .hold-short))
+  due-free Accepted e t due (inr f) one = absurd (omega (arith, f, v .rt2-short, v .hold-short, v .some-hold))
   due-free Begins e t due f one = absurd (r e)
   due-free (Answers n) e t due f one = t
   due-free Follows e t due f one = t
   due-free (Bursts n) e t due f one = t
 
-  counts-logged : (x : Receiver) (due : ℕ) (event : Event) → (due ≡ d .due) ⊎ (due ≡ p .rt1p) → Logged p on pending (counts d x due event .device)
+  counts-logged : (x : Receiver) (due : ℕ) (event : Event) → (due ≡ d .due) ⊎ (p .rt1p ≤ due + 1) → Logged p on pending (counts d x due event .device)
   unfolding if_then_else_ Turned
   counts-logged x due event f = go (d .burst) refl (due =? 1) refl
     where
@@ -109,11 +109,11 @@ module _ (p : Profile) (v : Valid p) (on : Bool) (pending : Wished) (d : Device)
   rt1p-is = ap (λ (q : Profile). q .rt1p) (l .profile-is)
 
   silence-logged : (x : Receiver) (e : Event) → Logged p on pending (onSilence d x e .device)
-  silence-logged x Nothing = counts-logged x (d .due) Nothing (inl refl)
-  silence-logged x PassedOver = counts-logged x (d .profile .rt1p) PassedOver (inr rt1p-is)
-  silence-logged x Broken = counts-logged x (d .profile .rt1p) Broken (inr rt1p-is)
-  silence-logged x (Frame w) = counts-logged x (d .profile .rt1p) (Frame w) (inr rt1p-is)
-  silence-logged x (Damaged w m) = counts-logged x (d .profile .rt1p) (Damaged w m) (inr rt1p-is)
+  silence-logged x Nothing = if-both (λ (t : DeviceTaken). Logged p on pending (t .device)) (x .gap) _ _ (record { profile-is = l .profile-is; on-is = l .on-is; turned = l .turned }) (counts-logged x (d .due) Nothing (inl refl))
+  silence-logged x PassedOver = counts-logged x (d .profile .rt1p) PassedOver (inr (omega (arith, rt1p-is)))
+  silence-logged x Broken = counts-logged x (brokenDue d) Broken (inr (omega (arith, rt1p-is)))
+  silence-logged x (Frame w) = counts-logged x (d .profile .rt1p) (Frame w) (inr (omega (arith, rt1p-is)))
+  silence-logged x (Damaged w m) = counts-logged x (d .profile .rt1p) (Damaged w m) (inr (omega (arith, rt1p-is)))
 
   -- a character
   listens : (x : Receiver) (due n : ℕ) → Logged p on no-wish (behind d x Listens (d .request) Same n due)

@@ -1,5 +1,5 @@
 -- Of "A device bursts from the first character of an ACK whose answer turned burst on until the first character of one whose answer turned it off": the field `burst` changes only in a tick in which the device sends the first character of the frame in its buffer, in any state, whatever is heard and called. That this frame is an ACK with the wished flag is said, for the states of a run, in Devices.antt (`Goes`, `answers`).
-use Prim.Native.Nat.{ℕ, _+_}
+use Prim.Native.Nat.{ℕ, _-_, _+_}
 use mathlib.Core.Path.{_≡_, refl}
 use mathlib.Core.Bool.{Bool, true, false}
 use mathlib.Core.List.{List}
@@ -15,7 +15,7 @@ use Rattle.line.specs.declared.Heard.{Heard}
 use Rattle.line.specs.declared.Heard.the-variants.{Silence, Character}
 use Rattle.line.specs.declared.Receiver.{Receiver}
 use Rattle.turns.specs.Master.{Called, isBroadcast}
-use Rattle.turns.specs.Device.{isOwn, hasError, backDue, onSilence, onCharacter, onHeard, deviceTakes, wishRefused, answeredBy, answered, answerFrame, contentGiven, backLength, sendsBy, deviceSends, begunFrame}
+use Rattle.turns.specs.Device.{isOwn, hasError, backDue, brokenDue, onSilence, onCharacter, onHeard, deviceTakes, wishRefused, answeredBy, answered, answerFrame, contentGiven, backLength, sendsBy, deviceSends, begunFrame}
 use Rattle.turns.specs.Link.{DeviceCall, no-call, gives-answer, gives-content, Answer, none, was-taken, DeviceSide, DeviceStep, deviceSent, answerCalled, contentCalled, deviceTick}
 use Rattle.turns.specs.declared.Sent.{Sent}
 use Rattle.turns.specs.declared.Turn.{Turn}
@@ -37,9 +37,9 @@ if-taken : {v : Bool} (t : Bool) (a b : DeviceTaken) → a .device .burst ≡ v 
 if-taken {v} t a b p q = if-both (λ (x : DeviceTaken). x .device .burst ≡ v) t a b p q
 
 silence-burst : (d : Device) (r : Receiver) (e : Event) → onSilence d r e .device .burst ≡ d .burst
-silence-burst d r Nothing = if-taken (backDue d (d .due)) _ _ refl refl
+silence-burst d r Nothing = if-taken (r .gap) _ _ refl (if-taken (backDue d (d .due)) _ _ refl refl)
 silence-burst d r PassedOver = if-taken (backDue d (d .profile .rt1p)) _ _ refl refl
-silence-burst d r Broken = if-taken (backDue d (d .profile .rt1p)) _ _ refl refl
+silence-burst d r Broken = if-taken (backDue d (brokenDue d)) _ _ refl refl
 silence-burst d r (Frame w) = if-taken (backDue d (d .profile .rt1p)) _ _ refl refl
 silence-burst d r (Damaged w m) = if-taken (backDue d (d .profile .rt1p)) _ _ refl refl
 

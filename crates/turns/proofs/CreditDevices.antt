@@ -22,7 +22,7 @@ use Rattle.line.specs.declared.Heard.the-variants.{Silence, Character}
 use Rattle.line.specs.declared.Receiver.{Receiver}
 use Rattle.line.specs.declared.Whole.{Whole}
 use Rattle.turns.specs.Master.{Called, accepted, refused, isBroadcast}
-use Rattle.turns.specs.Device.{behind, isOwn, backDue, waited, answerHeader, wished, answersAt, onSilence, onCharacter, onHeard, deviceTakes, answeredBy, answered, answerFrame, withContent, contentGiven, backLength, behindAck, sendsBy, deviceSends, begunFrame, errorFrame}
+use Rattle.turns.specs.Device.{behind, isOwn, backDue, brokenDue, waited, answerHeader, wished, answersAt, onSilence, onCharacter, onHeard, deviceTakes, answeredBy, answered, answerFrame, withContent, contentGiven, backLength, behindAck, sendsBy, deviceSends, begunFrame, errorFrame}
 use Rattle.turns.specs.Link.{DeviceCall, no-call, gives-answer, gives-content, Answer, was-taken, was-refused, DeviceSide, DeviceStep, deviceData, heardFrame, deviceSent, answerCalled, contentCalled, deviceCalls, deviceTick}
 use Rattle.turns.specs.Credit.{Ledger, told, given, toldBy, calledBy, ledgerAfter, answeredWith}
 use Rattle.turns.specs.declared.Turn.{Turn}
@@ -137,9 +137,11 @@ module _ (g : Ledger) (d : Device) (frame : List ℕ) (o : DeviceOwes g d frame)
       if-both (λ (t : DeviceTaken). DeviceOwes (toldBy (t .told) g) (t .device) frame) (backDue d due) _ _ (none-owed (λ n q. follows-asked n q) refl) (counted (d .turn) refl r (due - 1))
 
   silence-owes : (r : Receiver) (e : Event) → DeviceOwes (toldBy (onSilence d r e .told) g) (onSilence d r e .device) frame
-  silence-owes r Nothing = counts-owes r (d .due) Nothing
+  silence-owes r Nothing =
+      if-both (λ (t : DeviceTaken). DeviceOwes (toldBy (t .told) g) (t .device) frame) (r .gap) _ _
+      (record { asked = λ n q. o .asked n q; gives = λ z. same-gives refl refl refl (o .gives z) }) (counts-owes r (d .due) Nothing)
   silence-owes r PassedOver = counts-owes r (d .profile .rt1p) PassedOver
-  silence-owes r Broken = counts-owes r (d .profile .rt1p) Broken
+  silence-owes r Broken = counts-owes r (brokenDue d) Broken
   silence-owes r (Frame w) = counts-owes r (d .profile .rt1p) (Frame w)
   silence-owes r (Damaged w m) = counts-owes r (d .profile .rt1p) (Damaged w m)
 

@@ -72,9 +72,12 @@ counts-not : (m : Master) (told : MasterTold) (event : Event) → NotAnswered to
 counts-not m told event q = if-both (λ (t : MasterTaken). NotAnswered (t .told)) (rt1Ends (m .message .stage)) _ _ (break-not m) q
 
 silence-not : (m : Master) (r : Receiver) (event : Event) → NotAnswered (onSilence m r event .told)
-silence-not m r Nothing = counts-not (behind m r (m .burst) (m .noted) (m .timer) (m .message)) MasterTold.Nothing Nothing nothing-not
+silence-not m r Nothing =
+    if-both (λ (t : MasterTaken). NotAnswered (t .told)) (r .gap) _ _ nothing-not (counts-not (behind m r (m .burst) (m .noted) (m .timer) (m .message)) MasterTold.Nothing Nothing nothing-not)
 silence-not m r PassedOver = counts-not (afterBreak m r PassedOver .master) (afterBreak m r PassedOver .told) PassedOver (after-break-not m r PassedOver)
-silence-not m r Broken = counts-not (afterBreak m r Broken .master) (afterBreak m r Broken .told) Broken (after-break-not m r Broken)
+silence-not m r Broken =
+    let once : MasterTaken = counts (afterBreak m r Broken .master) (afterBreak m r Broken .told) Broken in
+    counts-not (once .master) (once .told) Broken (counts-not (afterBreak m r Broken .master) (afterBreak m r Broken .told) Broken (after-break-not m r Broken))
 silence-not m r (Frame w) = counts-not (afterBreak m r (Frame w) .master) (afterBreak m r (Frame w) .told) (Frame w) (after-break-not m r (Frame w))
 silence-not m r (Damaged w h) = counts-not (afterBreak m r (Damaged w h) .master) (afterBreak m r (Damaged w h) .told) (Damaged w h) (after-break-not m r (Damaged w h))
 

@@ -166,7 +166,7 @@ module _ (frame contents : List ℕ) (d : Device) (hears : d .deaf ≡ false) (h
 
   pub takes-silence : taken (d .receiver) Silence ≡ Rattle.line.specs.Reader.tells idle Nothing → TookSilence frame contents d (deviceTakes d Silence)
   takes-silence e =
-      let same : deviceTakes d Silence ≡ counts d idle (d .due) Nothing = heard-is Silence ∙ ap (λ (t : Taken). onSilence d (t .receiver) (t .event)) e in
+      let same : deviceTakes d Silence ≡ counts d idle (d .due) Nothing = heard-is Silence ∙ ap (λ (t : Taken). onSilence d (t .receiver) (t .event)) e ∙ if-is-false (idle .gap) _ _ refl in
       subst (λ (t : DeviceTaken). TookSilence frame contents d t) (sym same) (by-burst (d .burst) refl)
     where
       After : DeviceTaken → Type 0

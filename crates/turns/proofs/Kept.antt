@@ -115,9 +115,13 @@ both a b = record {
 }
 
 silent : (m : Master) (r : Receiver) (event : Event) → Same m (onSilence m r event .master)
-silent m r Nothing = both (record { same-retries = refl; same-message = itself (m .message) }) (count (behind m r (m .burst) (m .noted) (m .timer) (m .message)) MasterTold.Nothing Nothing)
+silent m r Nothing =
+    let still : Same m (behind m r (m .burst) (m .noted) (m .timer) (m .message)) = record { same-retries = refl; same-message = itself (m .message) } in
+    if-both (λ (t : MasterTaken). Same m (t .master)) (r .gap) _ _ still (both still (count (behind m r (m .burst) (m .noted) (m .timer) (m .message)) MasterTold.Nothing Nothing))
 silent m r PassedOver = both (after-break m r PassedOver) (count (afterBreak m r PassedOver .master) (afterBreak m r PassedOver .told) PassedOver)
-silent m r Broken = both (after-break m r Broken) (count (afterBreak m r Broken .master) (afterBreak m r Broken .told) Broken)
+silent m r Broken =
+    let once : MasterTaken = counts (afterBreak m r Broken .master) (afterBreak m r Broken .told) Broken in
+    both (after-break m r Broken) (both (count (afterBreak m r Broken .master) (afterBreak m r Broken .told) Broken) (count (once .master) (once .told) Broken))
 silent m r (Frame w) = both (after-break m r (Frame w)) (count (afterBreak m r (Frame w) .master) (afterBreak m r (Frame w) .told) (Frame w))
 silent m r (Damaged w h) = both (after-break m r (Damaged w h)) (count (afterBreak m r (Damaged w h) .master) (afterBreak m r (Damaged w h) .told) (Damaged w h))
 

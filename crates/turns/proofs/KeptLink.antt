@@ -1,5 +1,5 @@
 -- What every tick of the link keeps, whatever is heard and called: no device's frame and no burst content is longer than the longest one. And so for all parties of a link.
-use Prim.Native.Nat.{ℕ, _+_, _≤_}
+use Prim.Native.Nat.{ℕ, _-_, _+_, _≤_}
 use native.Mathlib.Omega.{arith}
 use mathlib.Core.Path.{_≡_, refl, sym, subst}
 use mathlib.Core.Bool.{Bool}
@@ -18,7 +18,7 @@ use Rattle.line.specs.declared.Heard.the-variants.{Silence, Character}
 use Rattle.line.specs.declared.Profile.{Profile}
 use Rattle.line.specs.declared.Receiver.{Receiver}
 use Rattle.turns.specs.Master.{Called, isBroadcast}
-use Rattle.turns.specs.Device.{isOwn, hasError, backDue, answerHeader, wished, backHeader, backLength, onSilence, onCharacter, onHeard, deviceTakes, answeredBy, answered, answerFrame, contentGiven, sendsBy, deviceSends, begunFrame}
+use Rattle.turns.specs.Device.{isOwn, hasError, backDue, answerHeader, wished, backHeader, backLength, onSilence, onCharacter, onHeard, deviceTakes, answeredBy, answered, answerFrame, contentGiven, sendsBy, deviceSends, begunFrame, brokenDue}
 use Rattle.turns.specs.Link.{DeviceCall, no-call, gives-answer, gives-content, Answer, was-taken, was-refused, MasterSide, DeviceSide, deviceData, heardFrame, deviceSent, answerCalled, contentCalled, deviceTick, deviceTicks, Link, Calls, sides, linkTick, linkAfter}
 use Rattle.turns.specs.Run.{All, none, and, MasterStarts, DeviceStarts, Starts}
 use Rattle.turns.specs.declared.Turn.{Turn}
@@ -50,9 +50,9 @@ module _ (limit : ℕ) (low : 2 ≤ limit) (d : Device) (k : DeviceKept limit d)
   same p l c = record { preamble-high = omega (arith, p, k .preamble-high); short = omega (arith, l, k .short); content-short = omega (arith, c, k .content-short) }
 
   silence : (r : Receiver) (e : Event) → DeviceKept limit (onSilence d r e .device)
-  silence r Nothing = if-kept (backDue d (d .due)) _ _ (same refl refl refl) (same refl refl refl)
+  silence r Nothing = if-kept (r .gap) _ _ (same refl refl refl) (if-kept (backDue d (d .due)) _ _ (same refl refl refl) (same refl refl refl))
   silence r PassedOver = if-kept (backDue d (d .profile .rt1p)) _ _ (same refl refl refl) (same refl refl refl)
-  silence r Broken = if-kept (backDue d (d .profile .rt1p)) _ _ (same refl refl refl) (same refl refl refl)
+  silence r Broken = if-kept (backDue d (brokenDue d)) _ _ (same refl refl refl) (same refl refl refl)
   silence r (Frame w) = if-kept (backDue d (d .profile .rt1p)) _ _ (same refl refl refl) (same refl refl refl)
   silence r (Damaged w m) = if-kept (backDue d (d .profile .rt1p)) _ _ (same refl refl refl) (same refl refl refl)
 

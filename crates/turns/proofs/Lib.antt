@@ -1,4 +1,5 @@
 -- The theorems on the rules of turns.
+pub mod Breaks
 pub mod Sentences
 pub mod AckBack
 pub mod Beginning
@@ -14,11 +15,14 @@ pub mod DeviceTaking
 pub mod Devices
 pub mod Example
 pub mod Fresh
+pub mod GapRuns
+pub mod Gaps
 pub mod Kept
 pub mod KeptLink
 pub mod Listening
 pub mod Lists
 pub mod Masters
+pub mod NoGaps
 pub mod NoTwoSend
 pub mod Phases
 pub mod Premises
@@ -41,3 +45,4 @@ pub mod WaitSides
 pub mod WaitSoon
 pub mod Waits
 pub mod Windows
+pub mod SoundPairs

@@ -10,6 +10,7 @@ use Rattle.line.specs.declared.Event.the-variants.{Nothing}
 use Rattle.line.specs.declared.Heard.the-variants.{Silence}
 use Rattle.line.specs.declared.Profile.{Profile}
 use Rattle.line.specs.declared.Receiver.{Receiver}
+use Rattle.line.proofs.Ticks.{outside-idle}
 use Rattle.turns.specs.Device.{isOwn}
 use Rattle.turns.specs.Link.{MasterSide, DeviceSide}
 use Rattle.turns.specs.Run.{All}
@@ -38,12 +39,12 @@ unfoldable pub Ready : Receiver → Type 0
 Ready r = taken r Silence ≡ tells idle Nothing
 
 pub idle-ready : Ready idle
-unfolding Ready taken
-idle-ready = refl
+unfolding Ready
+idle-ready = outside-idle idle refl
 
 pub passing-ready : Ready passing
-unfolding Ready taken
-passing-ready = refl
+unfolding Ready
+passing-ready = outside-idle passing refl
 
 pub record MasterIs (p : Profile) (primary : Bool) (x : MasterSide) : Type 0 where
   pub profile-is : x .master .profile ≡ p

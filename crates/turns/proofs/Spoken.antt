@@ -1,15 +1,16 @@
 -- The reader's law of the line, lifted to a listening party: what it hears of a frame that another party sends.
 use Prim.Native.Nat.{ℕ, suc, _+_, _≤_, _<_}
 use native.Mathlib.Omega.{arith}
-use mathlib.Core.Path.{_≡_, sym, ap, subst, _∙_}
+use mathlib.Core.Path.{_≡_, refl, sym, ap, subst, _∙_}
 use mathlib.Core.List.{List, [], _∷_, _++_, append-assoc}
 use lib.ListN.{length, take, getD, length-append, List·getD-append}
 use lib.Seq.{take-at, take-append-le, getD-at}
 use Rattle.frame.specs.Check.{exclusiveOr}
-use Rattle.frame.specs.Frame.{protectedBytes, bodyBytes, preambleBytes, frameBytes}
+use Rattle.frame.specs.Frame.{protectedBytes, bodyBytes, preambleBytes, frameBytes, frameLength}
 use Rattle.frame.specs.declared.Header.{Header}
+use Rattle.frame.specs.declared.Written.the-variants.{To}
 use Rattle.frame.proofs.Lengths.{frame-count}
-use Rattle.frame.proofs.Taken.{Fits}
+use Rattle.frame.proofs.Taken.{Fits, fits-taken}
 use Rattle.line.specs.Reader.{idle, tells, taken}
 use Rattle.line.specs.declared.Event.the-variants.{Nothing, Frame}
 use Rattle.line.specs.declared.Heard.the-variants.{Character}
@@ -17,9 +18,11 @@ use Rattle.line.specs.declared.Receiver.{Receiver}
 use Rattle.line.specs.declared.Whole.{Whole}
 use Rattle.line.proofs.Hearing.{Heard, wholeMessage, frame-leads, frame-told}
 use Rattle.line.proofs.Leads.{readerAfter, leads-at, leads-to}
+use Rattle.turns.specs.Gaps.{IsFrame}
 
 -- w is a frame that every idle listener hears as the message: behind its first k characters the reader takes the next one, and tells nothing before the last
 pub record Spoken (w : List ℕ) (message : Whole) : Type 0 where
+  pub is-frame : IsFrame w
   pub long : 2 ≤ length w
   pub mid : (k : ℕ) → suc k < length w → taken (readerAfter idle (take k w)) (Character (getD w k 0)) ≡ tells (readerAfter idle (take (suc k) w)) Nothing
   pub end : (k : ℕ) → suc k ≡ length w → taken (readerAfter idle (take k w)) (Character (getD w k 0)) ≡ tells idle (Frame message)
@@ -36,7 +39,15 @@ spoken preamble h bytes fits =
     let ok : Heard h bytes = record { typed = fits .typed; address-high = fits .address-high; count-high = fits .count-high; enough = fits .enough } in
     let leads = frame-leads preamble h bytes [] (omega (arith, fits .preamble-low)) ok in
     let at-least : 2 ≤ length w = omega (arith, frame-count preamble h bytes, fits .preamble-low) in
+    let whole : 0 + frameLength preamble h (length bytes) ≡ length w = omega (arith, frame-count preamble h bytes) in
     record {
+      is-frame = record {
+        preamble = preamble;
+        header = h;
+        bytes = bytes;
+        taken-by-writer = sym (fits-taken preamble h (length bytes) (length w) 0 fits (omega (arith, frame-count preamble h bytes))) ∙ ap To whole;
+        written = refl;
+      };
       long = at-least;
       mid = λ k below.
           let inside : suc k ≤ length front = omega (arith, w-long) in

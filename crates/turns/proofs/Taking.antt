@@ -164,7 +164,7 @@ module _ (frame bytes : List ℕ) (m : Master) (hears : m .deaf ≡ false) (stil
   takes-silence e =
       let n : Master = behind m idle (m .burst) (m .noted) (m .timer) (m .message) in
       let same : masterTakes m Silence bytes ≡ counts n MasterTold.Nothing Nothing =
-      heard-is Silence ∙ ap (λ (t : Taken). onSilence m (t .receiver) (t .event)) e in
+      heard-is Silence ∙ ap (λ (t : Taken). onSilence m (t .receiver) (t .event)) e ∙ if-is-false (idle .gap) _ _ refl in
       subst (λ (t : MasterTaken). TookSilence frame m (t .master)) (sym same) (go (rt1Ends (m .message .stage)) refl)
     where
       n : Master

@@ -137,10 +137,15 @@ counts d r due event =
     if backDue d due then tells (behind d r Follows (d .request) (d .wish) (d .length) 0) DeviceTold.Nothing event
     else tells (behind d r (waited (d .turn)) (d .request) (d .wish) (d .length) (due - 1)) DeviceTold.Nothing event
 
+-- "both then count in the timers": of RT1 primary one silent tick is over where the second is counted
+abbrev pub brokenDue : Device → ℕ
+brokenDue d = d .profile .rt1p - 1
+
+-- one that is passed over inside a frame counts nothing; the second in a row breaks the frame, and both count in the timer behind it
 abbrev pub onSilence : Device → Receiver → Event → DeviceTaken
-onSilence d r Nothing = counts d r (d .due) Nothing
+onSilence d r Nothing = if r .gap then tells (behind d r (d .turn) (d .request) (d .wish) (d .length) (d .due)) DeviceTold.Nothing Nothing else counts d r (d .due) Nothing
 onSilence d r PassedOver = counts d r (d .profile .rt1p) PassedOver
-onSilence d r Broken = counts d r (d .profile .rt1p) Broken
+onSilence d r Broken = counts d r (brokenDue d) Broken
 onSilence d r (Frame w) = counts d r (d .profile .rt1p) (Frame w)
 onSilence d r (Damaged w m) = counts d r (d .profile .rt1p) (Damaged w m)
 

@@ -7,3 +7,5 @@ pub mod Bursts
 pub mod Demand3
 pub mod Credit
 pub mod Settled
+pub mod Gaps
+pub mod SoundPair

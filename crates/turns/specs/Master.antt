@@ -238,11 +238,17 @@ counts m told event =
     else
     tells (behind m (m .receiver) (burstCounted m) (m .noted) (timerCounted m) (staged (m .message) (waited (m .message .stage)))) told event
 
--- behind a silent tick: a frame that it breaks, then the count. "The silent tick that breaks a frame is the first of the timer behind it."
+-- "both then count in the timers"
+abbrev pub countsTwice : Master → MasterTold → Event → MasterTaken
+countsTwice m told event = counts (counts m told event .master) (counts m told event .told) event
+
+-- behind a silent tick: one that is passed over inside a frame counts nothing; the second in a row breaks the frame, and both count in the timer behind it
 abbrev pub onSilence : Master → Receiver → Event → MasterTaken
-onSilence m r Nothing = counts (behind m r (m .burst) (m .noted) (m .timer) (m .message)) MasterTold.Nothing Nothing
+onSilence m r Nothing =
+    if r .gap then tells (behind m r (m .burst) (m .noted) (m .timer) (m .message)) MasterTold.Nothing Nothing
+    else counts (behind m r (m .burst) (m .noted) (m .timer) (m .message)) MasterTold.Nothing Nothing
 onSilence m r PassedOver = counts (afterBreak m r PassedOver .master) (afterBreak m r PassedOver .told) PassedOver
-onSilence m r Broken = counts (afterBreak m r Broken .master) (afterBreak m r Broken .told) Broken
+onSilence m r Broken = countsTwice (afterBreak m r Broken .master) (afterBreak m r Broken .told) Broken
 onSilence m r (Frame w) = counts (afterBreak m r (Frame w) .master) (afterBreak m r (Frame w) .told) (Frame w)
 onSilence m r (Damaged w h) = counts (afterBreak m r (Damaged w h) .master) (afterBreak m r (Damaged w h) .told) (Damaged w h)
 

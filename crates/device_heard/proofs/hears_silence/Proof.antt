@@ -1,5 +1,5 @@
+use Rattle.device_heard.proofs.Parts.{silences}
 use borrow.Author.Needs.{needs}
-use Rattle.device_heard.proofs.Hearing.{hearings}
 use Rattle.device_heard.proofs.hears_silence.Statement.{statement}
 use Rattle.device_heard.proofs.hears_silence.Tie as tie
 
@@ -9,4 +9,11 @@ hears-silence-spec =
     (tie.spec
     (λ c κs. search needs)
     (λ c κs. search needs)
-    (λ c. search (needs, hearings)))
+    (λ c κs. search needs)
+    (λ c κs. search needs)
+    (λ c. search (needs, silences))
+    (λ c κs. search needs)
+    (λ c. search (needs, silences))
+    (λ c κs. search needs)
+    (λ c κs. search needs)
+    (λ c. search (needs, silences)))

@@ -10,5 +10,5 @@ slot-spoken-spec =
     (λ c. search needs)
     (λ c. search needs)
     (λ c κs. search needs)
-    (λ c. search needs)
+    (λ c. search (needs, spokens))
     (λ c. search (needs, spokens)))

@@ -1,5 +1,5 @@
 use borrow.Author.Needs.{needs}
-use Rattle.master_heard.proofs.Takes.{events}
+use Rattle.master_heard.proofs.Takes.{silences}
 use Rattle.master_heard.proofs.hears_silence.Statement.{statement}
 use Rattle.master_heard.proofs.hears_silence.Tie as tie
 
@@ -7,6 +7,10 @@ pub hears-silence-spec : {M : Type 1} → statement M
 hears-silence-spec =
     tie.close
     (tie.spec
-    (λ c κs. search needs)
-    (λ c κs. search needs)
-    (λ c. search (needs, events)))
+    (λ c κs. search (needs, silences))
+    (λ c κs. search (needs, silences))
+    (λ c. search (needs, silences))
+    (λ c κs. search (needs, silences))
+    (λ c. search (needs, silences))
+    (λ c κs. search (needs, silences))
+    (λ c. search (needs, silences)))

@@ -1,5 +1,5 @@
 use borrow.Author.Needs.{needs}
-use Rattle.tick_reader.proofs.Steps.{steps}
+use Rattle.tick_reader.proofs.Steps.{insides}
 use Rattle.tick_reader.proofs.silent_inside.Statement.{statement}
 use Rattle.tick_reader.proofs.silent_inside.Tie as tie
 
@@ -7,5 +7,8 @@ pub silent-inside-spec : {M : Type 1} → statement M
 silent-inside-spec =
     tie.close
     (tie.spec
-    (λ c κs. search (needs, steps))
-    (λ c. search (needs, steps)))
+    (λ c κs. search needs)
+    (λ c. search (needs, insides))
+    (λ c κs. search needs)
+    (λ c κs. search needs)
+    (λ c. search (needs, insides)))

@@ -1,0 +1,213 @@
+-- Theorem: under demand 3's premises a run is document 01's run. A silent tick meets every reader outside a frame, and there both rules say the same.
+use Prim.Native.Nat.{ℕ, _-_, _≤_}
+use native.Mathlib.Omega.{arith}
+use mathlib.Core.Path.{_≡_, refl, sym, ap, _∙_}
+use mathlib.Core.Bool.{Bool, true, false}
+use mathlib.Core.List.{List, [], _∷_}
+use Rattle.base.specs.Choice.{if_then_else_}
+use Rattle.base.proofs.Choices.{true-false, if-is-true, if-is-false}
+use Rattle.frame.specs.declared.Header.{Header}
+use Rattle.line.specs.Reader.{idle, silentInside, insideFrame, taken, atIdle}
+use Rattle.line.specs.Profile.{fskProfile}
+use Rattle.line.specs.declared.Event.the-variants.{Nothing, Broken}
+use Rattle.line.specs.declared.Heard.{Heard}
+use Rattle.line.specs.declared.Heard.the-variants.{Silence, Character, Damaged}
+use Rattle.line.specs.declared.Profile.{Profile}
+use Rattle.line.specs.declared.Receiver.{Receiver}
+use Rattle.line.specs.declared.Taken.{Taken}
+use Rattle.line.proofs.Ticks.{gap-passed, gap-breaks}
+use Rattle.turns.specs.Master as M
+use Rattle.turns.specs.Master.{masterTakes, masterSends, freshMaster}
+use Rattle.turns.specs.Device as D
+use Rattle.turns.specs.Device.{errorFrame, deviceTakes}
+use Rattle.turns.specs.Link.{MasterCall, DeviceCall, no-call, MasterSide, masterData, masterCalls, masterTick, DeviceSide, deviceData, deviceCalls, deviceTick, deviceTicks, Link, LinkStep, Calls, linkTick, linkAfter, run}
+use Rattle.turns.specs.Run.{All, none, and, DeviceStarts, Starts, EachTick, tick-and, OneBursts}
+use Rattle.turns.specs.SoundPair.{masterSilence01, deviceSilence01, masterHears01, masterTakes01, masterTick01, deviceHears01, deviceTakes01, deviceTick01, deviceTicks01, linkTick01, run01, SoundPair}
+use Rattle.turns.specs.declared.Master.{Master}
+use Rattle.turns.specs.declared.MasterTaken.{MasterTaken}
+use Rattle.turns.specs.declared.MasterTold.{MasterTold}
+use Rattle.turns.specs.declared.Device.{Device}
+use Rattle.turns.specs.declared.DeviceTaken.{DeviceTaken}
+use Rattle.turns.specs.declared.DeviceTold.{DeviceTold}
+use Rattle.turns.proofs.Phases.{Ready, DeviceQuiet}
+use Rattle.turns.proofs.Quiet.{clear, set}
+use Rattle.turns.proofs.Fresh.{valid, master-is, device-is}
+use Rattle.turns.proofs.Windows.{Valid}
+use Rattle.turns.proofs.NoTwoSend.{Phase, silent, primary-sends, secondary-sends, ack-sent, back-sent, phase-tick, phase-first}
+
+-- ---- a reader that a silent tick leads to idle, with nothing told, stands in no frame
+
+broken-nothing : Broken ≡ Nothing → ⊥
+broken-nothing e = let z : _≡_ {A = ℕ} 0 1 = cc in omega arith
+
+ready-outside : (r : Receiver) → Ready r → insideFrame (r .place) ≡ false
+unfolding Ready
+ready-outside r ready = go (insideFrame (r .place)) refl (r .gap) refl
+  where
+    go : (inside : Bool) → insideFrame (r .place) ≡ inside → (gap : Bool) → r .gap ≡ gap → insideFrame (r .place) ≡ false
+    go false o gap e = o
+    go true i true e = absurd (broken-nothing (ap (λ (t : Taken). t .event) (sym (gap-breaks r i e) ∙ ready)))
+    go true i false e = absurd (true-false (ap (λ (t : Taken). t .receiver .gap) (sym (gap-passed r i e) ∙ ready)))
+
+-- ---- a party whose reader is ready where the line is silent takes what document 01's takes
+
+-- where the line is silent the reader stands in no frame
+abbrev Outside : Heard → Receiver → Type 0
+Outside heard r = heard ≡ Silence → Ready r
+
+module _ (m : Master) (bytes : List ℕ) where
+  silent-master : Ready (m .receiver) → M.onHeard m Silence bytes ≡ masterSilence01 m
+  unfolding Ready
+  silent-master ready =
+      ap (λ (t : Taken). M.onSilence m (t .receiver) (t .event)) ready
+      ∙ if-is-false (idle .gap) _ _ refl
+      ∙ sym (if-is-false (insideFrame (m .receiver .place)) _ _ (ready-outside (m .receiver) ready))
+
+  hears-same : (heard : Heard) → Outside heard (m .receiver) → M.onHeard m heard bytes ≡ masterHears01 m heard bytes
+  hears-same Silence o = silent-master (o refl)
+  hears-same (Character c) o = refl
+  hears-same (Damaged c kind) o = refl
+
+  master-takes : (heard : Heard) → Outside heard (m .receiver) → masterTakes m heard bytes ≡ masterTakes01 m heard bytes
+  unfolding masterTakes masterTakes01
+  master-takes heard o = ap (λ (t : MasterTaken). if m .deaf then M.tells m MasterTold.Nothing Nothing else t) (hears-same heard o)
+
+module _ (d : Device) where
+  silent-device : Ready (d .receiver) → D.onHeard d Silence ≡ deviceSilence01 d
+  unfolding Ready
+  silent-device ready =
+      ap (λ (t : Taken). D.onSilence d (t .receiver) (t .event)) ready
+      ∙ if-is-false (idle .gap) _ _ refl
+      ∙ sym (if-is-false (insideFrame (d .receiver .place)) _ _ (ready-outside (d .receiver) ready))
+
+  device-hears-same : (heard : Heard) → Outside heard (d .receiver) → D.onHeard d heard ≡ deviceHears01 d heard
+  device-hears-same Silence o = silent-device (o refl)
+  device-hears-same (Character c) o = refl
+  device-hears-same (Damaged c kind) o = refl
+
+  device-takes : (heard : Heard) → Outside heard (d .receiver) → deviceTakes d heard ≡ deviceTakes01 d heard
+  unfolding deviceTakes deviceTakes01
+  device-takes heard o = ap (λ (t : DeviceTaken). if d .deaf then D.tells d DeviceTold.Nothing Nothing else t) (device-hears-same heard o)
+
+-- ---- ticks
+
+pub master-same : (limit : ℕ) (x : MasterSide) (heard : Heard) (call : MasterCall) → masterTakes (x .master) heard (masterData x heard) ≡ masterTakes01 (x .master) heard (masterData x heard) → masterTick limit x heard call ≡ masterTick01 limit x heard call
+unfolding masterTick masterTick01
+master-same limit x heard call e = ap (λ (t : MasterTaken). masterCalls limit t call (x .frame) (masterData x heard)) e
+
+device-same : (limit : ℕ) (x : DeviceSide) (heard : Heard) (call : DeviceCall) → deviceTakes (x .device) heard ≡ deviceTakes01 (x .device) heard → deviceTick limit x heard call ≡ deviceTick01 limit x heard call
+unfolding deviceTick deviceTick01
+device-same limit x heard call e = ap (λ (t : DeviceTaken). deviceCalls limit t call (errorFrame (x .device) (t .event) (x .frame)) (deviceData x heard) (x .contents)) e
+
+-- what every party takes is what document 01's takes
+pub record Same (l : Link) : Type 0 where
+  pub primary : masterTakes (l .primary .master) (l .line) (masterData (l .primary) (l .line)) ≡ masterTakes01 (l .primary .master) (l .line) (masterData (l .primary) (l .line))
+  pub secondary : masterTakes (l .secondary .master) (l .line) (masterData (l .secondary) (l .line)) ≡ masterTakes01 (l .secondary .master) (l .line) (masterData (l .secondary) (l .line))
+  pub devices : All (λ (x : DeviceSide). deviceTakes (x .device) (l .line) ≡ deviceTakes01 (x .device) (l .line)) (l .devices)
+
+pub devices-same : (limit : ℕ) (heard : Heard) (xs : List DeviceSide) (calls : List DeviceCall) → All (λ (x : DeviceSide). deviceTakes (x .device) heard ≡ deviceTakes01 (x .device) heard) xs → deviceTicks limit heard xs calls ≡ deviceTicks01 limit heard xs calls
+unfolding deviceTicks deviceTicks01
+devices-same limit heard [] calls none = refl
+devices-same limit heard (x ∷ xs) [] (and e es) = λ i. device-same limit x heard no-call e i ∷ devices-same limit heard xs [] es i
+devices-same limit heard (x ∷ xs) (c ∷ cs) (and e es) = λ i. device-same limit x heard c e i ∷ devices-same limit heard xs cs es i
+
+pub same-tick : (limit : ℕ) (l : Link) (c : Calls) → Same l → linkTick limit l c ≡ linkTick01 limit l c
+unfolding linkTick linkTick01
+same-tick limit l c s = λ i. record {
+  for-primary = master-same limit (l .primary) (l .line) (c .for-primary) (s .primary) i;
+  for-secondary = master-same limit (l .secondary) (l .line) (c .for-secondary) (s .secondary) i;
+  for-devices = devices-same limit (l .line) (l .devices) (c .for-devices) (s .devices) i;
+}
+
+-- ---- a run: in the first tick nobody hears, and behind every tick a silent line meets readers that are ready
+
+deaf-master : (m : Master) (heard : Heard) (bytes : List ℕ) → m .deaf ≡ true → masterTakes m heard bytes ≡ masterTakes01 m heard bytes
+unfolding masterTakes masterTakes01
+deaf-master m heard bytes e = if-is-true (m .deaf) _ _ e ∙ sym (if-is-true (m .deaf) _ _ e)
+
+deaf-device : (d : Device) (heard : Heard) → d .deaf ≡ true → deviceTakes d heard ≡ deviceTakes01 d heard
+unfolding deviceTakes deviceTakes01
+deaf-device d heard e = if-is-true (d .deaf) _ _ e ∙ sym (if-is-true (d .deaf) _ _ e)
+
+fresh-devices : (p : Profile) (heard : Heard) (xs : List DeviceSide) → All (DeviceStarts p) xs → All (λ (x : DeviceSide). deviceTakes (x .device) heard ≡ deviceTakes01 (x .device) heard) xs
+fresh-devices p heard [] none = none
+fresh-devices p heard (x ∷ xs) (and s ss) =
+    let fresh = device-is p (s .preamble) (s .polling) (s .unique) (x .device) (s .starts) in
+    and (deaf-device (x .device) heard (ap (λ (d : Device). d .deaf) (fresh .is))) (fresh-devices p heard xs ss)
+
+same-first : (p : Profile) (retries : ℕ) (l : Link) → Starts p retries l → Same l
+same-first p retries l s = record {
+  primary = deaf-master (l .primary .master) (l .line) _ (ap (λ (m : Master). m .deaf) (master-is p true retries (l .primary .master) (s .primary .starts)));
+  secondary = deaf-master (l .secondary .master) (l .line) _ (ap (λ (m : Master). m .deaf) (master-is p false retries (l .secondary .master) (s .secondary .starts)));
+  devices = fresh-devices p (l .line) (l .devices) (s .devices);
+}
+
+-- the same where all readers are ready, or the line is not silent
+pub record AllOutside (heard : Heard) (x y : MasterSide) (ds : List DeviceSide) : Type 0 where
+  pub primary : Outside heard (x .master .receiver)
+  pub secondary : Outside heard (y .master .receiver)
+  pub devices : All (λ (d : DeviceSide). Outside heard (d .device .receiver)) ds
+
+outside-devices : (heard : Heard) (ds : List DeviceSide) → All (λ (d : DeviceSide). Outside heard (d .device .receiver)) ds → All (λ (x : DeviceSide). deviceTakes (x .device) heard ≡ deviceTakes01 (x .device) heard) ds
+outside-devices heard [] none = none
+outside-devices heard (x ∷ xs) (and o os) = and (device-takes (x .device) heard o) (outside-devices heard xs os)
+
+pub same-outside : (l : Link) → AllOutside (l .line) (l .primary) (l .secondary) (l .devices) → Same l
+same-outside l o = record {
+  primary = master-takes (l .primary .master) (masterData (l .primary) (l .line)) (l .line) (o .primary);
+  secondary = master-takes (l .secondary .master) (masterData (l .secondary) (l .line)) (l .line) (o .secondary);
+  devices = outside-devices (l .line) (l .devices) (o .devices);
+}
+
+quiet-devices : {heard : Heard} {p : Profile} {g : ℕ} {h : Header} {n : ℕ} {xs : List DeviceSide} → All (DeviceQuiet p g h n) xs → All (λ (x : DeviceSide). Outside heard (x .device .receiver)) xs
+quiet-devices none = none
+quiet-devices (and q qs) = and (λ e. q .ready) (quiet-devices qs)
+
+character-silent : {c : ℕ} {heard : Heard} → heard ≡ Character c → heard ≡ Silence → ⊥
+character-silent p q = let e = sym p ∙ q in let z : _≡_ {A = ℕ} 0 1 = cc in omega arith
+
+character-outside : {c : ℕ} (heard : Heard) → heard ≡ Character c → (xs : List DeviceSide) → All (λ (x : DeviceSide). Outside heard (x .device .receiver)) xs
+character-outside heard q [] = none
+character-outside heard q (x ∷ xs) = and (λ e. absurd (character-silent q e)) (character-outside heard q xs)
+
+on-character : {c : ℕ} (l : Link) → l .line ≡ Character c → AllOutside (l .line) (l .primary) (l .secondary) (l .devices)
+on-character l q = record { primary = λ e. absurd (character-silent q e); secondary = λ e. absurd (character-silent q e); devices = character-outside (l .line) q (l .devices) }
+
+pub phase-outside : {p : Profile} {e : ℕ} (l : Link) → Phase p e l → AllOutside (l .line) (l .primary) (l .secondary) (l .devices)
+phase-outside l (silent q (clear o)) = record { primary = λ e. o .primary .ready; secondary = λ e. o .secondary .ready; devices = quiet-devices (o .devices) }
+phase-outside l (silent q (set n next o)) = record { primary = λ e. o .primary .ready; secondary = λ e. o .secondary .ready; devices = quiet-devices (o .devices) }
+phase-outside l (primary-sends burst noted next k w message q o) = on-character l q
+phase-outside l (secondary-sends burst noted next k w message q o) = on-character l q
+phase-outside l (ack-sent burst noted next k w message u on q o) = on-character l q
+phase-outside l (back-sent burst noted next k w message u q o) = on-character l q
+
+run-same : (limit : ℕ) (l : Link) (c : Calls) (cs : List Calls) → Same l → run limit (linkAfter (linkTick limit l c)) cs ≡ run01 limit (linkAfter (linkTick limit l c)) cs → run limit l (c ∷ cs) ≡ run01 limit l (c ∷ cs)
+unfolding run run01
+run-same limit l c cs same on =
+    (λ i. linkTick limit l c ∷ on i) ∙ ap (λ (s : LinkStep). s ∷ run01 limit (linkAfter s) cs) (same-tick limit l c same)
+
+runs-same : (limit : ℕ) → 2 ≤ limit → limit ≤ 255 → (p : Profile) → Valid p → (e : ℕ) (l : Link) (ticks : List Calls) → Phase p e l → EachTick OneBursts (run limit l ticks) → run limit l ticks ≡ run01 limit l ticks
+unfolding run run01
+runs-same limit low high p v e l [] q b = refl
+runs-same limit low high p v e l (c ∷ cs) q (tick-and b bs) =
+    run-same limit l c cs (same-outside l (phase-outside l q)) (runs-same limit low high p v (e - 1) (linkAfter (linkTick limit l c)) cs (phase-tick limit low high p v e l c q b) bs)
+
+pub sound-pair : (limit : ℕ) → 2 ≤ limit → limit ≤ 255 → SoundPair limit
+unfolding run run01
+sound-pair limit low high p retries l [] k = refl
+sound-pair limit low high p retries l (c ∷ cs) k = go (k .one-bursts)
+  where
+    go : EachTick OneBursts (run limit l (c ∷ cs)) → run limit l (c ∷ cs) ≡ run01 limit l (c ∷ cs)
+    go (tick-and b bs) =
+        let v = valid p (k .made) in
+        let next = phase-first limit low high p v retries l c (k .starts) in
+        run-same limit l c cs (same-first p retries l (k .starts)) (runs-same limit low high p v (p .rt1s) (linkAfter (linkTick limit l c)) cs next bs)
+
+-- ---- the two rules differ where a pair drops a character: behind the first 0xFF document 01's master breaks the frame, and this one does not
+
+pub in-preamble : Master
+in-preamble = masterTakes (masterTakes (masterSends (freshMaster fskProfile true 3) [] .master) Silence [] .master) (Character 0xFF) [] .master
+
+pub rules-differ : (masterTakes01 in-preamble Silence [] .event ≡ Broken) × (masterTakes in-preamble Silence [] .event ≡ Nothing)
+unfolding in-preamble masterTakes masterTakes01 masterSends taken silentInside atIdle if_then_else_
+rules-differ = (refl, refl)

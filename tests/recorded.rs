@@ -1,0 +1,125 @@
+//! Runs recordings whose events were worked out beforehand through the archives and the oracles: the
+//! number of ticks and every event must be as recorded. No archive reaches a device that bursts; the
+//! program burst_examples runs those recordings, and here the oracle does.
+//!
+//! A line of a file is a recording in hexadecimal, two bytes for each tick, and a digit for each
+//! tick, with '|' between them. Another field may stand in front, '-' is an empty field, and a line
+//! that begins with '#' says what the file is.
+
+mod called;
+mod line_archive;
+#[path = "oracles.rs"]
+mod oracles;
+mod party_archive;
+
+use oracles::{device_oracle, master_oracle, tick_oracle};
+use std::process::ExitCode;
+
+type Run = fn(&[u8], &mut [u8]) -> usize;
+
+struct Recorded {
+    recording: Vec<u8>,
+    events: Vec<u8>,
+}
+
+/// What stands in the events before a run, and behind those that it takes.
+const PATTERN: u8 = 0xA5;
+/// Room behind a recording's last tick that must stay as it was.
+const SPARE: usize = 8;
+
+fn digit(digit: u8) -> u8 {
+    match (digit as char).to_digit(16) {
+        Some(value) => value as u8,
+        None => panic!("no digit: {:?}", digit as char),
+    }
+}
+
+fn recorded(recording: &str, events: &str) -> Recorded {
+    let digits = |field: &str| -> Vec<u8> {
+        let field = if field == "-" { "" } else { field };
+        field.bytes().map(digit).collect()
+    };
+    Recorded {
+        recording: digits(recording)
+            .chunks(2)
+            .map(|pair| pair[0] << 4 | pair[1])
+            .collect(),
+        events: digits(events),
+    }
+}
+
+/// The recordings of a file that has both fields in a line.
+fn of_file(text: &str) -> Vec<Recorded> {
+    let mut all = Vec::new();
+    for line in text.lines().filter(|line| !line.starts_with('#')) {
+        let fields: Vec<&str> = line.split('|').collect();
+        match fields[..] {
+            [.., recording, events] => all.push(recorded(recording, events)),
+            _ => panic!("no recording with its events: {line}"),
+        }
+    }
+    all
+}
+
+/// The recordings of a file that has one in a line, and their events in another.
+fn of_files(recordings: &str, events: &str) -> Vec<Recorded> {
+    assert_eq!(recordings.lines().count(), events.lines().count());
+    recordings
+        .lines()
+        .zip(events.lines())
+        .map(|(recording, events)| recorded(recording, events))
+        .collect()
+}
+
+/// Whether a run gives the events of every recording.
+fn agrees(name: &str, all: &[Recorded], run: Run) -> bool {
+    let mut ticks = 0;
+    let mut differences = 0;
+    for (at, Recorded { recording, events }) in all.iter().enumerate() {
+        let mut given = vec![PATTERN; events.len() + SPARE];
+        let taken = run(recording, &mut given);
+        let expected = [&events[..], &[PATTERN; SPARE]].concat();
+        ticks += taken;
+        if taken != events.len() || given != expected {
+            differences += 1;
+            let tick = (0..given.len()).find(|&tick| given[tick] != expected[tick]);
+            println!(
+                "recorded: {name}, recording {} differs at tick {tick:?}",
+                at + 1
+            );
+        }
+    }
+    println!(
+        "recorded: {name}, {} recordings, {ticks} ticks, {differences} differences",
+        all.len()
+    );
+    !all.is_empty() && differences == 0
+}
+
+fn main() -> ExitCode {
+    let reader = of_file(include_str!("data/item-01/reader.txt"));
+    let master = of_file(include_str!("data/item-01/master.txt"));
+    let device = of_file(include_str!("data/item-01/device.txt"));
+    let burst = of_files(
+        include_str!("../crates/burst_examples/stdin"),
+        include_str!("../crates/burst_examples/stdout"),
+    );
+    let runs: [(&str, &[Recorded], Run); 7] = [
+        ("reader, archive", &reader, line_archive::ticks),
+        ("reader, oracle", &reader, tick_oracle::ticks),
+        ("master, archive", &master, party_archive::master),
+        ("master, oracle", &master, master_oracle::ticks),
+        ("device, archive", &device, party_archive::device),
+        ("device, oracle", &device, device_oracle::ticks),
+        (
+            "bursting device, oracle",
+            &burst,
+            device_oracle::burst_ticks,
+        ),
+    ];
+    let differ = |&&(name, all, run): &&(&str, &[Recorded], Run)| !agrees(name, all, run);
+    match runs.iter().filter(differ).count() {
+        0 => ExitCode::SUCCESS,
+        _ => ExitCode::FAILURE,
+    }
+}
