@@ -158,8 +158,9 @@ enum nengapiko_step {
  * for tests and measurements. A silent tick that its reader passes over inside a frame
  * counts in no timer; if a second follows and breaks the frame, both count then.
  *
- *   recording, size  as for nengapiko_ticks, but for the first byte's bits 4 to 0: 1 is the
- *                    host's request in this tick, command 3 of unique address 2
+ *   recording, size  as for nengapiko_ticks, but for the first byte's bits 4 to 0, the host's
+ *                    request in this tick: 1 command 3 of unique address 2, 2 command 11 by
+ *                    broadcast with a tag of six zero bytes, any other value none
  *   events, room     as for nengapiko_ticks, with an enum nengapiko_step for each tick
  *
  * Returns how many ticks these are: size / 2 or room, whichever is less.
@@ -180,8 +181,9 @@ enum nengapiko_device_step {
  * address 2 over a recording of what it hears, for tests and measurements. Silent ticks
  * inside a frame are as for nengapiko_master.
  *
- *   recording, size  as for nengapiko_ticks, but for the first byte's bits 4 to 0: 1 is the
- *                    host's answer in this tick, with two zero bytes
+ *   recording, size  as for nengapiko_ticks, but for the first byte's bits 4 to 0, the host's
+ *                    call in this tick, with two zero bytes: 1 its answer, 2 and 3 its answer
+ *                    with burst on and off, 4 burst content of command 3, any other value none
  *   events, room     as for nengapiko_ticks, with an enum nengapiko_device_step for each tick
  *
  * Returns how many ticks these are: size / 2 or room, whichever is less.

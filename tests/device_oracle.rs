@@ -1,10 +1,13 @@
-//! A device of document 01 in plain Rust, with document 02's item 1 and FSK, and two over recordings
-//! of what they hear: one that never bursts and one that may. It shares nothing with the archive;
-//! over a recording the first takes the same arguments and gives the same answers.
+//! A device of document 01 in plain Rust, with document 02's items 1 and 6, and one with FSK over
+//! recordings of what it hears. It shares nothing with the archive; over a recording it takes the
+//! same arguments and gives the same answers.
 
-use super::frame_oracle::{ACK, BACK, STX};
-use super::party_oracle::{Outgoing, BROADCAST, RT1_PRIMARY, RT2, SENDS, STO};
-use super::tick_oracle::{over, Event, Frame, Harm, Heard, Reader};
+use super::frame_oracle::{ACK, BACK, REFUSED_DATA_LENGTH, STX, TAKEN};
+use super::party_oracle::{
+    seeks_tag, Outgoing, Profile, BROADCAST, FSK, PREAMBLES, REFUSED_COMMAND, REFUSED_NO_REQUEST,
+    REFUSED_WISH, SENDS,
+};
+use super::tick_oracle::{over, Event, Frame, Harm, Heard, Reader, Recorded};
 
 #[derive(Clone, Copy)]
 enum Turn {
@@ -41,6 +44,8 @@ struct Content {
 }
 
 pub struct Device {
+    profile: Profile,
+    preambles: usize,
     polling_address: u64,
     unique_address: u64,
     reader: Reader,
@@ -58,7 +63,18 @@ pub struct Device {
 
 impl Device {
     pub fn start(polling_address: u64, unique_address: u64) -> Device {
+        Device::start_with(FSK, PREAMBLES, polling_address, unique_address)
+    }
+
+    pub fn start_with(
+        profile: Profile,
+        preambles: usize,
+        polling_address: u64,
+        unique_address: u64,
+    ) -> Device {
         Device {
+            profile,
+            preambles,
             polling_address,
             unique_address,
             reader: Reader::start(),
@@ -76,6 +92,10 @@ impl Device {
     /// What it sends, or sent last.
     pub fn out(&self) -> &Outgoing {
         &self.out
+    }
+
+    pub fn reader(&self) -> &Reader {
+        &self.reader
     }
 
     pub fn take(&mut self, heard: Heard) -> Told {
@@ -110,7 +130,7 @@ impl Device {
         match event {
             Event::Nothing => {}
             Event::Whole(frame) if frame.frame_type == ACK => self.back_in = 1,
-            _ => self.back_in = RT1_PRIMARY,
+            _ => self.back_in = self.profile.rt1_primary,
         }
     }
 
@@ -130,9 +150,9 @@ impl Device {
     }
 
     fn requested(&mut self, frame: Frame) -> Told {
-        if self.is_own(&frame) {
+        if seeks_tag(&frame) || self.is_own(&frame) {
             self.request = frame;
-            self.turn = Turn::Asked(STO);
+            self.turn = Turn::Asked(self.profile.sto);
             return Told::Request;
         }
         if frame.long_address && frame.address == BROADCAST {
@@ -149,46 +169,61 @@ impl Device {
         }
     }
 
-    /// What its BACKs carry from the next one on; whether it is taken.
-    pub fn burst_content(&mut self, command: u8, data: &[u8]) -> bool {
-        let taken = command != 254 && (2..=255).contains(&data.len());
-        if taken {
-            let data = data.to_vec();
-            self.content = Some(Content { command, data });
+    /// What its BACKs carry from the next one on, taken or refused with its number.
+    pub fn burst_content(&mut self, command: u8, data: &[u8]) -> u32 {
+        if command == 254 {
+            return REFUSED_COMMAND;
         }
-        taken
+        if !(2..=255).contains(&data.len()) {
+            return REFUSED_DATA_LENGTH;
+        }
+        let data = data.to_vec();
+        self.content = Some(Content { command, data });
+        TAKEN
     }
 
-    /// The host's answer; whether it is taken.
-    pub fn answer(&mut self, data: &[u8], wish: Wish) -> bool {
+    /// The host's answer, taken or refused with its number.
+    pub fn answer(&mut self, data: &[u8], wish: Wish) -> u32 {
         let Turn::Asked(left) = self.turn else {
-            return false;
+            return REFUSED_NO_REQUEST;
         };
+        if !(2..=255).contains(&data.len()) {
+            return REFUSED_DATA_LENGTH;
+        }
+        if self.refuses_wish(wish) {
+            return REFUSED_WISH;
+        }
         let burst = match wish {
             Wish::AsItIs => self.bursting,
             Wish::On => true,
             Wish::Off => false,
         };
-        let wish_refused = self.request.command == 0 && wish != Wish::AsItIs
-            || self.content.is_none() && wish == Wish::On;
-        if wish_refused || !self.put_ack(self.request, burst, data) {
-            return false;
-        }
-        self.turn = if left == STO {
+        self.put_ack(self.request, burst, data);
+        self.turn = if left == self.profile.sto {
             Turn::Ready(wish)
         } else {
             Turn::Beginning(wish)
         };
-        true
+        TAKEN
     }
 
-    fn put_ack(&mut self, request: Frame, burst: bool, data: &[u8]) -> bool {
+    /// Neither command 0 nor command 11 by broadcast can turn burst on or off.
+    fn refuses_wish(&self, wish: Wish) -> bool {
+        let no_wish = self.request.command == 0 || seeks_tag(&self.request);
+        match wish {
+            Wish::AsItIs => false,
+            Wish::On => no_wish || self.content.is_none(),
+            Wish::Off => no_wish,
+        }
+    }
+
+    fn put_ack(&mut self, request: Frame, burst: bool, data: &[u8]) {
         let ack = Frame {
             frame_type: ACK,
             burst,
             ..request
         };
-        self.out.put(&ack, data)
+        self.out.put(self.preambles, &ack, data);
     }
 
     fn put_back(&mut self) {
@@ -202,7 +237,7 @@ impl Device {
                 command: content.command,
                 ..Frame::default()
             };
-            self.out.put(&back, &content.data);
+            self.out.put(self.preambles, &back, &content.data);
             self.back_to_primary = !self.back_to_primary;
         }
     }
@@ -248,7 +283,7 @@ impl Device {
         self.turn = match self.turn {
             Turn::SendingAck if self.bursting => Turn::BackDue,
             Turn::SendingBack => {
-                self.back_in = RT2;
+                self.back_in = self.profile.rt2;
                 Turn::Listening
             }
             _ => Turn::Listening,
@@ -275,35 +310,29 @@ const UNIQUE_ADDRESS: u64 = 2;
 const ANSWER: u8 = 1;
 const BURST_ON: u8 = 2;
 const BURST_OFF: u8 = 3;
+pub const BURST_CONTENT: u8 = 4;
+
+const BURST_COMMAND: u8 = 3;
+
+impl Device {
+    /// A tick of a recording; the number of what it does.
+    #[inline(always)]
+    pub fn tick(&mut self, tick: Recorded) -> u8 {
+        let told = self.take(tick.heard());
+        match tick.call() {
+            ANSWER => self.answer(&[0, 0], Wish::AsItIs),
+            BURST_ON => self.answer(&[0, 0], Wish::On),
+            BURST_OFF => self.answer(&[0, 0], Wish::Off),
+            BURST_CONTENT => self.burst_content(BURST_COMMAND, &[0, 0]),
+            _ => TAKEN,
+        };
+        self.send().map_or(told as u8, |_| SENDS)
+    }
+}
 
 /// The number of what a device does in each tick.
 #[inline(never)]
 pub fn ticks(recording: &[u8], events: &mut [u8]) -> usize {
     let mut device = Device::start(POLLING_ADDRESS, UNIQUE_ADDRESS);
-    over(recording, events, |tick| {
-        let told = device.take(tick.heard());
-        if tick.call() == ANSWER {
-            device.answer(&[0, 0], Wish::AsItIs);
-        }
-        device.send().map_or(told as u8, |_| SENDS)
-    })
-}
-
-/// The same of a device that has burst content from tick 0 on and whose host may turn burst on and off.
-pub fn burst_ticks(recording: &[u8], events: &mut [u8]) -> usize {
-    let mut device = Device::start(POLLING_ADDRESS, UNIQUE_ADDRESS);
-    device.burst_content(3, &[0, 0]);
-    over(recording, events, |tick| {
-        let told = device.take(tick.heard());
-        let wish = match tick.call() {
-            ANSWER => Some(Wish::AsItIs),
-            BURST_ON => Some(Wish::On),
-            BURST_OFF => Some(Wish::Off),
-            _ => None,
-        };
-        if let Some(wish) = wish {
-            device.answer(&[0, 0], wish);
-        }
-        device.send().map_or(told as u8, |_| SENDS)
-    })
+    over(recording, events, |tick| device.tick(tick))
 }

@@ -79,7 +79,8 @@ pub fn frame_length(preamble: usize, long_address: bool, count: usize) -> usize 
 }
 
 /// The lowest refusal that does not depend on the buffer.
-fn refusal(
+/// The lowest of the writer's refusals, the buffer aside.
+pub fn refusal(
     preamble: usize,
     frame_type: u8,
     long_address: bool,

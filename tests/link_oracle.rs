@@ -3,16 +3,18 @@
 use super::device_oracle::{Device, Wish};
 use super::frame_oracle::{self, Fields, BACK, STX};
 use super::master_oracle::Master;
-use super::party_oracle::Outgoing;
+use super::party_oracle::{Outgoing, Profile, FSK, PREAMBLES};
 use super::tick_oracle::{Damage, Heard};
 use std::io::Write;
 
 pub const BAD_SCRIPT: &[u8] = b"16\n";
 pub const HEADER: &[u8] = b"tick party type master length\n";
 
-const MASTERS: usize = 2;
-const DEVICES: usize = 6;
-const PARTIES: usize = MASTERS + DEVICES;
+pub const MASTERS: usize = 2;
+pub const DEVICES: usize = 6;
+pub const PARTIES: usize = MASTERS + DEVICES;
+
+const RETRIES: u32 = 3;
 
 const BURST_COMMAND: u8 = 3;
 
@@ -71,28 +73,35 @@ fn one_call_a_tick(calls: &[Record]) -> bool {
         .all(|call| latest[call.party].replace(call.tick) != Some(call.tick))
 }
 
-struct Link {
-    masters: [Master; MASTERS],
-    devices: [Device; DEVICES],
+pub struct Link {
+    pub masters: [Master; MASTERS],
+    pub devices: [Device; DEVICES],
     /// What the line carried in the tick before.
-    heard: Heard,
+    pub heard: Heard,
     /// Whether each party has been alone in each tick of its frame so far.
     alone: [bool; PARTIES],
 }
 
 impl Link {
     fn start() -> Link {
-        let device = |at| {
-            let polling_address = at as u64;
-            Device::start(polling_address, polling_address + MASTERS as u64)
-        };
-        let mut devices: [Device; DEVICES] = std::array::from_fn(device);
-        for device in &mut devices {
+        let mut link = Link::start_with(FSK, RETRIES, [PREAMBLES; DEVICES]);
+        for device in &mut link.devices {
             device.burst_content(BURST_COMMAND, &ZEROS[..2]);
         }
+        link
+    }
+
+    /// Device at has polling address at, and as its unique address the number of its party.
+    pub fn start_with(profile: Profile, retries: u32, preambles: [usize; DEVICES]) -> Link {
+        let device = |at| {
+            let polling_address = at as u64;
+            let unique_address = polling_address + MASTERS as u64;
+            Device::start_with(profile, preambles[at], polling_address, unique_address)
+        };
+        let master = |primary| Master::start_with(profile, retries, primary);
         Link {
-            masters: [Master::start(true), Master::start(false)],
-            devices,
+            masters: [master(true), master(false)],
+            devices: std::array::from_fn(device),
             heard: Heard::Silence,
             alone: [false; PARTIES],
         }
@@ -120,42 +129,48 @@ impl Link {
         };
     }
 
-    /// All parties send; the frames that end here, alone in each tick, are listed.
-    fn send(&mut self, tick: u16, listing: &mut Vec<u8>) {
-        let mut senders = 0;
-        let mut last_sender = 0;
-        self.heard = Heard::Silence;
+    /// What each party sends, and so what the line carries.
+    pub fn send(&mut self) -> [Option<u8>; PARTIES] {
         let by_masters = self.masters.iter_mut().map(Master::send);
         let by_devices = self.devices.iter_mut().map(Device::send);
-        let mut sending = [false; PARTIES];
-        for (party, sent) in by_masters.chain(by_devices).enumerate() {
-            if let Some(character) = sent {
-                senders += 1;
-                last_sender = party;
-                sending[party] = true;
-                self.heard = Heard::Character(character);
-            }
+        let mut sent = [None; PARTIES];
+        for (by_party, character) in sent.iter_mut().zip(by_masters.chain(by_devices)) {
+            *by_party = character;
         }
-        match senders {
-            0 => {}
-            1 => self.sent_alone(tick, last_sender, listing),
-            _ => {
-                self.heard = Heard::Damaged(0, Damage::Framing);
-                for (alone, sends) in self.alone.iter_mut().zip(sending) {
-                    *alone &= !sends;
-                }
+        let mut characters = sent.iter().flatten();
+        self.heard = match (characters.next(), characters.next()) {
+            (None, _) => Heard::Silence,
+            (Some(&character), None) => Heard::Character(character),
+            (Some(_), Some(_)) => Heard::Damaged(0, Damage::Framing),
+        };
+        sent
+    }
+
+    /// The frames that end in this tick, alone in each of theirs, are listed.
+    fn list(&mut self, tick: u16, sent: &[Option<u8>; PARTIES], listing: &mut Vec<u8>) {
+        let is_lone = matches!(self.heard, Heard::Character(_));
+        for (party, _) in sent.iter().enumerate().filter(|(_, by)| by.is_some()) {
+            if is_lone {
+                self.sent_alone(tick, party, listing);
+            } else {
+                self.alone[party] = false;
             }
         }
     }
 
-    fn sent_alone(&mut self, tick: u16, party: usize, listing: &mut Vec<u8>) {
-        let out = match party.checked_sub(MASTERS) {
+    /// What a party sends, or sent last.
+    pub fn out(&self, party: usize) -> &Outgoing {
+        match party.checked_sub(MASTERS) {
             None => self.masters[party].out(),
             Some(device) => self.devices[device].out(),
-        };
-        if out.at_first() {
+        }
+    }
+
+    fn sent_alone(&mut self, tick: u16, party: usize, listing: &mut Vec<u8>) {
+        if self.out(party).at_first() {
             self.alone[party] = true;
         }
+        let out = self.out(party);
         if out.at_last() && self.alone[party] {
             list(tick, party, out, listing);
         }
@@ -189,7 +204,8 @@ pub fn play(script: &[u8]) -> Vec<u8> {
         while let Some(call) = calls.next_if(|call| call.tick == tick) {
             link.call(call);
         }
-        link.send(tick, &mut listing);
+        let sent = link.send();
+        link.list(tick, &sent, &mut listing);
     }
     listing
 }

@@ -1,9 +1,12 @@
-//! A master of document 01 in plain Rust, with document 02's item 1, FSK and three retries, and a
-//! primary over recordings of what it hears. It shares nothing with the archive; over a recording it
-//! takes the same arguments and gives the same answers.
+//! A master of document 01 in plain Rust, with document 02's items 1 and 6, and a primary with FSK
+//! and three retries over recordings of what it hears. It shares nothing with the archive; over a
+//! recording it takes the same arguments and gives the same answers.
 
-use super::frame_oracle::{ACK, BACK, STX};
-use super::party_oracle::{Outgoing, BROADCAST, HOLD, RT1_PRIMARY, RT1_SECONDARY, RT2, SENDS};
+use super::frame_oracle::{refusal, ACK, BACK, STX, TAKEN};
+use super::party_oracle::{
+    seeks_tag, Outgoing, Profile, BROADCAST, FSK, PREAMBLES, REFUSED_COMMAND, REFUSED_IN_HAND,
+    SENDS,
+};
 use super::tick_oracle::{over, Event, Frame, Heard, Reader, Recorded};
 
 const RETRIES: u32 = 3;
@@ -26,6 +29,8 @@ pub enum Told {
 
 pub struct Master {
     primary: bool,
+    profile: Profile,
+    retries: u32,
     rt1: u32,
     quiet_time: u32,
     reader: Reader,
@@ -44,11 +49,23 @@ pub struct Master {
 
 impl Master {
     pub fn start(primary: bool) -> Master {
-        let rt1 = if primary { RT1_PRIMARY } else { RT1_SECONDARY };
+        Master::start_with(FSK, RETRIES, primary)
+    }
+
+    pub fn start_with(profile: Profile, retries: u32, primary: bool) -> Master {
+        let Profile {
+            rt2,
+            rt1_primary,
+            rt1_secondary,
+            ..
+        } = profile;
+        let rt1 = if primary { rt1_primary } else { rt1_secondary };
         Master {
             primary,
+            profile,
+            retries,
             rt1,
-            quiet_time: 2 * RT1_PRIMARY + if primary { 0 } else { RT2 },
+            quiet_time: 2 * rt1_primary + if primary { 0 } else { rt2 },
             reader: Reader::start(),
             deaf: true,
             burst: false,
@@ -66,6 +83,15 @@ impl Master {
     /// What it sends, or sent last.
     pub fn out(&self) -> &Outgoing {
         &self.out
+    }
+
+    pub fn reader(&self) -> &Reader {
+        &self.reader
+    }
+
+    /// The STX frames of its message that were sent.
+    pub fn attempts(&self) -> u32 {
+        self.attempts
     }
 
     pub fn take(&mut self, heard: Heard) -> Told {
@@ -107,24 +133,25 @@ impl Master {
         let is_back = frame.frame_type == BACK;
         let to_itself = frame.primary == self.primary;
         let from = (frame.long_address, frame.address);
+        let names_device = frame.long_address && !seeks_tag(frame);
         if is_back || (is_ack && frame.burst) {
             self.burst = true;
-            if is_back || frame.long_address {
+            if is_back || names_device {
                 self.noted = from;
             }
-        } else if is_ack && frame.long_address && self.noted == from {
+        } else if is_ack && names_device && self.noted == from {
             self.burst = false;
         }
         match (self.burst, is_ack, to_itself) {
             (true, false, false) if is_back => self.timer(1, self.quiet_time),
             (true, ..) => self.timer(0, self.quiet_time),
             (false, true, false) => self.timer(1, 0),
-            (false, true, true) => self.timer(RT2, 0),
+            (false, true, true) => self.timer(self.profile.rt2, 0),
             (false, false, _) => self.timer(self.rt1, 0),
         }
         let is_own = is_ack
             && to_itself
-            && !self.is_broadcast()
+            && (!self.is_broadcast() || seeks_tag(&self.message))
             && from == (self.message.long_address, self.message.address)
             && frame.command == self.message.command
             && self.reader.first_data_byte() < 0x80;
@@ -148,7 +175,7 @@ impl Master {
             self.stage = Stage::Free;
             return Told::BroadcastSent;
         }
-        if self.attempts > RETRIES {
+        if self.attempts > self.retries {
             self.stage = Stage::Free;
             return Told::GivenUp;
         }
@@ -157,6 +184,7 @@ impl Master {
     }
 
     fn count(&mut self, told: Told) -> Told {
+        let Profile { hold, rt2, .. } = self.profile;
         let mut told = told;
         let mut lost = false;
         match self.stage {
@@ -171,16 +199,16 @@ impl Master {
         if self.next > 0 {
             self.next -= 1;
             if self.next == 0 {
-                self.window = HOLD;
-                self.next = if self.burst { 0 } else { 2 * RT2 };
+                self.window = hold;
+                self.next = if self.burst { 0 } else { 2 * rt2 };
             }
         }
         if self.quiet > 0 {
             self.quiet -= 1;
             if self.quiet == 0 {
                 self.burst = false;
-                self.window = HOLD;
-                self.next = 2 * RT2;
+                self.window = hold;
+                self.next = 2 * rt2;
             }
         }
         if lost {
@@ -189,10 +217,28 @@ impl Master {
         told
     }
 
-    /// A request without data; whether it is taken.
-    pub fn request(&mut self, long_address: bool, address: u64, command: u8) -> bool {
-        if command == 254 || (!long_address && command != 0) || self.stage != Stage::Free {
-            return false;
+    /// A request without data, taken or refused with its number.
+    pub fn request(&mut self, long_address: bool, address: u64, command: u8) -> u32 {
+        self.ask(PREAMBLES, long_address, address, command, &[])
+    }
+
+    /// A request, taken or refused with its number.
+    pub fn ask(
+        &mut self,
+        preambles: usize,
+        long_address: bool,
+        address: u64,
+        command: u8,
+        data: &[u8],
+    ) -> u32 {
+        let no_command = command == 254 || (!long_address && command != 0);
+        let refusals = [
+            refusal(preambles, STX, long_address, address, data.len()),
+            no_command.then_some(REFUSED_COMMAND),
+            (self.stage != Stage::Free).then_some(REFUSED_IN_HAND),
+        ];
+        if let Some(lowest) = refusals.into_iter().flatten().min() {
+            return lowest;
         }
         self.message = Frame {
             frame_type: STX,
@@ -202,12 +248,10 @@ impl Master {
             command,
             ..Frame::default()
         };
-        let taken = self.out.put(&self.message, &[]);
-        if taken {
-            self.attempts = 0;
-            self.stage = Stage::Waiting;
-        }
-        taken
+        self.out.put(preambles, &self.message, data);
+        self.attempts = 0;
+        self.stage = Stage::Waiting;
+        TAKEN
     }
 
     pub fn send(&mut self) -> Option<u8> {
@@ -239,17 +283,23 @@ impl Master {
 const UNIQUE_ADDRESS: u64 = 2;
 const COMMAND: u8 = 3;
 
-/// The number of the host's call in a recording.
+const TAG_COMMAND: u8 = 11;
+const TAG: [u8; 6] = [0; 6];
+
+/// The numbers of the host's calls in a recording.
 const REQUEST: u8 = 1;
+const TAG_REQUEST: u8 = 2;
 
 impl Master {
     /// A tick of a recording; the number of what it does.
     #[inline(always)]
     pub fn tick(&mut self, tick: Recorded) -> u8 {
         let told = self.take(tick.heard());
-        if tick.call() == REQUEST {
-            self.request(true, UNIQUE_ADDRESS, COMMAND);
-        }
+        match tick.call() {
+            REQUEST => self.request(true, UNIQUE_ADDRESS, COMMAND),
+            TAG_REQUEST => self.ask(PREAMBLES, true, BROADCAST, TAG_COMMAND, &TAG),
+            _ => TAKEN,
+        };
         self.send().map_or(told as u8, |_| SENDS)
     }
 }

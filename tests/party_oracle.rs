@@ -1,21 +1,42 @@
-//! What the masters and devices in plain Rust have in common: FSK's numbers, and the frame that a
-//! party sends.
+//! What the masters and devices in plain Rust have in common: profiles, command 11 by broadcast, and
+//! the frame that a party sends.
 
 use super::frame_oracle::{write, LONGEST_FRAME, TAKEN};
 use super::tick_oracle::Frame;
 
-pub const STO: u32 = 28;
-pub const HOLD: u32 = 2;
-pub const RT2: u32 = 8;
-pub const RT1_PRIMARY: u32 = 33;
-pub const RT1_SECONDARY: u32 = 41;
+#[derive(Clone, Copy)]
+pub struct Profile {
+    pub sto: u32,
+    pub hold: u32,
+    pub rt2: u32,
+    pub rt1_primary: u32,
+    pub rt1_secondary: u32,
+}
+
+pub const FSK: Profile = Profile {
+    sto: 28,
+    hold: 2,
+    rt2: 8,
+    rt1_primary: 33,
+    rt1_secondary: 41,
+};
 
 pub const BROADCAST: u64 = 0;
+
+/// Command 11 by broadcast, or an ACK that repeats its address bytes.
+pub fn seeks_tag(frame: &Frame) -> bool {
+    frame.long_address && frame.address == BROADCAST && frame.command == 11
+}
+
+pub const REFUSED_COMMAND: u32 = 5;
+pub const REFUSED_IN_HAND: u32 = 7;
+pub const REFUSED_NO_REQUEST: u32 = 8;
+pub const REFUSED_WISH: u32 = 10;
 
 /// The number of a tick in which a party sends; any other has that of what it tells.
 pub const SENDS: u8 = 4;
 
-const PREAMBLES: usize = 5;
+pub const PREAMBLES: usize = 5;
 
 /// A frame on its way out, and how many of its characters are sent.
 pub struct Outgoing {
@@ -38,10 +59,10 @@ impl Outgoing {
         &self.bytes[..self.length]
     }
 
-    /// Whether it is a frame that the writer takes; then it goes out from its first character on.
-    pub fn put(&mut self, frame: &Frame, data: &[u8]) -> bool {
+    /// The writer's answer; a frame that it takes goes out from its first character on.
+    pub fn put(&mut self, preambles: usize, frame: &Frame, data: &[u8]) -> u32 {
         let written = write(
-            PREAMBLES,
+            preambles,
             frame.frame_type,
             frame.long_address,
             frame.primary,
@@ -53,8 +74,10 @@ impl Outgoing {
             0,
             &mut self.length,
         );
-        self.sent = 0;
-        written == TAKEN
+        if written == TAKEN {
+            self.sent = 0;
+        }
+        written
     }
 
     pub fn again(&mut self) {

@@ -110,6 +110,11 @@ impl Reader {
         }
     }
 
+    /// The frame that it is in, or that it found last.
+    pub fn frame(&self) -> &Frame {
+        &self.frame
+    }
+
     /// The first data byte of a whole ACK.
     pub fn first_data_byte(&self) -> u8 {
         self.data[0]

@@ -22,7 +22,7 @@ number MessageInHand = 7
 number NoRequest = 8
 -- data outside 2 to 255
 number DataLength = 9
--- burst on without burst content, or on or off wished in answer to command 0
+-- burst on without burst content, or on or off wished in answer to command 0, or to command 11 by broadcast
 number BurstWish = 10
 -- fewer than two preambles
 number FewPreambles = 11

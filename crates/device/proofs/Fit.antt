@@ -22,7 +22,7 @@ use Rattle.line.specs.declared.Heard.the-variants.{Silence, Character}
 use Rattle.line.specs.declared.Profile.{Profile}
 use Rattle.line.specs.declared.Receiver.{Receiver}
 use Rattle.turns.specs.Master.{accepted, isBroadcast}
-use Rattle.turns.specs.Device.{behind, isOwn, dueAfter, hasError, answerHeader, waited, backDue, counts, onSilence, onCharacter, onHeard, deviceTakes, wished, wishRefused, answersAt, answeredBy, answered, withContent, contentGiven, sends, firstFor, answersFrom, burstsFrom, backLength, sendsBy, deviceSends, deviceStarts, brokenDue}
+use Rattle.turns.specs.Device.{behind, dueAfter, hasError, answerHeader, waited, backDue, counts, onSilence, onCharacter, onHeard, deviceTakes, wished, wishRefused, answersAt, answeredBy, answered, withContent, contentGiven, sends, firstFor, answersFrom, burstsFrom, backLength, sendsBy, deviceSends, deviceStarts, brokenDue, mayAnswer, hasNoWish}
 use Rattle.turns.specs.declared.Content.{Content}
 use Rattle.turns.specs.declared.Device.{Device}
 use Rattle.turns.specs.declared.DeviceSent.{DeviceSent}
@@ -46,7 +46,7 @@ if-by P true a b f q = f refl
 if-by P false a b f q = q
 
 -- what the promises ask of the turn
-pub fit-own : (d : Device) (contents : List ℕ) → Fit d contents → (n : ℕ) → d .turn ≡ Asked n → isOwn d (d .request) ≡ true
+pub fit-own : (d : Device) (contents : List ℕ) → Fit d contents → (n : ℕ) → d .turn ≡ Asked n → mayAnswer d (d .request) ≡ true
 fit-own d contents f n e = subst (λ (t : Turn). TurnFits t d) e (f .turn-fits)
 
 pub fit-content : (d : Device) (contents : List ℕ) → Fit d contents → d .turn ≡ Follows → ContentLimits d contents
@@ -118,8 +118,8 @@ module _ (d : Device) (contents : List ℕ) (f : Fit d contents) where
   character-fit r (Frame w) =
       if-both Behind (w .header .frame =? stx) _ _
       (if-both Behind (w .expansion =? 0) _ _
-      (if-by Behind (isOwn d (w .header)) _ _
-      (λ own. turned r (Asked (d .profile .sto)) (w .header) Same (d .length) (d .profile .rt1p) own)
+      (if-by Behind (mayAnswer d (w .header)) _ _
+      (λ may. turned r (Asked (d .profile .sto)) (w .header) Same (d .length) (d .profile .rt1p) may)
       (if-both Behind (isBroadcast (w .header)) _ _ (listens-fit r (d .profile .rt1p)) (listens-fit r (d .profile .rt1p))))
       (listens-fit r (d .profile .rt1p)))
       (listens-fit r (dueAfter d (w .header)))
@@ -142,7 +142,7 @@ module _ (d : Device) (contents : List ℕ) (f : Fit d contents) where
   wish-given : (wish : Wish) → wishRefused d wish ≡ false → wished (d .burst) wish ≡ true → d .content .given ≡ true
   unfolding if_then_else_
   wish-given Same q on = f .bursts-given on
-  wish-given On q on = go (d .request .command =? 0) (d .content .given) q
+  wish-given On q on = go (hasNoWish (d .request)) (d .content .given) q
     where
       go : (t g : Bool) → (if t then true else (if g then false else true)) ≡ false → g ≡ true
       go true g e = absurd (true-false e)

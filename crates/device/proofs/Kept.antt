@@ -22,7 +22,7 @@ use Rattle.line.specs.declared.Heard.the-variants.{Silence, Character}
 use Rattle.line.specs.declared.Profile.{Profile}
 use Rattle.line.specs.declared.Receiver.{Receiver}
 use Rattle.turns.specs.Master.{accepted, refused, isBroadcast}
-use Rattle.turns.specs.Device.{behind, isOwn, dueAfter, hasError, answerHeader, waited, backDue, counts, onSilence, onCharacter, onHeard, deviceTakes, wished, answersAt, answeredBy, answered, withContent, contentGiven, sends, firstFor, behindAck, answersFrom, burstsFrom, backLength, sendsBy, deviceSends, freshDevice, deviceStarts, brokenDue}
+use Rattle.turns.specs.Device.{behind, dueAfter, hasError, answerHeader, waited, backDue, counts, onSilence, onCharacter, onHeard, deviceTakes, wished, answersAt, answeredBy, answered, withContent, contentGiven, sends, firstFor, behindAck, answersFrom, burstsFrom, backLength, sendsBy, deviceSends, freshDevice, deviceStarts, brokenDue, mayAnswer}
 use Rattle.turns.specs.declared.Device.{Device}
 use Rattle.turns.specs.declared.DeviceSent.{DeviceSent}
 use Rattle.turns.specs.declared.DeviceTaken.{DeviceTaken}
@@ -108,7 +108,7 @@ module _ (d : Device) where
       let idle = moved d r Listens (d .request) Same (d .length) (d .profile .rt1p) in
       if-both Behind (w .header .frame =? stx) _ _
       (if-both Behind (w .expansion =? 0) _ _
-      (if-both Behind (isOwn d (w .header)) _ _ (moved d r (Asked (d .profile .sto)) (w .header) Same (d .length) (d .profile .rt1p)) (if-both Behind (isBroadcast (w .header)) _ _ idle idle))
+      (if-both Behind (mayAnswer d (w .header)) _ _ (moved d r (Asked (d .profile .sto)) (w .header) Same (d .length) (d .profile .rt1p)) (if-both Behind (isBroadcast (w .header)) _ _ idle idle))
       idle)
       (moved d r Listens (d .request) Same (d .length) (dueAfter d (w .header)))
   character-kept r (Damaged w m) =

@@ -21,9 +21,10 @@ use Rattle.line.specs.declared.Event.{Event}
 use Rattle.line.specs.declared.Event.the-variants.{Nothing, PassedOver, Broken, Frame, Damaged}
 use Rattle.line.specs.declared.Harm.{Harm}
 use Rattle.line.specs.declared.Whole.{Whole}
-use Rattle.turns.specs.Master.{Called}
-use Rattle.turns.specs.Device.{isOwn, hasError, errorData, answerHeader, errorFrame, wished, answerFrame, answeredBy, answered, backHeader, begunFrame}
+use Rattle.turns.specs.Master.{Called, seeksTag}
+use Rattle.turns.specs.Device.{isOwn, mayAnswer, hasError, errorData, answerHeader, errorFrame, wished, answerFrame, answeredBy, answered, backHeader, begunFrame}
 use Rattle.turns.proofs.Devices.{Sound, AnswerView, is-refused, is-taken, answer-view}
+use Rattle.turns.proofs.TagSentences.{tag-zero}
 use Rattle.turns.specs.declared.Device.{Device}
 use Rattle.turns.specs.declared.Turn.{Turn}
 use Rattle.turns.specs.declared.Turn.the-variants.{Listens, Asked, Accepted, Begins, Answers, Follows, Bursts}
@@ -59,13 +60,22 @@ own-address d frame h l own = go (h .long) own
     go true o = omega (arith, eqb-true (d .unique) (h .address) o, l .unique-high)
     go false o = omega (arith, eqb-true (d .polling) (h .address) (went-then (d .polling =? h .address) (h .command =? 0) false true o (λ q. true-false (sym q)) .0), l .polling-high)
 
--- an ACK to a request for this device
-ack-fits : (d : Device) (frame : List ℕ) (h : Header) (burst : Bool) (count : ℕ) → Limits d frame → isOwn d h ≡ true → 2 ≤ count → count ≤ 255 → Fits (d .preamble) (answerHeader h burst) count
+-- or command 11 by broadcast, with address 0
+may-address : (d : Device) (frame : List ℕ) (h : Header) → Limits d frame → mayAnswer d h ≡ true → h .address ≤ largestAddress (h .long)
 unfolding if_then_else_
-ack-fits d frame h burst count l own low high = record {
+may-address d frame h l may = go (seeksTag h) refl may
+  where
+    go : (t : Bool) → seeksTag h ≡ t → (if t then true else isOwn d h) ≡ true → h .address ≤ largestAddress (h .long)
+    go true e o = omega (arith, tag-zero h e)
+    go false e o = own-address d frame h l o
+
+-- an ACK to a request that its host may answer
+ack-fits : (d : Device) (frame : List ℕ) (h : Header) (burst : Bool) (count : ℕ) → Limits d frame → h .address ≤ largestAddress (h .long) → 2 ≤ count → count ≤ 255 → Fits (d .preamble) (answerHeader h burst) count
+unfolding if_then_else_
+ack-fits d frame h burst count l address low high = record {
   preamble-low = l .preamble-low;
   preamble-high = l .preamble-high;
-  address-high = own-address d frame h l own;
+  address-high = address;
   count-high = high;
   enough = enough ack count low;
   typed = refl;
@@ -88,26 +98,26 @@ error-agrees d (Damaged w m) frame l = go (hasError d w m) refl
   where
     go : (t : Bool) → hasError d w m ≡ t
         → (if t then writeBuffer (d .preamble) (answerHeader (w .header) (d .burst)) (errorData m) frame 0 else frame) ≡ (if t then stored frame 0 (frameBytes (d .preamble) (answerHeader (w .header) (d .burst)) (errorData m)) else frame)
-    go true e = written-stored (d .preamble) (answerHeader (w .header) (d .burst)) (errorData m) frame (ack-fits d frame (w .header) (d .burst) 2 l (has-own d w m e) (omega arith) (omega arith)) (l .room)
+    go true e = written-stored (d .preamble) (answerHeader (w .header) (d .burst)) (errorData m) frame (ack-fits d frame (w .header) (d .burst) 2 l (own-address d frame (w .header) l (has-own d w m e)) (omega arith) (omega arith)) (l .room)
     go false e = refl
 
-pub answer-agrees : (d : Device) (wish : Wish) (bytes frame : List ℕ) → Limits d frame → ((n : ℕ) → d .turn ≡ Asked n → isOwn d (d .request) ≡ true)
+pub answer-agrees : (d : Device) (wish : Wish) (bytes frame : List ℕ) → Limits d frame → ((n : ℕ) → d .turn ≡ Asked n → mayAnswer d (d .request) ≡ true)
     → answerBuffer (answered 255 d wish (length bytes)) d wish bytes frame ≡ storedBy (answered 255 d wish (length bytes)) (answerFrame d wish bytes) frame
 unfolding answered
-answer-agrees d wish bytes frame l own = by (d .turn) refl
+answer-agrees d wish bytes frame l may = by (d .turn) refl
   where
     Case : Called Device → Type 0
     Case c = answerBuffer c d wish bytes frame ≡ storedBy c (answerFrame d wish bytes) frame
 
-    asked : (n : ℕ) → isOwn d (d .request) ≡ true → AnswerView 255 d wish (length bytes) n → Case (answeredBy 255 d wish (length bytes) (Asked n))
+    asked : (n : ℕ) → mayAnswer d (d .request) ≡ true → AnswerView 255 d wish (length bytes) n → Case (answeredBy 255 d wish (length bytes) (Asked n))
     asked n o (is-refused why e) = subst Case (sym e) refl
     asked n o (is-taken low high f e) =
         subst Case (sym e)
-        (written-stored (d .preamble) (answerHeader (d .request) (wished (d .burst) wish)) bytes frame (ack-fits d frame (d .request) (wished (d .burst) wish) (length bytes) l o low high) (l .room))
+        (written-stored (d .preamble) (answerHeader (d .request) (wished (d .burst) wish)) bytes frame (ack-fits d frame (d .request) (wished (d .burst) wish) (length bytes) l (may-address d frame (d .request) l o) low high) (l .room))
 
     by : (turn : Turn) → d .turn ≡ turn → Case (answeredBy 255 d wish (length bytes) turn)
     by Listens e = refl
-    by (Asked n) e = asked n (own n e) (answer-view 255 d wish (length bytes) n)
+    by (Asked n) e = asked n (may n e) (answer-view 255 d wish (length bytes) n)
     by Accepted e = refl
     by Begins e = refl
     by (Answers n) e = refl

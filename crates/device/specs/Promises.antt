@@ -5,7 +5,7 @@ use mathlib.Core.Path.{_≡_}
 use mathlib.Core.List.{List}
 use lib.ListN.{length}
 use Rattle.line.specs.declared.Heard.{Heard}
-use Rattle.turns.specs.Device.{isOwn, deviceTakes, errorFrame, answered, answerFrame, deviceSends, begunFrame}
+use Rattle.turns.specs.Device.{mayAnswer, deviceTakes, errorFrame, answered, answerFrame, deviceSends, begunFrame}
 use Rattle.turns.specs.Link.{deviceData}
 use Rattle.turns.specs.declared.Device.{Device}
 use Rattle.turns.specs.declared.DeviceSent.{DeviceSent}
@@ -23,11 +23,11 @@ pub record TakeIs (d : Device) (heard : Heard) (bytes frame : List ℕ) (t : Dev
   pub frame-is : frame-after ≡ errorBuffer d (deviceTakes d heard .event) frame
   pub within : Limits d frame → frame-after ≡ errorFrame d (deviceTakes d heard .event) frame
 
--- a request in hand is for this device
+-- a request in hand is one that its host may answer
 pub record AnswerIs (d : Device) (wish : Wish) (bytes frame : List ℕ) (r : DeviceCalled) (frame-after : List ℕ) : Type 0 where
   pub called : calledAs r ≡ answered 255 d wish (length bytes)
   pub frame-is : frame-after ≡ answerBuffer (answered 255 d wish (length bytes)) d wish bytes frame
-  pub within : Limits d frame → ((n : ℕ) → d .turn ≡ Asked n → isOwn d (d .request) ≡ true) → frame-after ≡ storedBy (answered 255 d wish (length bytes)) (answerFrame d wish bytes) frame
+  pub within : Limits d frame → ((n : ℕ) → d .turn ≡ Asked n → mayAnswer d (d .request) ≡ true) → frame-after ≡ storedBy (answered 255 d wish (length bytes)) (answerFrame d wish bytes) frame
 
 -- a BACK has content that was given
 pub record SendIs (d : Device) (contents frame : List ℕ) (s : DeviceSent) (frame-after : List ℕ) : Type 0 where

@@ -4,16 +4,16 @@ use mathlib.Core.Bool.{true}
 use mathlib.Core.Path.{_≡_}
 use mathlib.Core.List.{List}
 use lib.ListN.{length}
-use Rattle.turns.specs.Device.{isOwn, wished}
+use Rattle.turns.specs.Device.{mayAnswer, wished}
 use Rattle.turns.specs.declared.Device.{Device}
 use Rattle.turns.specs.declared.Turn.{Turn}
 use Rattle.turns.specs.declared.Turn.the-variants.{Listens, Asked, Accepted, Begins, Answers, Follows, Bursts}
 use Rattle.device.specs.Buffers.{Limits, ContentLimits}
 
--- a request in hand is for this device; burst goes on only with content; a BACK follows only while burst is on
+-- its host may answer a request in hand; burst goes on only with content; a BACK follows only while burst is on
 abbrev pub TurnFits : Turn → Device → Type 0
 TurnFits Listens d = Unit {0}
-TurnFits (Asked n) d = isOwn d (d .request) ≡ true
+TurnFits (Asked n) d = mayAnswer d (d .request) ≡ true
 TurnFits Accepted d = wished (d .burst) (d .wish) ≡ true → d .content .given ≡ true
 TurnFits Begins d = wished (d .burst) (d .wish) ≡ true → d .content .given ≡ true
 TurnFits (Answers n) d = Unit {0}

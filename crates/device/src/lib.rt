@@ -16,7 +16,7 @@ ghost use mathlib.Core.Path.{_≡_};
 ghost use Prim.Native.Nat.{_≤_};
 ghost use lib.ListN.{length, take};
 ghost use Rattle.frame.specs.Write.{writeBuffer};
-ghost use Rattle.turns.specs.Device.{behind, errorStatus, errorData, answerHeader, wished, wishRefused, answersAt, answeredBy, answered, backHeader, freshDevice, deviceStarts};
+ghost use Rattle.turns.specs.Device.{behind, errorStatus, errorData, answerHeader, wished, hasNoWish, wishRefused, answersAt, answeredBy, answered, backHeader, freshDevice, deviceStarts};
 ghost use Rattle.device_heard.specs.Hearing.{lengthBy};
 ghost use Rattle.device.specs.Calls.{startedAs, calledAs};
 ghost use Rattle.device.specs.Buffers.{errorBuffer, begunBuffer};
@@ -115,13 +115,23 @@ pub fn take(d: Device, heard: Heard, bytes: &mut [u8; 255], frame: &mut [u8; 284
     taken
 }
 
+// Whether an answer to this request may wish neither on nor off: command 0, or command 11 by broadcast.
+fn has_no_wish(h: Header) -> bool
+    ensures { λ r. ⌜ r ≡ hasNoWish h ⌝ }
+{
+    if h.command == 0 {
+        return true;
+    }
+    party::seeks_tag(h)
+}
+
 // Whether burst may not be turned on.
 fn on_refused(d: Device) -> bool
     ensures { λ r. ⌜ r ≡ wishRefused d Wish.On ⌝ }
 {
     let request = d.request;
     let content = d.content;
-    if request.command == 0 {
+    if has_no_wish(request) {
         return true;
     }
     if content.given {
@@ -137,7 +147,7 @@ fn wish_refused(d: Device, wish: Wish) -> bool
     match wish {
         Wish::Same => false,
         Wish::On => on_refused(d),
-        Wish::Off => request.command == 0,
+        Wish::Off => has_no_wish(request),
     }
 }
 

@@ -18,7 +18,7 @@ use Rattle.line.specs.declared.Taken.{Taken}
 use Rattle.line.specs.declared.Whole.{Whole}
 use Rattle.line.proofs.Ticks.{outside-idle, gap-passed, gap-breaks}
 use Rattle.turns.specs.Master.{isBroadcast}
-use Rattle.turns.specs.Device.{behind, isOwn, dueAfter, hasError, tells, afterRequest, afterFrame, onCharacter, waited, backDue, counts, brokenDue, onSilence}
+use Rattle.turns.specs.Device.{behind, dueAfter, hasError, tells, afterRequest, afterFrame, onCharacter, waited, backDue, counts, brokenDue, onSilence, mayAnswer}
 use Rattle.turns.specs.declared.Content.{Content}
 use Rattle.turns.specs.declared.Device.{Device}
 use Rattle.turns.specs.declared.DeviceSent.{DeviceSent}
@@ -94,8 +94,8 @@ if-ap f false a b = refl
 module _ (d : Device) (r : Receiver) where
   by-request : (w : Whole) → heededAs d r (heedsRequest d w) (Frame w) ≡ afterRequest d r w
   by-request w =
-      if-ap (λ (h : Heeded). heededAs d r h (Frame w)) (isOwn d (w .header)) _ _
-      ∙ ap (λ (x : DeviceTaken). if isOwn d (w .header) then heededAs d r (record { turn = Asked (d .profile .sto); request = w .header; length = d .length; due = d .profile .rt1p; told = Request w }) (Frame w) else x)
+      if-ap (λ (h : Heeded). heededAs d r h (Frame w)) (mayAnswer d (w .header)) _ _
+      ∙ ap (λ (x : DeviceTaken). if mayAnswer d (w .header) then heededAs d r (record { turn = Asked (d .profile .sto); request = w .header; length = d .length; due = d .profile .rt1p; told = Request w }) (Frame w) else x)
       (if-ap (λ (u : DeviceTold). heededAs d r (listening d (d .profile .rt1p) u) (Frame w)) (isBroadcast (w .header)) _ _)
 
   by-frame : (w : Whole) → heededAs d r (heedsFrame d w) (Frame w) ≡ afterFrame d r w

@@ -15,7 +15,7 @@ use Rattle.line.specs.declared.Harm.{Harm}
 use Rattle.line.specs.declared.Receiver.{Receiver}
 use Rattle.line.specs.declared.Whole.{Whole}
 use Rattle.turns.specs.Master.{isBroadcast}
-use Rattle.turns.specs.Device.{behind, isOwn, dueAfter, answerHeader, hasError, tells, waited, onSilence, deviceTakes}
+use Rattle.turns.specs.Device.{behind, mayAnswer, dueAfter, answerHeader, hasError, tells, waited, onSilence, deviceTakes}
 use Rattle.turns.specs.Link.{DeviceSide, deviceData}
 use Rattle.turns.specs.declared.Device.{Device}
 use Rattle.turns.specs.declared.DeviceTaken.{DeviceTaken}
@@ -53,7 +53,7 @@ toldOfOther w = if isBroadcast (w .header) then Broadcast w else DeviceTold.Noth
 
 abbrev pub heedsRequest : Device → Whole → Heeded
 heedsRequest d w =
-    if isOwn d (w .header) then record { turn = Asked (d .profile .sto); request = w .header; length = d .length; due = d .profile .rt1p; told = Request w } else
+    if mayAnswer d (w .header) then record { turn = Asked (d .profile .sto); request = w .header; length = d .length; due = d .profile .rt1p; told = Request w } else
     listening d (d .profile .rt1p) (toldOfOther w)
 
 abbrev pub heedsFrame : Device → Whole → Heeded

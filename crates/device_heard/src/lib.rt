@@ -13,7 +13,7 @@ use turns::Wish;
 ghost use mathlib.Core.Path.{_≡_};
 ghost use mathlib.Core.Bool.{false};
 ghost use Rattle.base.specs.Choice.{if_then_else_};
-ghost use Rattle.turns.specs.Device.{behind, isOwn, dueAfter, hasError, tells, onCharacter, waited, backDue, counts, brokenDue};
+ghost use Rattle.turns.specs.Device.{behind, isOwn, dueAfter, hasError, tells, onCharacter, waited, backDue, counts, brokenDue, mayAnswer};
 ghost use Rattle.device_heard.specs.Hearing.{lengthBy, listening, toldOfOther, heedsRequest, heedsFrame, heedsDamage, heedsEvent, nextTurn, nextDue, passedOver, hearsSilence, HeardIs};
 
 // What a device makes of a character, its reader and its wish aside, and what it tells.
@@ -141,14 +141,24 @@ fn told_of_other(w: Whole) -> DeviceTold
     DeviceTold::Nothing
 }
 
-// An undamaged STX without expansion bytes: a request, a broadcast, or another's.
+// Whether its host may answer an STX: one for this device, or command 11 by broadcast.
+fn may_answer(d: Device, h: Header) -> bool
+    ensures { λ r. ⌜ r ≡ mayAnswer d h ⌝ }
+{
+    if party::seeks_tag(h) {
+        return true;
+    }
+    is_own(d, h)
+}
+
+// An undamaged STX without expansion bytes: a request that its host may answer, another broadcast, or another's request.
 fn heeds_request(d: Device, w: Whole) -> Heeded
     ensures { λ h. ⌜ h ≡ heedsRequest d w ⌝ }
 {
     let h = w.header;
     let profile = d.profile;
     let due = profile.rt1p as u32;
-    if is_own(d, h) {
+    if may_answer(d, h) {
         let request = tick_reader::same_header(h);
         return Heeded {
             turn: Turn::Asked(profile.sto),

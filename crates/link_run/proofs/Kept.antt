@@ -25,7 +25,7 @@ use Rattle.link_start.specs.declared.DevicesSettings.{DevicesSettings}
 use Rattle.link_start.specs.declared.LinkStarted.{LinkStarted}
 use Rattle.link_start.proofs.Started.{started-ready, all-start}
 use Rattle.tick_list.specs.Ticks.{ticksOf}
-use Rattle.link_run.specs.Run.{hereOf, runSteps, stepsBy, stepsOf, devicesBy, numbersOf, ranAs, ranBy, Demand3Of, RunKeeps}
+use Rattle.link_run.specs.Run.{hereOf, runSteps, stepsBy, stepsOf, devicesBy, FindsBy, numbersOf, ranAs, ranBy, Demand3Of, RunKeeps}
 use Rattle.link_run.specs.declared.RunEnded.{RunEnded}
 
 -- ---- demand 3
@@ -36,11 +36,11 @@ no-wait p retries primary t s after e a = absurd (impossible (sym (drop-nil t) �
     impossible : [] ≡ s ∷ after → ⊥
     impossible q = let k : _≡_ {A = ℕ} 0 (length (s ∷ after)) = ap length q in omega (arith, k)
 
-keeps-by : (p : Profile) (retries : ℕ) (s : DevicesSettings) (ticks : List ℕ) (c : Called Link) → linkStarts p retries s ≡ c → profileMade p ≡ Made p → Distinct (devicesBy c) → EachTick OneBursts (stepsBy c ticks)
+keeps-by : (p : Profile) (retries : ℕ) (s : DevicesSettings) (ticks : List ℕ) (c : Called Link) → linkStarts p retries s ≡ c → profileMade p ≡ Made p → Distinct (devicesBy c) → EachTick OneBursts (stepsBy c ticks) → FindsBy c ticks
     → EachTick NoTwoSend (stepsBy c ticks) × WaitIn 255 p retries (stepsBy c ticks)
-keeps-by p retries s ticks (refused why) e made distinct bursts = (no-tick, no-wait p retries)
-keeps-by p retries s ticks (accepted l) e made distinct bursts =
-    let premises : Premises 255 p retries (lentFresh l) (ticksOf (hereOf (l .devices)) ticks) = record { made = made; starts = all-start p retries s l e distinct; one-bursts = bursts } in
+keeps-by p retries s ticks (refused why) e made distinct bursts finds = (no-tick, no-wait p retries)
+keeps-by p retries s ticks (accepted l) e made distinct bursts finds =
+    let premises : Premises 255 p retries (lentFresh l) (ticksOf (hereOf (l .devices)) ticks) = record { made = made; starts = all-start p retries s l e distinct; one-bursts = bursts; one-finds = finds } in
     let claim = W.demand-3 255 (omega arith) (omega arith) in
     (claim .0 p retries (lentFresh l) (ticksOf (hereOf (l .devices)) ticks) premises, claim .1 p retries (lentFresh l) (ticksOf (hereOf (l .devices)) ticks) premises)
 

@@ -12,6 +12,7 @@ use Rattle.turns.specs.Master.{Called, accepted, refused}
 use Rattle.turns.specs.Link.{Answer, none, was-taken, was-refused, MasterStep, DeviceSide, LinkStep, Calls}
 use Rattle.turns.specs.Link as L
 use Rattle.turns.specs.Run.{Distinct, EachTick, OneBursts, NoTwoSend, count, senders}
+use Rattle.turns.specs.Ledgers.{blanks, OneFinds}
 use Rattle.turns.specs.Demand3.{WaitIn}
 use Rattle.slots.specs.declared.Devices.{Devices}
 use Rattle.slots.specs.declared.Slot.{Slot}
@@ -58,6 +59,15 @@ abbrev pub devicesBy : Called Link → List DeviceSide
 devicesBy (accepted l) = devicesOf (l .devices) devicesFresh
 devicesBy (refused why) = []
 
+-- the calls of its ticks
+abbrev pub callsBy : Called Link → List ℕ → List Calls
+callsBy (accepted l) ticks = ticksOf (hereOf (l .devices)) ticks
+callsBy (refused why) ticks = []
+
+-- item 6: "one tag, one device, so that at most one host's answer to each command 11 is taken"
+abbrev pub FindsBy : Called Link → List ℕ → Type 0
+FindsBy c ticks = OneFinds (blanks (devicesBy c)) (callsBy c ticks) (stepsBy c ticks)
+
 -- ---- what is written of it
 
 -- 1 for a request that was taken
@@ -88,9 +98,9 @@ ranBy (refused why) n = refused why
 
 -- ---- demand 3, for the run that was made
 
--- "Let a primary master, a secondary master and devices that share no address all start in the same tick with one profile and one retry limit R. .. if .. at most one device bursts at a time, then no two send in one tick, and every accepted message's first character goes out within" its ticks. That all start so is how the run begins; that no character is damaged or lost is how its line is defined.
+-- "Let a primary master, a secondary master and devices that share no address all start in the same tick with one profile and one retry limit R. .. if .. at most one device bursts at a time" and, by item 6, "at most one host's answer to each command 11 is taken", "then no two send in one tick, and every accepted message's first character goes out within" its ticks. That all start so is how the run begins; that no character is damaged or lost is how its line is defined.
 pub record Demand3Of (p : Profile) (retries : ℕ) (s : DevicesSettings) (ticks : List ℕ) : Type 0 where
-  pub keeps : profileMade p ≡ Made p → Distinct (devicesBy (linkStarts p retries s)) → EachTick OneBursts (stepsOf p retries s ticks)
+  pub keeps : profileMade p ≡ Made p → Distinct (devicesBy (linkStarts p retries s)) → EachTick OneBursts (stepsOf p retries s ticks) → FindsBy (linkStarts p retries s) ticks
       → EachTick NoTwoSend (stepsOf p retries s ticks) × WaitIn 255 p retries (stepsOf p retries s ticks)
 
 -- what a run promises: its answer, the numbers at the front of the lent events, as many as there is room for, and demand 3

@@ -11,7 +11,7 @@ use turns::Noted;
 use turns::Stage;
 use turns::Timer;
 ghost use mathlib.Core.Path.{_≡_};
-ghost use Rattle.turns.specs.Master.{freshMaster, ownRt1, quietTime, behind, staged, timer, burstTimer, opened, countClear, countBurst, timerCounted, burstCounted, addressOf, isNoted, burstAfter, notedAfter, toItself, clearTimer, setTimer, timerAfter, brokenTimer, ends, fails, sameBit, isAnswer, atFrame, atBreak, ifAwaiting};
+ghost use Rattle.turns.specs.Master.{freshMaster, ownRt1, quietTime, behind, staged, timer, burstTimer, opened, countClear, countBurst, timerCounted, burstCounted, namesDevice, addressOf, isNoted, burstAfter, notedAfter, toItself, clearTimer, setTimer, timerAfter, brokenTimer, ends, fails, sameBit, isAnswer, atBreak, answersMessage, atFrame, ifAwaiting};
 ghost use Rattle.master_rules.specs.Parts.{sameRequest, unended};
 
 // The own RT1 of a master with this master bit, fresh or not.
@@ -192,6 +192,16 @@ fn is_noted(n: Noted, h: Header) -> bool
     false
 }
 
+// Whether an address is that of a device: a long one is, but in the ACK to command 11 by broadcast it is the request's.
+fn names_device(h: Header) -> bool
+    ensures { λ r. ⌜ r ≡ namesDevice h ⌝ }
+{
+    if party::seeks_tag(h) {
+        return false;
+    }
+    h.long
+}
+
 // BURST behind a frame.
 pub fn burst_after(burst: bool, noted: Noted, h: Header) -> bool
     ensures { λ r. ⌜ r ≡ burstAfter burst noted h ⌝ }
@@ -203,7 +213,7 @@ pub fn burst_after(burst: bool, noted: Noted, h: Header) -> bool
         if h.burst {
             return true;
         }
-        if h.long {
+        if names_device(h) {
             if is_noted(noted, h) {
                 return false;
             }
@@ -223,7 +233,7 @@ pub fn noted_after(noted: Noted, h: Header) -> Noted
     }
     if h.frame == frame::ACK {
         if h.burst {
-            if h.long {
+            if names_device(h) {
                 return address_of(h);
             }
             return noted;
@@ -357,25 +367,35 @@ fn is_answer(m: Master, h: Header) -> bool
     false
 }
 
+// Whether a frame is the answer to its message: a broadcast has none, but for command 11.
+fn answers_message(m: Master, h: Header) -> bool
+    ensures { λ r. ⌜ r ≡ answersMessage m h ⌝ }
+{
+    let g = m.message;
+    let q = g.header;
+    if party::is_broadcast(q) {
+        if party::seeks_tag(q) {
+            return is_answer(m, h);
+        }
+        return false;
+    }
+    is_answer(m, h)
+}
+
 // What a whole frame makes of a message whose ACK is awaited.
 pub fn at_frame(m: Master, w: Whole, bytes: &[u8; 255]) -> Ending
     ensures { λ e. ⌜ e ≡ atFrame m w (now (bytes .entry)) ⌝ }
 {
     let g = m.message;
-    let q = g.header;
     let h = w.header;
-    let retries = m.retries;
     let first = bytes[0];
-    if party::is_broadcast(q) {
-        return ended_with(g, MasterTold::BroadcastSent);
-    }
-    if is_answer(m, h) {
+    if answers_message(m, h) {
         if first / 128 == 1 {
-            return failed(retries, g);
+            return at_break(m);
         }
         return ended_with(g, MasterTold::Answered(w));
     }
-    failed(retries, g)
+    at_break(m)
 }
 
 // What a broken frame, or RT1's end, makes of it.

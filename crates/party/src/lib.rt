@@ -6,7 +6,7 @@ use line::Profile;
 ghost use mathlib.Core.Path.{_≡_};
 ghost use Prim.Native.Nat.{_-_};
 ghost use Rattle.frame.specs.Address.{byteAt};
-ghost use Rattle.turns.specs.Master.{isBroadcast};
+ghost use Rattle.turns.specs.Master.{isBroadcast, seeksTag};
 ghost use Rattle.party.specs.Hears.{isSilence};
 
 // What became of a host's call in a tick.
@@ -61,6 +61,16 @@ pub fn is_broadcast(h: Header) -> bool
 {
     if h.long {
         return h.address == 0;
+    }
+    false
+}
+
+// Whether a frame is command 11 by broadcast, or its ACK, which repeats the address bytes.
+pub fn seeks_tag(h: Header) -> bool
+    ensures { λ r. ⌜ r ≡ seeksTag h ⌝ }
+{
+    if is_broadcast(h) {
+        return h.command == 11;
     }
     false
 }

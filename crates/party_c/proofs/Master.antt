@@ -2,9 +2,10 @@
 use Prim.Native.Nat.{ℕ, _+_, _-_, _≤_, _<_, _/_, _%_}
 use mathlib.Core.Bool.{true}
 use mathlib.Core.Path.{_≡_, refl, sym, ap, subst, _∙_}
-use mathlib.Core.List.{List, []}
+use mathlib.Core.List.{List, [], _∷_}
 use lib.ListN.{length, getD, set, replicate}
 use Rattle.base.specs.declared.Refusal.{Refusal}
+use Rattle.base.proofs.Choices.{if-equal, if-unequal}
 use Rattle.line.specs.Profile.{fskProfile}
 use Rattle.line.specs.declared.Heard.{Heard}
 use Rattle.line.specs.declared.Profile.{Profile}
@@ -18,17 +19,31 @@ use Rattle.master.specs.declared.MasterStarted.{MasterStarted}
 use Rattle.master.specs.Tick.{callOf, sideOf, TickIs}
 use Rattle.master.specs.declared.HostCall.{HostCall}
 use Rattle.master.specs.declared.MasterTicked.{MasterTicked}
-use Rattle.party_c.specs.Master.{requestAt, masterNumber, step, ticked, StepIs, numbersBy, masterNumbers}
+use Rattle.party_c.specs.Master.{requestAt, tagAt, masterNumber, step, ticked, StepIs, numbersBy, masterNumbers}
 
 -- a tick of what was heard and called
-pub step-is : (m : Master) (frame bytes frame-after bytes-after : List ℕ) (first c : ℕ) (h : Heard) (call : HostCall) (t : MasterTicked)
-    → h ≡ heardOf (first / 32) c → call ≡ requestAt (first % 32) → TickIs m h call [] frame bytes t frame-after bytes-after
+step-is : (m : Master) (frame bytes frame-after bytes-after : List ℕ) (first c : ℕ) (h : Heard) (call : HostCall) (put : List ℕ) (t : MasterTicked)
+    → h ≡ heardOf (first / 32) c → call ≡ requestAt (first % 32) → put ≡ tagAt (first % 32) → TickIs m h call put frame bytes t frame-after bytes-after
     → StepIs m frame bytes first c t frame-after bytes-after
-step-is m frame bytes frame-after bytes-after first c h call t p q e = record {
+step-is m frame bytes frame-after bytes-after first c h call put t p q r e = record {
   steps = e .step
-      ∙ ap (λ (x : Heard). masterTick 255 (sideOf m frame bytes) x (callOf call [])) p
-      ∙ ap (λ (x : HostCall). masterTick 255 (sideOf m frame bytes) (heardOf (first / 32) c) (callOf x [])) q;
+      ∙ ap (λ (x : Heard). masterTick 255 (sideOf m frame bytes) x (callOf call put)) p
+      ∙ ap (λ (x : HostCall). masterTick 255 (sideOf m frame bytes) (heardOf (first / 32) c) (callOf x put)) q
+      ∙ ap (λ (x : List ℕ). masterTick 255 (sideOf m frame bytes) (heardOf (first / 32) c) (callOf (requestAt (first % 32)) x)) r;
 }
+
+-- with command 11's tag, and without data
+pub step-tag : (m : Master) (frame bytes frame-after bytes-after : List ℕ) (first c : ℕ) (h : Heard) (call : HostCall) (t : MasterTicked)
+    → first % 32 ≡ 2 → h ≡ heardOf (first / 32) c → call ≡ requestAt (first % 32) → TickIs m h call (0 ∷ 0 ∷ 0 ∷ 0 ∷ 0 ∷ 0 ∷ []) frame bytes t frame-after bytes-after
+    → StepIs m frame bytes first c t frame-after bytes-after
+step-tag m frame bytes frame-after bytes-after first c h call t n p q e =
+    step-is m frame bytes frame-after bytes-after first c h call (0 ∷ 0 ∷ 0 ∷ 0 ∷ 0 ∷ 0 ∷ []) t p q (if-equal (first % 32) 2 (0 ∷ 0 ∷ 0 ∷ 0 ∷ 0 ∷ 0 ∷ []) (replicate 6 0) [] n refl) e
+
+pub step-plain : (m : Master) (frame bytes frame-after bytes-after : List ℕ) (first c : ℕ) (h : Heard) (call : HostCall) (t : MasterTicked)
+    → (first % 32 ≡ 2 → ⊥) → h ≡ heardOf (first / 32) c → call ≡ requestAt (first % 32) → TickIs m h call [] frame bytes t frame-after bytes-after
+    → StepIs m frame bytes first c t frame-after bytes-after
+step-plain m frame bytes frame-after bytes-after first c h call t n p q e =
+    step-is m frame bytes frame-after bytes-after first c h call [] t p q (if-unequal (first % 32) 2 [] (replicate 6 0) [] n refl) e
 
 pub run-start : (recording before : List ℕ) (m : Master) (frame bytes : List ℕ) → Running ticked (trace ticked (sideOf m frame bytes) recording) recording before (sideOf m frame bytes) before 0 0
 run-start recording before m frame bytes = begun ticked recording before (sideOf m frame bytes)

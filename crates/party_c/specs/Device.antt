@@ -12,14 +12,16 @@ use Rattle.turns.specs.Link.{DeviceSide, DeviceStep}
 use Rattle.turns.specs.declared.Device.{Device}
 use Rattle.turns.specs.declared.DeviceTold.{DeviceTold}
 use Rattle.turns.specs.declared.Sent.{Sent}
-use Rattle.turns.specs.declared.Wish.the-variants.{Same}
+use Rattle.turns.specs.declared.Wish.the-variants.{Same, On, Off}
 use Rattle.device_tick.specs.Tick.{sideOf, stepOf, writtenTick}
 use Rattle.device_tick.specs.declared.HostCall.{HostCall}
 use Rattle.device_tick.specs.declared.DeviceTicked.{DeviceTicked}
 
--- 1 answers with two zero bytes, anything else nothing
+-- with two zero bytes: 1 answers, 2 and 3 answer with burst on and off, 4 gives burst content of command 3; anything else nothing
 abbrev pub answerAt : ℕ → HostCall
-answerAt low = if low =? 1 then HostCall.Answers Same else HostCall.Nothing
+answerAt low =
+    if low =? 1 then HostCall.Answers Same
+    else (if low =? 2 then HostCall.Answers On else (if low =? 3 then HostCall.Answers Off else (if low =? 4 then HostCall.Content 3 else HostCall.Nothing)))
 
 -- 4 for a character that is sent; else what is told: 1 a request, 2 a broadcast
 abbrev pub deviceNumber : Sent → DeviceTold → ℕ

@@ -16,9 +16,15 @@ use Rattle.master.specs.Tick.{callOf, sideOf, stepOf}
 use Rattle.master.specs.declared.HostCall.{HostCall}
 use Rattle.master.specs.declared.MasterTicked.{MasterTicked}
 
--- 1 asks command 3 of unique address 2, anything else nothing
+-- 1 asks command 3 of unique address 2, 2 command 11 by broadcast, anything else nothing
 abbrev pub requestAt : ℕ → HostCall
-requestAt low = if low =? 1 then HostCall.Requests (record { preamble = 5; long = true; address = 2; command = 3 }) else HostCall.Nothing
+requestAt low =
+    if low =? 1 then HostCall.Requests (record { preamble = 5; long = true; address = 2; command = 3 })
+    else (if low =? 2 then HostCall.Requests (record { preamble = 5; long = true; address = 0; command = 11 }) else HostCall.Nothing)
+
+-- the request's data: with command 11 a tag of six zero bytes
+abbrev pub tagAt : ℕ → List ℕ
+tagAt low = if low =? 2 then replicate 6 0 else []
 
 -- 4 for a character that is sent; else what is told: 1 answered, 2 given up, 3 broadcast sent
 abbrev pub masterNumber : Sent → MasterTold → ℕ
@@ -30,7 +36,7 @@ masterNumber (Sent.Character c) told = 4
 
 -- a tick, by the two bytes
 abbrev pub step : MasterSide → ℕ → ℕ → MasterStep
-step s first c = masterTick 255 s (heardOf (first / 32) c) (callOf (requestAt (first % 32)) [])
+step s first c = masterTick 255 s (heardOf (first / 32) c) (callOf (requestAt (first % 32)) (tagAt (first % 32)))
 
 abbrev pub ticked : MasterSide → ℕ → ℕ → Ticked MasterSide
 ticked s first c = record { number = masterNumber (step s first c .sent) (step s first c .told); behind = step s first c .side }

@@ -20,7 +20,7 @@ ghost use Rattle.party_c.specs.Master as SM;
 ghost use Rattle.party_c.specs.Device.{answerAt, deviceNumber, deviceNumbers};
 ghost use Rattle.party_c.specs.Device as SD;
 
-// The host's request in a tick: 1 asks command 3 of unique address 2.
+// The host's request in a tick: 1 asks command 3 of unique address 2, 2 command 11 by broadcast.
 fn request_at(low: u8) -> master::HostCall
     ensures { λ r. ⌜ r ≡ requestAt low ⌝ }
 {
@@ -30,6 +30,14 @@ fn request_at(low: u8) -> master::HostCall
             long: true,
             address: 2,
             command: 3,
+        });
+    }
+    if low == 2 {
+        return master::HostCall::Requests(Wanted {
+            preamble: 5,
+            long: true,
+            address: 0,
+            command: 11,
         });
     }
     master::HostCall::Nothing
@@ -68,6 +76,9 @@ fn master_stepped(
 {
     let heard = line_c::heard_of(first / 32, c);
     let call = request_at(first % 32);
+    if first % 32 == 2 {
+        return master::tick(m, heard, call, &[0, 0, 0, 0, 0, 0], frame, bytes);
+    }
     master::tick(m, heard, call, &[], frame, bytes)
 }
 
@@ -116,12 +127,21 @@ pub extern "C" fn nengapiko_master(recording: &[u8], events: &mut [u8]) -> usize
     }
 }
 
-// The host's answer in a tick: 1 answers.
+// The host's call in a tick: 1 answers, 2 with burst on, 3 with burst off; 4 gives burst content.
 fn answer_at(low: u8) -> device_tick::HostCall
     ensures { λ r. ⌜ r ≡ answerAt low ⌝ }
 {
     if low == 1 {
         return device_tick::HostCall::Answers(Wish::Same);
+    }
+    if low == 2 {
+        return device_tick::HostCall::Answers(Wish::On);
+    }
+    if low == 3 {
+        return device_tick::HostCall::Answers(Wish::Off);
+    }
+    if low == 4 {
+        return device_tick::HostCall::Content(3);
     }
     device_tick::HostCall::Nothing
 }

@@ -2,9 +2,9 @@
 //
 // A line of the input with a colon behind three digits is a scene: its number of ticks, and its orders. Any other line is printed as it is. An order is its tick in three digits, a letter for whom it is for, a letter for what is done, a number of two hexadecimal digits, and a semicolon:
 //
-//     mr mu     the master's host requests command 0 of that polling address, or command 3 of that unique address
-//     da dn     the device's host answers with that many zero bytes, and dn turns burst on
-//     dc        it gives burst content, command 3 with that many zero bytes
+//     mr mu mt  the master's host requests command 0 of that polling address, or command 3 or 11 of that unique address
+//     da dn df  the device's host answers with that many zero bytes, with burst as it is, on or off
+//     dc        the device's host gives burst content: command 3 with that many zero bytes
 //     M.. D..   the master or the device hears what it would hear damaged by parity (p), overrun (o) or framing (f), with the bits of the number changed; silence (s); or the character of the number (c)
 //     oc        a third party sends the character of the number
 use device::DeviceStarted;
@@ -165,14 +165,18 @@ fn master_call(o: Order) -> master::HostCall {
     match what {
         b'r' => wanted(false, o.number, 0),
         b'u' => wanted(true, o.number, 3),
+        b't' => wanted(true, o.number, 11),
         _ => master::HostCall::Nothing,
     }
 }
 
-// A request of command 0 has a data byte, one of command 3 none.
+// A request of command 0 has a data byte, one of command 11 a tag of six, one of command 3 none.
 fn data_count(o: Order) -> usize {
     if o.what == b'r' {
         return 1;
+    }
+    if o.what == b't' {
+        return 6;
     }
     0
 }
@@ -183,8 +187,8 @@ fn master_ticks(side: MasterSide, ear: Ear, script: &[u8], tick: u16) -> MasterS
     let mut bytes = side.bytes;
     let heard = ear.heard;
     let o = look(script, tick, b'm');
-    let five = [5u8; 1];
-    let put = front(&five, data_count(o));
+    let fives = [5u8; 6];
+    let put = front(&fives, data_count(o));
     let ticked = master::tick(t.master, heard, master_call(o), put, &mut frame, &mut bytes);
     MasterSide {
         ticked: ticked,
@@ -198,6 +202,7 @@ fn device_call(o: Order) -> device_tick::HostCall {
     match what {
         b'a' => device_tick::HostCall::Answers(Wish::Same),
         b'n' => device_tick::HostCall::Answers(Wish::On),
+        b'f' => device_tick::HostCall::Answers(Wish::Off),
         b'c' => device_tick::HostCall::Content(3),
         _ => device_tick::HostCall::Nothing,
     }

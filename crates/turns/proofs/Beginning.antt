@@ -1,7 +1,7 @@
 -- The devices on the silent line: all rest, or one begins its ACK, or one begins its BACK. Two never begin together.
 use Prim.Native.Nat.{ℕ, suc, _-_, _≤_, _<_}
 use native.Mathlib.Omega.{arith}
-use mathlib.Core.Path.{_≡_, sym, ap, subst, _∙_}
+use mathlib.Core.Path.{_≡_, refl, sym, ap, subst, _∙_}
 use mathlib.Core.Bool.{Bool, true, false}
 use mathlib.Core.List.{List, [], _∷_}
 use lib.ListN.{length, getD}
@@ -15,9 +15,11 @@ use Rattle.line.specs.declared.Heard.the-variants.{Silence}
 use Rattle.line.specs.declared.Profile.{Profile}
 use Rattle.line.specs.declared.Receiver.{Receiver}
 use Rattle.line.specs.declared.Whole.{Whole}
-use Rattle.turns.specs.Device.{isOwn, answerHeader, firstFor}
-use Rattle.turns.specs.Link.{DeviceCall, no-call, DeviceSide, DeviceStep, deviceTick, deviceTicks}
+use Rattle.turns.specs.Master.{seeksTag, namesDevice}
+use Rattle.turns.specs.Device.{isOwn, mayAnswer, answerHeader, firstFor}
+use Rattle.turns.specs.Link.{DeviceCall, no-call, DeviceSide, DeviceStep, deviceTick, deviceTicks, sides}
 use Rattle.turns.specs.Run.{All, none, and, Differ, Distinct}
+use Rattle.turns.proofs.Fair.{answering, AnswersTag, SoleTag, tag-and}
 use Rattle.turns.specs.declared.Sent.{Sent}
 use Rattle.turns.specs.declared.Turn.the-variants.{Listens}
 use Rattle.turns.specs.declared.Noted.{Noted}
@@ -88,9 +90,9 @@ pub record BeginsAck (p : Profile) (h : Header) (x : DeviceSide) (s : DeviceStep
   pub same : SameDevice (x .device) (s .side .device)
   pub header-is : message .header ≡ answerHeader request burst
   pub no-expansion : message .expansion ≡ 0
-  pub own : isOwn (x .device) request ≡ true
-  pub short-same : request .long ≡ false → burst ≡ x .device .burst
-  pub asked : isOwn (x .device) h ≡ true
+  pub own : mayAnswer (x .device) request ≡ true
+  pub short-same : namesDevice request ≡ false → burst ≡ x .device .burst
+  pub asked : mayAnswer (x .device) h ≡ true
   pub request-is : request ≡ h
   pub same-request : s .side .device .request ≡ request
   pub primary-is : s .side .device .primary ≡ firstFor (x .device)
@@ -222,10 +224,24 @@ pub data SilentDevices (p : Profile) (g : ℕ) (h : Header) (n : ℕ) (xs : List
   one-answers : 1 ≤ g → OneBegins p g h n (BeginsAck p h) xs ss → SilentDevices p g h n xs ss
   one-bursts : n ≡ 1 → OneBegins p g h n (BeginsBack p) xs ss → SilentDevices p g h n xs ss
 
--- two that would answer are asked by one STX; two that would burst are both noted
-no-two-answers : (p : Profile) (g : ℕ) (h : Header) (n : ℕ) (x : DeviceSide) {xs : List DeviceSide} {ss : List DeviceStep} → isOwn (x .device) h ≡ true → All (Differ x) xs → OneBegins p g h n (BeginsAck p h) xs ss → ⊥
-no-two-answers p g h n x o (and {x = y} d ds) (begins-here b a) = own-once x y h d o (b .asked)
-no-two-answers p g h n x o (and d ds) (begins-further q r) = no-two-answers p g h n x o ds r
+-- its ACK is to a command 11
+to-tag : (p : Profile) (h : Header) (x : DeviceSide) (s : DeviceStep) → seeksTag h ≡ true → BeginsAck p h x s → AnswersTag (s .side)
+to-tag p h x s tag b = record { on-its-way = go (b .speaks .place); to-tag = ap seeksTag (b .same-request ∙ b .request-is) ∙ tag }
+  where
+    go : DevicePlace an-ack 0 (b .w) (s .side .device) → answering (s .side .device .turn) ≡ true
+    go (inside below t) = ap answering t
+    go (finished last t due) = absurd (omega (arith, b .speaks .held .speaks .long))
+
+-- two that would answer are asked by one STX, which is for one device at most, or a command 11, which one host at most answers; two that would burst are both noted
+no-two-answers : (p : Profile) (g : ℕ) (h : Header) (n : ℕ) (x : DeviceSide) (s : DeviceStep) {xs : List DeviceSide} {ss : List DeviceStep} → BeginsAck p h x s → All (Differ x) xs → OneBegins p g h n (BeginsAck p h) xs ss
+    → All (λ (y : DeviceSide). AnswersTag (s .side) → AnswersTag y → ⊥) (sides ss) → ⊥
+unfolding sides if_then_else_
+no-two-answers p g h n x s k (and {x = y} d ds) (begins-here {s = u} b a) (and t ts) = go (seeksTag h) refl (k .asked) (b .asked)
+  where
+    go : (tag : Bool) → seeksTag h ≡ tag → (if tag then true else isOwn (x .device) h) ≡ true → (if tag then true else isOwn (y .device) h) ≡ true → ⊥
+    go true q i j = t (to-tag p h x s q k) (to-tag p h y u q b)
+    go false q i j = own-once x y h d i j
+no-two-answers p g h n x s k (and d ds) (begins-further q r) (and t ts) = no-two-answers p g h n x s k ds r ts
 
 no-two-bursts : (p : Profile) (g : ℕ) (h : Header) (n : ℕ) (burst : Bool) (noted : Noted) (next : Bool) (x : DeviceSide) {xs : List DeviceSide} {ss : List DeviceStep} → noted .address ≡ x .device .unique → All (Differ x) xs → All (BurstIs burst noted next) xs
     → OneBegins p g h n (BeginsBack p) xs ss → ⊥
@@ -234,22 +250,22 @@ no-two-bursts p g h n burst noted next x o (and d ds) (and i is) (begins-further
 
 module _ (limit : ℕ) (low : 2 ≤ limit) (high : limit ≤ 255) (p : Profile) (some : 1 ≤ p .sto) (g : ℕ) (h : Header) (n : ℕ) (calm : 1 ≤ g → n ≡ 1 → ⊥) (burst : Bool) (noted : Noted) (next : Bool) where
   -- the head and the rest
-  both : {x : DeviceSide} {xs : List DeviceSide} {s : DeviceStep} {ss : List DeviceStep} → DeviceDoes p g h n x s → SilentDevices p g h n xs ss → BurstIs burst noted next x → All (Differ x) xs → All (BurstIs burst noted next) xs
+  both : {x : DeviceSide} {xs : List DeviceSide} {s : DeviceStep} {ss : List DeviceStep} → DeviceDoes p g h n x s → SilentDevices p g h n xs ss → BurstIs burst noted next x → All (Differ x) xs → All (BurstIs burst noted next) xs → All (λ (y : DeviceSide). AnswersTag (s .side) → AnswersTag y → ⊥) (sides ss)
       → SilentDevices p g h n (x ∷ xs) (s ∷ ss)
-  both (does-rest q) (all-still a) i d is = all-still (still-and q a)
-  both (does-rest q) (one-answers z o) i d is = one-answers z (begins-further q o)
-  both (does-rest q) (one-bursts z o) i d is = one-bursts z (begins-further q o)
-  both (does-answer z b) (all-still a) i d is = one-answers z (begins-here b a)
-  both {x} (does-answer z b) (one-answers y o) i d is = absurd (no-two-answers p g h n x (b .asked) d o)
-  both (does-answer z b) (one-bursts y o) i d is = absurd (calm z y)
-  both (does-burst z b) (all-still a) i d is = one-bursts z (begins-here b a)
-  both (does-burst z b) (one-answers y o) i d is = absurd (calm y z)
-  both {x} (does-burst z b) (one-bursts y o) i d is = absurd (no-two-bursts p g h n burst noted next x (i .unique-noted (b .bursts)) d is o)
+  both (does-rest q) (all-still a) i d is ts = all-still (still-and q a)
+  both (does-rest q) (one-answers z o) i d is ts = one-answers z (begins-further q o)
+  both (does-rest q) (one-bursts z o) i d is ts = one-bursts z (begins-further q o)
+  both (does-answer z b) (all-still a) i d is ts = one-answers z (begins-here b a)
+  both {x} {s = s} (does-answer z b) (one-answers y o) i d is ts = absurd (no-two-answers p g h n x s b d o ts)
+  both (does-answer z b) (one-bursts y o) i d is ts = absurd (calm z y)
+  both (does-burst z b) (all-still a) i d is ts = one-bursts z (begins-here b a)
+  both (does-burst z b) (one-answers y o) i d is ts = absurd (calm y z)
+  both {x} (does-burst z b) (one-bursts y o) i d is ts = absurd (no-two-bursts p g h n burst noted next x (i .unique-noted (b .bursts)) d is o)
 
-  pub silent-devices : {xs : List DeviceSide} (calls : List DeviceCall) → All (DeviceQuiet p g h n) xs → Distinct xs → All (BurstIs burst noted next) xs → SilentDevices p g h n xs (deviceTicks limit Silence xs calls)
-  unfolding deviceTicks
-  silent-devices calls none Distinct.none none = all-still nothing-still
-  silent-devices [] (and {x = x} q qs) (Distinct.and d ds) (and i is) =
-      both (device-does limit low high p some g h n x no-call q) (silent-devices [] qs ds is) i d is
-  silent-devices (c ∷ cs) (and {x = x} q qs) (Distinct.and d ds) (and i is) =
-      both (device-does limit low high p some g h n x c q) (silent-devices cs qs ds is) i d is
+  pub silent-devices : {xs : List DeviceSide} (calls : List DeviceCall) → All (DeviceQuiet p g h n) xs → Distinct xs → All (BurstIs burst noted next) xs → SoleTag (sides (deviceTicks limit Silence xs calls)) → SilentDevices p g h n xs (deviceTicks limit Silence xs calls)
+  unfolding deviceTicks sides
+  silent-devices calls none Distinct.none none tag = all-still nothing-still
+  silent-devices [] (and {x = x} q qs) (Distinct.and d ds) (and i is) (tag-and t ts) =
+      both (device-does limit low high p some g h n x no-call q) (silent-devices [] qs ds is ts) i d is t
+  silent-devices (c ∷ cs) (and {x = x} q qs) (Distinct.and d ds) (and i is) (tag-and t ts) =
+      both (device-does limit low high p some g h n x c q) (silent-devices cs qs ds is ts) i d is t

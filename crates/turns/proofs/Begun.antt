@@ -10,7 +10,7 @@ use Rattle.base.proofs.Choices.{true-false, if-is-true, if-is-false}
 use Rattle.frame.specs.Delimiter.{back}
 use Rattle.frame.specs.declared.Header.{Header}
 use Rattle.line.specs.declared.Profile.{Profile}
-use Rattle.turns.specs.Master.{isNoted, burstAfter, notedAfter}
+use Rattle.turns.specs.Master.{isNoted, burstAfter, notedAfter, namesDevice}
 use Rattle.turns.proofs.Masters.{if-cases}
 use Rattle.turns.specs.Device.{answerHeader, firstFor}
 use Rattle.turns.specs.Link.{DeviceSide, DeviceStep, sides}
@@ -109,6 +109,10 @@ noted-is n h = if-cases (λ (b : Bool). b ≡ true → n .address ≡ h .address
 not-noted : (n : Noted) (h : Header) → isNoted n h ≡ false → n .long ≡ true → n .address ≡ h .address → ⊥
 not-noted n h = if-cases (λ (b : Bool). b ≡ false → n .long ≡ true → n .address ≡ h .address → ⊥) _ _ _ (λ l e m z. eqb-false (n .address) (h .address) e z) (λ l e m z. true-false (sym m ∙ l))
 
+-- an address that names a device is long
+names-long : (h : Header) → namesDevice h ≡ true → h .long ≡ true
+names-long h = if-cases (λ (b : Bool). b ≡ true → h .long ≡ true) _ _ _ (λ q z. absurd (true-false (sym z))) (λ q z. z)
+
 -- "The first after burst goes from off to on is for the primary": whom the next BACK is for behind an ACK's first character
 abbrev pub nextAfter : Bool → Bool → Bool
 nextAfter burst next = if burst then next else true
@@ -177,18 +181,18 @@ module _ {p : Profile} {g : ℕ} {h : Header} {n : ℕ} {B : DeviceSide → Devi
       (noted-anew (record { long = header .long; address = header .address }) for on l e q))
 
   -- behind an ACK
-  pub ack-agreed : (request : Header) (c : Bool) → y .device .burst ≡ c → y .device .unique ≡ x .device .unique → y .device .primary ≡ firstFor (x .device) → (request .long ≡ true → request .address ≡ x .device .unique) → (request .long ≡ false → c ≡ x .device .burst)
+  pub ack-agreed : (request : Header) (c : Bool) → y .device .burst ≡ c → y .device .unique ≡ x .device .unique → y .device .primary ≡ firstFor (x .device) → (namesDevice request ≡ true → request .address ≡ x .device .unique) → (namesDevice request ≡ false → c ≡ x .device .burst)
       → Agreed (burstAfter burst noted (answerHeader request c)) (notedAfter noted (answerHeader request c)) (nextAfter burst next) (sides ss)
   unfolding if_then_else_
-  ack-agreed request c is same first address short = go c refl (request .long) refl (isNoted noted (answerHeader request c)) refl
+  ack-agreed request c is same first address short = go c refl (namesDevice request) refl (isNoted noted (answerHeader request c)) refl
     where
       was : Bool → Bool → Bool → Bool
       was c l n = if c then true else (if l then (if n then false else burst) else burst)
 
       new : Bool → Bool → Noted
-      new c l = if c then (if l then record { long = l; address = request .address } else noted) else noted
+      new c l = if c then (if l then record { long = request .long; address = request .address } else noted) else noted
 
-      on-is : (l : Bool) → c ≡ true → request .long ≡ l → l ≡ false → burst ≡ true
+      on-is : (l : Bool) → c ≡ true → namesDevice request ≡ l → l ≡ false → burst ≡ true
       on-is l q r f = before o (a .each) .burst-set (sym (short (r ∙ f)) ∙ q)
 
       -- its next BACK is for the master that it was for, if it burst before
@@ -211,8 +215,8 @@ module _ {p : Profile} {g : ℕ} {h : Header} {n : ℕ} {B : DeviceSide → Devi
       turned true {others} e g = subst (λ (z : Bool). Agreed z others next (sides ss) → Agreed z others (nextAfter z next) (sides ss)) (sym e) (λ k. k) g
       turned false {others} e g = subst (λ (z : Bool). Agreed z others next (sides ss) → Agreed z others (nextAfter z next) (sides ss)) (sym e) any-next g
 
-      go : (c′ : Bool) → c ≡ c′ → (l : Bool) → request .long ≡ l → (n : Bool) → isNoted noted (answerHeader request c) ≡ n → Agreed (was c′ l n) (new c′ l) (nextAfter burst next) (sides ss)
-      go true q true r n u = noted-anew (record { long = true; address = request .address }) (nextAfter burst next) (is ∙ q) refl (address r ∙ sym same) (for-whom burst refl (is ∙ q))
+      go : (c′ : Bool) → c ≡ c′ → (l : Bool) → namesDevice request ≡ l → (n : Bool) → isNoted noted (answerHeader request c) ≡ n → Agreed (was c′ l n) (new c′ l) (nextAfter burst next) (sides ss)
+      go true q true r n u = noted-anew (record { long = request .long; address = request .address }) (nextAfter burst next) (is ∙ q) (names-long request r) (address r ∙ sym same) (for-whom burst refl (is ∙ q))
       go true q false r n u = subst (λ (z : Bool). Agreed z noted (nextAfter burst next) (sides ss)) (on-is false q r refl) (turned burst refl (kept-burst (is ∙ short r) same same-next))
       go false q false r n u = turned burst refl (kept-burst (is ∙ short r) same same-next)
       go false q true r true u = any-next (noted-off (is ∙ q) (noted-is noted (answerHeader request c) u ∙ address r))

@@ -42,7 +42,8 @@ use Rattle.turns.proofs.DeviceSpeaking.{Frames, an-ack, a-back, turnBeh
 use Rattle.turns.proofs.Listening.{plain, plain-frame}
 use Rattle.turns.proofs.Phases.{OneOf, here, further, DeviceListens, Ready}
 use Rattle.turns.proofs.Beginning.{DevicePlace, inside, finished}
-use Rattle.turns.proofs.CreditDevices.{DeviceOwes, Gives, Answerable, answering, device-owes, takes-owes, hears-owes, none-owed, accepted-asked, follows-asked, answers-asked, bursts-asked}
+use Rattle.turns.proofs.Fair.{answering}
+use Rattle.turns.proofs.CreditDevices.{DeviceOwes, Gives, Answerable, device-owes, takes-owes, hears-owes, none-owed, accepted-asked, follows-asked, answers-asked, bursts-asked}
 
 -- ---- all devices
 

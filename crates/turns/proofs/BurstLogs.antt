@@ -19,7 +19,7 @@ use Rattle.line.specs.declared.Heard.the-variants.{Silence, Character}
 use Rattle.line.specs.declared.Profile.{Profile}
 use Rattle.line.specs.declared.Receiver.{Receiver}
 use Rattle.turns.specs.Master.{Called, isBroadcast}
-use Rattle.turns.specs.Device.{behind, isOwn, hasError, waited, brokenDue, wished, behindAck, backLength, counts, onSilence, onCharacter, onHeard, deviceTakes, answeredBy, answered, answerFrame, withContent, contentGiven, sendsBy, deviceSends, begunFrame}
+use Rattle.turns.specs.Device.{behind, hasError, waited, brokenDue, wished, behindAck, backLength, counts, onSilence, onCharacter, onHeard, deviceTakes, answeredBy, answered, answerFrame, withContent, contentGiven, sendsBy, deviceSends, begunFrame, mayAnswer}
 use Rattle.turns.specs.Link.{DeviceCall, no-call, gives-answer, gives-content, Answer, was-taken, was-refused, DeviceSide, DeviceStep, deviceSent, answerCalled, contentCalled, deviceCalls, deviceTick, deviceData, heardFrame}
 use Rattle.turns.specs.Bursts.{Wished, no-wish, wishes, BurstLog, droppedBy, wishedBy, effective, sentWith, logAfter, DeviceInput, Agrees, no-tick, tick-and, BurstsAsSaid}
 use Rattle.turns.specs.declared.Turn.{Turn}
@@ -129,7 +129,7 @@ module _ (p : Profile) (v : Valid p) (on : Bool) (pending : Wished) (d : Device)
       let P : DeviceTaken → Type 0 = λ t. Logged p on no-wish (t .device) in
       if-both P (w .header .frame =? stx) _ _
       (if-both P (w .expansion =? 0) _ _
-      (if-both P (isOwn d (w .header)) _ _
+      (if-both P (mayAnswer d (w .header)) _ _
       (record { profile-is = l .profile-is; on-is = l .on-is; turned = (refl, omega (arith, ap (λ (q : Profile). q .sto) (l .profile-is)), λ z. rt1p-is) })
       (if-both P (isBroadcast (w .header)) _ _ (listens x (d .profile .rt1p) (d .length)) (listens x (d .profile .rt1p) (d .length))))
       (listens x (d .profile .rt1p) (d .length)))

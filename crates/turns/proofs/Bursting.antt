@@ -15,7 +15,7 @@ use Rattle.line.specs.declared.Heard.{Heard}
 use Rattle.line.specs.declared.Heard.the-variants.{Silence, Character}
 use Rattle.line.specs.declared.Receiver.{Receiver}
 use Rattle.turns.specs.Master.{Called, isBroadcast}
-use Rattle.turns.specs.Device.{isOwn, hasError, backDue, brokenDue, onSilence, onCharacter, onHeard, deviceTakes, wishRefused, answeredBy, answered, answerFrame, contentGiven, backLength, sendsBy, deviceSends, begunFrame}
+use Rattle.turns.specs.Device.{hasError, backDue, brokenDue, onSilence, onCharacter, onHeard, deviceTakes, wishRefused, answeredBy, answered, answerFrame, contentGiven, backLength, sendsBy, deviceSends, begunFrame, mayAnswer}
 use Rattle.turns.specs.Link.{DeviceCall, no-call, gives-answer, gives-content, Answer, none, was-taken, DeviceSide, DeviceStep, deviceSent, answerCalled, contentCalled, deviceTick}
 use Rattle.turns.specs.declared.Sent.{Sent}
 use Rattle.turns.specs.declared.Turn.{Turn}
@@ -48,7 +48,7 @@ character-burst d r Nothing = refl
 character-burst d r PassedOver = refl
 character-burst d r Broken = refl
 character-burst d r (Frame w) =
-    if-taken (w .header .frame =? stx) _ _ (if-taken (w .expansion =? 0) _ _ (if-taken (isOwn d (w .header)) _ _ refl (if-taken (isBroadcast (w .header)) _ _ refl refl)) refl) refl
+    if-taken (w .header .frame =? stx) _ _ (if-taken (w .expansion =? 0) _ _ (if-taken (mayAnswer d (w .header)) _ _ refl (if-taken (isBroadcast (w .header)) _ _ refl refl)) refl) refl
 character-burst d r (Damaged w m) = if-taken (hasError d w m) _ _ refl refl
 
 heard-burst : (d : Device) (heard : Heard) → onHeard d heard .device .burst ≡ d .burst

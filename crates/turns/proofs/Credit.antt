@@ -20,15 +20,20 @@ use Rattle.line.specs.declared.Taken.{Taken}
 use Rattle.line.specs.declared.Whole.{Whole}
 use Rattle.line.proofs.Leads.{readerAfter, dataAfter}
 use Rattle.turns.specs.Master.{toItself, isAnswer}
-use Rattle.turns.specs.Device.{isOwn, answerHeader}
+use Rattle.turns.specs.Device.{mayAnswer, answerHeader}
 use Rattle.turns.specs.Link.{MasterCall, DeviceCall, no-call, MasterSide, MasterStep, DeviceSide, DeviceStep, Link, LinkStep, Calls, masterTick, deviceTick, deviceTicks, linkTick, linkAfter, run, sides}
-use Rattle.turns.specs.Run.{All, none, and, EachTick, OneBursts}
+use Rattle.turns.specs.Run.{All, none, and, EachTick}
 use Rattle.turns.specs.Run as R1
 use Rattle.turns.specs.Demand3.{masterIn}
 use Rattle.turns.specs.Credit.{Ledger, given, closedBy, ledgerAfter, ledgersAfter, bookedBy, Gave, this-one, another, masterOf, Credited, EachCredited, no-tick, tick-and, blanks, CreditInARun}
 use Rattle.turns.specs.declared.Noted.{Noted}
 use Rattle.turns.specs.declared.Master.{Master}
 use Rattle.turns.specs.declared.Device.{Device}
+use Rattle.turns.specs.Ledgers.{finders, OneFinds}
+use Rattle.turns.specs.Ledgers as G
+use Rattle.turns.proofs.Finders.{Within, within-blanks, within-tick, finders-within, no-finder, gave-found}
+use Rattle.turns.proofs.Fair.{answering, Fair}
+use Rattle.turns.proofs.Tags.{fair-run}
 use Rattle.turns.proofs.Turns.{listens-asked}
 use Rattle.turns.specs.declared.MasterTold.{MasterTold}
 use Rattle.turns.specs.declared.MasterTold.the-variants.{Answered, GivenUp, BroadcastSent}
@@ -54,7 +59,7 @@ use Rattle.turns.proofs.NoTwoSend.{carries, heardTick, tick-is, stx-lin
 use Rattle.turns.proofs.Fresh.{valid, first-tick, master-is, device-is}
 use Rattle.turns.proofs.Kept.{header-kept}
 use Rattle.turns.proofs.CreditMasters.{reports, tick-bytes, bytes-length, data-next, hears-data}
-use Rattle.turns.proofs.CreditDevices.{DeviceOwes, Gives, answering, none-owed, ledger-same, same-gives}
+use Rattle.turns.proofs.CreditDevices.{DeviceOwes, Gives, none-owed, ledger-same, same-gives}
 use Rattle.turns.proofs.Booked.{AllOwe, no-more, owe-and, Ledgers, no-ledger, ledger-and, owe-ledgers, closed-ledgers, owe-after, owe-anew, one-all, silent-owes, mid-owes, end-owes, speaks-owes, speaker-free, finished-owes, same-frame, frame-sent, message-sent, data-heard}
 
 -- ---- who reports an answer
@@ -113,7 +118,7 @@ other-reports limit x call w message k s last q f v e =
 -- its ACK carries what its host gave as the answer to the message of the master with its bit
 record SenderOwes (g : Ledger) (x : DeviceSide) (a b : MasterSide) : Type 0 where
   gives : Gives g (x .device) (x .frame)
-  own : isOwn (x .device) (x .device .request) ≡ true
+  own : mayAnswer (x .device) (x .device .request) ≡ true
   primary-asked : x .device .request .primary ≡ true → x .device .request ≡ a .master .message .header
   secondary-asked : x .device .request .primary ≡ false → x .device .request ≡ b .master .message .header
 
@@ -147,14 +152,14 @@ data Booked (p : Profile) (gs : List Ledger) (l : Link) : Type 0 where
 
 -- what a tick gives: every report is credited, and the ledgers go on
 record Ticked (p : Profile) (gs : List Ledger) (l : Link) (c : Calls) (s : LinkStep) : Type 0 where
-  credited : (primary : Bool) (w : Whole) → masterIn primary s .told ≡ Answered w → Credited primary gs l s w
+  credited : finders gs ≤ 1 → (primary : Bool) (w : Whole) → masterIn primary s .told ≡ Answered w → Credited primary gs l s w
   next : Booked p (bookedBy c s gs) (linkAfter s)
 
 -- a tick in which nobody reports
 unreported : (p : Profile) (gs : List Ledger) (l : Link) (c : Calls) (s : LinkStep) → NoReport (s .for-primary) → NoReport (s .for-secondary) → Booked p (ledgersAfter (c .for-devices) (s .for-devices) gs) (linkAfter s) → Ticked p gs l c s
 unfolding NoReport
 unreported p gs l c s na nb n = record {
-  credited = none-credited;
+  credited = λ one. none-credited;
   next = subst (λ (z : List Ledger). Booked p (ledgersAfter (c .for-devices) (s .for-devices) z) (linkAfter s))
       (sym (closed-same (s .for-primary .told) (closedBy (s .for-secondary .told) gs) na ∙ closed-same (s .for-secondary .told) gs nb)) n;
 }
@@ -192,8 +197,8 @@ module _ (limit : ℕ) (low : 2 ≤ limit) (high : limit ≤ 255) (p : Profile) 
       by t (B.does-answer z m) =
           let is : s .side .device .request ≡ h = m .same-request ∙ m .request-is in
           record {
-            gives = o .gives (ap Rattle.turns.proofs.CreditDevices.answering t);
-            own = own-kept (s .side .device .request) (m .same) (subst (λ (i : Header). isOwn (x .device) i ≡ true) (sym (m .same-request)) (m .own));
+            gives = o .gives (ap answering t);
+            own = own-kept (s .side .device .request) (m .same) (subst (λ (i : Header). mayAnswer (x .device) i ≡ true) (sym (m .same-request)) (m .own));
             primary-asked = λ i. is ∙ ha z (ap (λ (j : Header). j .primary) (sym is) ∙ i);
             secondary-asked = λ i. is ∙ hb z (ap (λ (j : Header). j .primary) (sym is) ∙ i);
           }
@@ -259,7 +264,7 @@ module _ (limit : ℕ) (low : 2 ≤ limit) (high : limit ≤ 255) (p : Profile) 
         (begins-data w .0) (begins-data w .1)
     behind-silence g h n burst noted next L f asked qs os (T.back-begins z w message u a b line o ra rb) = in-back burst noted _ 0 w message u (carries quiet a b line) o os
 
-    silence-books : (e : ℕ) → OneBursts (heardTick limit l Silence c) → SilentLine p e (l .primary) (l .secondary) (l .devices) → AllOwe gs (l .devices) → Ticked p gs l c (heardTick limit l Silence c)
+    silence-books : (e : ℕ) → Fair (heardTick limit l Silence c) → SilentLine p e (l .primary) (l .secondary) (l .devices) → AllOwe gs (l .devices) → Ticked p gs l c (heardTick limit l Silence c)
     unfolding heardTick
     silence-books e sole (clear k) os =
         let after = owe-after limit Silence (c .for-devices) (λ x d g q o. silent-owes limit high p (v .some-sto) x d g (q .listens) (q .ready) o) (k .devices) os in
@@ -395,7 +400,7 @@ module _ (limit : ℕ) (low : 2 ≤ limit) (high : limit ≤ 255) (p : Profile) 
             subst (λ (z : Ledger). SenderOwes z (s .side) (linkAfter (heard w k) .primary) (linkAfter (heard w k) .secondary)) (sym (ledger-same limit g x (Character (getD w k 0)) d (q .deaf-is) (speaker-free an-ack (q .place))))
             (record {
               gives = subst (λ (f : List ℕ). Gives g (s .side .device) f) (sym (y .same-frame)) (same-gives (y .same-request) (y .same .same-preamble) (y .same-length) (o .gives));
-              own = subst (λ (h : Header). isOwn (s .side .device) h ≡ true) (sym (y .same-request)) (own-kept (x .device .request) (y .same) (o .own));
+              own = subst (λ (h : Header). mayAnswer (s .side .device) h ≡ true) (sym (y .same-request)) (own-kept (x .device .request) (y .same) (o .own));
               primary-asked = λ z.
                   y .same-request ∙ o .primary-asked (ap (λ (h : Header). h .primary) (sym (y .same-request)) ∙ z)
                   ∙ sym (header-kept limit high (l .primary) (Character (getD w k 0)) (c .for-primary) (la (bit ∙ ap (λ (h : Header). h .primary) (sym (y .same-request)) ∙ z)));
@@ -447,7 +452,7 @@ module _ (limit : ℕ) (low : 2 ≤ limit) (high : limit ≤ 255) (p : Profile) 
           speaks = q;
           owes = o;
           gave = λ h e. subst (λ (z : Ledger). Gave h (o .gives .put) (x ∷ xs) (z ∷ gs)) (sym (o .gives .owed ∙ ap (λ (i : Header). given i (o .gives .put)) e))
-              (this-one (subst (λ (i : Header). isOwn (x .device) i ≡ true) e (o .own)));
+              (this-one (subst (λ (i : Header). mayAnswer (x .device) i ≡ true) e (o .own)));
         }
     found (further q o) (sender-and f fs) =
         let r = found o fs in
@@ -510,13 +515,13 @@ module _ (limit : ℕ) (low : 2 ≤ limit) (high : limit ≤ 255) (p : Profile) 
         lefts (is-ack type pa pb) = (pa, pb)
 
         -- a report at the end of the ACK
-        reported : suc k ≡ length w → (primary : Bool) (v : Whole) → masterIn primary s .told ≡ Answered v → Credited primary gs l s v
-        reported last true v e =
+        reported : suc k ≡ length w → finders gs ≤ 1 → (primary : Bool) (v : Whole) → masterIn primary s .told ≡ Answered v → Credited primary gs l s v
+        reported last one true v e =
             let r = credit true k w message u on (l .primary) (c .for-primary) last (found (o .devices) sg) (o .primary .listens .is-it .primary-is) (o .primary .receiver-is) ha v e in
-            record { put = r .put; gave = r .gave; command-is = r .command-is; data-is = r .data-is }
-        reported last false v e =
+            record { put = r .put; gave = r .gave; command-is = r .command-is; data-is = r .data-is; no-other = λ tag. omega (arith, one, gave-found tag (r .gave)) }
+        reported last one false v e =
             let r = credit false k w message u on (l .secondary) (c .for-secondary) last (found (o .devices) sg) (o .secondary .listens .is-it .primary-is) (o .secondary .receiver-is) hb v e in
-            record { put = r .put; gave = r .gave; command-is = r .command-is; data-is = r .data-is }
+            record { put = r .put; gave = r .gave; command-is = r .command-is; data-is = r .data-is; no-other = λ tag. omega (arith, one, gave-found tag (r .gave)) }
 
         ends-owe : suc k ≡ length w → AllOwe (bookedBy c s gs) (linkAfter s .devices)
         ends-owe last = end-books an-ack w message k u on (closedBy (s .for-primary .told) (closedBy (s .for-secondary .told) gs)) sp last (o .no-expansion) (o .devices) (closed-any (s .for-primary .told) (closed-any (s .for-secondary .told) (owe-ledgers os)))
@@ -539,10 +544,10 @@ module _ (limit : ℕ) (low : 2 ≤ limit) (high : limit ≤ 255) (p : Profile) 
 -- ---- the theorem
 
 module _ (limit : ℕ) (low : 2 ≤ limit) (high : limit ≤ 255) (p : Profile) (v : Valid p) where
-  book-tick : (l : Link) (c : Calls) (gs : List Ledger) → Rooms l → OneBursts (linkTick limit l c) → Booked p gs l → Ticked p gs l c (linkTick limit l c)
+  book-tick : (l : Link) (c : Calls) (gs : List Ledger) → Rooms l → Fair (linkTick limit l c) → Booked p gs l → Ticked p gs l c (linkTick limit l c)
   book-tick l c gs rooms sole (in-silence e line o os) =
       let q = tick-is limit l Silence c line in
-      subst (Ticked p gs l c) (sym q) (silence-books limit low high p v l c gs rooms e (subst OneBursts q sole) o os)
+      subst (Ticked p gs l c) (sym q) (silence-books limit low high p v l c gs rooms e (subst Fair q sole) o os)
   book-tick l c gs rooms sole (in-primary burst noted next k w message line o os) =
       subst (Ticked p gs l c) (sym (tick-is limit l (Character (getD w k 0)) c line)) (primary-books limit low high p v l c gs rooms burst noted next k w message o os)
   book-tick l c gs rooms sole (in-secondary burst noted next k w message line o os) =
@@ -559,12 +564,13 @@ module _ (limit : ℕ) (low : 2 ≤ limit) (high : limit ≤ 255) (p : Profile) 
     secondary-room = omega (arith, r .secondary-room, bytes-length limit (l .secondary) (l .line) (c .for-secondary));
   }
 
-  booked-run : (l : Link) (ticks : List Calls) (gs : List Ledger) → Rooms l → Booked p gs l → EachTick OneBursts (run limit l ticks) → EachCredited limit gs l ticks
+  -- `fs` are the ledgers of the premise on command 11
+  booked-run : (l : Link) (ticks : List Calls) (gs fs : List Ledger) → Rooms l → Booked p gs l → Within gs fs → finders fs ≤ 1 → EachTick Fair (run limit l ticks) → OneFinds fs ticks (run limit l ticks) → EachCredited limit gs l ticks
   unfolding run
-  booked-run l [] gs rooms k b = no-tick
-  booked-run l (c ∷ cs) gs rooms k (R1.EachTick.tick-and one b) =
+  booked-run l [] gs fs rooms k w few b o = no-tick
+  booked-run l (c ∷ cs) gs fs rooms k w few (R1.EachTick.tick-and one b) (G.OneFinds.tick-and q o) =
       let t = book-tick l c gs rooms one k in
-      tick-and (t .credited) (booked-run (linkAfter (linkTick limit l c)) cs (bookedBy c (linkTick limit l c) gs) (rooms-after l c rooms) (t .next) b)
+      tick-and (t .credited (omega (arith, few, finders-within w))) (booked-run (linkAfter (linkTick limit l c)) cs (bookedBy c (linkTick limit l c) gs) _ (rooms-after l c rooms) (t .next) (within-tick c (linkTick limit l c) w) q b o)
 
 blank-ledgers : (xs : List DeviceSide) → Ledgers (blanks xs) xs
 unfolding blanks
@@ -574,7 +580,7 @@ blank-ledgers (x ∷ xs) = ledger-and (blank-ledgers xs)
 pub credit-in-a-run : (limit : ℕ) → 2 ≤ limit → limit ≤ 255 → CreditInARun limit
 unfolding run linkTick
 credit-in-a-run limit low high p retries l [] k ra rb = no-tick
-credit-in-a-run limit low high p retries l (c ∷ cs) k ra rb = go (k .one-bursts)
+credit-in-a-run limit low high p retries l (c ∷ cs) k ra rb = go (fair-run limit p retries l (c ∷ cs) k) (k .one-finds)
   where
     v : Valid p
     v = valid p (k .made)
@@ -601,6 +607,7 @@ credit-in-a-run limit low high p retries l (c ∷ cs) k ra rb = go (k .one-burst
         (in-silence (p .rt1s) (carries (linkTick limit l c) (f .primary-silent) (f .secondary-silent) (f .devices-silent)) (clear (f .silent-line))
         (owe-anew limit (l .line) (c .for-devices) fresh (k .starts .devices) (blank-ledgers (l .devices))))
 
-    go : EachTick OneBursts (run limit l (c ∷ cs)) → EachCredited limit (blanks (l .devices)) l (c ∷ cs)
-    go (R1.EachTick.tick-and one b) =
-        tick-and (first .credited) (booked-run limit low high p v (linkAfter s) cs (bookedBy c s (blanks (l .devices))) (rooms-after limit low high p v l c rooms) (first .next) b)
+    go : EachTick Fair (run limit l (c ∷ cs)) → OneFinds (blanks (l .devices)) (c ∷ cs) (run limit l (c ∷ cs)) → EachCredited limit (blanks (l .devices)) l (c ∷ cs)
+    go (R1.EachTick.tick-and one b) (G.OneFinds.tick-and q o) =
+        tick-and (first .credited (no-finder (l .devices)))
+        (booked-run limit low high p v (linkAfter s) cs (bookedBy c s (blanks (l .devices))) _ (rooms-after limit low high p v l c rooms) (first .next) (within-tick c s (within-blanks (l .devices))) q b o)

@@ -22,7 +22,7 @@ use Rattle.line.specs.declared.Heard.the-variants.{Silence, Character}
 use Rattle.line.specs.declared.Receiver.{Receiver}
 use Rattle.line.specs.declared.Whole.{Whole}
 use Rattle.turns.specs.Master.{Called, accepted, refused, isBroadcast}
-use Rattle.turns.specs.Device.{behind, isOwn, backDue, brokenDue, waited, answerHeader, wished, answersAt, onSilence, onCharacter, onHeard, deviceTakes, answeredBy, answered, answerFrame, withContent, contentGiven, backLength, behindAck, sendsBy, deviceSends, begunFrame, errorFrame}
+use Rattle.turns.specs.Device.{behind, backDue, brokenDue, waited, answerHeader, wished, answersAt, onSilence, onCharacter, onHeard, deviceTakes, answeredBy, answered, answerFrame, withContent, contentGiven, backLength, behindAck, sendsBy, deviceSends, begunFrame, errorFrame, mayAnswer}
 use Rattle.turns.specs.Link.{DeviceCall, no-call, gives-answer, gives-content, Answer, was-taken, was-refused, DeviceSide, DeviceStep, deviceData, heardFrame, deviceSent, answerCalled, contentCalled, deviceCalls, deviceTick}
 use Rattle.turns.specs.Credit.{Ledger, told, given, toldBy, calledBy, ledgerAfter, answeredWith}
 use Rattle.turns.specs.declared.Turn.{Turn}
@@ -33,20 +33,11 @@ use Rattle.turns.specs.declared.DeviceTaken.{DeviceTaken}
 use Rattle.turns.specs.declared.DeviceTold.{DeviceTold}
 use Rattle.turns.specs.declared.DeviceSent.{DeviceSent}
 use Rattle.turns.proofs.Turns.{listens-asked}
+use Rattle.turns.proofs.Fair.{answering}
 use Rattle.turns.proofs.Devices as D
 use Rattle.turns.proofs.Devices.{Sound, AnswerView, answer-view, ContentView, content-view, own-address, device-enough, ack-typed}
 use Rattle.turns.proofs.DeviceTaking.{takes-nothing}
 use Rattle.turns.proofs.Bursting.{if-both}
-
--- an answer is prepared, begins, or is being sent
-abbrev pub answering : Turn → Bool
-answering Listens = false
-answering (Asked n) = false
-answering Accepted = true
-answering Begins = true
-answering (Answers n) = true
-answering Follows = false
-answering (Bursts n) = false
 
 -- the frame buffer holds the ACK with these data, to the request in hand
 pub record Gives (g : Ledger) (d : Device) (frame : List ℕ) : Type 0 where
@@ -72,7 +63,7 @@ bursts-asked m n e = let z : _≡_ {A = ℕ} 0 1 = cc in omega arith
 pub accepted-asked : (n : ℕ) → Accepted ≡ Asked n → ⊥
 accepted-asked n e = let z : _≡_ {A = ℕ} 0 1 = cc in omega arith
 
-begins-asked : (n : ℕ) → Begins ≡ Asked n → ⊥
+pub begins-asked : (n : ℕ) → Begins ≡ Asked n → ⊥
 begins-asked n e = let z : _≡_ {A = ℕ} 0 1 = cc in omega arith
 
 pub answers-asked : (m n : ℕ) → Answers m ≡ Asked n → ⊥
@@ -104,7 +95,7 @@ frame-owes g d frame r w =
     let P : DeviceTaken → Type 0 = λ t. DeviceOwes (toldBy (t .told) g) (t .device) frame in
     if-both P (w .header .frame =? stx) _ _
     (if-both P (w .expansion =? 0) _ _
-    (if-both P (isOwn d (w .header)) _ _ (record { asked = λ n q. refl; gives = λ z. absurd (true-false (sym z)) })
+    (if-both P (mayAnswer d (w .header)) _ _ (record { asked = λ n q. refl; gives = λ z. absurd (true-false (sym z)) })
     (if-both P (isBroadcast (w .header)) _ _ (none-owed (λ n q. listens-asked n q) refl) (none-owed (λ n q. listens-asked n q) refl)))
     (none-owed (λ n q. listens-asked n q) refl))
     (none-owed (λ n q. listens-asked n q) refl)
@@ -201,7 +192,7 @@ module _ (g : Ledger) (d : Device) (frame bytes contents : List ℕ) (o : Device
 -- what the answer to a request in hand needs
 pub record Answerable (d : Device) (frame contents : List ℕ) : Type 0 where
   pub sound : Sound d frame contents
-  pub own : isOwn d (d .request) ≡ true
+  pub own : mayAnswer d (d .request) ≡ true
 
 module _ (limit : ℕ) (high : limit ≤ 255) (g : Ledger) (d : Device) (frame bytes contents : List ℕ) (t : DeviceTold) (o : DeviceOwes g d frame) (able : (n : ℕ) → d .turn ≡ Asked n → Answerable d frame contents) where
   owes : DeviceCall → DeviceStep → Type 0

@@ -19,7 +19,7 @@ use Rattle.line.specs.declared.Place.the-variants.{Passing, Idle, Preamble, Fir
 use Rattle.line.specs.declared.Receiver.{Receiver}
 use Rattle.line.specs.declared.Whole.{Whole}
 use Rattle.line.proofs.Leads.{readerAfter, dataAfter}
-use Rattle.turns.specs.Master.{Called, accepted, refused, Ending, requested, requestHeader, isBroadcast, isAnswer, fails, ends, atFrame, atBreak, ifAwaiting, rt1Ends, counts, afterBreak, onSilence, onCharacter, onHeard, masterTakes, behind}
+use Rattle.turns.specs.Master.{Called, accepted, refused, Ending, requested, requestHeader, isBroadcast, isAnswer, answersMessage, fails, ends, atFrame, atBreak, ifAwaiting, rt1Ends, counts, afterBreak, onSilence, onCharacter, onHeard, masterTakes, behind}
 use Rattle.turns.specs.Link.{MasterCall, no-request, requests, MasterSide, masterCalled, masterTick, masterData}
 use Rattle.turns.specs.declared.Stage.{Stage}
 use Rattle.turns.specs.declared.Stage.the-variants.{Free, Waiting, Sending, Awaiting}
@@ -29,6 +29,7 @@ use Rattle.turns.specs.declared.MasterTold.{MasterTold}
 use Rattle.turns.specs.declared.MasterTold.the-variants.{Answered, GivenUp, BroadcastSent}
 use Rattle.turns.specs.declared.MasterTaken.{MasterTaken}
 use Rattle.turns.proofs.Bursting.{if-both}
+use Rattle.turns.proofs.TagSentences.{answer-is-ack}
 
 -- ---- what is reported
 
@@ -87,16 +88,15 @@ answered-same e = cc
 -- only at a frame that is the message's ACK
 frame-reports : (m : Master) (v : Whole) (bytes : List ℕ) (w : Whole) → atFrame m v bytes .told ≡ Answered w → (v ≡ w) × (isAnswer m (v .header) ≡ true)
 unfolding if_then_else_ NotAnswered
-frame-reports m v bytes w e = go (isBroadcast (m .message .header)) (isAnswer m (v .header)) refl (byteAt bytes 0 / 128 =? 1) e
+frame-reports m v bytes w e = go (answersMessage m (v .header)) refl (byteAt bytes 0 / 128 =? 1) e
   where
-    by : Bool → Bool → Bool → Ending
-    by a b c = if a then ends (m .message) BroadcastSent else (if b then (if c then fails (m .retries) (m .message) else ends (m .message) (Answered v)) else fails (m .retries) (m .message))
+    by : Bool → Bool → Ending
+    by b c = if b then (if c then atBreak m else ends (m .message) (Answered v)) else atBreak m
 
-    go : (a b : Bool) → isAnswer m (v .header) ≡ b → (c : Bool) → by a b c .told ≡ Answered w → (v ≡ w) × (isAnswer m (v .header) ≡ true)
-    go true b q c z = absurd (broadcast-not w z)
-    go false true q true z = absurd (fails-not (m .retries) (m .message) w z)
-    go false true q false z = (answered-same z, q)
-    go false false q c z = absurd (fails-not (m .retries) (m .message) w z)
+    go : (b : Bool) → answersMessage m (v .header) ≡ b → (c : Bool) → by b c .told ≡ Answered w → (v ≡ w) × (isAnswer m (v .header) ≡ true)
+    go true q true z = absurd (break-not m w z)
+    go true q false z = (answered-same z, answer-is-ack m (v .header) q)
+    go false q c z = absurd (break-not m w z)
 
 stage-reports : (s : Stage) (m : Master) (v : Whole) (bytes : List ℕ) (w : Whole) → ifAwaiting s (m .message) (atFrame m v bytes) .told ≡ Answered w → (v ≡ w) × (isAnswer m (v .header) ≡ true)
 unfolding NotAnswered

@@ -18,7 +18,7 @@ use Rattle.line.specs.declared.Receiver.{Receiver}
 use Rattle.line.specs.declared.Taken.{Taken}
 use Rattle.line.specs.declared.Whole.{Whole}
 use Rattle.turns.specs.Master.{isBroadcast}
-use Rattle.turns.specs.Device.{behind, isOwn, dueAfter, afterRequest, afterFrame, waited, backDue, counts, onSilence, onCharacter, onHeard, deviceTakes}
+use Rattle.turns.specs.Device.{behind, mayAnswer, dueAfter, afterRequest, afterFrame, waited, backDue, counts, onSilence, onCharacter, onHeard, deviceTakes}
 use Rattle.turns.specs.declared.Wish.the-variants.{Same}
 use Rattle.turns.specs.declared.Turn.{Turn}
 use Rattle.turns.specs.declared.Turn.the-variants.{Listens, Asked, Begins, Follows}
@@ -45,9 +45,9 @@ pub record TookMid (frame contents : List ℕ) (d : Device) (t : DeviceTaken) (r
   pub receiver-is : t .device .receiver ≡ r
   pub listens : t .device .turn ≡ Listens
 
--- a frame's last character: an STX for this device is in hand
+-- a frame's last character: an STX that its host may answer is in hand
 pub data FrameTurn (d : Device) (t : DeviceTaken) (w : Whole) : Type 0 where
-  asked-by : w .header .frame ≡ stx → isOwn d (w .header) ≡ true → t .device .turn ≡ Asked (d .profile .sto) → t .device .request ≡ w .header → t .device .due ≡ d .profile .rt1p → FrameTurn d t w
+  asked-by : w .header .frame ≡ stx → mayAnswer d (w .header) ≡ true → t .device .turn ≡ Asked (d .profile .sto) → t .device .request ≡ w .header → t .device .due ≡ d .profile .rt1p → FrameTurn d t w
   listens-on : t .device .turn ≡ Listens → t .device .due ≡ (if w .header .frame =? stx then d .profile .rt1p else dueAfter d (w .header)) → FrameTurn d t w
 
 pub record TookFrame (frame contents : List ℕ) (d : Device) (t : DeviceTaken) (w : Whole) : Type 0 where
@@ -129,9 +129,9 @@ module _ (frame contents : List ℕ) (d : Device) (hears : d .deaf ≡ false) (h
       S : Bool
       S = w .header .frame =? stx
 
-      own : (t : Bool) → isOwn d (w .header) ≡ t → S ≡ true → TookFrame frame contents d (afterRequest d idle w) w
+      own : (t : Bool) → mayAnswer d (w .header) ≡ t → S ≡ true → TookFrame frame contents d (afterRequest d idle w) w
       own true o q =
-          subst (λ (t : DeviceTaken). TookFrame frame contents d t w) (sym (if-is-true (isOwn d (w .header)) _ _ o))
+          subst (λ (t : DeviceTaken). TookFrame frame contents d t w) (sym (if-is-true (mayAnswer d (w .header)) _ _ o))
           (record {
             took = record {
               same = record { same-profile = refl; same-preamble = refl; same-polling = refl; same-unique = refl };
@@ -144,7 +144,7 @@ module _ (frame contents : List ℕ) (d : Device) (hears : d .deaf ≡ false) (h
             receiver-is = refl;
             turn-is = asked-by (eqb-true (w .header .frame) stx q) o refl refl refl;
           })
-      own false o q = subst (λ (t : DeviceTaken). TookFrame frame contents d t w) (sym (if-is-false (isOwn d (w .header)) _ _ o)) (all (isBroadcast (w .header)) refl)
+      own false o q = subst (λ (t : DeviceTaken). TookFrame frame contents d t w) (sym (if-is-false (mayAnswer d (w .header)) _ _ o)) (all (isBroadcast (w .header)) refl)
         where
           due-is : d .profile .rt1p ≡ (if w .header .frame =? stx then d .profile .rt1p else dueAfter d (w .header))
           due-is = sym (if-is-true (w .header .frame =? stx) (d .profile .rt1p) (dueAfter d (w .header)) q)
@@ -159,7 +159,7 @@ module _ (frame contents : List ℕ) (d : Device) (hears : d .deaf ≡ false) (h
       by-type : (t : Bool) → S ≡ t → TookFrame frame contents d (afterFrame d idle w) w
       by-type true q =
           subst (λ (t : DeviceTaken). TookFrame frame contents d t w) (sym (if-is-true S _ _ q ∙ if-is-true (w .expansion =? 0) _ _ (eq-eqb (w .expansion) 0 x)))
-          (own (isOwn d (w .header)) refl q)
+          (own (mayAnswer d (w .header)) refl q)
       by-type false q =
           subst (λ (t : DeviceTaken). TookFrame frame contents d t w) (sym (if-is-false S _ _ q))
           (listening w DeviceTold.Nothing (dueAfter d (w .header)) (sym (if-is-false S (d .profile .rt1p) (dueAfter d (w .header)) q)))

@@ -21,8 +21,8 @@ use Rattle.frame.proofs.Taken.{Fits}
 use Rattle.line.specs.Reader.{passing}
 use Rattle.line.specs.declared.Whole.{Whole}
 use Rattle.line.proofs.Hearing.{wholeMessage}
-use Rattle.turns.specs.Master.{Called, accepted, refused}
-use Rattle.turns.specs.Device.{behind, isOwn, answerHeader, wished, wishRefused, answersAt, answeredBy, answered, answerFrame, withContent, contentGiven, backHeader, backFrame, backLength, firstFor, answersFrom, burstsFrom, sends, sendsBy, deviceSends, begunFrame}
+use Rattle.turns.specs.Master.{Called, accepted, refused, seeksTag, namesDevice}
+use Rattle.turns.specs.Device.{behind, isOwn, mayAnswer, hasNoWish, answerHeader, wished, wishRefused, answersAt, answeredBy, answered, answerFrame, withContent, contentGiven, backHeader, backFrame, backLength, firstFor, answersFrom, burstsFrom, sends, sendsBy, deviceSends, begunFrame}
 use Rattle.turns.specs.Link.{DeviceCall, no-call, gives-answer, gives-content, Answer, none, was-taken, was-refused, DeviceStep, deviceSent, answerCalled, contentCalled, deviceCalls}
 use Rattle.turns.specs.declared.Sent.the-variants.{Silent, Character}
 use Rattle.turns.specs.declared.Wish.{Wish}
@@ -34,6 +34,7 @@ use Rattle.turns.specs.declared.Device.{Device}
 use Rattle.turns.specs.declared.DeviceTold.{DeviceTold}
 use Rattle.turns.specs.declared.DeviceTaken.{DeviceTaken}
 use Rattle.turns.specs.declared.DeviceSent.{DeviceSent}
+use Rattle.turns.proofs.TagSentences.{tag-zero}
 use Rattle.turns.proofs.Turns.{listens-follows, listens-begins, listens-asked, asked-follows, asked-begins, accepted-follows, accepted-begins, begins-follows}
 use Rattle.turns.proofs.Masters.{Holds, holds, if-cases}
 
@@ -69,14 +70,14 @@ pub record Prepared (d : Device) (frame : List ℕ) : Type 0 where
   pub held : Holds frame (d .length) w message
   pub header-is : message .header ≡ answerHeader (d .request) (wished (d .burst) (d .wish))
   pub no-expansion : message .expansion ≡ 0
-  pub own : isOwn d (d .request) ≡ true
-  pub short-same : d .request .long ≡ false → wished (d .burst) (d .wish) ≡ d .burst
+  pub own : mayAnswer d (d .request) ≡ true
+  pub short-same : namesDevice (d .request) ≡ false → wished (d .burst) (d .wish) ≡ d .burst
   pub on-given : wished (d .burst) (d .wish) ≡ true → d .content .given ≡ true
 
 -- what a turn in which the device does not send needs
 pub data Hand (d : Device) (frame : List ℕ) : Type 0 where
   nothing-in-hand : d .turn ≡ Listens → Hand d frame
-  is-asked : (n : ℕ) → d .turn ≡ Asked n → 1 ≤ n → isOwn d (d .request) ≡ true → Hand d frame
+  is-asked : (n : ℕ) → d .turn ≡ Asked n → 1 ≤ n → mayAnswer d (d .request) ≡ true → Hand d frame
   is-accepted : d .turn ≡ Accepted → Prepared d frame → Hand d frame
 
 -- ---- what comes of a tick behind what was heard
@@ -110,8 +111,8 @@ pub data Goes (d : Device) (step : DeviceStep) : Type 0 where
       → step .side .device .burst ≡ d .burst → step .side .device .primary ≡ d .primary → step .side .device .due ≡ d .due → step .side .device .request ≡ d .request
       → inHand (step .side .device .turn) ≤ inHand (d .turn) → Hand (step .side .device) (step .side .frame) → Sound (step .side .device) (step .side .frame) (step .side .contents) → (d .turn ≡ Follows → ⊥) → Goes d step
   -- it begins its ACK: from a request that was in hand, with burst as the host wishes
-  answers : (burst : Bool) → step .side .device .primary ≡ firstFor d → (b : Begun d step Answers burst) → b .message .header ≡ answerHeader (d .request) burst → step .side .device .request ≡ d .request → isOwn d (d .request) ≡ true
-      → (d .request .long ≡ false → burst ≡ d .burst) → (d .turn ≡ Listens → ⊥) → (d .turn ≡ Asked (d .profile .sto) → ⊥) → (d .turn ≡ Follows → ⊥) → Goes d step
+  answers : (burst : Bool) → step .side .device .primary ≡ firstFor d → (b : Begun d step Answers burst) → b .message .header ≡ answerHeader (d .request) burst → step .side .device .request ≡ d .request → mayAnswer d (d .request) ≡ true
+      → (namesDevice (d .request) ≡ false → burst ≡ d .burst) → (d .turn ≡ Listens → ⊥) → (d .turn ≡ Asked (d .profile .sto) → ⊥) → (d .turn ≡ Follows → ⊥) → Goes d step
   -- it begins its BACK
   bursts : (b : Begun d step Bursts (d .burst)) (command : ℕ) → d .turn ≡ Follows → b .message .header ≡ backFor d command
       → step .side .device .primary ≡ (if d .primary then false else true) → Goes d step
@@ -205,13 +206,13 @@ turnOf e burst primary = record {
 }
 
 -- whose request it is depends on the addresses alone
-pub own-kept : {d e : Device} (h : Header) → SameDevice d e → isOwn d h ≡ true → isOwn e h ≡ true
-own-kept h sd o = (λ i. if h .long then sd .same-unique i =? h .address else (if sd .same-polling i =? h .address then h .command =? 0 else false)) ∙ o
+pub own-kept : {d e : Device} (h : Header) → SameDevice d e → mayAnswer d h ≡ true → mayAnswer e h ≡ true
+own-kept h sd o = (λ i. if seeksTag h then true else if h .long then sd .same-unique i =? h .address else (if sd .same-polling i =? h .address then h .command =? 0 else false)) ∙ o
 
 -- and so of the request in hand
-pub own-same : {d e : Device} → SameDevice d e → e .request ≡ d .request → isOwn e (e .request) ≡ true → isOwn d (d .request) ≡ true
+pub own-same : {d e : Device} → SameDevice d e → e .request ≡ d .request → mayAnswer e (e .request) ≡ true → mayAnswer d (d .request) ≡ true
 own-same {d} {e} same r o =
-    (λ i. if sym r i .long then sym (same .same-unique) i =? sym r i .address else (if sym (same .same-polling) i =? sym r i .address then sym r i .command =? 0 else false)) ∙ o
+    (λ i. if seeksTag (sym r i) then true else if sym r i .long then sym (same .same-unique) i =? sym r i .address else (if sym (same .same-polling) i =? sym r i .address then sym r i .command =? 0 else false)) ∙ o
 
 module _ (d e : Device) (frame bytes contents : List ℕ) (told : DeviceTold) (answer : Answer) (after : AfterCall d e) (s : Sound e frame contents) where
   abbrev Step : DeviceStep
@@ -280,7 +281,7 @@ module _ (d e : Device) (frame bytes contents : List ℕ) (told : DeviceTold) (a
       long : 0 + 1 < e .length
       long = omega (arith, p .held .sized, p .held .speaks .long)
 
-      same-own : isOwn e (e .request) ≡ true → isOwn d (d .request) ≡ true
+      same-own : mayAnswer e (e .request) ≡ true → mayAnswer d (d .request) ≡ true
       same-own o = own-same (after .same) (after .same-request) o
 
       go : (t : Bool) → (0 + 1 <? e .length) ≡ t → Goes d (by Begins)
@@ -317,7 +318,7 @@ module _ (d e : Device) (frame bytes contents : List ℕ) (told : DeviceTold) (a
           (p .header-is ∙ ap (λ (h : Header). answerHeader h burst) (after .same-request))
           (after .same-request)
           (same-own (p .own))
-          (λ l. p .short-same (ap (λ (h : Header). h .long) (after .same-request) ∙ l) ∙ after .same-burst)
+          (λ l. p .short-same (ap namesDevice (after .same-request) ∙ l) ∙ after .same-burst)
           (λ z. listens-begins (sym (after .listens-same z) ∙ q))
           (λ z. after .first-waits z q)
           (λ z. begins-follows (sym q ∙ after .follows-kept z)))
@@ -396,25 +397,35 @@ module _ (d e : Device) (frame bytes contents : List ℕ) (told : DeviceTold) (a
 
 -- ---- the answer
 
--- a request for this device has one of its addresses; a short one has command 0
-pub own-address : (d : Device) (frame contents : List ℕ) (h : Header) → Sound d frame contents → isOwn d h ≡ true → h .address ≤ largestAddress (h .long)
+-- a request for this device has one of its addresses, and command 11 by broadcast address 0
+pub own-address : (d : Device) (frame contents : List ℕ) (h : Header) → Sound d frame contents → mayAnswer d h ≡ true → h .address ≤ largestAddress (h .long)
 unfolding if_then_else_
-own-address d frame contents h s own = go (h .long) own
+own-address d frame contents h s own = tag (seeksTag h) refl own
   where
     go : (l : Bool) → (if l then d .unique =? h .address else (if d .polling =? h .address then h .command =? 0 else false)) ≡ true → h .address ≤ (if l then 2 ^ 38 - 1 else 63)
     go true o = omega (arith, eqb-true (d .unique) (h .address) o, s .unique-high)
     go false o = omega (arith, eqb-true (d .polling) (h .address) (went-then (d .polling =? h .address) (h .command =? 0) false true o (λ q. true-false (sym q)) .0), s .polling-high)
 
-own-short : (d : Device) (h : Header) → isOwn d h ≡ true → h .long ≡ false → h .command ≡ 0
-own-short d h own short =
-    let o = sym (if-is-false (h .long) (d .unique =? h .address) (if d .polling =? h .address then h .command =? 0 else false) short) ∙ own in
-    eqb-true (h .command) 0 (went-then (d .polling =? h .address) (h .command =? 0) false true o (λ q. true-false (sym q)) .1)
+    tag : (t : Bool) → seeksTag h ≡ t → (if t then true else isOwn d h) ≡ true → h .address ≤ largestAddress (h .long)
+    tag true q o = omega (arith, tag-zero h q)
+    tag false q o = go (h .long) o
+
+-- an answer that does not carry the device's unique address has no wish
+own-short : (d : Device) (h : Header) → mayAnswer d h ≡ true → namesDevice h ≡ false → hasNoWish h ≡ true
+unfolding if_then_else_
+own-short d h own short = go (seeksTag h) refl own short
+  where
+    go : (t : Bool) → seeksTag h ≡ t → (if t then true else isOwn d h) ≡ true → (if t then false else h .long) ≡ false → hasNoWish h ≡ true
+    go true q o l = if-cases (λ (b : Bool). b ≡ true) (h .command =? 0) true (seeksTag h) (λ z. refl) (λ z. q)
+    go false q o l =
+        let p = sym (if-is-false (h .long) (d .unique =? h .address) (if d .polling =? h .address then h .command =? 0 else false) l) ∙ o in
+        if-is-true (h .command =? 0) _ _ (went-then (d .polling =? h .address) (h .command =? 0) false true p (λ q. true-false (sym q)) .1)
 
 -- a wish that is not refused: a short request's answer has none, and burst is turned on only with content
-wish-short : (d : Device) (wish : Wish) → wishRefused d wish ≡ false → d .request .command ≡ 0 → wished (d .burst) wish ≡ d .burst
+wish-short : (d : Device) (wish : Wish) → wishRefused d wish ≡ false → hasNoWish (d .request) ≡ true → wished (d .burst) wish ≡ d .burst
 wish-short d Same f c = refl
-wish-short d On f c = absurd (true-false (sym (if-is-true (d .request .command =? 0) _ _ (eq-eqb (d .request .command) 0 c)) ∙ f))
-wish-short d Off f c = absurd (true-false (sym (eq-eqb (d .request .command) 0 c) ∙ f))
+wish-short d On f c = absurd (true-false (sym (if-is-true (hasNoWish (d .request)) _ _ c) ∙ f))
+wish-short d Off f c = absurd (true-false (sym c ∙ f))
 
 wish-given : (d : Device) (wish : Wish) (frame contents : List ℕ) → Sound d frame contents → wishRefused d wish ≡ false → wished (d .burst) wish ≡ true → d .content .given ≡ true
 wish-given d Same frame contents s f on = s .bursts-given on
@@ -517,7 +528,7 @@ module _ (limit : ℕ) (low : 2 ≤ limit) (high : limit ≤ 255) (t : DeviceTak
   d = t .device
 
   -- an answer to the request in hand
-  answer-goes : (wish : Wish) (put : List ℕ) (n : ℕ) → t .device .turn ≡ Asked n → isOwn (t .device) (t .device .request) ≡ true
+  answer-goes : (wish : Wish) (put : List ℕ) (n : ℕ) → t .device .turn ≡ Asked n → mayAnswer (t .device) (t .device .request) ≡ true
       → AnswerView limit (t .device) wish (length put) n → Goes (t .device) (answerCalled (answeredBy limit (t .device) wish (length put) (Asked n)) (t .device) (answerFrame (t .device) wish put) frame bytes contents (t .told))
   unfolding d
   answer-goes wish put n q own (is-refused why e) =

@@ -20,7 +20,7 @@ use Rattle.line.specs.declared.Heard.{Heard}
 use Rattle.line.specs.declared.Heard.the-variants.{Silence, Character}
 use Rattle.line.specs.declared.Receiver.{Receiver}
 use Rattle.line.specs.declared.Whole.{Whole}
-use Rattle.turns.specs.Master.{Called, Ending, requested, requestHeader, isBroadcast, isAnswer, fails, atFrame, atBreak, ifAwaiting, rt1Ends, waited, counts, afterBreak, onSilence, onCharacter, onHeard, masterTakes, masterSends, oneMore, sendsBy, sendsAt, behind}
+use Rattle.turns.specs.Master.{Called, Ending, requested, requestHeader, isBroadcast, answersMessage, fails, atFrame, atBreak, ifAwaiting, rt1Ends, waited, counts, afterBreak, onSilence, onCharacter, onHeard, masterTakes, masterSends, oneMore, sendsBy, sendsAt, behind}
 use Rattle.turns.specs.Link.{MasterCall, no-request, requests, none, was-taken, was-refused, MasterSide, MasterStep, masterSent, masterCalled, masterTick, masterData}
 use Rattle.turns.specs.declared.Sent.{Sent}
 use Rattle.turns.specs.declared.Stage.{Stage}
@@ -77,10 +77,9 @@ broken m =
 framed : (m : Master) (w : Whole) (bytes : List ℕ) → SameMessage (m .message) (atFrame m w bytes .message)
 framed m w bytes =
     let gone : (told : MasterTold) → SameMessage (m .message) (Rattle.turns.specs.Master.ends (m .message) told .message) = λ told. record { same-length = refl; same-attempts = refl; same-header = refl; no-more = λ z. absurd (true-false (sym z)) } in
-    if-both (λ (e : Ending). SameMessage (m .message) (e .message)) (isBroadcast (m .message .header)) _ _ (gone MasterTold.BroadcastSent)
-    (if-both (λ (e : Ending). SameMessage (m .message) (e .message)) (isAnswer m (w .header)) _ _
-    (if-both (λ (e : Ending). SameMessage (m .message) (e .message)) _ _ _ (ended (m .retries) (m .message)) (gone (MasterTold.Answered w)))
-    (ended (m .retries) (m .message)))
+    if-both (λ (e : Ending). SameMessage (m .message) (e .message)) (answersMessage m (w .header)) _ _
+    (if-both (λ (e : Ending). SameMessage (m .message) (e .message)) _ _ _ (broken m) (gone (MasterTold.Answered w)))
+    (broken m)
 
 awaited : (s : Stage) (g : Message) (e : Ending) → SameMessage g (e .message) → SameMessage g (ifAwaiting s g e .message)
 awaited Free g e q = itself g

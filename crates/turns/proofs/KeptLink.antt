@@ -18,7 +18,7 @@ use Rattle.line.specs.declared.Heard.the-variants.{Silence, Character}
 use Rattle.line.specs.declared.Profile.{Profile}
 use Rattle.line.specs.declared.Receiver.{Receiver}
 use Rattle.turns.specs.Master.{Called, isBroadcast}
-use Rattle.turns.specs.Device.{isOwn, hasError, backDue, answerHeader, wished, backHeader, backLength, onSilence, onCharacter, onHeard, deviceTakes, answeredBy, answered, answerFrame, contentGiven, sendsBy, deviceSends, begunFrame, brokenDue}
+use Rattle.turns.specs.Device.{hasError, backDue, answerHeader, wished, backHeader, backLength, onSilence, onCharacter, onHeard, deviceTakes, answeredBy, answered, answerFrame, contentGiven, sendsBy, deviceSends, begunFrame, brokenDue, mayAnswer}
 use Rattle.turns.specs.Link.{DeviceCall, no-call, gives-answer, gives-content, Answer, was-taken, was-refused, MasterSide, DeviceSide, deviceData, heardFrame, deviceSent, answerCalled, contentCalled, deviceTick, deviceTicks, Link, Calls, sides, linkTick, linkAfter}
 use Rattle.turns.specs.Run.{All, none, and, MasterStarts, DeviceStarts, Starts}
 use Rattle.turns.specs.declared.Turn.{Turn}
@@ -62,7 +62,7 @@ module _ (limit : ℕ) (low : 2 ≤ limit) (d : Device) (k : DeviceKept limit d)
   character r Broken = same refl refl refl
   character r (Frame w) =
       if-kept (w .header .frame =? stx) _ _
-      (if-kept (w .expansion =? 0) _ _ (if-kept (isOwn d (w .header)) _ _ (same refl refl refl) (if-kept (isBroadcast (w .header)) _ _ (same refl refl refl) (same refl refl refl))) (same refl refl refl))
+      (if-kept (w .expansion =? 0) _ _ (if-kept (mayAnswer d (w .header)) _ _ (same refl refl refl) (if-kept (isBroadcast (w .header)) _ _ (same refl refl refl) (same refl refl refl))) (same refl refl refl))
       (same refl refl refl)
   character r (Damaged w m) =
       if-kept (hasError d w m) _ _

@@ -1,6 +1,7 @@
 -- The theorems on the rules of turns.
 pub mod Breaks
 pub mod Sentences
+pub mod TagSentences
 pub mod AckBack
 pub mod Beginning
 pub mod Begun
@@ -14,6 +15,8 @@ pub mod DeviceSpeaking
 pub mod DeviceTaking
 pub mod Devices
 pub mod Example
+pub mod Fair
+pub mod Finders
 pub mod Fresh
 pub mod GapRuns
 pub mod Gaps
@@ -35,7 +38,10 @@ pub mod Silences
 pub mod SilentTick
 pub mod Spoken
 pub mod Stx
+pub mod TagRuns
+pub mod Tags
 pub mod Taking
+pub mod Together
 pub mod Turns
 pub mod Wait
 pub mod WaitBurst

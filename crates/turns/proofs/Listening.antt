@@ -22,8 +22,8 @@ use Rattle.line.specs.declared.Profile.{Profile}
 use Rattle.line.specs.declared.Receiver.{Receiver}
 use Rattle.line.specs.declared.Whole.{Whole}
 use Rattle.line.proofs.Leads.{readerAfter}
-use Rattle.turns.specs.Master.{Called, accepted, refused, burstAfter, notedAfter, timerAfter, timer, timerCounted, burstCounted, masterTakes, toItself, requested, requestHeader}
-use Rattle.turns.specs.Device.{isOwn, dueAfter, errorFrame, deviceTakes, answerHeader, firstFor}
+use Rattle.turns.specs.Master.{Called, accepted, refused, burstAfter, notedAfter, timerAfter, timer, timerCounted, burstCounted, masterTakes, toItself, requested, requestHeader, namesDevice}
+use Rattle.turns.specs.Device.{mayAnswer, dueAfter, errorFrame, deviceTakes, answerHeader, firstFor}
 use Rattle.turns.specs.Link.{MasterCall, no-request, requests, DeviceCall, MasterSide, MasterStep, masterCalled, masterTick, masterData, DeviceSide, DeviceStep, deviceCalls, deviceTick, deviceData, heardFrame}
 use Rattle.turns.specs.declared.Sent.{Sent}
 use Rattle.turns.specs.declared.Sent.the-variants.{Silent}
@@ -439,7 +439,7 @@ module _ (limit : ℕ) (low : 2 ≤ limit) (high : limit ≤ 255) (p : Profile) 
     pub same-primary : step .side .device .primary ≡ x .device .primary
     pub due-is : step .side .device .due ≡ (if message .header .frame =? stx then p .rt1p else dueAfter (x .device) (message .header))
     pub in-time : inHand (step .side .device .turn) ≤ p .sto
-    pub asked-own : (step .side .device .turn ≡ Listens → ⊥) → isOwn (x .device) (message .header) ≡ true
+    pub asked-own : (step .side .device .turn ≡ Listens → ⊥) → mayAnswer (x .device) (message .header) ≡ true
     pub only-stx : (step .side .device .turn ≡ Listens → ⊥) → message .header .frame ≡ stx
     pub request-is : (step .side .device .turn ≡ Listens → ⊥) → step .side .device .request ≡ message .header
 
@@ -507,7 +507,7 @@ module _ (limit : ℕ) (low : 2 ≤ limit) (high : limit ≤ 255) (p : Profile) 
         → step .side .device .due ≡ x .device .due - 1 → (x .device .burst ≡ true → x .device .due ≡ 1 → ⊥) → inHand (step .side .device .turn) ≤ inHand (x .device .turn) - 1
         → ((step .side .device .turn ≡ Listens → ⊥) → x .device .turn ≡ Listens → ⊥) → step .side .device .primary ≡ x .device .primary → step .side .device .request ≡ x .device .request → DeviceSilent step
     begins-answer : (t : Device) (burst : Bool) (b : D.Begun t step Answers burst) → SameDevice (x .device) t → t .burst ≡ x .device .burst → b .message .header ≡ answerHeader (x .device .request) burst
-        → isOwn (x .device) (x .device .request) ≡ true → (x .device .request .long ≡ false → burst ≡ x .device .burst) → (x .device .turn ≡ Listens → ⊥) → step .side .device .request ≡ x .device .request → step .side .device .primary ≡ firstFor (x .device) → DeviceSilent step
+        → mayAnswer (x .device) (x .device .request) ≡ true → (namesDevice (x .device .request) ≡ false → burst ≡ x .device .burst) → (x .device .turn ≡ Listens → ⊥) → step .side .device .request ≡ x .device .request → step .side .device .primary ≡ firstFor (x .device) → DeviceSilent step
     begins-back : (t : Device) (b : D.Begun t step Bursts (t .burst)) (command : ℕ) → SameDevice (x .device) t → t .burst ≡ x .device .burst → t .primary ≡ x .device .primary
         → x .device .burst ≡ true → x .device .due ≡ 1 → b .message .header ≡ D.backFor t command → step .side .device .primary ≡ (if x .device .primary then false else true) → DeviceSilent step
 
@@ -551,7 +551,7 @@ module _ (limit : ℕ) (low : 2 ≤ limit) (high : limit ≤ 255) (p : Profile) 
           begins-answer t burst b same (took .took .same-burst)
           (hd ∙ ap (λ (h : Header). answerHeader h burst) req)
           (D.own-same same req own)
-          (λ q. short (ap (λ (h : Header). h .long) req ∙ q) ∙ took .took .same-burst)
+          (λ q. short (ap namesDevice req ∙ q) ∙ took .took .same-burst)
           (λ q. nl (ll q))
           (req′ ∙ req)
           (primary ∙ (λ i. firstFor (D.turnOf t (took .took .same-burst i) (took .took .same-primary i))))

@@ -28,9 +28,9 @@ use Rattle.line.specs.declared.Taken.{Taken}
 use Rattle.line.specs.declared.Whole.{Whole}
 use Rattle.line.proofs.Hearing.{wholeMessage}
 use Rattle.turns.specs.Master as M
-use Rattle.turns.specs.Master.{Ending, isBroadcast, isAnswer, staged, fails, ends, atBreak, atFrame, ifAwaiting, rt1Ends, waited, afterBreak, masterTakes}
+use Rattle.turns.specs.Master.{Ending, isBroadcast, seeksTag, answersMessage, staged, fails, ends, atBreak, atFrame, ifAwaiting, rt1Ends, waited, afterBreak, masterTakes}
 use Rattle.turns.specs.Device as D
-use Rattle.turns.specs.Device.{isOwn, hasError, errorData, answerHeader, backDue, brokenDue, errorFrame, deviceTakes}
+use Rattle.turns.specs.Device.{isOwn, mayAnswer, hasError, errorData, answerHeader, backDue, brokenDue, errorFrame, deviceTakes}
 use Rattle.turns.specs.Link.{MasterCall, DeviceCall, MasterSide, MasterStep, DeviceSide, DeviceStep, masterTick, masterData, deviceTick, deviceData, heardFrame}
 use Rattle.turns.specs.Run.{DeviceStarts}
 use Rattle.turns.specs.Bursts.{DeviceInput}
@@ -111,8 +111,7 @@ module _ (primary : Bool) (frame : List ℕ) where
 
     framed : (w : Whole) (bytes : List ℕ) → Stays (atFrame m w bytes .message)
     framed w bytes =
-        if-both (λ (z : Ending). Stays (z .message)) (isBroadcast (m .message .header)) _ _ (over (m .message) MasterTold.BroadcastSent)
-        (if-both (λ (z : Ending). Stays (z .message)) (isAnswer m (w .header)) _ _ (if-both (λ (z : Ending). Stays (z .message)) _ _ _ failed (over (m .message) (MasterTold.Answered w))) failed)
+        if-both (λ (z : Ending). Stays (z .message)) (answersMessage m (w .header)) _ _ (if-both (λ (z : Ending). Stays (z .message)) _ _ _ broken (over (m .message) (MasterTold.Answered w))) broken
 
   if-awaiting : (g : Message) (z : Ending) (s : Stage) → g .stage ≡ s → Stays g → ((n : ℕ) → s ≡ Awaiting n → Stays (z .message)) → Stays (ifAwaiting s g z .message)
   if-awaiting g z Free e s f = s
@@ -341,7 +340,7 @@ module _ (frame contents : List ℕ) (d : Device) (sound : Sound d frame content
   own-took r w =
       if-both (Took frame contents d) (w .header .frame =? stx) _ _
       (if-both (Took frame contents d) (w .expansion =? 0) _ _
-      (if-cases (Took frame contents d) (isOwn d (w .header)) _ _
+      (if-cases (Took frame contents d) (mayAnswer d (w .header)) _ _
       (λ o. record {
         same-profile = refl;
         sound = kept-sound frame r (Asked (d .profile .sto)) (w .header) Same (d .length) (d .profile .rt1p) refl;
@@ -352,12 +351,12 @@ module _ (frame contents : List ℕ) (d : Device) (sound : Sound d frame content
       (listening r _ _ (Frame w) refl)
 
   -- an error answer is a frame, and it is prepared
-  error-own : (w : Whole) (m : Harm) → hasError d w m ≡ true → isOwn d (w .header) ≡ true
+  error-own : (w : Whole) (m : Harm) → hasError d w m ≡ true → mayAnswer d (w .header) ≡ true
   error-own w m e =
       let no : false ≡ true → ⊥ = λ z. true-false (sym z) in
       let a = went-then (w .header .frame =? stx) _ false true e no in
       let b = went-then (w .expansion =? 0) _ false true (a .1) no in
-      went-else (m .address) false (isOwn d (w .header)) true (b .1) no .1
+      if-both (λ (o : Bool). o ≡ true) (seeksTag (w .header)) _ _ refl (went-else (m .address) false (isOwn d (w .header)) true (b .1) no .1)
 
   error-took : (r : Receiver) (w : Whole) (m : Harm) → Took frame contents d (D.afterDamage d r w m)
   error-took r w m = go (hasError d w m) refl

@@ -13,11 +13,13 @@ use Rattle.line.specs.declared.Heard.the-variants.{Silence, Character, Damaged}
 use Rattle.line.specs.declared.Profile.{Profile}
 use Rattle.line.specs.declared.Whole.{Whole}
 use Rattle.turns.specs.Link.{MasterSide, DeviceSide, DeviceStep, Link, LinkStep, Calls, masterTick, deviceTicks, linkTick, linkAfter, run, sides, carried, joins}
-use Rattle.turns.specs.Run.{Starts, count, deviceSenders, EachTick, no-tick, tick-and, OneBursts, NoTwoSend}
+use Rattle.turns.specs.Run.{Starts, count, deviceSenders, EachTick, no-tick, tick-and, NoTwoSend}
 use Rattle.turns.specs.Demand3.{NoTwoSendInARun}
 use Rattle.turns.specs.declared.Noted.{Noted}
 use Rattle.turns.specs.declared.Sent.{Sent}
 use Rattle.turns.specs.declared.Sent.the-variants.{Silent}
+use Rattle.turns.proofs.Fair.{Fair}
+use Rattle.turns.proofs.Tags.{fair-run}
 use Rattle.turns.proofs.DeviceSpeaking.{an-ack, a-back}
 use Rattle.turns.proofs.Windows.{Valid}
 use Rattle.turns.proofs.Begun.{nextAfter}
@@ -152,16 +154,16 @@ unfolding linkTick heardTick
 tick-is limit l heard c e = ap (λ (h : Heard). heardTick limit l h c) e
 
 -- every tick keeps it
-pub phase-tick : (limit : ℕ) → 2 ≤ limit → limit ≤ 255 → (p : Profile) → Valid p → (e : ℕ) (l : Link) (c : Calls) → Phase p e l → OneBursts (linkTick limit l c) → Phase p (e - 1) (linkAfter (linkTick limit l c))
+pub phase-tick : (limit : ℕ) → 2 ≤ limit → limit ≤ 255 → (p : Profile) → Valid p → (e : ℕ) (l : Link) (c : Calls) → Phase p e l → Fair (linkTick limit l c) → Phase p (e - 1) (linkAfter (linkTick limit l c))
 unfolding heardTick
 phase-tick limit low high p v e l c (silent q (clear o)) sole =
     let z = tick-is limit l Silence c q in
     subst (λ (s : LinkStep). Phase p (e - 1) (linkAfter s)) (sym z)
-    (behind-clear p v (e - 1) (heardTick limit l Silence c) (clear-tick limit low high p v (l .primary) (l .secondary) (l .devices) (c .for-primary) (c .for-secondary) (c .for-devices) e o (subst OneBursts z sole)))
+    (behind-clear p v (e - 1) (heardTick limit l Silence c) (clear-tick limit low high p v (l .primary) (l .secondary) (l .devices) (c .for-primary) (c .for-secondary) (c .for-devices) e o (subst Fair z sole)))
 phase-tick limit low high p v e l c (silent q (set n next o)) sole =
     let z = tick-is limit l Silence c q in
     subst (λ (s : LinkStep). Phase p (e - 1) (linkAfter s)) (sym z)
-    (behind-set p v (e - 1) (heardTick limit l Silence c) (set-tick limit low high p v (l .primary) (l .secondary) (l .devices) (c .for-primary) (c .for-secondary) (c .for-devices) n next o (subst OneBursts z sole)))
+    (behind-set p v (e - 1) (heardTick limit l Silence c) (set-tick limit low high p v (l .primary) (l .secondary) (l .devices) (c .for-primary) (c .for-secondary) (c .for-devices) n next o (subst Fair z sole)))
 phase-tick limit low high p v e l c (primary-sends burst noted next k w message q o) sole =
     subst (λ (s : LinkStep). Phase p (e - 1) (linkAfter s)) (sym (tick-is limit l (Character (getD w k 0)) c q))
     (behind-primary p v (e - 1) (heardTick limit l (Character (getD w k 0)) c)
@@ -228,7 +230,7 @@ one-sender s q =
 
 -- ---- the theorem
 
-phases-run : (limit : ℕ) → 2 ≤ limit → limit ≤ 255 → (p : Profile) → Valid p → (e : ℕ) (l : Link) (ticks : List Calls) → Phase p e l → EachTick OneBursts (run limit l ticks) → EachTick NoTwoSend (run limit l ticks)
+phases-run : (limit : ℕ) → 2 ≤ limit → limit ≤ 255 → (p : Profile) → Valid p → (e : ℕ) (l : Link) (ticks : List Calls) → Phase p e l → EachTick Fair (run limit l ticks) → EachTick NoTwoSend (run limit l ticks)
 unfolding run
 phases-run limit low high p v e l [] q b = no-tick
 phases-run limit low high p v e l (c ∷ cs) q (tick-and b bs) =
@@ -239,9 +241,9 @@ phases-run limit low high p v e l (c ∷ cs) q (tick-and b bs) =
 pub no-two-send : (limit : ℕ) → 2 ≤ limit → limit ≤ 255 → NoTwoSendInARun limit
 unfolding run
 no-two-send limit low high p retries l [] k = no-tick
-no-two-send limit low high p retries l (c ∷ cs) k = go (k .one-bursts)
+no-two-send limit low high p retries l (c ∷ cs) k = go (fair-run limit p retries l (c ∷ cs) k)
   where
-    go : EachTick OneBursts (run limit l (c ∷ cs)) → EachTick NoTwoSend (run limit l (c ∷ cs))
+    go : EachTick Fair (run limit l (c ∷ cs)) → EachTick NoTwoSend (run limit l (c ∷ cs))
     go (tick-and b bs) =
         let v = valid p (k .made) in
         let next = phase-first limit low high p v retries l c (k .starts) in

@@ -11,7 +11,7 @@ use Rattle.line.specs.declared.Heard.the-variants.{Silence}
 use Rattle.line.specs.declared.Profile.{Profile}
 use Rattle.line.specs.declared.Receiver.{Receiver}
 use Rattle.line.proofs.Ticks.{outside-idle}
-use Rattle.turns.specs.Device.{isOwn}
+use Rattle.turns.specs.Device.{mayAnswer}
 use Rattle.turns.specs.Link.{MasterSide, DeviceSide}
 use Rattle.turns.specs.Run.{All}
 use Rattle.turns.specs.declared.Turn.the-variants.{Listens}
@@ -86,7 +86,7 @@ pub record DeviceQuiet (p : Profile) (g : ℕ) (h : Header) (n : ℕ) (x : Devic
   pub listens : DeviceListens p x
   pub ready : Ready (x .device .receiver)
   pub in-time : inHand (x .device .turn) ≤ g
-  pub asked-own : (x .device .turn ≡ Listens → ⊥) → isOwn (x .device) h ≡ true
+  pub asked-own : (x .device .turn ≡ Listens → ⊥) → mayAnswer (x .device) h ≡ true
   pub asked-for : (x .device .turn ≡ Listens → ⊥) → x .device .request ≡ h
   pub back-due : x .device .burst ≡ true → x .device .due ≡ n
 

@@ -1,8 +1,8 @@
--- The premises of the theorem: runs that meet them, one with a bursting device, and for two of them a run that breaks the claim without it.
-use Prim.Native.Nat.{ℕ, _+_}
+-- The premises of the theorem: runs that meet them, one with a bursting device, and for two of them a run that breaks the claim without it. Runs with command 11 stand in TagRuns.
+use Prim.Native.Nat.{ℕ, _+_, _≤_}
 use native.Mathlib.Omega.{arith}
 use mathlib.Core.Path.{_≡_, refl, sym, subst}
-use mathlib.Core.Bool.{true, false}
+use mathlib.Core.Bool.{Bool, true, false}
 use mathlib.Core.List.{List, [], _∷_, _++_}
 use lib.ListN.{length, replicate, drop}
 use Rattle.base.specs.Choice.{if_then_else_}
@@ -20,6 +20,8 @@ use Rattle.turns.specs.Master.{freshMaster, requested, masterTakes, mast
 use Rattle.turns.specs.Device.{freshDevice, deviceTakes, deviceSends, answered, contentGiven}
 use Rattle.turns.specs.Link.{no-request, requests, DeviceCall, no-call, gives-answer, gives-content, Link, LinkStep, Calls, DeviceSide, DeviceStep, masterTick, deviceTick, deviceTicks, sides, carried, linkTick, linkAfter, run}
 use Rattle.turns.specs.Run.{none, and, Distinct, Sole, no-one, sole-and, DeviceStarts, Starts, deviceSenders, senders, EachTick, no-tick, tick-and, OneBursts, NoTwoSend}
+use Rattle.turns.specs.Ledgers.{Ledger, found, finders, ledgersAfter, blanks, OneFinds}
+use Rattle.turns.specs.Ledgers as L
 use Rattle.turns.specs.declared.Wish.the-variants.{Same, On}
 use Rattle.line.proofs.Profiles.{fsk-taken}
 use Rattle.turns.proofs.Example as E
@@ -63,25 +65,51 @@ lone limit l x (c ∷ cs) e =
     let o = one-side limit (l .line) (l .devices) x (c .for-devices) e in
     tick-and (subst Sole (sym (o .is)) (sole-and none no-one)) (lone limit (linkAfter (linkTick limit l c)) (o .side) cs (o .is))
 
+-- and of one host at most one answers
+finders-most : (gs : List Ledger) → finders gs ≤ length gs
+unfolding finders if_then_else_
+finders-most [] = omega arith
+finders-most (g ∷ gs) = go (found g) (finders-most gs)
+  where
+    go : (b : Bool) → finders gs ≤ length gs → (if b then 1 else 0) + finders gs ≤ length (g ∷ gs)
+    go true e = omega arith
+    go false e = omega arith
+
+ledgers-most : (cs : List DeviceCall) (ss : List DeviceStep) (gs : List Ledger) → length (ledgersAfter cs ss gs) ≤ length gs
+unfolding ledgersAfter
+ledgers-most cs [] gs = omega arith
+ledgers-most cs (s ∷ ss) [] = omega arith
+ledgers-most [] (s ∷ ss) (g ∷ gs) = omega (arith, ledgers-most [] ss gs)
+ledgers-most (c ∷ cs) (s ∷ ss) (g ∷ gs) = omega (arith, ledgers-most cs ss gs)
+
+pub lone-finds : (limit : ℕ) (gs : List Ledger) (l : Link) (cs : List Calls) → length gs ≤ 1 → OneFinds gs cs (run limit l cs)
+unfolding run
+lone-finds limit gs l [] e = L.no-tick
+lone-finds limit gs l (c ∷ cs) e =
+    let next = ledgersAfter (c .for-devices) (linkTick limit l c .for-devices) gs in
+    let most : length next ≤ 1 = omega (arith, ledgers-most (c .for-devices) (linkTick limit l c .for-devices) gs) in
+    let few : finders next ≤ 1 = omega (arith, finders-most next) in
+    L.tick-and few (lone-finds limit next (linkAfter (linkTick limit l c)) cs most)
+
 -- so the worked run does, and no two send in it
 pub worked-alone : EachTick NoTwoSend (run 255 fresh ticks)
-unfolding fresh
-worked-alone = no-two-send 255 (omega arith) (omega arith) fskProfile 3 fresh ticks (record { made = fsk-taken; starts = fresh-starts; one-bursts = lone 255 fresh _ ticks refl })
+unfolding fresh blanks
+worked-alone = no-two-send 255 (omega arith) (omega arith) fskProfile 3 fresh ticks (record { made = fsk-taken; starts = fresh-starts; one-bursts = lone 255 fresh _ ticks refl; one-finds = lone-finds 255 _ fresh ticks (omega arith) })
 
 -- ---- both masters' messages go out while the device bursts
 
 -- a profile with short timers, so that the run is short
-pub short : Profile
+unfoldable pub short : Profile
 short = record { sto = 3; hold = 1; rt2 = 2; rt1p = 4; rt1s = 6 }
 
 -- the primary asks the device with this unique address
-pub ask : ℕ → List DeviceCall → Calls
+unfoldable pub ask : ℕ → List DeviceCall → Calls
 ask unique devices = record { for-primary = requests (record { preamble = 5; long = true; address = unique; command = 3 }) []; for-secondary = no-request; for-devices = devices }
 
-pub turn-on : DeviceCall
+unfoldable pub turn-on : DeviceCall
 turn-on = gives-answer On (0 ∷ 0 ∷ [])
 
-pub content : DeviceCall
+unfoldable pub content : DeviceCall
 content = gives-content 3 (0 ∷ 0 ∷ [])
 
 pub one-device : Link
@@ -125,8 +153,8 @@ unfolding short if_then_else_
 short-taken = refl
 
 pub one-device-alone : EachTick NoTwoSend (run 255 one-device both-ask)
-unfolding one-device
-one-device-alone = no-two-send 255 (omega arith) (omega arith) short 3 one-device both-ask (record { made = short-taken; starts = one-device-starts; one-bursts = lone 255 one-device _ both-ask refl })
+unfolding one-device blanks
+one-device-alone = no-two-send 255 (omega arith) (omega arith) short 3 one-device both-ask (record { made = short-taken; starts = one-device-starts; one-bursts = lone 255 one-device _ both-ask refl; one-finds = lone-finds 255 _ one-device both-ask (omega arith) })
 
 -- ---- a list that is long enough for the wait to be claimed
 
@@ -142,9 +170,9 @@ asked-twice = record {
 }
 
 pub secondary-begins : BeginsWithin false (dueWithin 2 short 3 0 + longerWithBurst 2 short) (run 2 one-device (asked-twice ∷ rest))
-unfolding run rest asked-twice content quiet short one-device linkTick masterTick requested masterTakes masterSends if_then_else_
+unfolding run rest asked-twice content quiet short one-device blanks linkTick masterTick requested masterTakes masterSends if_then_else_
 secondary-begins =
-    wait 2 (omega arith) (omega arith) short 3 one-device (asked-twice ∷ rest) (record { made = short-taken; starts = one-device-starts; one-bursts = lone 2 one-device _ (asked-twice ∷ rest) refl }) false 0 _ _ refl refl .1
+    wait 2 (omega arith) (omega arith) short 3 one-device (asked-twice ∷ rest) (record { made = short-taken; starts = one-device-starts; one-bursts = lone 2 one-device _ (asked-twice ∷ rest) refl; one-finds = lone-finds 2 _ one-device (asked-twice ∷ rest) (omega arith) }) false 0 _ _ refl refl .1
     (omega (arith, run-length 2 (linkAfter (linkTick 2 one-device asked-twice)) rest))
 
 -- ---- two devices with one polling address: both answer the same STX
@@ -158,10 +186,10 @@ alike = record {
   line = Silence;
 }
 
-pub both-reply : Calls
+unfoldable pub both-reply : Calls
 both-reply = record { for-primary = no-request; for-secondary = no-request; for-devices = gives-answer Same (0 ∷ 0 ∷ []) ∷ (gives-answer Same (0 ∷ 0 ∷ []) ∷ []) }
 
-pub counts : List LinkStep → List ℕ
+unfoldable pub counts : List LinkStep → List ℕ
 counts [] = []
 counts (s ∷ ss) = senders s ∷ counts ss
 
@@ -172,7 +200,7 @@ two-answer = refl
 
 -- ---- two devices burst: behind an STX that nobody answers both begin a BACK
 
-pub two-devices : Link
+unfoldable pub two-devices : Link
 two-devices = record {
   primary = record { master = freshMaster short true 3; frame = replicate 284 0; bytes = replicate 255 0 };
   secondary = record { master = freshMaster short false 3; frame = replicate 284 0; bytes = replicate 255 0 };

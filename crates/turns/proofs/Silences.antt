@@ -14,6 +14,7 @@ use Rattle.line.specs.declared.Profile.{Profile}
 use Rattle.turns.specs.Master.{countClear, countBurst, timerCounted, burstCounted}
 use Rattle.turns.specs.Link.{MasterCall, DeviceCall, MasterSide, MasterStep, DeviceSide, masterTick, deviceTicks, sides}
 use Rattle.turns.specs.Run.{Sole}
+use Rattle.turns.proofs.Fair.{SoleTag}
 use Rattle.turns.specs.declared.Timer.{Timer}
 use Rattle.turns.proofs.Windows as W
 use Rattle.turns.proofs.Windows.{Valid, Counted, CountedBurst, counted, counted-burst, apart-next, one-window, Slot, OneSlot, one-slot-next, one-slot-window, slot-last, shut-next}
@@ -151,12 +152,12 @@ asked-next k ra rb = record {
 }
 
 module _ (limit : ℕ) (low : 2 ≤ limit) (high : limit ≤ 255) (p : Profile) (v : Valid p) (a b : MasterSide) (xs : List DeviceSide) (ca cb : MasterCall) (cs : List DeviceCall) where
-  pub clear-tick : (e : ℕ) (l : ClearLine p e a b xs) → Sole (sides (deviceTicks limit Silence xs cs))
+  pub clear-tick : (e : ℕ) (l : ClearLine p e a b xs) → Sole (sides (deviceTicks limit Silence xs cs)) × SoleTag (sides (deviceTicks limit Silence xs cs))
       → SilentTick p 0 false (l .noted) true a b (masterTick limit a Silence ca) (masterTick limit b Silence cb) (deviceTicks limit Silence xs cs)
       (ClearLine p (e - 1) (masterTick limit a Silence ca .side) (masterTick limit b Silence cb .side) (sides (deviceTicks limit Silence xs cs)))
   clear-tick e l sole =
       let w = l .windows in
-      silent-tick p (l .g) (l .h) 0 false (l .noted) true (Counted p (a .master .timer)) (Counted p (b .master .timer)) _ (l .distinct) (l .agreed) sole (l .asked)
+      silent-tick p (l .g) (l .h) 0 false (l .noted) true (Counted p (a .master .timer)) (Counted p (b .master .timer)) _ (l .distinct) (l .agreed) (sole .0) (l .asked)
       (λ c d x y. not-both p c d (windows-next p v (a .master .timer) (b .master .timer) c d x y w))
       (λ z c x. shut-now z c (shut-on p (l .g) (a .master .timer) c x (l .primary-shut)))
       (λ z c x. shut-now z c (shut-on p (l .g) (b .master .timer) c x (l .secondary-shut)))
@@ -186,7 +187,7 @@ module _ (limit : ℕ) (low : 2 ≤ limit) (high : limit ≤ 255) (p : Profile) 
       })
       (master-tick limit high p true false (l .noted) (Counted p (a .master .timer)) a ca (l .primary) (if-is-false (a .master .burst) _ _ (l .primary .burst-is)) (λ t n k m. clear-counts p a (l .primary .listens .is-it .profile-is) (l .primary .burst-is) t n m))
       (master-tick limit high p false false (l .noted) (Counted p (b .master .timer)) b cb (l .secondary) (if-is-false (b .master .burst) _ _ (l .secondary .burst-is)) (λ t n k m. clear-counts p b (l .secondary .listens .is-it .profile-is) (l .secondary .burst-is) t n m))
-      (silent-devices limit low high p (v .some-sto) (l .g) (l .h) 0 (λ x e. omega (arith, e)) false (l .noted) true cs (l .devices) (l .distinct) (l .agreed .each))
+      (silent-devices limit low high p (v .some-sto) (l .g) (l .h) 0 (λ x e. omega (arith, e)) false (l .noted) true cs (l .devices) (l .distinct) (l .agreed .each) (sole .1))
     where
       shut-now : (1 ≤ l .g) ⊎ (_≡_ {A = ℕ} 0 1) → (c : Timer) → (1 ≤ l .g → c .window ≡ 0) → c .window ≡ 0
       shut-now (inl z) c f = f z
@@ -194,11 +195,11 @@ module _ (limit : ℕ) (low : 2 ≤ limit) (high : limit ≤ 255) (p : Profile) 
 
   -- ---- and with BURST set
 
-  pub set-tick : (n : ℕ) (next : Bool) (l : SetLine p n next a b xs) → Sole (sides (deviceTicks limit Silence xs cs))
+  pub set-tick : (n : ℕ) (next : Bool) (l : SetLine p n next a b xs) → Sole (sides (deviceTicks limit Silence xs cs)) × SoleTag (sides (deviceTicks limit Silence xs cs))
       → SilentTick p n true (l .noted) next a b (masterTick limit a Silence ca) (masterTick limit b Silence cb) (deviceTicks limit Silence xs cs)
       (SetLine p (n - 1) next (masterTick limit a Silence ca .side) (masterTick limit b Silence cb .side) (sides (deviceTicks limit Silence xs cs)))
   set-tick n next l sole =
-      silent-tick p (l .g) (l .h) n true (l .noted) next (SetCounts p (a .master .timer)) (SetCounts p (b .master .timer)) _ (l .distinct) (l .agreed) sole (l .asked)
+      silent-tick p (l .g) (l .h) n true (l .noted) next (SetCounts p (a .master .timer)) (SetCounts p (b .master .timer)) _ (l .distinct) (l .agreed) (sole .0) (l .asked)
       (λ c e x y. one-slot-window p (n - 1) c e (one-slot-next p n (a .master .timer) (b .master .timer) c e (x .counts) (y .counts) (l .slot)))
       (λ z c x. slot-shut p (l .g) n (a .master .timer) c (v .some-hold) (x .counts) (l .primary-shut) (first-slot (l .slot)) z)
       (λ z c x. slot-shut p (l .g) n (b .master .timer) c (v .some-hold) (x .counts) (l .secondary-shut) (second-slot (l .slot)) z)
@@ -234,7 +235,7 @@ module _ (limit : ℕ) (low : 2 ≤ limit) (high : limit ≤ 255) (p : Profile) 
       (set-counts p a (l .primary .listens .is-it .profile-is) (l .primary .burst-is) (omega (arith, l .some, l .primary-quiet))))
       (master-tick limit high p false true (l .noted) (SetCounts p (b .master .timer)) b cb (l .secondary) (set-burst b (l .secondary .burst-is) (omega (arith, l .some, l .secondary-quiet)))
       (set-counts p b (l .secondary .listens .is-it .profile-is) (l .secondary .burst-is) (omega (arith, l .some, l .secondary-quiet))))
-      (silent-devices limit low high p (v .some-sto) (l .g) (l .h) n (λ x e. omega (arith, l .before)) true (l .noted) next cs (l .devices) (l .distinct) (l .agreed .each))
+      (silent-devices limit low high p (v .some-sto) (l .g) (l .h) n (λ x e. omega (arith, l .before)) true (l .noted) next cs (l .devices) (l .distinct) (l .agreed .each) (sole .1))
     where
       its-turn : (z : Bool) → next ≡ z → (c : Timer) → SetCounts p (a .master .timer) c → 0 < c .window → next ≡ true
       its-turn true e c x w = e

@@ -8,7 +8,7 @@ use mathlib.Core.Logic.{_⊎_, inl, inr}
 use lib.ListN.{getD, take}
 use borrow.Author.Tests.{eqb-true}
 use Rattle.base.specs.Choice.{if_then_else_}
-use Rattle.base.proofs.Choices.{if-is-true}
+use Rattle.base.proofs.Choices.{true-false, if-is-true}
 use Rattle.frame.specs.Delimiter.{ack, back}
 use Rattle.frame.specs.declared.Header.{Header}
 use Rattle.line.specs.Reader.{idle}
@@ -16,8 +16,8 @@ use Rattle.line.specs.declared.Heard.the-variants.{Silence, Character}
 use Rattle.line.specs.declared.Profile.{Profile}
 use Rattle.line.specs.declared.Whole.{Whole}
 use Rattle.line.proofs.Leads.{readerAfter}
-use Rattle.turns.specs.Master.{burstAfter, notedAfter, timerCounted, burstCounted, masterTakes}
-use Rattle.turns.specs.Device.{isOwn}
+use Rattle.turns.specs.Master.{burstAfter, notedAfter, timerCounted, burstCounted, masterTakes, seeksTag, namesDevice}
+use Rattle.turns.specs.Device.{isOwn, mayAnswer}
 use Rattle.turns.specs.Link.{MasterCall, MasterSide, MasterStep, DeviceSide, DeviceStep, masterTick, masterData, sides, carried}
 use Rattle.turns.specs.Run.{Distinct, Sole}
 use Rattle.turns.specs.declared.Sent.{Sent}
@@ -198,8 +198,13 @@ module _ {p : Profile} {g : ℕ} {h : Header} {n : ℕ} where
     good = record { listens = q .quietly .good .listens; receiver-is = q .idle-is ∙ nothing-read w; another = λ e. apart (sym (q .quietly .same .same-unique) ∙ e) };
   }
 
-own-long : (d : Device) (h : Header) → isOwn d h ≡ true → h .long ≡ true → h .address ≡ d .unique
-own-long d h o l = sym (eqb-true (d .unique) (h .address) (sym (if-is-true (h .long) _ _ l) ∙ o))
+own-long : (d : Device) (h : Header) → mayAnswer d h ≡ true → namesDevice h ≡ true → h .address ≡ d .unique
+unfolding if_then_else_
+own-long d h = go (seeksTag h)
+  where
+    go : (t : Bool) → (if t then true else isOwn d h) ≡ true → (if t then false else h .long) ≡ true → h .address ≡ d .unique
+    go true o l = absurd (true-false (sym l))
+    go false o l = sym (eqb-true (d .unique) (h .address) (sym (if-is-true (h .long) _ _ l) ∙ o))
 
 -- ---- all of them
 

@@ -21,7 +21,7 @@ use Rattle.turns.specs.Master.{masterTakes, masterSends, freshMaster}
 use Rattle.turns.specs.Device as D
 use Rattle.turns.specs.Device.{errorFrame, deviceTakes}
 use Rattle.turns.specs.Link.{MasterCall, DeviceCall, no-call, MasterSide, masterData, masterCalls, masterTick, DeviceSide, deviceData, deviceCalls, deviceTick, deviceTicks, Link, LinkStep, Calls, linkTick, linkAfter, run}
-use Rattle.turns.specs.Run.{All, none, and, DeviceStarts, Starts, EachTick, tick-and, OneBursts}
+use Rattle.turns.specs.Run.{All, none, and, DeviceStarts, Starts, EachTick, tick-and}
 use Rattle.turns.specs.SoundPair.{masterSilence01, deviceSilence01, masterHears01, masterTakes01, masterTick01, deviceHears01, deviceTakes01, deviceTick01, deviceTicks01, linkTick01, run01, SoundPair}
 use Rattle.turns.specs.declared.Master.{Master}
 use Rattle.turns.specs.declared.MasterTaken.{MasterTaken}
@@ -33,6 +33,8 @@ use Rattle.turns.proofs.Phases.{Ready, DeviceQuiet}
 use Rattle.turns.proofs.Quiet.{clear, set}
 use Rattle.turns.proofs.Fresh.{valid, master-is, device-is}
 use Rattle.turns.proofs.Windows.{Valid}
+use Rattle.turns.proofs.Fair.{Fair}
+use Rattle.turns.proofs.Tags.{fair-run}
 use Rattle.turns.proofs.NoTwoSend.{Phase, silent, primary-sends, secondary-sends, ack-sent, back-sent, phase-tick, phase-first}
 
 -- ---- a reader that a silent tick leads to idle, with nothing told, stands in no frame
@@ -186,7 +188,7 @@ unfolding run run01
 run-same limit l c cs same on =
     (λ i. linkTick limit l c ∷ on i) ∙ ap (λ (s : LinkStep). s ∷ run01 limit (linkAfter s) cs) (same-tick limit l c same)
 
-runs-same : (limit : ℕ) → 2 ≤ limit → limit ≤ 255 → (p : Profile) → Valid p → (e : ℕ) (l : Link) (ticks : List Calls) → Phase p e l → EachTick OneBursts (run limit l ticks) → run limit l ticks ≡ run01 limit l ticks
+runs-same : (limit : ℕ) → 2 ≤ limit → limit ≤ 255 → (p : Profile) → Valid p → (e : ℕ) (l : Link) (ticks : List Calls) → Phase p e l → EachTick Fair (run limit l ticks) → run limit l ticks ≡ run01 limit l ticks
 unfolding run run01
 runs-same limit low high p v e l [] q b = refl
 runs-same limit low high p v e l (c ∷ cs) q (tick-and b bs) =
@@ -195,9 +197,9 @@ runs-same limit low high p v e l (c ∷ cs) q (tick-and b bs) =
 pub sound-pair : (limit : ℕ) → 2 ≤ limit → limit ≤ 255 → SoundPair limit
 unfolding run run01
 sound-pair limit low high p retries l [] k = refl
-sound-pair limit low high p retries l (c ∷ cs) k = go (k .one-bursts)
+sound-pair limit low high p retries l (c ∷ cs) k = go (fair-run limit p retries l (c ∷ cs) k)
   where
-    go : EachTick OneBursts (run limit l (c ∷ cs)) → run limit l (c ∷ cs) ≡ run01 limit l (c ∷ cs)
+    go : EachTick Fair (run limit l (c ∷ cs)) → run limit l (c ∷ cs) ≡ run01 limit l (c ∷ cs)
     go (tick-and b bs) =
         let v = valid p (k .made) in
         let next = phase-first limit low high p v retries l c (k .starts) in

@@ -18,7 +18,7 @@ use Rattle.line.specs.declared.Heard.the-variants.{Silence}
 use Rattle.line.specs.declared.Receiver.{Receiver}
 use Rattle.line.specs.declared.Taken.{Taken}
 use Rattle.line.specs.declared.Whole.{Whole}
-use Rattle.turns.specs.Master.{Ending, behind, staged, fails, ends, atBreak, atFrame, ifAwaiting, isBroadcast, isAnswer, waited, rt1Ends, unlessEnded, counts, timerCounted, burstCounted, burstAfter, notedAfter, timerAfter, onSilence, onCharacter, onHeard, masterTakes, timer, ownRt1, attempted, sendsAt, sendsBy, masterSends, requestHeader, requested, Called}
+use Rattle.turns.specs.Master.{Ending, behind, staged, fails, ends, atBreak, atFrame, ifAwaiting, isBroadcast, answersMessage, waited, rt1Ends, unlessEnded, counts, timerCounted, burstCounted, burstAfter, notedAfter, timerAfter, onSilence, onCharacter, onHeard, masterTakes, timer, ownRt1, attempted, sendsAt, sendsBy, masterSends, requestHeader, requested, Called}
 use Rattle.turns.specs.Link.{MasterCall, no-request, requests, Answer, none, was-refused, MasterSide, MasterStep, masterCalls, masterCalled, masterSent, masterTick, masterData}
 use Rattle.turns.specs.declared.Sent.the-variants.{Character}
 use Rattle.turns.specs.declared.Stage.{Stage}
@@ -73,10 +73,9 @@ break-ended frame m n e f =
 
 frame-ended : {primary : Bool} (frame : List ℕ) (m : Master) (w : Whole) (bytes : List ℕ) (n : ℕ) → m .message .stage ≡ Awaiting n → Formed primary frame (m .message) → Ended primary frame (m .retries) (m .message) (atFrame m w bytes)
 frame-ended frame m w bytes n e f =
-    either-ended (isBroadcast (m .message .header)) _ _ (ends-ended frame (m .retries) (m .message) MasterTold.BroadcastSent)
-    (either-ended (isAnswer m (w .header)) _ _
-    (either-ended _ _ _ (fails-ended frame (m .retries) (m .message) n e f) (ends-ended frame (m .retries) (m .message) (MasterTold.Answered w)))
-    (fails-ended frame (m .retries) (m .message) n e f))
+    either-ended (answersMessage m (w .header)) _ _
+    (either-ended _ _ _ (break-ended frame m n e f) (ends-ended frame (m .retries) (m .message) (MasterTold.Answered w)))
+    (break-ended frame m n e f)
 
 -- the message behind a frame: nothing is awaited any more, and one that waits stays
 record Behind (primary : Bool) (frame : List ℕ) (g : Message) (e : Ending) : Type 0 where

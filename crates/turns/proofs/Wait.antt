@@ -13,12 +13,14 @@ use Rattle.line.specs.declared.Profile.{Profile}
 use Rattle.line.specs.declared.Whole.{Whole}
 use Rattle.turns.specs.Master.{burstAfter}
 use Rattle.turns.specs.Link.{MasterSide, DeviceSide, Link, LinkStep, Calls, linkTick, linkAfter, run}
-use Rattle.turns.specs.Run.{All, and, EachTick, tick-and, OneBursts}
+use Rattle.turns.specs.Run.{All, and, EachTick, tick-and}
 use Rattle.turns.specs.Demand3.{masterIn, AcceptedIn, BeginsWithin, NoneBurstsIn, NoneBursts, until-it-begins, and-on, longestWait, longerWithBurst, WaitInARun, Demand3}
 use Rattle.turns.specs.Demand3 as S
 use Rattle.turns.specs.declared.Sent.{Sent}
 use Rattle.turns.specs.declared.Noted.{Noted}
 use Rattle.turns.specs.declared.Stage.the-variants.{Waiting, Sending}
+use Rattle.turns.proofs.Fair.{Fair}
+use Rattle.turns.proofs.Tags.{fair-run}
 use Rattle.turns.proofs.Masters.{left}
 use Rattle.turns.proofs.DeviceSpeaking.{an-ack, a-back}
 use Rattle.turns.proofs.Windows as W
@@ -47,12 +49,12 @@ use Rattle.turns.proofs.WaitClear.{clear-step, stx-clear-step}
 
 -- ---- a tick, in each of the three ways to wait
 
-module _ (limit : ℕ) (low : 2 ≤ limit) (high : limit ≤ 255) (p : Profile) (v : Valid p) (retries : ℕ) (bit : Bool) (l : Link) (c : Calls) (sole : OneBursts (linkTick limit l c)) where
+module _ (limit : ℕ) (low : 2 ≤ limit) (high : limit ≤ 255) (p : Profile) (v : Valid p) (retries : ℕ) (bit : Bool) (l : Link) (c : Calls) (sole : Fair (linkTick limit l c)) where
   -- the tick of the link is the one that hears what the line carries
-  as-heard : {W : Link → Type 0} (heard : _) → l .line ≡ heard → (OneBursts (heardTick limit l heard c) → LinkSettled limit retries (linkAfter (heardTick limit l heard c)) → Next bit (heardTick limit l heard c) W)
+  as-heard : {W : Link → Type 0} (heard : _) → l .line ≡ heard → (Fair (heardTick limit l heard c) → LinkSettled limit retries (linkAfter (heardTick limit l heard c)) → Next bit (heardTick limit l heard c) W)
       → LinkSettled limit retries (linkAfter (linkTick limit l c)) → Next bit (linkTick limit l c) W
   as-heard {W} heard e f k =
-      subst (λ (s : LinkStep). OneBursts s → LinkSettled limit retries (linkAfter s) → Next bit s W) (sym (tick-is limit l heard c e)) f sole k
+      subst (λ (s : LinkStep). Fair s → LinkSettled limit retries (linkAfter s) → Next bit s W) (sym (tick-is limit l heard c e)) f sole k
 
   soon-tick : (d : ℕ) → LinkSettled limit retries (linkAfter (linkTick limit l c)) → Soon p bit d l → Next bit (linkTick limit l c) (Soon p bit (d - 1))
   soon-tick d k (Ways.first-window e line m q r) = as-heard Silence line (λ one s. first-step limit low high p v retries bit l c e d one m q r) k
@@ -157,7 +159,7 @@ module _ (limit : ℕ) (low : 2 ≤ limit) (high : limit ≤ 255) (p : Profile) 
   behind d {s} {ss} some e b =
       subst (λ (n : ℕ). BeginsWithin bit n (s ∷ ss)) (omega arith) (S.waits (ap (λ (m : _). m .sent) (sym (waiter-is bit s)) ∙ e) b)
 
-  soon-run : (d : ℕ) (l : Link) (ticks : List Calls) → LinkKept limit retries l → EachTick OneBursts (run limit l ticks) → d ≤ length ticks → Soon p bit d l → BeginsWithin bit (d - 1) (run limit l ticks)
+  soon-run : (d : ℕ) (l : Link) (ticks : List Calls) → LinkKept limit retries l → EachTick Fair (run limit l ticks) → d ≤ length ticks → Soon p bit d l → BeginsWithin bit (d - 1) (run limit l ticks)
   unfolding run
   soon-run d l [] k b m w = absurd (omega (arith, soon-left p v bit d l w))
   soon-run d l (c ∷ cs) k (tick-and one b) m w =
@@ -168,7 +170,7 @@ module _ (limit : ℕ) (low : 2 ≤ limit) (high : limit ≤ 255) (p : Profile) 
       go (Ways.began ch e) f = now (d - 1) ch e
       go (Ways.waits e w′) f = behind d (soon-left p v bit (d - 1) _ w′) e (f w′)
 
-  burst-run : (d : ℕ) (l : Link) (ticks : List Calls) → LinkKept limit retries l → EachTick OneBursts (run limit l ticks) → d ≤ length ticks → Burst p (limit + 29) bit d l → BeginsWithin bit (d - 1) (run limit l ticks)
+  burst-run : (d : ℕ) (l : Link) (ticks : List Calls) → LinkKept limit retries l → EachTick Fair (run limit l ticks) → d ≤ length ticks → Burst p (limit + 29) bit d l → BeginsWithin bit (d - 1) (run limit l ticks)
   unfolding run
   burst-run d l [] k b m w = absurd (omega (arith, burst-left p v bit d l (limit + 29) w))
   burst-run d l (c ∷ cs) k (tick-and one b) m w =
@@ -188,7 +190,7 @@ module _ (limit : ℕ) (low : 2 ≤ limit) (high : limit ≤ 255) (p : Profile) 
       go (Ways.waits e (inr w′)) f = behind d (burst-left p v bit (d - 1) _ (limit + 29) w′) e (f w′)
 
   -- no device bursts meanwhile
-  clear-run : (d : ℕ) (l : Link) (ticks : List Calls) → LinkKept limit retries l → EachTick OneBursts (run limit l ticks) → d ≤ length ticks → NoneBursts bit (run limit l ticks) → Clear p (limit + 29) retries bit d l → BeginsWithin bit (d - 1) (run limit l ticks)
+  clear-run : (d : ℕ) (l : Link) (ticks : List Calls) → LinkKept limit retries l → EachTick Fair (run limit l ticks) → d ≤ length ticks → NoneBursts bit (run limit l ticks) → Clear p (limit + 29) retries bit d l → BeginsWithin bit (d - 1) (run limit l ticks)
   unfolding run
   clear-run d l [] k b m off w = absurd (omega (arith, clear-left p v bit d l (limit + 29) retries w))
   clear-run d l (c ∷ cs) k (tick-and one b) m (until-it-begins ch off e) w = S.begins (d - 1) ch e
@@ -210,7 +212,7 @@ module _ (limit : ℕ) (low : 2 ≤ limit) (high : limit ≤ 255) (p : Profile) 
       go (Ways.waits e (inr w′)) f = absurd (none-some off (burst-some p v bit _ _ (limit + 29) w′))
 
   -- a device may begin to burst meanwhile
-  any-run : (d : ℕ) (l : Link) (ticks : List Calls) → LinkKept limit retries l → EachTick OneBursts (run limit l ticks) → d + burstGain p (limit + 29) ≤ length ticks → Clear p (limit + 29) retries bit d l
+  any-run : (d : ℕ) (l : Link) (ticks : List Calls) → LinkKept limit retries l → EachTick Fair (run limit l ticks) → d + burstGain p (limit + 29) ≤ length ticks → Clear p (limit + 29) retries bit d l
       → BeginsWithin bit (d + burstGain p (limit + 29) - 1) (run limit l ticks)
   unfolding run
   any-run d l [] k b m w = absurd (omega (arith, clear-left p v bit d l (limit + 29) retries w))
@@ -386,7 +388,7 @@ accepted-in limit high false l c e = accepts limit high (l .secondary) (l .line)
 
 module _ (limit : ℕ) (low : 2 ≤ limit) (high : limit ≤ 255) (p : Profile) (v : Valid p) (retries : ℕ) (bit : Bool) where
   -- the tick of acceptance, and those behind it
-  at-tick : (e : ℕ) (l : Link) (c : Calls) (cs : List Calls) → LinkKept limit retries l → Phase p e (linkAfter (linkTick limit l c)) → EachTick OneBursts (run limit (linkAfter (linkTick limit l c)) cs) → AcceptedIn bit (linkTick limit l c)
+  at-tick : (e : ℕ) (l : Link) (c : Calls) (cs : List Calls) → LinkKept limit retries l → Phase p e (linkAfter (linkTick limit l c)) → EachTick Fair (run limit (linkAfter (linkTick limit l c)) cs) → AcceptedIn bit (linkTick limit l c)
       → Claim limit p retries bit e (linkTick limit l c ∷ run limit (linkAfter (linkTick limit l c)) cs)
   unfolding Entered
   at-tick e l c cs k ph b acc = go (accepted-in limit high bit l c acc)
@@ -440,7 +442,7 @@ module _ (limit : ℕ) (low : 2 ≤ limit) (high : limit ≤ 255) (p : Profile) 
   none-more : {y : LinkStep} {ys : List LinkStep} → [] ≡ y ∷ ys → ⊥
   none-more e = let z : _≡_ {A = ℕ} 0 1 = cc in omega arith
 
-  found : (e t : ℕ) (l : Link) (ticks : List Calls) (s : LinkStep) (after : List LinkStep) → LinkKept limit retries l → Phase p e l → EachTick OneBursts (run limit l ticks) → drop t (run limit l ticks) ≡ s ∷ after → AcceptedIn bit s
+  found : (e t : ℕ) (l : Link) (ticks : List Calls) (s : LinkStep) (after : List LinkStep) → LinkKept limit retries l → Phase p e l → EachTick Fair (run limit l ticks) → drop t (run limit l ticks) ≡ s ∷ after → AcceptedIn bit s
       → Claim limit p retries bit (e - 1 - t) (s ∷ after)
   unfolding run
   found e zero l [] s after k ph b q acc = absurd (none-more q)
@@ -457,7 +459,7 @@ pub wait : (limit : ℕ) → 2 ≤ limit → limit ≤ 255 → WaitInARun limit
 unfolding run
 wait limit low high p retries l [] k bit zero s after q acc = absurd (none-more limit low high p (valid p (k .made)) retries bit q)
 wait limit low high p retries l [] k bit (suc t) s after q acc = absurd (none-more limit low high p (valid p (k .made)) retries bit q)
-wait limit low high p retries l (c ∷ cs) k bit t s after q acc = go (k .one-bursts) t q
+wait limit low high p retries l (c ∷ cs) k bit t s after q acc = go (fair-run limit p retries l (c ∷ cs) k) t q
   where
     v : Valid p
     v = valid p (k .made)
@@ -468,7 +470,7 @@ wait limit low high p retries l (c ∷ cs) k bit t s after q acc = go (k .one-bu
     first : Phase p (p .rt1s) (linkAfter (linkTick limit l c))
     first = phase-first limit low high p (valid p (k .made)) retries l c (k .starts)
 
-    go : EachTick OneBursts (run limit l (c ∷ cs)) → (t : ℕ) → drop t (run limit l (c ∷ cs)) ≡ s ∷ after → Claim limit p retries bit (p .rt1s - t) (s ∷ after)
+    go : EachTick Fair (run limit l (c ∷ cs)) → (t : ℕ) → drop t (run limit l (c ∷ cs)) ≡ s ∷ after → Claim limit p retries bit (p .rt1s - t) (s ∷ after)
     go (tick-and one b) zero q =
         subst (λ (ss : List LinkStep). Claim limit p retries bit (p .rt1s - 0) ss) q
         (subst (λ (n : ℕ). Claim limit p retries bit n (linkTick limit l c ∷ run limit (linkAfter (linkTick limit l c)) cs)) (omega arith)

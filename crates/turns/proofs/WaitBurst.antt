@@ -13,7 +13,7 @@ use Rattle.line.specs.declared.Profile.{Profile}
 use Rattle.line.specs.declared.Whole.{Whole}
 use Rattle.turns.specs.Master.{burstAfter, timer}
 use Rattle.turns.specs.Link.{MasterSide, Link, LinkStep, Calls, linkAfter}
-use Rattle.turns.specs.Run.{OneBursts}
+use Rattle.turns.proofs.Fair.{Fair}
 use Rattle.turns.proofs.Masters.{left}
 use Rattle.turns.proofs.DeviceSpeaking.{an-ack, a-back}
 use Rattle.turns.proofs.Windows.{Valid}
@@ -36,7 +36,7 @@ module _ (limit : ℕ) (low : 2 ≤ limit) (high : limit ≤ 255) (p : Profile) 
   abbrev heard : List ℕ → ℕ → LinkStep
   heard w k = heardTick limit l (Character (getD w k 0)) c
 
-  pub set-step : (n : ℕ) (next : Bool) (d : ℕ) → OneBursts (heardTick limit l Silence c) → LinkSettled limit retries (linkAfter (heardTick limit l Silence c)) → (k : SetLine p n next (l .primary) (l .secondary) (l .devices)) → Pending (waiter bit l)
+  pub set-step : (n : ℕ) (next : Bool) (d : ℕ) → Fair (heardTick limit l Silence c) → LinkSettled limit retries (linkAfter (heardTick limit l Silence c)) → (k : SetLine p n next (l .primary) (l .secondary) (l .devices)) → Pending (waiter bit l)
       → SetRank p (limit + 29) (isOwn bit next) n (waiter bit l .master .timer) (other bit l .master .timer) (left (other bit l .master .message .stage)) d
       → Next bit (heardTick limit l Silence c) (λ (m : Link). Soon p bit (d - 1) m ⊎ Burst p (limit + 29) bit (d - 1) m)
   unfolding heardTick if_then_else_

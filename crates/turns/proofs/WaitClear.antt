@@ -12,7 +12,7 @@ use Rattle.line.specs.declared.Profile.{Profile}
 use Rattle.line.specs.declared.Whole.{Whole}
 use Rattle.turns.specs.Master.{burstAfter, timer}
 use Rattle.turns.specs.Link.{MasterSide, Link, LinkStep, Calls, linkAfter}
-use Rattle.turns.specs.Run.{OneBursts}
+use Rattle.turns.proofs.Fair.{Fair}
 use Rattle.turns.specs.declared.Noted.{Noted}
 use Rattle.turns.specs.declared.Timer.{Timer}
 use Rattle.turns.proofs.Masters.{left}
@@ -39,7 +39,7 @@ module _ (limit : ℕ) (low : 2 ≤ limit) (high : limit ≤ 255) (p : Profile) 
   heard w k = heardTick limit l (Character (getD w k 0)) c
 
   -- the silent line
-  pub clear-step : (e d : ℕ) → OneBursts (heardTick limit l Silence c) → LinkKept limit retries l → LinkSettled limit retries (linkAfter (heardTick limit l Silence c)) → (k : ClearLine p e (l .primary) (l .secondary) (l .devices)) → Pending (waiter bit l)
+  pub clear-step : (e d : ℕ) → Fair (heardTick limit l Silence c) → LinkKept limit retries l → LinkSettled limit retries (linkAfter (heardTick limit l Silence c)) → (k : ClearLine p e (l .primary) (l .secondary) (l .devices)) → Pending (waiter bit l)
       → ClearRank p (limit + 29) retries (waiter bit l .master .timer) (other bit l .master .timer) (left (other bit l .master .message .stage)) (other bit l .master .message .attempts) d
       → Next bit (heardTick limit l Silence c) (λ (m : Link). (Soon p bit (d - 1) m ⊎ Clear p (limit + 29) retries bit (d - 1) m) ⊎ Burst p (limit + 29) bit (d - 1 + burstGain p (limit + 29)) m)
   unfolding heardTick if_then_else_

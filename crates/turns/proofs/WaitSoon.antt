@@ -12,7 +12,7 @@ use Rattle.line.specs.declared.Profile.{Profile}
 use Rattle.line.specs.declared.Whole.{Whole}
 use Rattle.turns.specs.Master.{burstAfter, timer}
 use Rattle.turns.specs.Link.{MasterSide, Link, LinkStep, Calls, linkAfter}
-use Rattle.turns.specs.Run.{OneBursts}
+use Rattle.turns.proofs.Fair.{Fair}
 use Rattle.turns.specs.declared.Noted.{Noted}
 use Rattle.turns.specs.declared.Timer.{Timer}
 use Rattle.turns.proofs.Masters.{left}
@@ -36,7 +36,7 @@ module _ (limit : ℕ) (low : 2 ≤ limit) (high : limit ≤ 255) (p : Profile) 
   abbrev heard : List ℕ → ℕ → LinkStep
   heard w k = heardTick limit l (Character (getD w k 0)) c
 
-  pub first-step : (e d : ℕ) → OneBursts (heardTick limit l Silence c) → (k : ClearLine p e (l .primary) (l .secondary) (l .devices)) → Pending (waiter bit l)
+  pub first-step : (e d : ℕ) → Fair (heardTick limit l Silence c) → (k : ClearLine p e (l .primary) (l .secondary) (l .devices)) → Pending (waiter bit l)
       → First (waiter bit l .master .timer) (other bit l .master .timer) (left (other bit l .master .message .stage)) d → Next bit (heardTick limit l Silence c) (Soon p bit (d - 1))
   unfolding heardTick
   first-step e d sole k q r = go (silent-view p 0 false (k .noted) true bit l quiet _ (clear-tick limit low high p v (l .primary) (l .secondary) (l .devices) (c .for-primary) (c .for-secondary) (c .for-devices) e k sole))

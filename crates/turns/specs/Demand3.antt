@@ -8,6 +8,7 @@ use Rattle.line.specs.Profile.{profileMade}
 use Rattle.line.specs.declared.MadeProfile.the-variants.{Made}
 use Rattle.line.specs.declared.Profile.{Profile}
 use Rattle.turns.specs.Link.{was-taken, MasterStep, DeviceSide, Link, LinkStep, Calls, sides, run}
+use Rattle.turns.specs.Ledgers.{blanks, OneFinds}
 use Rattle.turns.specs.Run.{All, Starts, EachTick, OneBursts, NoTwoSend}
 use Rattle.turns.specs.declared.Sent.the-variants.{Silent, Character}
 
@@ -20,6 +21,8 @@ pub record Premises (limit : ℕ) (p : Profile) (retries : ℕ) (l : Link) (tick
   pub starts : Starts p retries l
   -- "at most one device bursts at a time"
   pub one-bursts : EachTick OneBursts (run limit l ticks)
+  -- item 6: "one tag, one device, so that at most one host's answer to each command 11 is taken"
+  pub one-finds : OneFinds (blanks (l .devices)) ticks (run limit l ticks)
 
 -- ---- "then no two send in one tick"
 

@@ -31,7 +31,7 @@ use Rattle.turns.specs.declared.DeviceTold.{DeviceTold}
 use Rattle.turns.specs.declared.DeviceTold.the-variants.{Request, Broadcast}
 use Rattle.turns.specs.declared.DeviceTaken.{DeviceTaken}
 use Rattle.turns.specs.declared.DeviceSent.{DeviceSent}
-use Rattle.turns.specs.Master.{Called, accepted, refused, isBroadcast}
+use Rattle.turns.specs.Master.{Called, accepted, refused, isBroadcast, seeksTag}
 
 -- the same device with other parts
 abbrev pub behind : Device → Receiver → Turn → Header → Wish → ℕ → ℕ → Device
@@ -58,6 +58,10 @@ behind d r turn request wish length due = record {
 abbrev pub isOwn : Device → Header → Bool
 isOwn d h = if h .long then d .unique =? h .address else (if d .polling =? h .address then h .command =? 0 else false)
 
+-- which request the host may answer. Item 6: "a device's host answers command 11 if the tag is its own; other broadcasts still get none." Whose tag it is, the hosts say.
+abbrev pub mayAnswer : Device → Header → Bool
+mayAnswer d h = if seeksTag h then true else isOwn d h
+
 -- ---- the next BACK
 
 -- "after timer 1 behind another's ACK, .. after RT1 primary behind anything else"
@@ -74,11 +78,11 @@ errorStatus m = 0x80 + (if m .parity then 0x40 else 0) + (if m .overrun then 0x2
 abbrev pub errorData : Harm → List ℕ
 errorData m = errorStatus m ∷ 0 ∷ []
 
--- an ACK to a request: the form of its address, its master bit and its command; the burst flag if the device bursts
+-- an ACK to a request: the form of its address, its master bit and its command; the burst flag if the device bursts. Item 6: "Our transmitters repeat the request's address bytes, with their burst flag."
 abbrev pub answerHeader : Header → Bool → Header
 answerHeader h burst = record { frame = ack; long = h .long; primary = h .primary; burst = burst; address = h .address; command = h .command }
 
--- "Expansion bytes or damage in the address: no answer." Else damage in an STX "that as heard is for this device" is answered without the host.
+-- "Expansion bytes or damage in the address: no answer." Else damage in an STX "that as heard is for this device" is answered without the host. A damaged broadcast is for no device, so that item 6's "A damaged one is never answered" (`damaged-unanswered` in proofs/TagSentences).
 abbrev pub hasError : Device → Whole → Harm → Bool
 hasError d w m =
     if w .header .frame =? stx then
@@ -90,10 +94,10 @@ hasError d w m =
 abbrev pub tells : Device → DeviceTold → Event → DeviceTaken
 tells d told event = record { device = d; told = told; event = event }
 
--- an undamaged STX without expansion bytes: told to the host, with the ticks in which it may be answered, or a broadcast, "told to the host and never answered"
+-- an undamaged STX without expansion bytes: told to the host, with the ticks in which it may be answered, or another broadcast, "told to the host and never answered"
 abbrev pub afterRequest : Device → Receiver → Whole → DeviceTaken
 afterRequest d r w =
-    if isOwn d (w .header) then tells (behind d r (Asked (d .profile .sto)) (w .header) Same (d .length) (d .profile .rt1p)) (Request w) (Frame w) else
+    if mayAnswer d (w .header) then tells (behind d r (Asked (d .profile .sto)) (w .header) Same (d .length) (d .profile .rt1p)) (Request w) (Frame w) else
     if isBroadcast (w .header) then tells (behind d r Listens (d .request) Same (d .length) (d .profile .rt1p)) (Broadcast w) (Frame w) else
     tells (behind d r Listens (d .request) Same (d .length) (d .profile .rt1p)) DeviceTold.Nothing (Frame w)
 
@@ -173,11 +177,15 @@ wished burst Same = burst
 wished burst On = true
 wished burst Off = false
 
+-- "on or off wished in answer to command 0"; item 6: "A wish to turn burst on or off in this answer is refused with 10"
+abbrev pub hasNoWish : Header → Bool
+hasNoWish h = if h .command =? 0 then true else seeksTag h
+
 -- "10: burst on without burst content, or on or off wished in answer to command 0"
 abbrev pub wishRefused : Device → Wish → Bool
 wishRefused d Same = false
-wishRefused d On = if d .request .command =? 0 then true else (if d .content .given then false else true)
-wishRefused d Off = d .request .command =? 0
+wishRefused d On = if hasNoWish (d .request) then true else (if d .content .given then false else true)
+wishRefused d Off = hasNoWish (d .request)
 
 -- the turn of a request in hand: "an answer at T+1 begins at T+2", a later one in its own tick
 abbrev pub answersAt : Device → ℕ → Turn

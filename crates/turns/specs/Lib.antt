@@ -3,6 +3,7 @@ pub mod Master
 pub mod Device
 pub mod Link
 pub mod Run
+pub mod Ledgers
 pub mod Bursts
 pub mod Demand3
 pub mod Credit

@@ -90,7 +90,21 @@ timerCounted m = if m .burst then (if m .timer .quiet ≤? 1 then opened (m .pro
 abbrev pub burstCounted : Master → Bool
 burstCounted m = if m .burst then (if m .timer .quiet ≤? 1 then false else true) else false
 
+-- ---- broadcast
+
+-- "Unique address 0 is broadcast."
+abbrev pub isBroadcast : Header → Bool
+isBroadcast h = if h .long then h .address =? 0 else false
+
+-- item 6: "command 11, sent to the broadcast address"; its ACK too, since "Our transmitters repeat the request's address bytes"
+abbrev pub seeksTag : Header → Bool
+seeksTag h = if isBroadcast h then h .command =? 11 else false
+
 -- ---- BURST
+
+-- the address is that of a device: a long one is, but in the ACK to command 11 by broadcast it is the request's
+abbrev pub namesDevice : Header → Bool
+namesDevice h = if seeksTag h then false else h .long
 
 abbrev pub addressOf : Header → Noted
 addressOf h = record { long = h .long; address = h .address }
@@ -99,19 +113,19 @@ addressOf h = record { long = h .long; address = h .address }
 abbrev pub isNoted : Noted → Header → Bool
 isNoted n h = if n .long then n .address =? h .address else false
 
--- "A long ACK with the burst flag, or a BACK, sets BURST and notes its address. A long ACK from the noted address without the flag clears it. A short ACK with the flag sets BURST and notes nothing."
+-- "A long ACK with the burst flag, or a BACK, sets BURST and notes its address. A long ACK from the noted address without the flag clears it. A short ACK with the flag sets BURST and notes nothing." Item 6, of the ACK to command 11 by broadcast: "with the flag it sets BURST and notes nothing, and it never clears it."
 abbrev pub burstAfter : Bool → Noted → Header → Bool
 burstAfter burst noted h =
     if h .frame =? back then true else
     if h .frame =? ack then
     (if h .burst then true else
-    if h .long then (if isNoted noted h then false else burst) else burst)
+    if namesDevice h then (if isNoted noted h then false else burst) else burst)
     else burst
 
 abbrev pub notedAfter : Noted → Header → Noted
 notedAfter noted h =
     if h .frame =? back then addressOf h else
-    if h .frame =? ack then (if h .burst then (if h .long then addressOf h else noted) else noted)
+    if h .frame =? ack then (if h .burst then (if namesDevice h then addressOf h else noted) else noted)
     else noted
 
 -- ---- the timer behind a frame
@@ -140,10 +154,6 @@ brokenTimer m = if m .burst then burstTimer m 0 else timer (ownRt1 m)
 abbrev pub ends : Message → MasterTold → Ending
 ends g told = record { message = staged g Free; told = told }
 
--- "Unique address 0 is broadcast."
-abbrev pub isBroadcast : Header → Bool
-isBroadcast h = if h .long then h .address =? 0 else false
-
 -- "R failed retries after the first attempt end the message as given up, with the attempts, equal to the STX frames sent"
 abbrev pub fails : ℕ → Message → Ending
 fails retries g = if g .attempts ≤? retries then record { message = staged g Waiting; told = MasterTold.Nothing } else ends g (GivenUp (g .attempts))
@@ -160,16 +170,17 @@ isAnswer m h =
     (if m .message .header .address =? h .address then
     m .message .header .command =? h .command else false) else false) else false) else false
 
--- "Such an ACK ends the message as answered, unless bit 7 of its first data byte is set: then the attempt failed. Another frame .. also fails it." Broadcast is "reported as sent .. at the next frame".
-abbrev pub atFrame : Master → Whole → List ℕ → Ending
-atFrame m w bytes =
-    if isBroadcast (m .message .header) then ends (m .message) BroadcastSent else
-    if isAnswer m (w .header) then (if byteAt bytes 0 / 128 =? 1 then fails (m .retries) (m .message) else ends (m .message) (Answered w))
-    else fails (m .retries) (m .message)
-
 -- "a broken one, or RT1 without a character also fails it"
 abbrev pub atBreak : Master → Ending
 atBreak m = if isBroadcast (m .message .header) then ends (m .message) BroadcastSent else fails (m .retries) (m .message)
+
+-- a broadcast has no answer, but for item 6's command 11: "A master takes that ACK as the answer"
+abbrev pub answersMessage : Master → Header → Bool
+answersMessage m h = if isBroadcast (m .message .header) then (if seeksTag (m .message .header) then isAnswer m h else false) else isAnswer m h
+
+-- "Such an ACK ends the message as answered, unless bit 7 of its first data byte is set: then the attempt failed. Another frame .. also fails it." A broadcast is "reported as sent .. at the next frame"; item 6: "Unanswered, or answered with bit 7 set, the message is reported after its one attempt as document 01's broadcast is."
+abbrev pub atFrame : Master → Whole → List ℕ → Ending
+atFrame m w bytes = if answersMessage m (w .header) then (if byteAt bytes 0 / 128 =? 1 then atBreak m else ends (m .message) (Answered w)) else atBreak m
 
 -- only a master that awaits its ACK has an attempt to fail
 abbrev pub ifAwaiting : Stage → Message → Ending → Ending

@@ -151,7 +151,9 @@ pub struct Device {
 // What a device tells its host.
 pub enum DeviceTold {
     Nothing,
+    // a request, which it may answer
     Request(Whole),
+    // a broadcast of another command than 11, never answered
     Broadcast(Whole),
 }
 

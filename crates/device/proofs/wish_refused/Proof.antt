@@ -11,6 +11,7 @@ wish-refused-spec =
     (λ c. search needs)
     (λ c κs. search needs)
     (λ c. search needs)
+    (λ c. search needs)
     (λ c. search (needs, wish-at))
     (λ c. search (needs, wish-at))
     (λ c. search (needs, wish-at)))

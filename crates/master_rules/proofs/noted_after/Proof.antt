@@ -14,4 +14,5 @@ noted-after-spec =
     (λ c. search (needs, choices, parts))
     (λ c. search (needs, choices, parts))
     (λ c. search (needs, choices, parts))
+    (λ c. search (needs, choices, parts))
     (λ c. search (needs, choices, parts)))

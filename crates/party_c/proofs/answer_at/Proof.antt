@@ -8,4 +8,7 @@ answer-at-spec =
     tie.close
     (tie.spec
     (λ c. search (needs, choices))
+    (λ c. search (needs, choices))
+    (λ c. search (needs, choices))
+    (λ c. search (needs, choices))
     (λ c. search (needs, choices)))

@@ -1,4 +1,4 @@
-use Rattle.party_c.proofs.Master.{step-is}
+use Rattle.party_c.proofs.Master.{step-tag, step-plain}
 use borrow.Author.Needs.{needs}
 use Rattle.party_c.proofs.master_stepped.Statement.{statement}
 use Rattle.party_c.proofs.master_stepped.Tie as tie
@@ -11,4 +11,7 @@ master-stepped-spec =
     (λ c κs. search needs)
     (λ c. search needs)
     (λ c κs. search needs)
-    (λ c. search (needs, step-is)))
+    (λ c. search (needs, step-tag))
+    (λ c. search needs)
+    (λ c κs. search needs)
+    (λ c. search (needs, step-plain)))

@@ -8,4 +8,5 @@ request-at-spec =
     tie.close
     (tie.spec
     (λ c. search (needs, choices))
+    (λ c. search (needs, choices))
     (λ c. search (needs, choices)))

@@ -1,0 +1,206 @@
+//! Compares the archive's master and device with the oracles where command 11 goes by broadcast: the
+//! number of ticks, and the whole buffer of events. The recordings are the same in every run.
+
+mod called;
+#[allow(dead_code)]
+mod frames;
+#[path = "oracles.rs"]
+mod oracles;
+mod party_archive;
+
+use frames::{sealed, Xorshift};
+use oracles::master_oracle::{self, Master};
+use oracles::party_oracle::SENDS;
+use oracles::{device_oracle, tick_oracle::Recorded};
+use std::collections::VecDeque;
+use std::process::ExitCode;
+
+const RECORDINGS: usize = 5_000;
+const TICKS: usize = 1_000;
+
+const KIND: u8 = 0x20;
+
+type Run = fn(&[u8], &mut [u8]) -> usize;
+/// The two bytes of a tick.
+type Tick = [u8; 2];
+
+struct Party {
+    name: &'static str,
+    archive: Run,
+    oracle: Run,
+    recording: fn(&mut Xorshift) -> Vec<u8>,
+    /// What its events' numbers say; each must occur.
+    numbers: &'static [(u8, &'static str)],
+}
+
+const PARTIES: [Party; 4] = [
+    Party {
+        name: "master with command 11 alone",
+        archive: party_archive::master,
+        oracle: master_oracle::ticks,
+        recording: |random| master_recording(random, &[2]),
+        numbers: &[(1, "answered"), (3, "broadcast sent"), (4, "sends")],
+    },
+    Party {
+        name: "master",
+        archive: party_archive::master,
+        oracle: master_oracle::ticks,
+        recording: |random| master_recording(random, &[1, 2]),
+        numbers: &[
+            (1, "answered"),
+            (2, "given up"),
+            (3, "broadcast sent"),
+            (4, "sends"),
+        ],
+    },
+    Party {
+        name: "device that hears broadcasts alone",
+        archive: party_archive::device,
+        oracle: device_oracle::ticks,
+        recording: |random| device_recording(random, &[0]),
+        numbers: &[(1, "request"), (2, "broadcast"), (4, "sends")],
+    },
+    Party {
+        name: "device",
+        archive: party_archive::device,
+        oracle: device_oracle::ticks,
+        recording: |random| device_recording(random, &[0, 2, 2, 3]),
+        numbers: &[(1, "request"), (2, "broadcast"), (4, "sends")],
+    },
+];
+
+fn long_frame(
+    random: &mut Xorshift,
+    delimiter: u8,
+    first: u8,
+    address: u8,
+    rest: &[u8],
+) -> Vec<u8> {
+    let mut body = vec![delimiter, first, 0, 0, 0, address];
+    body.extend(rest);
+    sealed(2 + random.below(4), &body)
+}
+
+/// An ACK or a BACK, most often an ACK to the master that repeats the address of command 11.
+fn answer(random: &mut Xorshift) -> Vec<u8> {
+    let delimiter = random.pick(&[0x86, 0x86, 0x86, 0x86, 0x86, 0x81]);
+    let first = random.pick(&[0x80, 0x80, 0x80, 0x80, 0xC0, 0x00, 0x40]);
+    let address = random.pick(&[0, 0, 0, 0, 2, 3]);
+    let command = random.pick(&[11, 11, 11, 11, 3]);
+    let status = random.pick(&[0, 0, 0, 0x80]);
+    long_frame(random, delimiter, first, address, &[command, 2, status, 0])
+}
+
+/// An STX, most often with command 11, now and then with expansion bytes or the burst flag.
+fn request(random: &mut Xorshift, addresses: &[u8]) -> Vec<u8> {
+    let first = random.pick(&[0x80, 0x80, 0x00, 0xC0]);
+    let address = random.pick(addresses);
+    let command = random.pick(&[11, 11, 11, 3, 0]);
+    match random.below(8) {
+        0 => long_frame(random, 0xA2, first, address, &[9, command, 1, 7]),
+        _ => long_frame(random, 0x82, first, address, &[command, 1, 7]),
+    }
+}
+
+/// The ticks of a frame; once in so many a character is damaged or lost.
+fn ticks_of(random: &mut Xorshift, frame: &[u8], ticks_to_damage: usize) -> Vec<Tick> {
+    let mut ticks = Vec::new();
+    for &character in frame {
+        let kind = match random.below(ticks_to_damage) {
+            0 => random.pick(&[0, 2, 3, 4]),
+            _ => 1,
+        };
+        ticks.push([kind * KIND, character]);
+    }
+    ticks
+}
+
+fn silent(ticks: usize) -> Vec<Tick> {
+    vec![[0, 0]; ticks]
+}
+
+/// A frame behind most STX that the oracle's master sends, and now and then at any other time.
+fn master_recording(random: &mut Xorshift, calls: &[u8]) -> Vec<u8> {
+    let ticks_to_damage = random.pick(&[20, 200, 100_000]);
+    let ticks_to_call = random.pick(&[1, 10, 200]);
+    let ticks_to_frame = random.pick(&[30, 300, 100_000]);
+    let mut master = Master::start(true);
+    let mut was_sending = false;
+    let mut coming = VecDeque::new();
+    let mut ticks = Vec::new();
+    for _ in 0..TICKS {
+        let mut tick: Tick = coming.pop_front().unwrap_or([0, 0]);
+        if random.below(ticks_to_call) == 0 {
+            tick[0] |= random.pick(calls);
+        }
+        let sends = master.tick(Recorded::of(&tick)) == SENDS;
+        let behind_stx = was_sending && !sends && random.below(8) > 0;
+        if behind_stx || coming.is_empty() && random.below(ticks_to_frame) == 0 {
+            coming = silent(random.pick(&[0, 1, 2, 10, 31, 32, 33])).into();
+            let frame = answer(random);
+            coming.extend(ticks_of(random, &frame, ticks_to_damage));
+        }
+        was_sending = sends;
+        ticks.push(tick);
+    }
+    ticks.concat()
+}
+
+/// Requests with silence between them, and the host's calls.
+fn device_recording(random: &mut Xorshift, addresses: &[u8]) -> Vec<u8> {
+    let ticks_to_damage = random.pick(&[20, 200, 100_000]);
+    let ticks_to_call = random.pick(&[1, 5, 20]);
+    let pauses = random.pick(&[[0, 1, 2, 9], [2, 17, 29, 30], [30, 40, 67, 80]]);
+    let mut ticks = Vec::new();
+    while ticks.len() < TICKS {
+        ticks.extend(silent(random.pick(&pauses)));
+        let frame = match random.below(8) {
+            0 => answer(random),
+            _ => request(random, addresses),
+        };
+        ticks.extend(ticks_of(random, &frame, ticks_to_damage));
+    }
+    for tick in &mut ticks {
+        if random.below(ticks_to_call) == 0 {
+            tick[0] |= random.pick(&[1, 1, 1, 2, 3, 4]);
+        }
+    }
+    ticks.concat()
+}
+
+/// Whether both give the same in every recording, and each number occurs.
+fn agrees(party: &Party) -> bool {
+    let mut random = Xorshift(0x2545_F491_4F6C_DD1D);
+    let mut counts = [0; 5];
+    let mut differences = 0;
+    for _ in 0..RECORDINGS {
+        let recording = (party.recording)(&mut random);
+        let room = recording.len() / 2 - random.below(3) + 1;
+        let mut by_archive = vec![0xA5; room];
+        let mut by_oracle = by_archive.clone();
+        let archive_ticks = (party.archive)(&recording, &mut by_archive);
+        let oracle_ticks = (party.oracle)(&recording, &mut by_oracle);
+        for &event in &by_oracle[..oracle_ticks] {
+            counts[usize::from(event)] += 1;
+        }
+        if (archive_ticks, &by_archive) != (oracle_ticks, &by_oracle) {
+            differences += 1;
+            let at = (0..room).find(|&at| by_archive[at] != by_oracle[at]);
+            println!("{}: difference at tick {at:?}", party.name);
+        }
+    }
+    print!("tag_compare: {}, {RECORDINGS} recordings", party.name);
+    for &(number, name) in party.numbers {
+        print!(", {} {name}", counts[usize::from(number)]);
+    }
+    println!(", {differences} differences");
+    let occurs = |&(number, _): &(u8, &str)| counts[usize::from(number)] > 0;
+    differences == 0 && party.numbers.iter().all(occurs)
+}
+
+fn main() -> ExitCode {
+    match PARTIES.iter().filter(|party| !agrees(party)).count() {
+        0 => ExitCode::SUCCESS,
+        _ => ExitCode::FAILURE,
+    }
+}
