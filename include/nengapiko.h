@@ -206,6 +206,29 @@ size_t nengapiko_device(const uint8_t *recording, size_t size,
 size_t nengapiko_play(const uint8_t *script, size_t size,
                       uint8_t *out, size_t room);
 
+/*
+ * Runs a link of a primary, a secondary and up to six devices over a list of ticks, for
+ * tests. The devices start in tick 0, each master in the tick that is named for it.
+ *
+ *   sto .. rt1_secondary  the profile's five numbers
+ *   retries               R
+ *   preambles, polling_addresses, unique_addresses
+ *                         six numbers each, one for each slot; a preamble of 0 is a slot
+ *                         without a device
+ *   ticks, size           the list, encoded as crates/tick_list/specs/Ticks.antt says
+ *   events, room          for each tick how many send, plus 16 for a request of the primary
+ *                         that was taken and 32 for one of the secondary, plus 64 if the
+ *                         primary sends and 128 if the secondary does
+ *
+ * Returns how many ticks these are; 0 where a start is refused.
+ */
+size_t nengapiko_run(uint16_t sto, uint16_t hold, uint16_t rt2, uint16_t rt1_primary,
+                     uint16_t rt1_secondary, uint8_t retries,
+                     const uint8_t preambles[6], const uint8_t polling_addresses[6],
+                     const uint64_t unique_addresses[6],
+                     uint64_t primary_start, uint64_t secondary_start,
+                     const uint8_t *ticks, size_t size, uint8_t *events, size_t room);
+
 #ifdef __cplusplus
 }
 #endif

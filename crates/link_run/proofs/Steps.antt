@@ -21,6 +21,7 @@ use Rattle.slots.specs.declared.SlotTicked.{SlotTicked}
 use Rattle.link.specs.Link.{MasterLent, DevicesLent, LinkIs, after}
 use Rattle.link.specs.Stands.{six, slotCallOf, callsOf, deviceStepsOf, linkOf, linkStepOf, LinkReady}
 use Rattle.link.specs.declared.Link.{Link}
+use Rattle.link.specs.declared.LinkCalls.{LinkCalls}
 use Rattle.link.specs.declared.LinkTicked.{LinkTicked}
 use Rattle.link.proofs.Agrees.{none-comes, none-goes, step-agrees, after-agrees, ready-again}
 use Rattle.tick_list.specs.Ticks.{Here, ifHere, callsIn}
@@ -35,7 +36,7 @@ slot-call : (s : Slot) (ticks rest : List ℕ) (c : SlotCall) → SlotCallIs tic
 slot-call Absent ticks rest c k = refl
 slot-call (Present d) ticks rest c k = λ i. D.callOf (k .call-is i) (k .data-is i) ∷ []
 
-calls-are : (l : Link) (ticks : List ℕ) (at : ℕ) (r : TickRead) → TickIs ticks at r → callsOf l (r .calls) ticks ≡ callsIn (hereOf (l .devices)) (drop at ticks)
+pub calls-are : (l : Link) (ticks : List ℕ) (at : ℕ) (r : TickRead) → TickIs ticks at r → callsOf l (r .calls) ticks ≡ callsIn (hereOf (l .devices)) (drop at ticks)
 unfolding callsIn
 calls-are l ticks at r t = λ i. record {
   for-primary = M.callOf (t .primary .call-is i) (t .primary .data-is i);
@@ -68,7 +69,7 @@ module _ (s : Slot) (heard : Heard) (call : HostCall) (put : List ℕ) (x : Lent
 
 -- ---- the tick
 
-module _ (l : Link) (ticks : List ℕ) (at : ℕ) (p s p-after s-after : MasterLent) (d d-after : DevicesLent) (read : TickRead) (t : LinkTicked) (reads : TickIs ticks at read) (is : LinkIs l (read .calls) ticks p s d t p-after s-after d-after) where
+module _ (l : Link) (calls : LinkCalls) (put : List ℕ) (p s p-after s-after : MasterLent) (d d-after : DevicesLent) (t : LinkTicked) (is : LinkIs l calls put p s d t p-after s-after d-after) where
   device-senders : deviceSendersIn (t .devices) ≡ deviceSenders (deviceStepsOf (t .devices) d-after)
   unfolding deviceSenders
   device-senders =
@@ -82,10 +83,10 @@ module _ (l : Link) (ticks : List ℕ) (at : ℕ) (p s p-after s-after : MasterL
       (senders-onto _ _ _ _ _ _ _ (q .sixth) [] 0 refl))))) in
       omega (arith, chain)
 
-  number-agrees : tickedNumber (t .masters) (deviceSendersIn (t .devices)) ≡ tickNumber (linkStepOf t p-after s-after d-after)
+  pub number-agrees : tickedNumber (t .masters) (deviceSendersIn (t .devices)) ≡ tickNumber (linkStepOf t p-after s-after d-after)
   number-agrees = ap (tickedNumber (t .masters)) device-senders
 
-  same-here : hereOf (devicesAfter (t .devices)) ≡ hereOf (l .devices)
+  pub same-here : hereOf (devicesAfter (t .devices)) ≡ hereOf (l .devices)
   same-here = let q = is .devices in λ i. record {
     first = still-here _ _ _ _ _ _ _ (q .first) i;
     second = still-here _ _ _ _ _ _ _ (q .second) i;
@@ -95,6 +96,7 @@ module _ (l : Link) (ticks : List ℕ) (at : ℕ) (p s p-after s-after : MasterL
     sixth = still-here _ _ _ _ _ _ _ (q .sixth) i;
   }
 
+module _ (l : Link) (ticks : List ℕ) (at : ℕ) (p s p-after s-after : MasterLent) (d d-after : DevicesLent) (read : TickRead) (t : LinkTicked) (reads : TickIs ticks at read) (is : LinkIs l (read .calls) ticks p s d t p-after s-after d-after) where
   pub step-is : (link : Link) (number : ℕ) → link ≡ after t → number ≡ tickedNumber (t .masters) (deviceSendersIn (t .devices))
       → StepIs l ticks at p s d (record { link = link; number = number; next = read .next }) p-after s-after d-after
   step-is link number e n = record {
@@ -102,9 +104,9 @@ module _ (l : Link) (ticks : List ℕ) (at : ℕ) (p s p-after s-after : MasterL
         let step : linkStepOf t p-after s-after d-after ≡ stepAt l p s d ticks at = step-agrees l (read .calls) ticks p s d t p-after s-after d-after is k ∙ ap (linkTick 255 (linkOf l p s d)) (calls-are l ticks at read reads) in
         record {
           behind-is = ap (λ (x : Link). linkOf x p-after s-after d-after) e ∙ after-agrees l (read .calls) ticks p s d t p-after s-after d-after is ∙ ap linkAfter step;
-          number-is = n ∙ number-agrees ∙ ap tickNumber step;
+          number-is = n ∙ number-agrees l (read .calls) ticks p s p-after s-after d d-after t is ∙ ap tickNumber step;
           ready = subst (λ (x : Link). LinkReady (x .devices) d-after) (sym e) (ready-again l (read .calls) ticks p s d t p-after s-after d-after is k);
-          here = ap (λ (x : Link). hereOf (x .devices)) e ∙ same-here;
+          here = ap (λ (x : Link). hereOf (x .devices)) e ∙ same-here l (read .calls) ticks p s p-after s-after d d-after t is;
           next = reads .next;
         };
   }

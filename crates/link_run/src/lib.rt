@@ -87,7 +87,7 @@ fn masters_number(t: MastersTicked, devices: u8) -> u8
 }
 
 // The number of a tick.
-fn tick_number(t: LinkTicked) -> u8
+pub fn tick_number(t: LinkTicked) -> u8
     ensures { λ r. ⌜ r ≡ tickedNumber (t .masters) (deviceSendersIn (t .devices)) ⌝ }
 {
     let m = t.masters;

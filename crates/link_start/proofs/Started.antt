@@ -152,13 +152,14 @@ module _ (p : Profile) (retries : ℕ) (s : DevicesSettings) (l : Link) (e : lin
   pub started-ready : LinkReady (l .devices) devicesFresh
   started-ready = slots .ready
 
+  pub masters-start : (masterStarts p true retries ≡ accepted (l .masters .primary)) × (masterStarts p false retries ≡ accepted (l .masters .secondary))
+  masters-start = masters-accepted (masterStarts p true retries) (masterStarts p false retries) (l .masters) (parts .0)
+
   -- "a primary master, a secondary master and devices that share no address all start in the same tick with one profile and one retry limit R"
   pub all-start : Distinct (devicesOf (l .devices) devicesFresh) → Starts p retries (lentFresh l)
-  all-start distinct =
-      let both = masters-accepted (masterStarts p true retries) (masterStarts p false retries) (l .masters) (parts .0) in
-      record {
-        primary = record { starts = both .0; room = omega arith };
-        secondary = record { starts = both .1; room = omega arith };
-        devices = slots .starts;
-        distinct = distinct;
-      }
+  all-start distinct = record {
+    primary = record { starts = masters-start .0; room = omega arith };
+    secondary = record { starts = masters-start .1; room = omega arith };
+    devices = slots .starts;
+    distinct = distinct;
+  }

@@ -10,8 +10,10 @@ use Rattle.base.specs.Choice.{if_then_else_, _≤?_, _=?_}
 use Rattle.base.proofs.Choices.{true-false, if-is-true, if-is-false}
 use Rattle.frame.specs.Delimiter.{stx}
 use Rattle.frame.specs.declared.Header.{Header}
-use Rattle.line.specs.Reader.{idle, taken}
-use Rattle.line.specs.declared.Event.the-variants.{Nothing, Frame}
+use Rattle.line.specs.Reader.{idle, passing, taken}
+use Rattle.line.specs.declared.Damage.{Damage}
+use Rattle.line.specs.declared.Event.{Event}
+use Rattle.line.specs.declared.Event.the-variants.{Nothing, PassedOver, Broken, Frame}
 use Rattle.line.specs.declared.Heard.{Heard}
 use Rattle.line.specs.declared.Heard.the-variants.{Silence}
 use Rattle.line.specs.declared.Receiver.{Receiver}
@@ -67,6 +69,19 @@ pub record TookSilence (frame contents : List ℕ) (d : Device) (t : DeviceTaken
   pub event-is : t .event ≡ Nothing
   pub receiver-is : t .device .receiver ≡ idle
   pub turn-is : SilentTurn d t
+
+-- what breaks a frame before its first address byte, or is passed over
+pub data Noise (r : Receiver) : Heard → Type 0 where
+  passed-over : (c : ℕ) → r ≡ passing → Noise r (Heard.Character c)
+  crossed-passing : (c : ℕ) (kind : Damage) → r ≡ passing → Noise r (Heard.Damaged c kind)
+  crossed-idle : (c : ℕ) (kind : Damage) → r ≡ idle → Noise r (Heard.Damaged c kind)
+
+pub record TookNoise (frame contents : List ℕ) (d : Device) (t : DeviceTaken) : Type 0 where
+  pub took : Took frame contents d t
+  pub plain-is : Rattle.turns.specs.Device.errorFrame d (t .event) frame ≡ frame
+  pub receiver-is : t .device .receiver ≡ passing
+  pub listens : t .device .turn ≡ Listens
+  pub due-is : t .device .due ≡ d .profile .rt1p
 
 module _ (frame contents : List ℕ) (d : Device) (hears : d .deaf ≡ false) (hand : Hand d frame) (sound : Sound d frame contents) where
   heard-is : (heard : Heard) → deviceTakes d heard ≡ onHeard d heard
@@ -163,6 +178,37 @@ module _ (frame contents : List ℕ) (d : Device) (hears : d .deaf ≡ false) (h
       by-type false q =
           subst (λ (t : DeviceTaken). TookFrame frame contents d t w) (sym (if-is-false S _ _ q))
           (listening w DeviceTold.Nothing (dueAfter d (w .header)) (sym (if-is-false S (d .profile .rt1p) (dueAfter d (w .header)) q)))
+
+  -- behind a break, and behind characters that are passed over
+  pub takes-noise : (heard : Heard) → Noise (d .receiver) heard → TookNoise frame contents d (deviceTakes d heard)
+  unfolding taken
+  takes-noise heard n = go n
+    where
+      After : DeviceTaken → Type 0
+      After t = TookNoise frame contents d t
+
+      on : Event → DeviceTaken
+      on e = Rattle.turns.specs.Device.tells (behind d passing Listens (d .request) Same (d .length) (d .profile .rt1p)) DeviceTold.Nothing e
+
+      took : (e : Event) → Took frame contents d (on e)
+      took e = record {
+        same = record { same-profile = refl; same-preamble = refl; same-polling = refl; same-unique = refl };
+        same-burst = refl;
+        same-primary = refl;
+        sound = keeps-sound passing Listens (d .request) Same (d .length) (d .profile .rt1p);
+        turned = in-hand (nothing-in-hand refl);
+      }
+
+      go : {h : Heard} → Noise (d .receiver) h → After (deviceTakes d h)
+      go (passed-over c e) =
+          subst After (sym (heard-is (Heard.Character c) ∙ ap (λ (r : Receiver). onCharacter d (taken r (Heard.Character c) .receiver) (taken r (Heard.Character c) .event)) e))
+          (record { took = took PassedOver; plain-is = refl; receiver-is = refl; listens = refl; due-is = refl })
+      go (crossed-passing c kind e) =
+          subst After (sym (heard-is (Heard.Damaged c kind) ∙ ap (λ (r : Receiver). onCharacter d (taken r (Heard.Damaged c kind) .receiver) (taken r (Heard.Damaged c kind) .event)) e))
+          (record { took = took PassedOver; plain-is = refl; receiver-is = refl; listens = refl; due-is = refl })
+      go (crossed-idle c kind e) =
+          subst After (sym (heard-is (Heard.Damaged c kind) ∙ ap (λ (r : Receiver). onCharacter d (taken r (Heard.Damaged c kind) .receiver) (taken r (Heard.Damaged c kind) .event)) e))
+          (record { took = took Broken; plain-is = refl; receiver-is = refl; listens = refl; due-is = refl })
 
   pub takes-silence : taken (d .receiver) Silence ≡ Rattle.line.specs.Reader.tells idle Nothing → TookSilence frame contents d (deviceTakes d Silence)
   takes-silence e =

@@ -11,7 +11,7 @@ use Rattle.base.specs.declared.Refusal.the-variants.{BadProfile, BadRetries, Pr
 use Rattle.base.proofs.Choices.{true-false, went-then, went-else, inside-low, inside-high}
 use Rattle.frame.specs.Address.{largestAddress}
 use Rattle.line.specs.Profile.{valueRefused, orderRefused, profileMade}
-use Rattle.line.specs.Reader.{noHeader}
+use Rattle.line.specs.Reader.{noHeader, passing}
 use Rattle.line.specs.declared.Heard.{Heard}
 use Rattle.line.specs.declared.Heard.the-variants.{Silence}
 use Rattle.line.specs.declared.MadeProfile.the-variants.{Made, Refused}
@@ -94,16 +94,17 @@ device-is p preamble polling unique d e =
 
 -- ---- the first tick
 
-abbrev nobody : Noted
+abbrev pub nobody : Noted
 nobody = record { long = false; address = 0 }
 
-record FreshTick (p : Profile) (primary : Bool) (step : MasterStep) : Type 0 where
-  silent : step .sent ≡ Silent
-  quiet : MasterQuiet p primary false nobody (step .side)
-  timer-is : step .side .master .timer ≡ breakTimer p primary false
-  gone : left (step .side .master .message .stage) ≡ 0
+pub record FreshTick (p : Profile) (primary : Bool) (step : MasterStep) : Type 0 where
+  pub silent : step .sent ≡ Silent
+  pub quiet : MasterQuiet p primary false nobody (step .side)
+  pub passing-is : step .side .master .receiver ≡ passing
+  pub timer-is : step .side .master .timer ≡ breakTimer p primary false
+  pub gone : left (step .side .master .message .stage) ≡ 0
 
-fresh-master : (limit : ℕ) → limit ≤ 255 → (p : Profile) (primary : Bool) (retries : ℕ) (x : MasterSide) (heard : Heard) (call : MasterCall) → MasterStarts p primary retries x → FreshTick p primary (masterTick limit x heard call)
+pub fresh-master : (limit : ℕ) → limit ≤ 255 → (p : Profile) (primary : Bool) (retries : ℕ) (x : MasterSide) (heard : Heard) (call : MasterCall) → MasterStarts p primary retries x → FreshTick p primary (masterTick limit x heard call)
 unfolding if_then_else_
 fresh-master limit small p primary retries x heard call s =
     let e = master-is p primary retries (x .master) (s .starts) in
@@ -117,11 +118,12 @@ fresh-master limit small p primary retries x heard call s =
         burst-is = f .same-burst ∙ ap (λ (m : Master). m .burst) e;
         noted-is = f .same-noted ∙ ap (λ (m : Master). m .noted) e;
       };
+      passing-is = f .same-receiver ∙ ap (λ (m : Master). m .receiver) e;
       timer-is = f .same-timer ∙ ap (λ (m : Master). m .timer) e;
       gone = f .rested .same-left ∙ ap (λ (m : Master). left (m .message .stage)) e;
     }
 
-fresh-device : (limit : ℕ) → 2 ≤ limit → limit ≤ 255 → (p : Profile) → Valid p → (heard : Heard) (x : DeviceSide) (call : DeviceCall) → DeviceStarts p x
+pub fresh-device : (limit : ℕ) → 2 ≤ limit → limit ≤ 255 → (p : Profile) → Valid p → (heard : Heard) (x : DeviceSide) (call : DeviceCall) → DeviceStarts p x
     → Quietly (DeviceQuiet p 0 noHeader (p .rt1p)) x (deviceTick limit x heard call)
 unfolding if_then_else_
 fresh-device limit low high p v heard x call s =
@@ -160,7 +162,7 @@ fresh-device limit low high p v heard x call s =
     }
 
 -- burst is off
-fresh-agreed : {p : Profile} {xs : List DeviceSide} → All (DeviceStarts p) xs → All (BurstIs false nobody true) xs
+pub fresh-agreed : {p : Profile} {xs : List DeviceSide} → All (DeviceStarts p) xs → All (BurstIs false nobody true) xs
 fresh-agreed none = none
 fresh-agreed {p} (and {x = x} s a) = and (record { burst-set = λ z. absurd (off z); long-noted = λ z. absurd (off z); unique-noted = λ z. absurd (off z); next-is = λ z. absurd (off z) }) (fresh-agreed a)
   where

@@ -167,7 +167,7 @@ link-kept limit retries low high l c k = record {
 }
 
 -- and at the start
-fresh-kept : (limit : ℕ) {p : Profile} {primary : Bool} {retries : ℕ} {x : MasterSide} → MasterStarts p primary retries x → MasterKept (limit + 29) retries (x .master)
+pub fresh-kept : (limit : ℕ) {p : Profile} {primary : Bool} {retries : ℕ} {x : MasterSide} → MasterStarts p primary retries x → MasterKept (limit + 29) retries (x .master)
 fresh-kept limit {p} {primary} {retries} {x} s =
     subst (MasterKept (limit + 29) retries) (sym (master-is p primary retries (x .master) (s .starts)))
     (record { retries-is = refl; short = omega arith; counted = λ z. absurd (true-false (sym z)) })

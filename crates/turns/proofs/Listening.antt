@@ -175,7 +175,7 @@ rested-as e r = record {
 }
 
 -- with no open window it rests
-rests-shut : {p : Profile} {primary : Bool} {t : Master} {step : MasterStep} → t .timer .window ≡ 0 → Does p primary t step → Rests p primary t step
+pub rests-shut : {p : Profile} {primary : Bool} {t : Master} {step : MasterStep} → t .timer .window ≡ 0 → Does p primary t step → Rests p primary t step
 rests-shut e (does-rest r) = r
 rests-shut e (does-start s) = absurd (omega (arith, e, s .in-window))
 
@@ -311,7 +311,7 @@ pub plain-frame : (d : Device) (frame : List ℕ) (e : Event) (w : Whole) → (e
 plain-frame d frame e w q = ap (λ (z : Event). errorFrame d z frame) q
 
 -- every tick of a device, from what it is behind what it heard
-device-does : (limit : ℕ) (x : DeviceSide) (heard : Heard) (call : DeviceCall) → 2 ≤ limit → limit ≤ 255 → 1 ≤ x .device .profile .sto
+pub device-does : (limit : ℕ) (x : DeviceSide) (heard : Heard) (call : DeviceCall) → 2 ≤ limit → limit ≤ 255 → 1 ≤ x .device .profile .sto
     → heardFrame x heard ≡ x .frame → DT.Took (x .frame) (x .contents) (x .device) (deviceTakes (x .device) heard)
     → D.Goes (deviceTakes (x .device) heard .device) (deviceTick limit x heard call)
 unfolding deviceTick
@@ -351,7 +351,7 @@ pub record DeviceRests (p : Profile) (x : DeviceSide) (t : Device) (step : Devic
   pub less-in-hand : inHand (step .side .device .turn) ≤ inHand (t .turn)
 
 -- it rests, if it is not about to send
-rests-from : (p : Profile) (x : DeviceSide) (t : Device) (step : DeviceStep) → x .device .profile ≡ p → SameDevice (x .device) t → D.Goes t step
+pub rests-from : (p : Profile) (x : DeviceSide) (t : Device) (step : DeviceStep) → x .device .profile ≡ p → SameDevice (x .device) t → D.Goes t step
     → ((t .turn ≡ Listens → ⊥) → (t .turn ≡ Asked (t .profile .sto) → ⊥) → ⊥) → (t .turn ≡ Follows → ⊥) → DeviceRests p x t step
 rests-from p x t step q same (D.rests sd sil deaf rec bur pri due req less hand sound nb) no-answer no-back = record {
   listens = record { profile-is = sd .same-profile ∙ same .same-profile ∙ q; hears = deaf; hand = hand; sound = sound };

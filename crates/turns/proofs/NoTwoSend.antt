@@ -1,7 +1,7 @@
 -- Demand 3, its first half: "no two send in one tick", for every list of ticks, whatever the hosts give in them.
 use Prim.Native.Nat.{ℕ, suc, _+_, _-_, _≤_}
 use native.Mathlib.Omega.{arith}
-use mathlib.Core.Path.{_≡_, sym, ap, subst, _∙_}
+use mathlib.Core.Path.{_≡_, refl, sym, ap, subst, _∙_}
 use mathlib.Core.Bool.{Bool, true, false}
 use mathlib.Core.List.{List, [], _∷_}
 use lib.ListN.{getD}
@@ -13,7 +13,7 @@ use Rattle.line.specs.declared.Heard.the-variants.{Silence, Character, Damaged}
 use Rattle.line.specs.declared.Profile.{Profile}
 use Rattle.line.specs.declared.Whole.{Whole}
 use Rattle.turns.specs.Link.{MasterSide, DeviceSide, DeviceStep, Link, LinkStep, Calls, masterTick, deviceTicks, linkTick, linkAfter, run, sides, carried, joins}
-use Rattle.turns.specs.Run.{Starts, count, deviceSenders, EachTick, no-tick, tick-and, NoTwoSend}
+use Rattle.turns.specs.Run.{Starts, count, deviceSenders, senders, EachTick, no-tick, tick-and, NoTwoSend}
 use Rattle.turns.specs.Demand3.{NoTwoSendInARun}
 use Rattle.turns.specs.declared.Noted.{Noted}
 use Rattle.turns.specs.declared.Sent.{Sent}
@@ -190,12 +190,12 @@ phase-first limit low high p v retries l c s =
 
 -- ---- a line that is not damaged had one sender at most
 
-data Plain : Heard → Type 0 where
+pub data Plain : Heard → Type 0 where
   plain-silence : Plain Silence
   plain-character : (c : ℕ) → Plain (Character c)
 
 -- how many sent, by what the line carries
-abbrev most : Heard → ℕ
+abbrev pub most : Heard → ℕ
 most Silence = 0
 most (Character c) = 1
 most (Damaged c k) = 1
@@ -204,7 +204,7 @@ joins-count : (s : Sent) (h : Heard) (n : ℕ) → (Plain h → n ≤ most h) �
 joins-count Silent h n f q = omega (arith, f q)
 joins-count (Sent.Character c) Silence n f (plain-character e) = omega (arith, f plain-silence)
 
-carried-count : (ss : List DeviceStep) → Plain (carried ss) → deviceSenders ss ≤ most (carried ss)
+pub carried-count : (ss : List DeviceStep) → Plain (carried ss) → deviceSenders ss ≤ most (carried ss)
 unfolding carried deviceSenders
 carried-count [] q = omega arith
 carried-count (s ∷ ss) q = joins-count (s .sent) (carried ss) (deviceSenders ss) (carried-count ss) q
@@ -214,23 +214,41 @@ most-one Silence = omega arith
 most-one (Character c) = omega arith
 most-one (Damaged c k) = omega arith
 
-phase-plain : {p : Profile} {e : ℕ} {l : Link} → Phase p e l → Plain (l .line)
+pub phase-plain : {p : Profile} {e : ℕ} {l : Link} → Phase p e l → Plain (l .line)
 phase-plain (silent q o) = subst Plain (sym q) plain-silence
 phase-plain (primary-sends burst noted next k w message q o) = subst Plain (sym q) (plain-character (getD w k 0))
 phase-plain (secondary-sends burst noted next k w message q o) = subst Plain (sym q) (plain-character (getD w k 0))
 phase-plain (ack-sent burst noted next k w message u on q o) = subst Plain (sym q) (plain-character (getD w k 0))
 phase-plain (back-sent burst noted next k w message u q o) = subst Plain (sym q) (plain-character (getD w k 0))
 
-one-sender : (s : LinkStep) → Plain (linkAfter s .line) → NoTwoSend s
-one-sender s q =
+pub senders-most : (s : LinkStep) → Plain (linkAfter s .line) → senders s ≤ most (linkAfter s .line)
+senders-most s q =
     let ds = s .for-devices in
-    let c = joins-count (s .for-primary .sent) (joins (s .for-secondary .sent) (carried ds)) (count (s .for-secondary .sent) + deviceSenders ds)
-    (λ r. joins-count (s .for-secondary .sent) (carried ds) (deviceSenders ds) (carried-count ds) r) q in
-    omega (arith, c, most-one (linkAfter s .line))
+    joins-count (s .for-primary .sent) (joins (s .for-secondary .sent) (carried ds)) (count (s .for-secondary .sent) + deviceSenders ds)
+    (λ r. joins-count (s .for-secondary .sent) (carried ds) (deviceSenders ds) (carried-count ds) r) q
+
+pub one-sender : (s : LinkStep) → Plain (linkAfter s .line) → NoTwoSend s
+one-sender s q = omega (arith, senders-most s q, most-one (linkAfter s .line))
+
+-- a silent line had none, and where nobody sent it is silent
+pub silent-none : (s : LinkStep) → linkAfter s .line ≡ Silence → senders s ≡ 0
+silent-none s e = omega (arith, senders-most s (subst Plain (sym e) plain-silence), ap most e)
+
+silent-sent : (x : Sent) → count x ≡ 0 → x ≡ Silent
+silent-sent Silent z = refl
+silent-sent (Sent.Character c) z = absurd (omega (arith, z))
+
+pub none-carried : (ss : List DeviceStep) → deviceSenders ss ≡ 0 → carried ss ≡ Silence
+unfolding carried deviceSenders
+none-carried [] z = refl
+none-carried (s ∷ ss) z = λ i. joins (silent-sent (s .sent) (omega (arith, z)) i) (none-carried ss (omega (arith, z)) i)
+
+pub none-line : (s : LinkStep) → senders s ≡ 0 → linkAfter s .line ≡ Silence
+none-line s z = carries s (silent-sent (s .for-primary .sent) (omega (arith, z))) (silent-sent (s .for-secondary .sent) (omega (arith, z))) (none-carried (s .for-devices) (omega (arith, z)))
 
 -- ---- the theorem
 
-phases-run : (limit : ℕ) → 2 ≤ limit → limit ≤ 255 → (p : Profile) → Valid p → (e : ℕ) (l : Link) (ticks : List Calls) → Phase p e l → EachTick Fair (run limit l ticks) → EachTick NoTwoSend (run limit l ticks)
+pub phases-run : (limit : ℕ) → 2 ≤ limit → limit ≤ 255 → (p : Profile) → Valid p → (e : ℕ) (l : Link) (ticks : List Calls) → Phase p e l → EachTick Fair (run limit l ticks) → EachTick NoTwoSend (run limit l ticks)
 unfolding run
 phases-run limit low high p v e l [] q b = no-tick
 phases-run limit low high p v e l (c ∷ cs) q (tick-and b bs) =

@@ -66,7 +66,7 @@ lone limit l x (c ∷ cs) e =
     tick-and (subst Sole (sym (o .is)) (sole-and none no-one)) (lone limit (linkAfter (linkTick limit l c)) (o .side) cs (o .is))
 
 -- and of one host at most one answers
-finders-most : (gs : List Ledger) → finders gs ≤ length gs
+pub finders-most : (gs : List Ledger) → finders gs ≤ length gs
 unfolding finders if_then_else_
 finders-most [] = omega arith
 finders-most (g ∷ gs) = go (found g) (finders-most gs)
@@ -75,7 +75,7 @@ finders-most (g ∷ gs) = go (found g) (finders-most gs)
     go true e = omega arith
     go false e = omega arith
 
-ledgers-most : (cs : List DeviceCall) (ss : List DeviceStep) (gs : List Ledger) → length (ledgersAfter cs ss gs) ≤ length gs
+pub ledgers-most : (cs : List DeviceCall) (ss : List DeviceStep) (gs : List Ledger) → length (ledgersAfter cs ss gs) ≤ length gs
 unfolding ledgersAfter
 ledgers-most cs [] gs = omega arith
 ledgers-most cs (s ∷ ss) [] = omega arith
@@ -112,7 +112,7 @@ turn-on = gives-answer On (0 ∷ 0 ∷ [])
 unfoldable pub content : DeviceCall
 content = gives-content 3 (0 ∷ 0 ∷ [])
 
-pub one-device : Link
+unfoldable pub one-device : Link
 one-device = record {
   primary = record { master = freshMaster short true 3; frame = replicate 284 0; bytes = replicate 255 0 };
   secondary = record { master = freshMaster short false 3; frame = replicate 284 0; bytes = replicate 255 0 };

@@ -38,6 +38,7 @@ pub record Asked (g : ℕ) (h : Header) (a b : MasterSide) : Type 0 where
 pub record ClearLine (p : Profile) (e : ℕ) (a b : MasterSide) (xs : List DeviceSide) : Type 0 where
   pub g : ℕ
   pub h : Header
+  pub short : g ≤ p .sto
   pub noted : Noted
   pub primary : MasterQuiet p true false noted a
   pub secondary : MasterQuiet p false false noted b
@@ -186,6 +187,7 @@ behind-break-clear p v e noted next h g a b xs short qa qb ta tb w qs d ag =
     record {
       g = g;
       h = h;
+      short = short;
       noted = noted;
       primary = qa;
       secondary = qb;
@@ -289,6 +291,7 @@ behind-ack-clear p v e noted next h k a b xs qa qb ta tb n qs d g = go (h .prima
     by w na nb = record {
       g = 0;
       h = k;
+      short = omega arith;
       noted = noted;
       primary = qa;
       secondary = qb;

@@ -58,7 +58,7 @@ pub record MasterHears (p : Profile) (primary burst : Bool) (noted : Noted) (r :
   pub noted-is : x .master .noted ≡ noted
 
 -- a timer behind a break, or behind an STX, has no open window
-broken-shut : (m : Master) → brokenTimer m .window ≡ 0
+pub broken-shut : (m : Master) → brokenTimer m .window ≡ 0
 unfolding if_then_else_
 broken-shut m = go (m .burst)
   where

@@ -29,7 +29,7 @@ use Rattle.turns.proofs.SilentTick.{MasterRests, SilentTick, master-tic
 pub clear-timer : (p : Profile) (x : MasterSide) → x .master .profile ≡ p → x .master .burst ≡ false → timerCounted (x .master) ≡ countClear p (x .master .timer)
 clear-timer p x e b = if-is-false (x .master .burst) _ _ b ∙ ap (λ (q : Profile). countClear q (x .master .timer)) e
 
-clear-counts : (p : Profile) (x : MasterSide) → x .master .profile ≡ p → x .master .burst ≡ false → (t : Timer) → t .next ≡ timerCounted (x .master) .next → t .window ≤ timerCounted (x .master) .window → Counted p (x .master .timer) t
+pub clear-counts : (p : Profile) (x : MasterSide) → x .master .profile ≡ p → x .master .burst ≡ false → (t : Timer) → t .next ≡ timerCounted (x .master) .next → t .window ≤ timerCounted (x .master) .window → Counted p (x .master .timer) t
 clear-counts p x e b t n w = counted p (x .master .timer) t (n ∙ ap (λ (u : Timer). u .next) (clear-timer p x e b)) (subst (λ (u : Timer). t .window ≤ u .window) (clear-timer p x e b) w)
 
 windows-next : (p : Profile) → Valid p → (a b c d : Timer) → Counted p a c → Counted p b d → ClearWindows p a b → ClearWindows p c d
@@ -41,11 +41,11 @@ not-both p a b (primary-first gap g w) x y = one-window p gap a b w x y
 not-both p a b (secondary-first gap g w) x y = one-window p gap b a w y x
 
 -- while an answer may begin no window is open
-shut-on : (p : Profile) (g : ℕ) (t u : Timer) → Counted p t u → ShutFor g t → 1 ≤ g → u .window ≡ 0
+pub shut-on : (p : Profile) (g : ℕ) (t u : Timer) → Counted p t u → ShutFor g t → 1 ≤ g → u .window ≡ 0
 shut-on p g t u (W.Counted.opens a b c) s z = absurd (omega (arith, s .later z))
 shut-on p g t u (W.Counted.goes a b c) s z = omega (arith, s .shut z)
 
-shut-for : (p : Profile) (g : ℕ) (t u : Timer) → Counted p t u → ShutFor g t → ShutFor (g - 1) u
+pub shut-for : (p : Profile) (g : ℕ) (t u : Timer) → Counted p t u → ShutFor g t → ShutFor (g - 1) u
 shut-for p g t u c s = record { shut = λ z. shut-on p g t u c s (omega arith); later = λ z. go c z }
   where
     go : Counted p t u → 1 ≤ g - 1 → g - 1 < u .next
@@ -143,7 +143,7 @@ near-both p v e j k a b c d x y w fa fb near zj zk = go (native.Mathlib.Decide.d
     go (no q) (no r) = let n = near (omega arith) (omega arith) in by (n .0) (n .1)
 
 -- the time for an answer is one tick shorter, and so is the time for which it is awaited
-asked-next : {g : ℕ} {h : Header} {a b : MasterSide} {s t : MasterStep} → Asked g h a b → MasterRests a s → MasterRests b t → Asked (g - 1) h (s .side) (t .side)
+pub asked-next : {g : ℕ} {h : Header} {a b : MasterSide} {s t : MasterStep} → Asked g h a b → MasterRests a s → MasterRests b t → Asked (g - 1) h (s .side) (t .side)
 asked-next k ra rb = record {
   by-primary = λ z e. omega (arith, ra .one-less, k .by-primary (omega arith) e);
   by-secondary = λ z e. omega (arith, rb .one-less, k .by-secondary (omega arith) e);
@@ -158,7 +158,7 @@ module _ (limit : ℕ) (low : 2 ≤ limit) (high : limit ≤ 255) (p : Profile) 
   clear-tick e l sole =
       let w = l .windows in
       silent-tick p (l .g) (l .h) 0 false (l .noted) true (Counted p (a .master .timer)) (Counted p (b .master .timer)) _ (l .distinct) (l .agreed) (sole .0) (l .asked)
-      (λ c d x y. not-both p c d (windows-next p v (a .master .timer) (b .master .timer) c d x y w))
+      (λ c d i j x y k m ec ed. not-both p c d (windows-next p v (a .master .timer) (b .master .timer) c d x y w) k m)
       (λ z c x. shut-now z c (shut-on p (l .g) (a .master .timer) c x (l .primary-shut)))
       (λ z c x. shut-now z c (shut-on p (l .g) (b .master .timer) c x (l .secondary-shut)))
       (λ c x z off. refl)
@@ -169,6 +169,7 @@ module _ (limit : ℕ) (low : 2 ≤ limit) (high : limit ≤ 255) (p : Profile) 
       record {
         g = l .g - 1;
         h = l .h;
+        short = omega (arith, l .short);
         noted = l .noted;
         primary = na;
         secondary = nb;
@@ -200,7 +201,7 @@ module _ (limit : ℕ) (low : 2 ≤ limit) (high : limit ≤ 255) (p : Profile) 
       (SetLine p (n - 1) next (masterTick limit a Silence ca .side) (masterTick limit b Silence cb .side) (sides (deviceTicks limit Silence xs cs)))
   set-tick n next l sole =
       silent-tick p (l .g) (l .h) n true (l .noted) next (SetCounts p (a .master .timer)) (SetCounts p (b .master .timer)) _ (l .distinct) (l .agreed) (sole .0) (l .asked)
-      (λ c e x y. one-slot-window p (n - 1) c e (one-slot-next p n (a .master .timer) (b .master .timer) c e (x .counts) (y .counts) (l .slot)))
+      (λ c e i j x y k m ec ed. one-slot-window p (n - 1) c e (one-slot-next p n (a .master .timer) (b .master .timer) c e (x .counts) (y .counts) (l .slot)) k m)
       (λ z c x. slot-shut p (l .g) n (a .master .timer) c (v .some-hold) (x .counts) (l .primary-shut) (first-slot (l .slot)) z)
       (λ z c x. slot-shut p (l .g) n (b .master .timer) c (v .some-hold) (x .counts) (l .secondary-shut) (second-slot (l .slot)) z)
       (λ c x z on. its-turn next refl c x z)

@@ -257,7 +257,7 @@ module _ (p : Profile) (g : ℕ) (h : Header) (n : ℕ) (burst : Bool) (noted : 
       twice false = refl
 
   -- not two windows are open; and none while a device begins; with BURST set the next BACK is for the master that begins
-  pub silent-tick : Asked g h a b → ((x y : Timer) → A x → B y → 0 < x .window → 0 < y .window → ⊥) → ((1 ≤ g) ⊎ (n ≡ 1) → (x : Timer) → A x → x .window ≡ 0) → ((1 ≤ g) ⊎ (n ≡ 1) → (y : Timer) → B y → y .window ≡ 0)
+  pub silent-tick : Asked g h a b → ((x y : Timer) (i j : ℕ) → A x → B y → 0 < x .window → 0 < y .window → s .sent ≡ Sent.Character i → t .sent ≡ Sent.Character j → ⊥) → ((1 ≤ g) ⊎ (n ≡ 1) → (x : Timer) → A x → x .window ≡ 0) → ((1 ≤ g) ⊎ (n ≡ 1) → (y : Timer) → B y → y .window ≡ 0)
       → ((x : Timer) → A x → 0 < x .window → burst ≡ true → next ≡ true) → ((y : Timer) → B y → 0 < y .window → burst ≡ true → next ≡ false)
       → (A (s .side .master .timer) → B (t .side .master .timer) → MasterQuiet p true burst noted (s .side) → MasterQuiet p false burst noted (t .side) → (n ≡ 1 → burst ≡ true → ⊥) → MasterRests a s → MasterRests b t → AllStill p g h n xs ss → L)
       → MasterTick p true burst noted A a s → MasterTick p false burst noted B b t → SilentDevices p g h n xs ss → SilentTick p n burst noted next a b s t ss L
@@ -275,7 +275,7 @@ module _ (p : Profile) (g : ℕ) (h : Header) (n : ℕ) (burst : Bool) (noted : 
   silent-tick asked two na nb ta tb stay (rests ca ea qa ra ma) (begins y cb wb w message eb sb mb) (all-still d) =
       let q = still-hears w d in
       secondary-begins w message ea eb (all-carried q) (record { speaks = sb; hears = rest-hears w qa ra; devices = all-sides q; distinct = all-distinct q distinct; agreed = agreed-same q agreed; turn-is = tb y cb wb }) ma mb
-  silent-tick asked two na nb ta tb stay (begins x ca wa w message ea sa ma) (begins y cb wb w′ message′ eb sb mb) d = absurd (two x y ca cb wa wb)
+  silent-tick asked two na nb ta tb stay (begins x ca wa w message ea sa ma) (begins y cb wb w′ message′ eb sb mb) d = absurd (two x y _ _ ca cb wa wb ea eb)
   silent-tick asked two na nb ta tb stay (begins x ca wa w message ea sa ma) (rests cb eb qb rb mb) (one-answers z o) = absurd (omega (arith, na (inl z) x ca))
   silent-tick asked two na nb ta tb stay (begins x ca wa w message ea sa ma) (rests cb eb qb rb mb) (one-bursts z o) = absurd (omega (arith, na (inr z) x ca))
   silent-tick asked two na nb ta tb stay (rests ca ea qa ra ma) (begins y cb wb w message eb sb mb) (one-answers z o) = absurd (omega (arith, nb (inl z) y cb))

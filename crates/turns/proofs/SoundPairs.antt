@@ -161,7 +161,7 @@ same-outside l o = record {
   devices = outside-devices (l .line) (l .devices) (o .devices);
 }
 
-quiet-devices : {heard : Heard} {p : Profile} {g : ℕ} {h : Header} {n : ℕ} {xs : List DeviceSide} → All (DeviceQuiet p g h n) xs → All (λ (x : DeviceSide). Outside heard (x .device .receiver)) xs
+pub quiet-devices : {heard : Heard} {p : Profile} {g : ℕ} {h : Header} {n : ℕ} {xs : List DeviceSide} → All (DeviceQuiet p g h n) xs → All (λ (x : DeviceSide). Outside heard (x .device .receiver)) xs
 quiet-devices none = none
 quiet-devices (and q qs) = and (λ e. q .ready) (quiet-devices qs)
 
@@ -172,7 +172,7 @@ character-outside : {c : ℕ} (heard : Heard) → heard ≡ Character c → (xs 
 character-outside heard q [] = none
 character-outside heard q (x ∷ xs) = and (λ e. absurd (character-silent q e)) (character-outside heard q xs)
 
-on-character : {c : ℕ} (l : Link) → l .line ≡ Character c → AllOutside (l .line) (l .primary) (l .secondary) (l .devices)
+pub on-character : {c : ℕ} (l : Link) → l .line ≡ Character c → AllOutside (l .line) (l .primary) (l .secondary) (l .devices)
 on-character l q = record { primary = λ e. absurd (character-silent q e); secondary = λ e. absurd (character-silent q e); devices = character-outside (l .line) q (l .devices) }
 
 pub phase-outside : {p : Profile} {e : ℕ} (l : Link) → Phase p e l → AllOutside (l .line) (l .primary) (l .secondary) (l .devices)

@@ -48,7 +48,7 @@ pub record Owes (g : Ledger) (d : Device) : Type 0 where
   pub gives : answering (d .turn) ≡ true → seeksTag (d .request) ≡ true → found g ≡ true
   pub some : 1 ≤ d .unique
 
-nothing : {g : Ledger} {d : Device} → 1 ≤ d .unique → ((n : ℕ) → d .turn ≡ Asked n → ⊥) → answering (d .turn) ≡ false → Owes g d
+pub nothing : {g : Ledger} {d : Device} → 1 ≤ d .unique → ((n : ℕ) → d .turn ≡ Asked n → ⊥) → answering (d .turn) ≡ false → Owes g d
 nothing s f e = record { asked = λ n q. absurd (f n q); gives = λ z. absurd (true-false (sym z ∙ e)); some = s }
 
 -- ---- what was heard

@@ -11,14 +11,14 @@ use borrow.Author.Tests.{ltb-true, ltb-false, leb-true, leb-false}
 use Rattle.base.specs.Choice.{if_then_else_, _<?_, _≤?_}
 use Rattle.base.proofs.Choices.{true-false, if-is-true, if-is-false}
 use Rattle.frame.specs.Frame.{frameBytes}
-use Rattle.line.specs.Reader.{idle, taken}
-use Rattle.line.specs.declared.Event.the-variants.{Nothing, Frame}
+use Rattle.line.specs.Reader.{idle, passing, taken}
+use Rattle.line.specs.declared.Event.the-variants.{Nothing, PassedOver, Frame}
 use Rattle.line.specs.declared.Heard.{Heard}
 use Rattle.line.specs.declared.Heard.the-variants.{Silence}
 use Rattle.line.specs.declared.Receiver.{Receiver}
 use Rattle.line.specs.declared.Taken.{Taken}
 use Rattle.line.specs.declared.Whole.{Whole}
-use Rattle.turns.specs.Master.{Ending, behind, staged, fails, ends, atBreak, atFrame, ifAwaiting, isBroadcast, answersMessage, waited, rt1Ends, unlessEnded, counts, timerCounted, burstCounted, burstAfter, notedAfter, timerAfter, onSilence, onCharacter, onHeard, masterTakes, timer, ownRt1, attempted, sendsAt, sendsBy, masterSends, requestHeader, requested, Called}
+use Rattle.turns.specs.Master.{Ending, behind, staged, fails, ends, atBreak, atFrame, afterBreak, brokenTimer, ifAwaiting, isBroadcast, answersMessage, waited, rt1Ends, unlessEnded, counts, timerCounted, burstCounted, burstAfter, notedAfter, timerAfter, onSilence, onCharacter, onHeard, masterTakes, timer, ownRt1, attempted, sendsAt, sendsBy, masterSends, requestHeader, requested, Called}
 use Rattle.turns.specs.Link.{MasterCall, no-request, requests, Answer, none, was-refused, MasterSide, MasterStep, masterCalls, masterCalled, masterSent, masterTick, masterData}
 use Rattle.turns.specs.declared.Sent.the-variants.{Character}
 use Rattle.turns.specs.declared.Stage.{Stage}
@@ -138,6 +138,16 @@ pub record TookSilence (frame : List ℕ) (m t : Master) : Type 0 where
   -- a message that waits stays, and its window is used
   pub waits-on : m .message .stage ≡ Waiting → (t .message .stage ≡ Waiting) × (t .timer ≡ timerCounted m)
 
+-- a character that is passed over: behind it the timer runs as behind a break
+pub record TookPassed (frame : List ℕ) (m t : Master) : Type 0 where
+  pub took : Took frame m t
+  pub receiver-is : t .receiver ≡ passing
+  pub burst-is : t .burst ≡ m .burst
+  pub noted-is : t .noted ≡ m .noted
+  pub timer-is : t .timer ≡ brokenTimer m
+  pub gone : left (t .message .stage) ≡ 0
+  pub waits-on : m .message .stage ≡ Waiting → (t .message .stage ≡ Waiting) × (t .message .attempts ≡ m .message .attempts)
+
 module _ (frame bytes : List ℕ) (m : Master) (hears : m .deaf ≡ false) (still : Still (m .message .stage)) (formed : Formed (m .primary) frame (m .message)) where
   heard-is : (heard : Heard) → masterTakes m heard bytes ≡ onHeard m heard bytes
   unfolding masterTakes
@@ -157,6 +167,17 @@ module _ (frame bytes : List ℕ) (m : Master) (hears : m .deaf ≡ false) (stil
       let done : Behind (m .primary) frame (m .message) (ifAwaiting (m .message .stage) (m .message) (atFrame m w bytes)) =
       if-awaiting-ended frame (m .retries) (m .message) (atFrame m w bytes) (m .message .stage) refl still formed (λ n q. frame-ended frame m w bytes n q formed) in
       subst (λ (t : MasterTaken). TookFrame frame m (t .master) w) (sym same)
+      (record { took = record { same-primary = refl; same-profile = refl; same-retries = refl; still = done .still; formed = done .formed }; receiver-is = refl; burst-is = refl; noted-is = refl; timer-is = refl; gone = done .gone; waits-on = done .waits-on })
+
+  pub takes-passed : (c : ℕ) → m .receiver ≡ passing → TookPassed frame m (masterTakes m (Heard.Character c) bytes .master)
+  unfolding taken
+  takes-passed c e =
+      let at : taken (m .receiver) (Heard.Character c) ≡ Rattle.line.specs.Reader.tells passing PassedOver = ap (λ (r : Receiver). taken r (Heard.Character c)) e in
+      let same : masterTakes m (Heard.Character c) bytes ≡ afterBreak m passing PassedOver =
+      heard-is (Heard.Character c) ∙ ap (λ (t : Taken). onCharacter m (t .receiver) (t .event) bytes) at in
+      let done : Behind (m .primary) frame (m .message) (ifAwaiting (m .message .stage) (m .message) (atBreak m)) =
+      if-awaiting-ended frame (m .retries) (m .message) (atBreak m) (m .message .stage) refl still formed (λ n q. break-ended frame m n q formed) in
+      subst (λ (t : MasterTaken). TookPassed frame m (t .master)) (sym same)
       (record { took = record { same-primary = refl; same-profile = refl; same-retries = refl; still = done .still; formed = done .formed }; receiver-is = refl; burst-is = refl; noted-is = refl; timer-is = refl; gone = done .gone; waits-on = done .waits-on })
 
   pub takes-silence : taken (m .receiver) Silence ≡ Rattle.line.specs.Reader.tells idle Nothing → TookSilence frame m (masterTakes m Silence bytes .master)

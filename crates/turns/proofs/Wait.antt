@@ -144,18 +144,18 @@ waiter-is true s = refl
 waiter-is false s = refl
 
 -- a longer time is a weaker claim
-later-too : {bit : Bool} {n m : ℕ} {ss : List LinkStep} → n ≤ m → BeginsWithin bit n ss → BeginsWithin bit m ss
+pub later-too : {bit : Bool} {n m : ℕ} {ss : List LinkStep} → n ≤ m → BeginsWithin bit n ss → BeginsWithin bit m ss
 later-too {m = m} z (S.begins n c e) = S.begins m c e
 later-too {m = zero} z (S.waits {n = n} e b) = absurd (omega arith)
 later-too {m = suc m} z (S.waits {n = n} e b) = let less : n ≤ m = omega arith in S.waits e (later-too less b)
 
 module _ (limit : ℕ) (low : 2 ≤ limit) (high : limit ≤ 255) (p : Profile) (v : Valid p) (retries : ℕ) (bit : Bool) where
   -- the first character goes out in this tick
-  now : (n : ℕ) {s : LinkStep} {ss : List LinkStep} (c : ℕ) → waiterStep bit s .sent ≡ Sent.Character c → BeginsWithin bit n (s ∷ ss)
+  pub now : (n : ℕ) {s : LinkStep} {ss : List LinkStep} (c : ℕ) → waiterStep bit s .sent ≡ Sent.Character c → BeginsWithin bit n (s ∷ ss)
   now n {s} c e = S.begins n c (ap (λ (m : _). m .sent) (sym (waiter-is bit s)) ∙ e)
 
   -- or in a later one
-  behind : (d : ℕ) {s : LinkStep} {ss : List LinkStep} → 1 ≤ d - 1 → waiterStep bit s .sent ≡ Sent.Silent → BeginsWithin bit (d - 1 - 1) ss → BeginsWithin bit (d - 1) (s ∷ ss)
+  pub behind : (d : ℕ) {s : LinkStep} {ss : List LinkStep} → 1 ≤ d - 1 → waiterStep bit s .sent ≡ Sent.Silent → BeginsWithin bit (d - 1 - 1) ss → BeginsWithin bit (d - 1) (s ∷ ss)
   behind d {s} {ss} some e b =
       subst (λ (n : ℕ). BeginsWithin bit n (s ∷ ss)) (omega arith) (S.waits (ap (λ (m : _). m .sent) (sym (waiter-is bit s)) ∙ e) b)
 
@@ -190,7 +190,7 @@ module _ (limit : ℕ) (low : 2 ≤ limit) (high : limit ≤ 255) (p : Profile) 
       go (Ways.waits e (inr w′)) f = behind d (burst-left p v bit (d - 1) _ (limit + 29) w′) e (f w′)
 
   -- no device bursts meanwhile
-  clear-run : (d : ℕ) (l : Link) (ticks : List Calls) → LinkKept limit retries l → EachTick Fair (run limit l ticks) → d ≤ length ticks → NoneBursts bit (run limit l ticks) → Clear p (limit + 29) retries bit d l → BeginsWithin bit (d - 1) (run limit l ticks)
+  pub clear-run : (d : ℕ) (l : Link) (ticks : List Calls) → LinkKept limit retries l → EachTick Fair (run limit l ticks) → d ≤ length ticks → NoneBursts bit (run limit l ticks) → Clear p (limit + 29) retries bit d l → BeginsWithin bit (d - 1) (run limit l ticks)
   unfolding run
   clear-run d l [] k b m off w = absurd (omega (arith, clear-left p v bit d l (limit + 29) retries w))
   clear-run d l (c ∷ cs) k (tick-and one b) m (until-it-begins ch off e) w = S.begins (d - 1) ch e
@@ -364,7 +364,7 @@ enter limit low high p v retries bit e l kept q (N.back-sent burst noted next k 
 -- ---- the theorem
 
 -- what is claimed of a message that was accepted in the first tick of this list
-abbrev Claim : ℕ → Profile → ℕ → Bool → ℕ → List LinkStep → Type 0
+abbrev pub Claim : ℕ → Profile → ℕ → Bool → ℕ → List LinkStep → Type 0
 Claim limit p retries bit e ss =
     (NoneBursts bit ss → e + longestWait limit p retries < length ss → BeginsWithin bit (e + longestWait limit p retries) ss)
     × (e + longestWait limit p retries + longerWithBurst limit p < length ss → BeginsWithin bit (e + longestWait limit p retries + longerWithBurst limit p) ss)
@@ -374,21 +374,21 @@ unfolding run
 run-length limit l [] = refl
 run-length limit l (c ∷ cs) = ap suc (run-length limit (linkAfter (linkTick limit l c)) cs)
 
-one-more : {bit : Bool} (d : ℕ) {s : LinkStep} {ss : List LinkStep} → 1 ≤ d → masterIn bit s .sent ≡ Sent.Silent → BeginsWithin bit (d - 1) ss → BeginsWithin bit d (s ∷ ss)
+pub one-more : {bit : Bool} (d : ℕ) {s : LinkStep} {ss : List LinkStep} → 1 ≤ d → masterIn bit s .sent ≡ Sent.Silent → BeginsWithin bit (d - 1) ss → BeginsWithin bit d (s ∷ ss)
 one-more {bit} d {s} {ss} some e b = subst (λ (n : ℕ). BeginsWithin bit n (s ∷ ss)) (omega arith) (S.waits e b)
 
-pending-in : (bit : Bool) (s : LinkStep) → masterIn bit s .side .master .message .stage ≡ Waiting → masterIn bit s .side .master .message .attempts ≡ 0 → Pending (waiter bit (linkAfter s))
+pub pending-in : (bit : Bool) (s : LinkStep) → masterIn bit s .side .master .message .stage ≡ Waiting → masterIn bit s .side .master .message .attempts ≡ 0 → Pending (waiter bit (linkAfter s))
 pending-in true s a b = record { stage-is = a; attempts-is = b }
 pending-in false s a b = record { stage-is = a; attempts-is = b }
 
-accepted-in : (limit : ℕ) → limit ≤ 255 → (bit : Bool) (l : Link) (c : Calls) → AcceptedIn bit (linkTick limit l c) → Accepted (masterIn bit (linkTick limit l c))
+pub accepted-in : (limit : ℕ) → limit ≤ 255 → (bit : Bool) (l : Link) (c : Calls) → AcceptedIn bit (linkTick limit l c) → Accepted (masterIn bit (linkTick limit l c))
 unfolding linkTick
 accepted-in limit high true l c e = accepts limit high (l .primary) (l .line) (c .for-primary) e
 accepted-in limit high false l c e = accepts limit high (l .secondary) (l .line) (c .for-secondary) e
 
 module _ (limit : ℕ) (low : 2 ≤ limit) (high : limit ≤ 255) (p : Profile) (v : Valid p) (retries : ℕ) (bit : Bool) where
   -- the tick of acceptance, and those behind it
-  at-tick : (e : ℕ) (l : Link) (c : Calls) (cs : List Calls) → LinkKept limit retries l → Phase p e (linkAfter (linkTick limit l c)) → EachTick Fair (run limit (linkAfter (linkTick limit l c)) cs) → AcceptedIn bit (linkTick limit l c)
+  pub at-tick : (e : ℕ) (l : Link) (c : Calls) (cs : List Calls) → LinkKept limit retries l → Phase p e (linkAfter (linkTick limit l c)) → EachTick Fair (run limit (linkAfter (linkTick limit l c)) cs) → AcceptedIn bit (linkTick limit l c)
       → Claim limit p retries bit e (linkTick limit l c ∷ run limit (linkAfter (linkTick limit l c)) cs)
   unfolding Entered
   at-tick e l c cs k ph b acc = go (accepted-in limit high bit l c acc)
@@ -442,7 +442,7 @@ module _ (limit : ℕ) (low : 2 ≤ limit) (high : limit ≤ 255) (p : Profile) 
   none-more : {y : LinkStep} {ys : List LinkStep} → [] ≡ y ∷ ys → ⊥
   none-more e = let z : _≡_ {A = ℕ} 0 1 = cc in omega arith
 
-  found : (e t : ℕ) (l : Link) (ticks : List Calls) (s : LinkStep) (after : List LinkStep) → LinkKept limit retries l → Phase p e l → EachTick Fair (run limit l ticks) → drop t (run limit l ticks) ≡ s ∷ after → AcceptedIn bit s
+  pub found : (e t : ℕ) (l : Link) (ticks : List Calls) (s : LinkStep) (after : List LinkStep) → LinkKept limit retries l → Phase p e l → EachTick Fair (run limit l ticks) → drop t (run limit l ticks) ≡ s ∷ after → AcceptedIn bit s
       → Claim limit p retries bit (e - 1 - t) (s ∷ after)
   unfolding run
   found e zero l [] s after k ph b q acc = absurd (none-more q)

@@ -7,6 +7,8 @@ pub mod Ledgers
 pub mod Bursts
 pub mod Demand3
 pub mod Credit
+pub mod Late
 pub mod Settled
 pub mod Gaps
 pub mod SoundPair
+pub mod LateSoundPair

@@ -1,0 +1,2 @@
+-- What a run is started with, as numbers.
+pub mod Settings
