@@ -104,7 +104,7 @@ module _ (limit : ℕ) (v : Bool) (d : Device) (was : d .burst ≡ v) (frame byt
   content-burst : (command : ℕ) (put : List ℕ) → BurstTick v (contentCalled (contentGiven limit d command (length put)) d put frame bytes contents told)
   unfolding contentGiven
   content-burst command put =
-      if-both (λ (c : Called Device). BurstTick v (contentCalled c d put frame bytes contents told)) (command =? 254) _ _ (sent-burst v d was frame bytes contents told _)
+      if-both (λ (c : Called Device). BurstTick v (contentCalled c d put frame bytes contents told)) _ _ _ (sent-burst v d was frame bytes contents told _)
       (if-both (λ (c : Called Device). BurstTick v (contentCalled c d put frame bytes contents told)) (length put outside 2 to limit) _ _ (sent-burst v d was frame bytes contents told _)
       (sent-burst v _ was frame bytes (stored contents 0 put) told was-taken))
 

@@ -33,6 +33,7 @@ pub mod KeptLink
 pub mod Late
 pub mod LateRuns
 pub mod LateSound
+pub mod Limits
 pub mod Listening
 pub mod Lists
 pub mod OutOfStep
@@ -47,6 +48,7 @@ pub mod Quiet
 pub mod Rank
 pub mod Readers
 pub mod Rules
+pub mod Scenes
 pub mod Sending
 pub mod Settled
 pub mod Silences

@@ -1,22 +1,35 @@
 -- Single sentences of document 01 as laws of the definitions, for rules that no theorem on whole runs rests on.
-use Prim.Native.Nat.{ℕ, _≤_}
+use Prim.Native.Nat.{ℕ, _/_, _≤_}
 use native.Mathlib.Omega.{arith}
 use mathlib.Core.Path.{_≡_, refl, sym, ap, _∙_}
 use mathlib.Core.Bool.{Bool, true, false}
-use borrow.Author.Tests.{eqb-true}
-use Rattle.base.specs.Choice.{if_then_else_, _=?_, _outside_to_}
-use Rattle.base.specs.declared.Refusal.the-variants.{BadRetries}
-use Rattle.base.proofs.Choices.{true-false, if-is-false, if-at-most, went-then, went-else, inside-low, inside-high}
-use Rattle.frame.specs.Delimiter.{stx, ack}
+use mathlib.Core.List.{List}
+use lib.ListN.{length}
+use borrow.Author.Tests.{eq-eqb, eqb-true, le-ltb}
+use Rattle.base.specs.Choice.{if_then_else_, _<?_, _=?_, _outside_to_}
+use Rattle.base.specs.declared.Refusal.the-variants.{BadRetries, Command}
+use Rattle.base.proofs.Choices.{true-false, if-is-true, if-is-false, if-at-most, went-then, went-else, inside-low, inside-high, inside-is}
+use Rattle.frame.specs.Address.{byteAt, largestAddress, addressTooLarge}
+use Rattle.frame.specs.Delimiter.{stx, ack, back}
+use Rattle.frame.specs.Frame.{frameBytes}
 use Rattle.frame.specs.declared.Header.{Header}
+use Rattle.line.specs.Profile.{fskProfile, c8pskProfile}
+use Rattle.line.specs.declared.Event.the-variants.{Damaged}
+use Rattle.line.specs.declared.Harm.{Harm}
+use Rattle.line.specs.declared.Heard.{Heard}
 use Rattle.line.specs.declared.Profile.{Profile}
 use Rattle.line.specs.declared.Receiver.{Receiver}
 use Rattle.line.specs.declared.Whole.{Whole}
-use Rattle.turns.specs.Master.{accepted, refused, sameBit, toItself, isAnswer, masterStarts}
-use Rattle.turns.specs.Device.{isOwn, errorStatus, afterFrame, waited}
+use Rattle.turns.specs.Master.{Called, accepted, refused, sameBit, toItself, isAnswer, masterStarts, freshMaster, quietTime, Request, requested, requestHeader, hasMessage, commandRefused, masterTakes, isBroadcast, seeksTag, namesDevice, addressOf, isNoted, burstAfter, notedAfter, clearTimer, setTimer, timerAfter, fails, ends, atBreak, answersMessage, atFrame}
+use Rattle.turns.specs.Master as M
+use Rattle.turns.specs.Device.{freshDevice, isOwn, mayAnswer, hasError, errorStatus, errorData, errorFrame, afterRequest, afterFrame, afterDamage, waited, deviceTakes, contentGiven}
+use Rattle.turns.specs.Link.{requests, gives-content, Answer, was-refused, MasterSide, DeviceSide, masterData, masterCalled, masterTick, deviceData, heardFrame, contentCalled, deviceTick}
 use Rattle.turns.specs.declared.Master.{Master}
+use Rattle.turns.specs.declared.MasterTold.the-variants.{Answered, BroadcastSent}
+use Rattle.turns.specs.declared.Noted.{Noted}
 use Rattle.turns.specs.declared.Device.{Device}
 use Rattle.turns.specs.declared.DeviceTaken.{DeviceTaken}
+use Rattle.turns.specs.declared.DeviceTold.{DeviceTold}
 use Rattle.turns.specs.declared.Turn.the-variants.{Listens, Asked}
 use Rattle.turns.proofs.Bursting.{if-both}
 
@@ -80,3 +93,133 @@ Statuses =
 pub statuses : Statuses
 unfolding if_then_else_
 statuses = (refl, refl, refl, refl)
+
+-- "with two data bytes, .. then 0"
+pub error-data : (m : Harm) → (length (errorData m) ≡ 2) × (byteAt (errorData m) 1 ≡ 0)
+error-data m = (refl, refl)
+
+-- "damage in the address: no answer": nothing is told, nothing is prepared in the frame buffer, and no request is in hand
+pub damaged-address : (d : Device) (r : Receiver) (w : Whole) (m : Harm) → m .address ≡ true
+    → (afterDamage d r w m .told ≡ DeviceTold.Nothing) × ((frame : List ℕ) → errorFrame d (Damaged w m) frame ≡ frame) × (afterDamage d r w m .device .turn ≡ Listens)
+damaged-address d r w m damaged =
+    let no : Bool → Type 0 = λ (t : Bool). t ≡ false in
+    let e : hasError d w m ≡ false = if-both no (w .header .frame =? stx) _ _ (if-both no (w .expansion =? 0) _ _ (if-is-true (m .address) false _ damaged) refl) refl in
+    let t = if-is-false (hasError d w m) _ _ e in
+    (ap (λ (z : DeviceTaken). z .told) t, (λ frame. if-is-false (hasError d w m) _ frame e), ap (λ (z : DeviceTaken). z .device .turn) t)
+
+-- "5: command 254", of a master's request that no lower number refuses, whatever else is true
+pub request-254 : (limit : ℕ) (x : MasterSide) (heard : Heard) (q : Request) (put : List ℕ) → 5 ≤ q .preamble → q .preamble ≤ 20 → q .address ≤ largestAddress (q .long) → q .command ≡ 254
+    → masterTick limit x heard (requests q put) .answer ≡ was-refused Command
+unfolding masterTick requested
+request-254 limit x heard q put low high fits e =
+    let m = masterTakes (x .master) heard (masterData x heard) .master in
+    ap by
+    (if-is-false (q .preamble outside 5 to 20) _ _ (inside-is (q .preamble) 5 20 low high)
+    ∙ if-is-false (addressTooLarge (requestHeader m q)) _ _ (le-ltb (largestAddress (q .long)) (q .address) fits)
+    ∙ if-is-true (commandRefused q) _ _ (if-is-true (q .command =? 254) true _ (eq-eqb (q .command) 254 e)))
+  where
+    by : Called Master → Answer
+    by c =
+        let t = masterTakes (x .master) heard (masterData x heard) in
+        masterCalled c (t .master) (frameBytes (q .preamble) (requestHeader (t .master) q) put) (x .frame) (masterData x heard) (t .told) .answer
+
+-- and of burst content
+pub content-254 : (limit : ℕ) (x : DeviceSide) (heard : Heard) (put : List ℕ) → deviceTick limit x heard (gives-content 254 put) .answer ≡ was-refused Command
+unfolding deviceTick contentGiven
+content-254 limit x heard put = ap by (if-is-true (254 =? 254) _ _ refl)
+  where
+    by : Called Device → Answer
+    by c = let t = deviceTakes (x .device) heard in contentCalled c (t .device) put (heardFrame x heard) (deviceData x heard) (x .contents) (t .told) .answer
+
+-- "the quiet time ..: 2×RT1 primary for the primary, RT2 more for the secondary": FSK 66 and 74, C8PSK 84 and 98
+abbrev pub QuietTimes : Type 0
+QuietTimes =
+    (quietTime (freshMaster fskProfile true 3) ≡ 66) ×
+    (quietTime (freshMaster fskProfile false 3) ≡ 74) ×
+    (quietTime (freshMaster c8pskProfile true 3) ≡ 84) ×
+    (quietTime (freshMaster c8pskProfile false 3) ≡ 98)
+
+pub quiet-times : QuietTimes
+unfolding if_then_else_
+quiet-times = (refl, refl, refl, refl)
+
+-- "or a BACK, sets BURST and notes its address"
+pub back-notes : (burst : Bool) (noted : Noted) (h : Header) → h .frame ≡ back → (burstAfter burst noted h ≡ true) × (notedAfter noted h ≡ addressOf h)
+back-notes burst noted h e = (if-is-true (h .frame =? back) true _ (eq-eqb (h .frame) back e), if-is-true (h .frame =? back) (addressOf h) _ (eq-eqb (h .frame) back e))
+
+module _ (noted : Noted) (h : Header) (type : h .frame ≡ ack) where
+  by-ack : {A : Type 0} (a b c : A) → (if h .frame =? back then a else (if h .frame =? ack then b else c)) ≡ b
+  by-ack a b c = if-is-false (h .frame =? back) a _ (ap (λ (n : ℕ). n =? back) type) ∙ if-is-true (h .frame =? ack) b c (eq-eqb (h .frame) ack type)
+
+  -- "A long ACK with the burst flag .. notes its address"; that it sets BURST is `flag-sets` in TagSentences
+  pub long-notes : h .burst ≡ true → namesDevice h ≡ true → notedAfter noted h ≡ addressOf h
+  long-notes flag long = by-ack _ _ _ ∙ if-is-true (h .burst) _ _ flag ∙ if-is-true (namesDevice h) _ _ long
+
+  -- "A short ACK with the flag .. notes nothing"
+  pub short-notes-nothing : h .long ≡ false → notedAfter noted h ≡ noted
+  short-notes-nothing short =
+      by-ack _ _ _
+      ∙ if-both (λ (n : Noted). n ≡ noted) (h .burst) _ _ (if-is-false (namesDevice h) _ _ (if-both (λ (b : Bool). b ≡ false) (seeksTag h) _ _ refl short)) refl
+
+  -- "A long ACK from the noted address without the flag clears it"
+  pub noted-clears : (burst : Bool) → h .burst ≡ false → namesDevice h ≡ true → isNoted noted h ≡ true → burstAfter burst noted h ≡ false
+  noted-clears burst flag long same = by-ack _ _ _ ∙ if-is-false (h .burst) _ _ flag ∙ if-is-true (namesDevice h) _ _ long ∙ if-is-true (isNoted noted h) _ _ same
+
+  -- and one from another address does not
+  pub other-leaves : (burst : Bool) → h .burst ≡ false → isNoted noted h ≡ false → burstAfter burst noted h ≡ burst
+  other-leaves burst flag other =
+      by-ack _ _ _ ∙ if-is-false (h .burst) _ _ flag ∙ if-both (λ (b : Bool). b ≡ burst) (namesDevice h) _ _ (if-is-false (isNoted noted h) _ _ other) refl
+
+-- "BURST is brought up to date before the frame's timer is chosen"
+pub timer-by-new-burst : (m : Master) (r : Receiver) (w : Whole) (bytes : List ℕ) (burst : Bool) → burstAfter (m .burst) (m .noted) (w .header) ≡ burst
+    → M.afterFrame m r w bytes .master .timer ≡ (if burst then setTimer m (w .header) else clearTimer m (w .header))
+timer-by-new-burst m r w bytes burst e = ap (λ (b : Bool). timerAfter m b (w .header)) e
+
+module _ (m : Master) (w : Whole) (bytes : List ℕ) where
+  -- "Such an ACK ends the message as answered"
+  pub ack-ends : isBroadcast (m .message .header) ≡ false → isAnswer m (w .header) ≡ true → (byteAt bytes 0 / 128 =? 1) ≡ false → atFrame m w bytes ≡ ends (m .message) (Answered w)
+  ack-ends one answers low = if-is-true (answersMessage m (w .header)) _ _ (if-is-false (isBroadcast (m .message .header)) _ _ one ∙ answers) ∙ if-is-false (byteAt bytes 0 / 128 =? 1) _ _ low
+
+  -- "unless bit 7 of its first data byte is set: then the attempt failed"
+  pub bit-seven-fails : isBroadcast (m .message .header) ≡ false → byteAt bytes 0 / 128 ≡ 1 → atFrame m w bytes ≡ fails (m .retries) (m .message)
+  bit-seven-fails one bit =
+      if-both (λ (e : M.Ending). e ≡ fails (m .retries) (m .message)) (answersMessage m (w .header)) _ _
+      (if-is-true (byteAt bytes 0 / 128 =? 1) _ _ (eq-eqb (byteAt bytes 0 / 128) 1 bit) ∙ break-fails one) (break-fails one)
+    where
+      break-fails : isBroadcast (m .message .header) ≡ false → atBreak m ≡ fails (m .retries) (m .message)
+      break-fails z = if-is-false (isBroadcast (m .message .header)) _ _ z
+
+  -- "Another frame .. also fails it"
+  pub other-fails : isBroadcast (m .message .header) ≡ false → isAnswer m (w .header) ≡ false → atFrame m w bytes ≡ fails (m .retries) (m .message)
+  other-fails one other =
+      if-is-false (answersMessage m (w .header)) _ _ (if-is-false (isBroadcast (m .message .header)) _ _ one ∙ other) ∙ if-is-false (isBroadcast (m .message .header)) _ _ one
+
+  -- "Broadcast is .. reported as sent at RT1's end, .. or at the next frame, whole or broken"; command 11 is in TagSentences
+  pub broadcast-sent : isBroadcast (m .message .header) ≡ true → seeksTag (m .message .header) ≡ false → (atFrame m w bytes ≡ ends (m .message) BroadcastSent) × (atBreak m ≡ ends (m .message) BroadcastSent)
+  broadcast-sent all other =
+      let e : atBreak m ≡ ends (m .message) BroadcastSent = if-is-true (isBroadcast (m .message .header)) _ _ all in
+      (if-is-false (answersMessage m (w .header)) _ _ (if-is-true (isBroadcast (m .message .header)) _ _ all ∙ if-is-false (seeksTag (m .message .header)) _ _ other) ∙ e, e)
+
+module _ (d : Device) (r : Receiver) (w : Whole) (request : w .header .frame ≡ stx) (plain : w .expansion ≡ 0) where
+  as-request : afterFrame d r w ≡ afterRequest d r w
+  as-request = if-is-true (w .header .frame =? stx) _ _ (eq-eqb (w .header .frame) stx request) ∙ if-is-true (w .expansion =? 0) _ _ (eq-eqb (w .expansion) 0 plain)
+
+  -- "STX to its unique address, or with command 0 to its polling address: told to the host"
+  pub own-told : isOwn d (w .header) ≡ true → (afterFrame d r w .told ≡ DeviceTold.Request w) × (afterFrame d r w .device .request ≡ w .header)
+  own-told own =
+      let may : mayAnswer d (w .header) ≡ true = if-both (λ (b : Bool). b ≡ true) (seeksTag (w .header)) _ _ refl own in
+      let e = as-request ∙ if-is-true (mayAnswer d (w .header)) _ _ may in
+      (ap (λ (t : DeviceTaken). t .told) e, ap (λ (t : DeviceTaken). t .device .request) e)
+
+  -- "Broadcast is told to the host and never answered": that it is not answered is `other-unanswered` in TagSentences
+  pub broadcast-told : isBroadcast (w .header) ≡ true → mayAnswer d (w .header) ≡ false → afterFrame d r w .told ≡ DeviceTold.Broadcast w
+  broadcast-told all none = ap (λ (t : DeviceTaken). t .told) (as-request ∙ if-is-false (mayAnswer d (w .header)) _ _ none ∙ if-is-true (isBroadcast (w .header)) _ _ all)
+
+-- "or with command 0 to its polling address", "STX to its unique address"
+pub own-unique : (d : Device) (h : Header) → h .long ≡ true → isOwn d h ≡ true → d .unique ≡ h .address
+own-unique d h long e = eqb-true (d .unique) (h .address) (sym (if-is-true (h .long) _ _ long) ∙ e)
+
+-- fresh: "no message or request in hand, burst off"
+pub fresh-parties : (p : Profile) (primary : Bool) (retries preamble polling unique : ℕ)
+    → (hasMessage (freshMaster p primary retries .message .stage) ≡ false) × (freshMaster p primary retries .burst ≡ false) × (freshDevice p preamble polling unique .turn ≡ Listens) × (freshDevice p preamble polling unique .burst ≡ false)
+fresh-parties p primary retries preamble polling unique = (refl, refl, refl, refl)

@@ -71,7 +71,7 @@ module _ (d : Device) (some : 1 ≤ d .unique) where
   no-error : (w : Whole) (m : Harm) → isBroadcast (w .header) ≡ true → hasError d w m ≡ false
   no-error w m b =
       let no : Bool → Type 0 = λ (t : Bool). t ≡ false in
-      if-both no (w .header .frame =? stx) _ _ (if-both no (w .expansion =? 0) _ _ (if-both no (m .address) _ _ refl (broadcast-not-own (w .header) b)) refl) refl
+      if-both no (w .header .frame =? stx) _ _ (if-both no (w .expansion =? 0) _ _ (if-both no _ _ _ refl (broadcast-not-own (w .header) b)) refl) refl
 
   -- nothing is told, nothing is prepared in the frame buffer, and no request is in hand
   pub damaged-unanswered : (r : Receiver) (w : Whole) (m : Harm) → isBroadcast (w .header) ≡ true

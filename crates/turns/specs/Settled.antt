@@ -1,14 +1,15 @@
 -- Document 01, "Settled by proof": the ten questions M1 to M10, and what the definitions give for each. The table is proved as a whole in proofs/Settled.antt.
-use Prim.Native.Nat.{ℕ, _-_}
+use Prim.Native.Nat.{ℕ, _+_, _-_, _≤_}
 use mathlib.Core.Path.{_≡_}
 use mathlib.Core.Bool.{true, false}
 use mathlib.Core.List.{List, [], _∷_, _++_}
-use lib.ListN.{replicate}
+use lib.ListN.{length, replicate}
 use Rattle.base.specs.Refusal.{number}
-use Rattle.frame.specs.Check.{exclusiveOr}
-use Rattle.frame.specs.Delimiter.{stx, ack}
-use Rattle.frame.specs.Frame.{frameBytes, frameLength}
+use Rattle.frame.specs.Delimiter.{stx}
+use Rattle.frame.specs.Frame.{frameBytes, preambleBytes, protectedBytes}
+use Rattle.frame.specs.Write.{writeAnswer}
 use Rattle.frame.specs.declared.Header.{Header}
+use Rattle.frame.specs.declared.Written.the-variants.{To}
 use Rattle.line.specs.Profile.{fskProfile}
 use Rattle.line.specs.declared.Heard.{Heard}
 use Rattle.line.specs.declared.Heard.the-variants.{Silence, Character}
@@ -33,10 +34,31 @@ pub data Outcome : Type 0 where
   gives : ℕ → Outcome
   taken : Outcome
   refuses : ℕ → Outcome
+  -- there was no call
+  nothing : Outcome
+
+-- ---- M1 to M3: a frame with these bytes from delimiter to data can be written, and every such frame is the preamble, these bytes and this check byte
+
+pub record CheckByte (bytes : List ℕ) (check : ℕ) : Type 0 where
+  pub header : Header
+  pub content : List ℕ
+  pub has-bytes : protectedBytes header content ≡ bytes
+  pub is-written : writeAnswer 5 header (length content) 284 0 ≡ To (5 + length bytes + 1)
+  pub every : (preamble : ℕ) (h : Header) (put : List ℕ) → protectedBytes h put ≡ bytes → frameBytes preamble h put ≡ preambleBytes preamble ++ (bytes ++ (check ∷ []))
+
+-- ---- M4 to M7: what a fresh master answers to a request
 
 abbrev pub outcome : {A : Type 0} → Called A → Outcome
 outcome (accepted x) = taken
 outcome (refused why) = refuses (number why)
+
+abbrev pub askPolling : ℕ → Outcome
+askPolling address = outcome (requested 255 (freshMaster fskProfile true 3) (record { preamble = 5; long = false; address = address; command = 0 }) 0)
+
+abbrev pub askData : ℕ → Outcome
+askData count = outcome (requested 255 (freshMaster fskProfile true 3) (record { preamble = 5; long = true; address = 1; command = 1 }) count)
+
+-- ---- M8 and M9: what a device answers to its host
 
 -- an STX with command 0 to polling address 0
 abbrev pub request : Header
@@ -55,21 +77,33 @@ abbrev pub device : DeviceSide
 device = record { device = freshDevice fskProfile 5 0 2; frame = replicate 284 0; bytes = replicate 255 0; contents = replicate 255 0 }
 
 abbrev pub answer : Answer → Outcome
-answer none = taken
+answer none = nothing
 answer was-taken = taken
 answer (was-refused why) = refuses (number why)
 
--- the STX's last character goes out in tick T and is heard in T+1; each silent tick behind it is one more. The host answers in the last of these ticks.
-abbrev pub answerBehind : ℕ → Outcome
-answerBehind silent = answer (deviceTick 255 (hearing device (Silence ∷ Silence ∷ (characters (frameBytes 5 request []) ++ replicate silent Silence))) Silence (gives-answer Same (0 ∷ 0 ∷ [])) .answer)
+-- the STX's last character goes out in tick T and is heard in T+1; each silent tick behind it is one more. The host answers in tick T+late.
+abbrev pub answerAt : ℕ → Outcome
+answerAt late = answer (deviceTick 255 (hearing device (Silence ∷ Silence ∷ (characters (frameBytes 5 request []) ++ replicate (late - 2) Silence))) Silence (gives-answer Same (0 ∷ 0 ∷ [])) .answer)
 
--- what the definitions give
-abbrev pub settle : Question → Outcome
-settle (check-byte bytes) = gives (exclusiveOr bytes)
-settle (ask-polling address) = outcome (requested 255 (freshMaster fskProfile true 3) (record { preamble = 5; long = false; address = address; command = 0 }) 0)
-settle (ask-data count) = outcome (requested 255 (freshMaster fskProfile true 3) (record { preamble = 5; long = true; address = 1; command = 1 }) count)
-settle (answer-at late) = answerBehind (late - 2)
-settle longest = gives (frameLength 20 (record { frame = ack; long = true; primary = true; burst = false; address = 1; command = 0 }) 255)
+-- ---- M10: no frame that the writer writes is longer than so many bytes, and one is as long
+
+pub record Longest (n : ℕ) : Type 0 where
+  pub none-longer : (preamble : ℕ) (h : Header) (put : List ℕ) (room place end : ℕ) → writeAnswer preamble h (length put) room place ≡ To end → (end ≤ place + n) × (length (frameBytes preamble h put) ≤ n)
+  pub preamble : ℕ
+  pub header : Header
+  pub content : List ℕ
+  pub is-written : writeAnswer preamble header (length content) n 0 ≡ To n
+  pub as-long : length (frameBytes preamble header content) ≡ n
+
+-- ---- the table, and its statement
+
+-- the definitions give this outcome
+pub data Settled : Question → Outcome → Type 0 where
+  check-byte-is : {bytes : List ℕ} {check : ℕ} → CheckByte bytes check → Settled (check-byte bytes) (gives check)
+  polling-is : {address : ℕ} {o : Outcome} → askPolling address ≡ o → Settled (ask-polling address) o
+  data-is : {count : ℕ} {o : Outcome} → askData count ≡ o → Settled (ask-data count) o
+  answer-is : {late : ℕ} {o : Outcome} → answerAt late ≡ o → Settled (answer-at late) o
+  longest-is : {n : ℕ} → Longest n → Settled longest (gives n)
 
 -- a question with the outcome that document 01 states
 pub record Row : Type 0 where
@@ -93,4 +127,4 @@ table =
 -- every row: the definitions give what is stated
 pub data AllSettled : List Row → Type 0 where
   no-more : AllSettled []
-  row-and : {r : Row} {rs : List Row} → settle (r .asked) ≡ r .stated → AllSettled rs → AllSettled (r ∷ rs)
+  row-and : {r : Row} {rs : List Row} → Settled (r .asked) (r .stated) → AllSettled rs → AllSettled (r ∷ rs)
