@@ -3,6 +3,8 @@ pub mod Breaks
 pub mod Sentences
 pub mod TagSentences
 pub mod AckBack
+pub mod Attempts
+pub mod AttemptRuns
 pub mod Beginning
 pub mod Begun
 pub mod Behind
@@ -20,6 +22,7 @@ pub mod Devices
 pub mod Example
 pub mod Fair
 pub mod Finders
+pub mod FirstStx
 pub mod FrameEnds
 pub mod Fresh
 pub mod GapRuns

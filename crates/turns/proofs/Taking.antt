@@ -29,7 +29,7 @@ use Rattle.turns.specs.declared.Master.{Master}
 use Rattle.turns.specs.declared.MasterTold.{MasterTold}
 use Rattle.turns.specs.declared.MasterTaken.{MasterTaken}
 use Rattle.turns.specs.declared.MasterSent.{MasterSent}
-use Rattle.turns.proofs.Masters.{Holds, Formed, no-message, stands, left, free-waiting, awaiting-waiting, Still, is-free, is-waiting, is-awaiting, speaking, spokenOut, Asks, asks, is-refused, is-taken}
+use Rattle.turns.proofs.Masters.{Holds, Formed, no-message, stands, left, free-waiting, awaiting-waiting, Still, is-free, is-waiting, is-awaiting, speaking, spokenOut, Asks, asks, is-refused, is-taken, if-cases}
 
 -- ---- the message behind what was heard: still not sending, and still in its buffer
 
@@ -55,12 +55,10 @@ ends-ended : {primary : Bool} (frame : List ℕ) (retries : ℕ) (g : Message) (
 ends-ended frame retries g told = record { still = is-free; formed = no-message refl; gone = refl; same-attempts = refl; same-header = refl; retried = λ z. absurd (free-waiting z); over = inr refl }
 
 fails-ended : {primary : Bool} (frame : List ℕ) (retries : ℕ) (g : Message) (n : ℕ) → g .stage ≡ Awaiting n → Formed primary frame g → Ended primary frame retries g (fails retries g)
-unfolding if_then_else_
-fails-ended {primary} frame retries g n e f = go (g .attempts ≤? retries) refl
-  where
-    go : (t : Bool) → (g .attempts ≤? retries) ≡ t → Ended primary frame retries g (if t then record { message = staged g Waiting; told = MasterTold.Nothing } else ends g (MasterTold.GivenUp (g .attempts)))
-    go true q = record { still = is-waiting; formed = formed-staged frame g Waiting (λ q. absurd (awaiting-free n (sym e ∙ q))) f; gone = refl; same-attempts = refl; same-header = refl; retried = λ z. leb-true (g .attempts) retries q; over = inl refl }
-    go false q = ends-ended frame retries g (MasterTold.GivenUp (g .attempts))
+fails-ended {primary} frame retries g n e f =
+    if-cases (Ended primary frame retries g) (g .attempts ≤? retries) _ _
+    (λ q. record { still = is-waiting; formed = formed-staged frame g Waiting (λ q. absurd (awaiting-free n (sym e ∙ q))) f; gone = refl; same-attempts = refl; same-header = refl; retried = λ z. leb-true (g .attempts) retries q; over = inl refl })
+    (λ q. ends-ended frame retries g _)
 
 either-ended : {primary : Bool} {frame : List ℕ} {retries : ℕ} {g : Message} (t : Bool) (a b : Ending) → Ended primary frame retries g a → Ended primary frame retries g b → Ended primary frame retries g (if t then a else b)
 unfolding if_then_else_

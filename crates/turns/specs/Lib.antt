@@ -10,5 +10,7 @@ pub mod Credit
 pub mod Late
 pub mod Settled
 pub mod Gaps
+pub mod Attempts
+pub mod FirstStx
 pub mod SoundPair
 pub mod LateSoundPair
