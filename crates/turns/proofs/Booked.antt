@@ -29,7 +29,9 @@ use Rattle.line.proofs.Leads.{readerAfter, dataAfter, leads-to, leads-data}
 use Rattle.turns.specs.Device.{answerHeader}
 use Rattle.turns.specs.Link.{DeviceCall, no-call, DeviceSide, deviceTick, deviceTicks, sides}
 use Rattle.turns.specs.Run.{All, none, and}
-use Rattle.turns.specs.Credit.{Ledger, ledgerAfter, ledgersAfter, closed, toldBy}
+use Rattle.turns.specs.Credit.{Ledger, ledgerAfter, ledgersAfter, closed, closedAfter, toldBy, Gave, another}
+use Rattle.turns.specs.declared.Sent.{Sent}
+use Rattle.turns.specs.declared.Sent.the-variants.{Silent}
 use Rattle.turns.specs.declared.Turn.the-variants.{Asked}
 use Rattle.turns.specs.declared.Device.{Device}
 use Rattle.turns.specs.declared.DeviceTaken.{DeviceTaken}
@@ -64,6 +66,23 @@ pub closed-ledgers : {gs : List Ledger} {xs : List DeviceSide} → Ledgers gs xs
 unfolding closed
 closed-ledgers no-ledger = no-ledger
 closed-ledgers (ledger-and a) = ledger-and (closed-ledgers a)
+
+-- behind a tick in which a master sends no answer stands in them, so that one that does was given behind the last STX
+pub none-stands : (c : ℕ) {h : Header} {put : List ℕ} {xs : List DeviceSide} (gs : List Ledger) → Gave h put xs (closedAfter (Sent.Character c) gs) → ⊥
+unfolding closed
+none-stands c (g ∷ gs) (another q) = none-stands c gs q
+
+-- behind what masters send
+pub sent-ledgers : (a b : Sent) {gs : List Ledger} {xs : List DeviceSide} → Ledgers gs xs → Ledgers (closedAfter a (closedAfter b gs)) xs
+sent-ledgers a b g = go a (go b g)
+  where
+    go : (t : Sent) {gs : List Ledger} {xs : List DeviceSide} → Ledgers gs xs → Ledgers (closedAfter t gs) xs
+    go Silent g = g
+    go (Sent.Character c) g = closed-ledgers g
+
+-- where none sends they stay open
+pub sent-same : (a b : Sent) (gs : List Ledger) → a ≡ Silent → b ≡ Silent → closedAfter a (closedAfter b gs) ≡ gs
+sent-same a b gs e f = λ i. closedAfter (e i) (closedAfter (f i) gs)
 
 -- every device's ledger says what it has in hand behind the tick, if it did before
 pub owe-after : (limit : ℕ) (heard : Heard) {P : DeviceSide → Type 0} {gs : List Ledger} {xs : List DeviceSide} (calls : List DeviceCall)
@@ -171,7 +190,7 @@ finished-owes a-back last (finished z t due) = none-owed (λ n e. listens-asked 
 
 -- ---- the ACK that a device sends, told from its ledger
 
-same-lists : (xs ys : List ℕ) → length xs ≡ length ys → ((i : ℕ) → i < length xs → getD xs i 0 ≡ getD ys i 0) → xs ≡ ys
+pub same-lists : (xs ys : List ℕ) → length xs ≡ length ys → ((i : ℕ) → i < length xs → getD xs i 0 ≡ getD ys i 0) → xs ≡ ys
 same-lists [] [] e f = refl
 same-lists [] (y ∷ ys) e f = absurd (omega (arith, e))
 same-lists (x ∷ xs) [] e f = absurd (omega (arith, e))

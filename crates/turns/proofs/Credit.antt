@@ -25,7 +25,7 @@ use Rattle.turns.specs.Link.{MasterCall, DeviceCall, no-call, MasterSide
 use Rattle.turns.specs.Run.{All, none, and, EachTick}
 use Rattle.turns.specs.Run as R1
 use Rattle.turns.specs.Demand3.{masterIn}
-use Rattle.turns.specs.Credit.{Ledger, given, closedBy, ledgerAfter, ledgersAfter, bookedBy, Gave, this-one, another, masterOf, Credited, EachCredited, no-tick, tick-and, blanks, CreditInARun}
+use Rattle.turns.specs.Credit.{Ledger, given, closedBy, closedAfter, ledgerAfter, ledgersAfter, bookedBy, Gave, this-one, another, masterOf, Credited, EachCredited, no-tick, tick-and, blanks, CreditInARun}
 use Rattle.turns.specs.declared.Noted.{Noted}
 use Rattle.turns.specs.declared.Master.{Master}
 use Rattle.turns.specs.declared.Device.{Device}
@@ -37,6 +37,7 @@ use Rattle.turns.proofs.Tags.{fair-run}
 use Rattle.turns.proofs.Turns.{listens-asked}
 use Rattle.turns.specs.declared.MasterTold.{MasterTold}
 use Rattle.turns.specs.declared.MasterTold.the-variants.{Answered, GivenUp, BroadcastSent}
+use Rattle.turns.specs.declared.Sent.the-variants.{Silent}
 use Rattle.turns.specs.declared.Turn.the-variants.{Listens, Answers}
 use Rattle.turns.proofs.Sentences.{answer-repeats}
 use Rattle.turns.proofs.Spoken.{Spoken}
@@ -60,7 +61,7 @@ use Rattle.turns.proofs.Fresh.{valid, first-tick, master-is, device-is}
 use Rattle.turns.proofs.Kept.{header-kept}
 use Rattle.turns.proofs.CreditMasters.{reports, tick-bytes, bytes-length, data-next, hears-data}
 use Rattle.turns.proofs.CreditDevices.{DeviceOwes, Gives, none-owed, ledger-same, same-gives}
-use Rattle.turns.proofs.Booked.{AllOwe, no-more, owe-and, Ledgers, no-ledger, ledger-and, owe-ledgers, closed-ledgers, owe-after, owe-anew, one-all, silent-owes, mid-owes, end-owes, speaks-owes, speaker-free, finished-owes, same-frame, frame-sent, message-sent, data-heard}
+use Rattle.turns.proofs.Booked.{AllOwe, no-more, owe-and, Ledgers, no-ledger, ledger-and, owe-ledgers, closed-ledgers, sent-ledgers, sent-same, owe-after, owe-anew, one-all, silent-owes, mid-owes, end-owes, speaks-owes, speaker-free, finished-owes, same-frame, frame-sent, message-sent, data-heard}
 
 -- ---- who reports an answer
 
@@ -128,10 +129,10 @@ data SenderGives (u : ℕ) (a b : MasterSide) : List Ledger → List DeviceSide 
   sender-and : {g : Ledger} {x : DeviceSide} {gs : List Ledger} {xs : List DeviceSide} → (x .device .unique ≡ u → SenderOwes g x a b) → SenderGives u a b gs xs → SenderGives u a b (g ∷ gs) (x ∷ xs)
 
 -- a master's data buffer behind the first k characters of w
-record HearsData (k : ℕ) (w : List ℕ) (x : MasterSide) : Type 0 where
-  before : List ℕ
-  bytes-are : x .bytes ≡ dataAfter idle (take k w) before
-  room : 255 ≤ length before
+pub record HearsData (k : ℕ) (w : List ℕ) (x : MasterSide) : Type 0 where
+  pub before : List ℕ
+  pub bytes-are : x .bytes ≡ dataAfter idle (take k w) before
+  pub room : 255 ≤ length before
 
 record Rooms (l : Link) : Type 0 where
   primary-room : 255 ≤ length (l .primary .bytes)
@@ -141,9 +142,9 @@ record Rooms (l : Link) : Type 0 where
 data Booked (p : Profile) (gs : List Ledger) (l : Link) : Type 0 where
   in-silence : (e : ℕ) → l .line ≡ Silence → SilentLine p e (l .primary) (l .secondary) (l .devices) → AllOwe gs (l .devices) → Booked p gs l
   in-primary : (burst : Bool) (noted : Noted) (next : Bool) (k : ℕ) (w : List ℕ) (message : Whole) → l .line ≡ Character (getD w k 0)
-      → OneMasterSends p true false burst noted next k w message (l .primary) (l .secondary) (l .devices) → AllOwe gs (l .devices) → Booked p gs l
+      → OneMasterSends p true false burst noted next k w message (l .primary) (l .secondary) (l .devices) → Ledgers gs (l .devices) → Booked p gs l
   in-secondary : (burst : Bool) (noted : Noted) (next : Bool) (k : ℕ) (w : List ℕ) (message : Whole) → l .line ≡ Character (getD w k 0)
-      → OneMasterSends p false true burst noted next k w message (l .secondary) (l .primary) (l .devices) → AllOwe gs (l .devices) → Booked p gs l
+      → OneMasterSends p false true burst noted next k w message (l .secondary) (l .primary) (l .devices) → Ledgers gs (l .devices) → Booked p gs l
   in-ack : (burst : Bool) (noted : Noted) (next : Bool) (k : ℕ) (w : List ℕ) (message : Whole) (u : ℕ) (on : Bool) → l .line ≡ Character (getD w k 0)
       → OneDeviceSends p an-ack burst noted next k w message u on (l .primary) (l .secondary) (l .devices) → AllOwe gs (l .devices)
       → SenderGives u (l .primary) (l .secondary) gs (l .devices) → HearsData k w (l .primary) → HearsData k w (l .secondary) → Booked p gs l
@@ -155,12 +156,20 @@ record Ticked (p : Profile) (gs : List Ledger) (l : Link) (c : Calls) (s : LinkS
   credited : finders gs ≤ 1 → (primary : Bool) (w : Whole) → masterIn primary s .told ≡ Answered w → Credited primary gs l s w
   next : Booked p (bookedBy c s gs) (linkAfter s)
 
+-- the ledgers behind a tick in which nobody reports
+abbrev sentBy : Calls → LinkStep → List Ledger → List Ledger
+sentBy c s gs = closedAfter (s .for-primary .sent) (closedAfter (s .for-secondary .sent) (ledgersAfter (c .for-devices) (s .for-devices) gs))
+
+-- and no master sends
+none-sent : (c : Calls) (s : LinkStep) (gs : List Ledger) → s .for-primary .sent ≡ Silent → s .for-secondary .sent ≡ Silent → sentBy c s gs ≡ ledgersAfter (c .for-devices) (s .for-devices) gs
+none-sent c s gs a b = sent-same (s .for-primary .sent) (s .for-secondary .sent) (ledgersAfter (c .for-devices) (s .for-devices) gs) a b
+
 -- a tick in which nobody reports
-unreported : (p : Profile) (gs : List Ledger) (l : Link) (c : Calls) (s : LinkStep) → NoReport (s .for-primary) → NoReport (s .for-secondary) → Booked p (ledgersAfter (c .for-devices) (s .for-devices) gs) (linkAfter s) → Ticked p gs l c s
+unreported : (p : Profile) (gs : List Ledger) (l : Link) (c : Calls) (s : LinkStep) → NoReport (s .for-primary) → NoReport (s .for-secondary) → Booked p (sentBy c s gs) (linkAfter s) → Ticked p gs l c s
 unfolding NoReport
 unreported p gs l c s na nb n = record {
   credited = λ one. none-credited;
-  next = subst (λ (z : List Ledger). Booked p (ledgersAfter (c .for-devices) (s .for-devices) z) (linkAfter s))
+  next = subst (λ (z : List Ledger). Booked p (sentBy c s z) (linkAfter s))
       (sym (closed-same (s .for-primary .told) (closedBy (s .for-secondary .told) gs) na ∙ closed-same (s .for-secondary .told) gs nb)) n;
 }
   where
@@ -249,20 +258,25 @@ module _ (limit : ℕ) (low : 2 ≤ limit) (high : limit ≤ 255) (p : Profile) 
       same-secondary : 1 ≤ g → h .primary ≡ false → h ≡ linkAfter (heardTick limit l Silence c) .secondary .master .message .header
       same-secondary z e = asked .secondary-header z e ∙ sym (rb .same-header (omega (arith, rb .one-less, asked .by-secondary z e)))
 
+    -- no master sends
+    unsent : quiet .for-primary .sent ≡ Silent → quiet .for-secondary .sent ≡ Silent → Booked p (ledgersAfter (c .for-devices) (quiet .for-devices) gs) (linkAfter quiet) → Booked p (sentBy c quiet gs) (linkAfter quiet)
+    unsent a b k = subst (λ (z : List Ledger). Booked p z (linkAfter quiet)) (sym (none-sent c quiet gs a b)) k
+
     -- what comes of a silent tick
     behind-silence : (g : ℕ) (h : Header) (n : ℕ) (burst : Bool) (noted : Noted) (next : Bool) (L : Type 0) → (linkAfter (heardTick limit l Silence c) .line ≡ Silence → L → Booked p (ledgersAfter (c .for-devices) (heardTick limit l Silence c .for-devices) gs) (linkAfter (heardTick limit l Silence c)))
         → Asked g h (l .primary) (l .secondary) → All (DeviceQuiet p g h n) (l .devices) → AllOwe (ledgersAfter (c .for-devices) (heardTick limit l Silence c .for-devices) gs) (linkAfter (heardTick limit l Silence c) .devices)
         → SilentTick p n burst noted next (l .primary) (l .secondary) (heardTick limit l Silence c .for-primary) (heardTick limit l Silence c .for-secondary) (heardTick limit l Silence c .for-devices) L
-        → Booked p (ledgersAfter (c .for-devices) (heardTick limit l Silence c .for-devices) gs) (linkAfter (heardTick limit l Silence c))
+        → Booked p (sentBy c (heardTick limit l Silence c) gs) (linkAfter (heardTick limit l Silence c))
     unfolding heardTick
-    behind-silence g h n burst noted next L f asked qs os (T.still-silent a b line k ra rb) = f (carries quiet a b line) k
-    behind-silence g h n burst noted next L f asked qs os (T.primary-begins w message a b line o ra rb) = in-primary burst noted next 0 w message (carries quiet a b line) o os
-    behind-silence g h n burst noted next L f asked qs os (T.secondary-begins w message a b line o ra rb) = in-secondary burst noted next 0 w message (carries quiet a b line) o os
+    behind-silence g h n burst noted next L f asked qs os (T.still-silent a b line k ra rb) = unsent a b (f (carries quiet a b line) k)
+    behind-silence g h n burst noted next L f asked qs os (T.primary-begins w message a b line o ra rb) = in-primary burst noted next 0 w message (carries quiet a b line) o (sent-ledgers (quiet .for-primary .sent) (quiet .for-secondary .sent) (owe-ledgers os))
+    behind-silence g h n burst noted next L f asked qs os (T.secondary-begins w message a b line o ra rb) = in-secondary burst noted next 0 w message (carries quiet a b line) o (sent-ledgers (quiet .for-primary .sent) (quiet .for-secondary .sent) (owe-ledgers os))
     behind-silence g h n burst noted next L f asked qs os (T.ack-begins w message u on a b line o ra rb) =
-        in-ack burst noted _ 0 w message u on (carries quiet a b line) o os
+        unsent a b
+        (in-ack burst noted _ 0 w message u on (carries quiet a b line) o os
         (begins-gives g h n w message u on _ _ _ (c .for-devices) (spoken-long (o .devices)) (same-primary g h asked ra rb) (same-secondary g h asked ra rb) qs os (one-all (o .devices)))
-        (begins-data w .0) (begins-data w .1)
-    behind-silence g h n burst noted next L f asked qs os (T.back-begins z w message u a b line o ra rb) = in-back burst noted _ 0 w message u (carries quiet a b line) o os
+        (begins-data w .0) (begins-data w .1))
+    behind-silence g h n burst noted next L f asked qs os (T.back-begins z w message u a b line o ra rb) = unsent a b (in-back burst noted _ 0 w message u (carries quiet a b line) o os)
 
     silence-books : (e : ℕ) → Fair (heardTick limit l Silence c) → SilentLine p e (l .primary) (l .secondary) (l .devices) → AllOwe gs (l .devices) → Ticked p gs l c (heardTick limit l Silence c)
     unfolding heardTick
@@ -281,6 +295,9 @@ module _ (limit : ℕ) (low : 2 ≤ limit) (high : limit ≤ 255) (p : Profile) 
 
     abbrev heard : List ℕ → ℕ → LinkStep
     heard w k = heardTick limit l (Character (getD w k 0)) c
+
+    silently : (w : List ℕ) (k : ℕ) → heard w k .for-primary .sent ≡ Silent → heard w k .for-secondary .sent ≡ Silent → Booked p (ledgersAfter (c .for-devices) (heard w k .for-devices) gs) (linkAfter (heard w k)) → Booked p (sentBy c (heard w k) gs) (linkAfter (heard w k))
+    silently w k a b n = subst (λ (z : List Ledger). Booked p z (linkAfter (heard w k))) (sym (none-sent c (heard w k) gs a b)) n
 
     -- the devices that hear a frame
     hear-books : (w : List ℕ) (message : Whole) (k u : ℕ) → Spoken w message → (suc k < length w) ⊎ (suc k ≡ length w) → message .expansion ≡ 0 → All (DeviceHears p (readerAfter idle (take k w)) u) (l .devices) → Ledgers gs (l .devices)
@@ -304,33 +321,33 @@ module _ (limit : ℕ) (low : 2 ≤ limit) (high : limit ≤ 255) (p : Profile) 
     stx-where (Rattle.turns.proofs.Sending.inside below e) = inl below
     stx-where (Rattle.turns.proofs.Sending.finished last t s e) = inr last
 
-    primary-books : (burst : Bool) (noted : Noted) (next : Bool) (k : ℕ) (w : List ℕ) (message : Whole) → OneMasterSends p true false burst noted next k w message (l .primary) (l .secondary) (l .devices) → AllOwe gs (l .devices)
+    primary-books : (burst : Bool) (noted : Noted) (next : Bool) (k : ℕ) (w : List ℕ) (message : Whole) → OneMasterSends p true false burst noted next k w message (l .primary) (l .secondary) (l .devices) → Ledgers gs (l .devices)
         → Ticked p gs l c (heardTick limit l (Character (getD w k 0)) c)
     unfolding heardTick
     primary-books burst noted next k w message o os =
         let s = o .speaks .held .speaks in
         let place = stx-where (o .speaks .place) in
         unreported p gs l c (heard w k) (deaf-reports limit (l .primary) (c .for-primary) (Character (getD w k 0)) (o .speaks .deaf-is)) (hears-reports (l .secondary) (c .for-secondary) w message k s place (o .hears .receiver-is) (stx-ack (o .speaks .type-is)))
-        (go (stx-tick limit low high p v true false burst noted next k w message (l .primary) (l .secondary) (l .devices) (c .for-primary) (c .for-secondary) (c .for-devices) o) (hear-books w message k 0 s place (o .speaks .no-expansion) (o .devices) (owe-ledgers os)))
+        (go (stx-tick limit low high p v true false burst noted next k w message (l .primary) (l .secondary) (l .devices) (c .for-primary) (c .for-secondary) (c .for-devices) o) (hear-books w message k 0 s place (o .speaks .no-expansion) (o .devices) os))
       where
         go : StxTick p true false burst noted next k w message (l .primary) (l .secondary) (heard w k .for-primary) (heard w k .for-secondary) (heard w k .for-devices)
-            → AllOwe (ledgersAfter (c .for-devices) (heard w k .for-devices) gs) (linkAfter (heard w k) .devices) → Booked p (ledgersAfter (c .for-devices) (heard w k .for-devices) gs) (linkAfter (heard w k))
-        go (X.goes-on below a b line m n y) after = in-primary burst noted next (suc k) w message (carries (heard w k) a b line) m after
-        go (X.ends last a b line m n y) after = in-silence 0 (carries (heard w k) a b line) (stx-line p v 0 burst m) after
+            → AllOwe (ledgersAfter (c .for-devices) (heard w k .for-devices) gs) (linkAfter (heard w k) .devices) → Booked p (sentBy c (heard w k) gs) (linkAfter (heard w k))
+        go (X.goes-on below a b line m n y) after = in-primary burst noted next (suc k) w message (carries (heard w k) a b line) m (sent-ledgers (heard w k .for-primary .sent) (heard w k .for-secondary .sent) (owe-ledgers after))
+        go (X.ends last a b line m n y) after = silently w k a b (in-silence 0 (carries (heard w k) a b line) (stx-line p v 0 burst m) after)
 
-    secondary-books : (burst : Bool) (noted : Noted) (next : Bool) (k : ℕ) (w : List ℕ) (message : Whole) → OneMasterSends p false true burst noted next k w message (l .secondary) (l .primary) (l .devices) → AllOwe gs (l .devices)
+    secondary-books : (burst : Bool) (noted : Noted) (next : Bool) (k : ℕ) (w : List ℕ) (message : Whole) → OneMasterSends p false true burst noted next k w message (l .secondary) (l .primary) (l .devices) → Ledgers gs (l .devices)
         → Ticked p gs l c (heardTick limit l (Character (getD w k 0)) c)
     unfolding heardTick
     secondary-books burst noted next k w message o os =
         let s = o .speaks .held .speaks in
         let place = stx-where (o .speaks .place) in
         unreported p gs l c (heard w k) (hears-reports (l .primary) (c .for-primary) w message k s place (o .hears .receiver-is) (stx-ack (o .speaks .type-is))) (deaf-reports limit (l .secondary) (c .for-secondary) (Character (getD w k 0)) (o .speaks .deaf-is))
-        (go (stx-tick limit low high p v false true burst noted next k w message (l .secondary) (l .primary) (l .devices) (c .for-secondary) (c .for-primary) (c .for-devices) o) (hear-books w message k 0 s place (o .speaks .no-expansion) (o .devices) (owe-ledgers os)))
+        (go (stx-tick limit low high p v false true burst noted next k w message (l .secondary) (l .primary) (l .devices) (c .for-secondary) (c .for-primary) (c .for-devices) o) (hear-books w message k 0 s place (o .speaks .no-expansion) (o .devices) os))
       where
         go : StxTick p false true burst noted next k w message (l .secondary) (l .primary) (heard w k .for-secondary) (heard w k .for-primary) (heard w k .for-devices)
-            → AllOwe (ledgersAfter (c .for-devices) (heard w k .for-devices) gs) (linkAfter (heard w k) .devices) → Booked p (ledgersAfter (c .for-devices) (heard w k .for-devices) gs) (linkAfter (heard w k))
-        go (X.goes-on below a b line m n y) after = in-secondary burst noted next (suc k) w message (carries (heard w k) b a line) m after
-        go (X.ends last a b line m n y) after = in-silence 0 (carries (heard w k) b a line) (stx-line-secondary p v 0 burst m) after
+            → AllOwe (ledgersAfter (c .for-devices) (heard w k .for-devices) gs) (linkAfter (heard w k) .devices) → Booked p (sentBy c (heard w k) gs) (linkAfter (heard w k))
+        go (X.goes-on below a b line m n y) after = in-secondary burst noted next (suc k) w message (carries (heard w k) b a line) m (sent-ledgers (heard w k .for-primary .sent) (heard w k .for-secondary .sent) (owe-ledgers after))
+        go (X.ends last a b line m n y) after = silently w k b a (in-silence 0 (carries (heard w k) b a line) (stx-line-secondary p v 0 burst m) after)
 
     -- ---- a device sends
 
@@ -372,9 +389,9 @@ module _ (limit : ℕ) (low : 2 ≤ limit) (high : limit ≤ 255) (p : Profile) 
         is-it (is-back type z b e) = type
 
         go : BackTick p burst noted next k w message u (l .primary) (l .secondary) (heard w k .for-primary) (heard w k .for-secondary) (heard w k .for-devices)
-            → AllOwe (ledgersAfter (c .for-devices) (heard w k .for-devices) gs) (linkAfter (heard w k) .devices) → Booked p (ledgersAfter (c .for-devices) (heard w k .for-devices) gs) (linkAfter (heard w k))
-        go (A.back-goes-on below a b line m x y) after = in-back burst noted next (suc k) w message u (carries (heard w k) a b line) m after
-        go (A.back-ends last a b line m ta tb n x y) after = in-silence 0 (carries (heard w k) a b line) (set (p .rt2) next m) after
+            → AllOwe (ledgersAfter (c .for-devices) (heard w k .for-devices) gs) (linkAfter (heard w k) .devices) → Booked p (sentBy c (heard w k) gs) (linkAfter (heard w k))
+        go (A.back-goes-on below a b line m x y) after = silently w k a b (in-back burst noted next (suc k) w message u (carries (heard w k) a b line) m after)
+        go (A.back-ends last a b line m ta tb n x y) after = silently w k a b (in-silence 0 (carries (heard w k) a b line) (set (p .rt2) next m) after)
 
     -- ---- an ACK
 
@@ -472,6 +489,9 @@ module _ (limit : ℕ) (low : 2 ≤ limit) (high : limit ≤ 255) (p : Profile) 
     record Credits (bit : Bool) (ack-told : Whole) (bytes : List ℕ) : Type 0 where
       put : List ℕ
       gave : Gave (masterOf bit l .master .message .header) put (l .devices) gs
+      form-is : ack-told .header .long ≡ masterOf bit l .master .message .header .long
+      bit-is : ack-told .header .primary ≡ masterOf bit l .master .message .header .primary
+      address-is : ack-told .header .address ≡ masterOf bit l .master .message .header .address
       command-is : ack-told .header .command ≡ masterOf bit l .master .message .header .command
       data-is : take (ack-told .count) bytes ≡ put
 
@@ -487,6 +507,9 @@ module _ (limit : ℕ) (low : 2 ≤ limit) (high : limit ≤ 255) (p : Profile) 
         record {
           put = o .gives .put;
           gave = f .gave (masterOf bit l .master .message .header) request-is;
+          form-is = ap (λ (z : Whole). z .header .long) v-is ∙ ap (λ (h : Header). h .long) request-is;
+          bit-is = ap (λ (z : Whole). z .header .primary) v-is ∙ ap (λ (h : Header). h .primary) request-is;
+          address-is = ap (λ (z : Whole). z .header .address) v-is ∙ ap (λ (h : Header). h .address) request-is;
           command-is = ap (λ (z : Whole). z .header .command) v-is ∙ ap (λ (h : Header). h .command) request-is;
           data-is = ap (λ (z : Whole). take (z .count) (masterTick limit x (Character (getD w k 0)) d .side .bytes)) v-is
               ∙ ap (take (length (o .gives .put))) (tick-bytes limit x (Character (getD w k 0)) d ∙ hears-data x (Character (getD w k 0)) (t .2) ∙ (λ i. takenData (r i) (Character (getD w k 0)) (hd .bytes-are i)))
@@ -518,13 +541,15 @@ module _ (limit : ℕ) (low : 2 ≤ limit) (high : limit ≤ 255) (p : Profile) 
         reported : suc k ≡ length w → finders gs ≤ 1 → (primary : Bool) (v : Whole) → masterIn primary s .told ≡ Answered v → Credited primary gs l s v
         reported last one true v e =
             let r = credit true k w message u on (l .primary) (c .for-primary) last (found (o .devices) sg) (o .primary .listens .is-it .primary-is) (o .primary .receiver-is) ha v e in
-            record { put = r .put; gave = r .gave; command-is = r .command-is; data-is = r .data-is; no-other = λ tag. omega (arith, one, gave-found tag (r .gave)) }
+            record { awaited = reports limit (l .primary) (Character (getD w k 0)) (c .for-primary) v e .awaits; put = r .put; gave = r .gave; form-is = r .form-is; bit-is = r .bit-is; address-is = r .address-is; command-is = r .command-is; data-is = r .data-is; no-other = λ tag. omega (arith, one, gave-found tag (r .gave)) }
         reported last one false v e =
             let r = credit false k w message u on (l .secondary) (c .for-secondary) last (found (o .devices) sg) (o .secondary .listens .is-it .primary-is) (o .secondary .receiver-is) hb v e in
-            record { put = r .put; gave = r .gave; command-is = r .command-is; data-is = r .data-is; no-other = λ tag. omega (arith, one, gave-found tag (r .gave)) }
+            record { awaited = reports limit (l .secondary) (Character (getD w k 0)) (c .for-secondary) v e .awaits; put = r .put; gave = r .gave; form-is = r .form-is; bit-is = r .bit-is; address-is = r .address-is; command-is = r .command-is; data-is = r .data-is; no-other = λ tag. omega (arith, one, gave-found tag (r .gave)) }
 
-        ends-owe : suc k ≡ length w → AllOwe (bookedBy c s gs) (linkAfter s .devices)
-        ends-owe last = end-books an-ack w message k u on (closedBy (s .for-primary .told) (closedBy (s .for-secondary .told) gs)) sp last (o .no-expansion) (o .devices) (closed-any (s .for-primary .told) (closed-any (s .for-secondary .told) (owe-ledgers os)))
+        ends-owe : suc k ≡ length w → s .for-primary .sent ≡ Silent → s .for-secondary .sent ≡ Silent → AllOwe (bookedBy c s gs) (linkAfter s .devices)
+        ends-owe last a b =
+            subst (λ (z : List Ledger). AllOwe z (linkAfter s .devices)) (sym (sent-same (s .for-primary .sent) (s .for-secondary .sent) _ a b))
+            (end-books an-ack w message k u on (closedBy (s .for-primary .told) (closedBy (s .for-secondary .told) gs)) sp last (o .no-expansion) (o .devices) (closed-any (s .for-primary .told) (closed-any (s .for-secondary .told) (owe-ledgers os))))
 
         ended : linkAfter s .line ≡ Silence → AckEnded p 0 (Rattle.turns.specs.Master.burstAfter burst noted (message .header)) next (message .header) (s .for-primary .side) (s .for-secondary .side) (sides (s .for-devices)) → SilentLine p 0 (s .for-primary .side) (s .for-secondary .side) (sides (s .for-devices))
         ended line (A.ended-clear z n m ta tb) = clear m
@@ -534,12 +559,12 @@ module _ (limit : ℕ) (low : 2 ≤ limit) (high : limit ≤ 255) (p : Profile) 
         go (A.ack-goes-on below a b line m x y) =
             let z = lefts (m .frame-is) in
             unreported p gs l c s (mid-reports limit (l .primary) (c .for-primary) w message k sp below (o .primary .receiver-is)) (mid-reports limit (l .secondary) (c .for-secondary) w message k sp below (o .secondary .receiver-is))
-            (in-ack burst noted next (suc k) w message u on (carries s a b line) m (send-books an-ack w message k u on sp (inl below) (o .no-expansion) (o .devices) os)
+            (silently w k a b (in-ack burst noted next (suc k) w message u on (carries s a b line) m (send-books an-ack w message k u on sp (inl below) (o .no-expansion) (o .devices) os)
             (sender-after w message k u on sp below (z .0) (z .1) (c .for-devices) (one-all (o .devices)) sg)
             (hears-on-data (l .primary) (c .for-primary) w k (omega arith) (o .primary .listens .hears) (o .primary .receiver-is) ha)
-            (hears-on-data (l .secondary) (c .for-secondary) w k (omega arith) (o .secondary .listens .hears) (o .secondary .receiver-is) hb))
-        go (A.ack-ends last off a b line m x y) = record { credited = reported last; next = in-silence 0 (carries s a b line) (ended (carries s a b line) m) (ends-owe last) }
-        go (A.back-follows-it last z who w′ message′ a b line m x y) = record { credited = reported last; next = in-back true who (if next then false else true) 0 w′ message′ u (carries s a b line) m (ends-owe last) }
+            (hears-on-data (l .secondary) (c .for-secondary) w k (omega arith) (o .secondary .listens .hears) (o .secondary .receiver-is) hb)))
+        go (A.ack-ends last off a b line m x y) = record { credited = reported last; next = in-silence 0 (carries s a b line) (ended (carries s a b line) m) (ends-owe last a b) }
+        go (A.back-follows-it last z who w′ message′ a b line m x y) = record { credited = reported last; next = in-back true who (if next then false else true) 0 w′ message′ u (carries s a b line) m (ends-owe last a b) }
 
 -- ---- the theorem
 
@@ -604,8 +629,9 @@ credit-in-a-run limit low high p retries l (c ∷ cs) k ra rb = go (fair-run lim
         unreported p (blanks (l .devices)) l c (linkTick limit l c)
         (deaf-reports limit (l .primary) (c .for-primary) (l .line) (ap (λ (m : Master). m .deaf) (master-is p true retries (l .primary .master) (k .starts .primary .starts))))
         (deaf-reports limit (l .secondary) (c .for-secondary) (l .line) (ap (λ (m : Master). m .deaf) (master-is p false retries (l .secondary .master) (k .starts .secondary .starts))))
+        (subst (λ (z : List Ledger). Booked p z (linkAfter (linkTick limit l c))) (sym (none-sent c (linkTick limit l c) (blanks (l .devices)) (f .primary-silent) (f .secondary-silent)))
         (in-silence (p .rt1s) (carries (linkTick limit l c) (f .primary-silent) (f .secondary-silent) (f .devices-silent)) (clear (f .silent-line))
-        (owe-anew limit (l .line) (c .for-devices) fresh (k .starts .devices) (blank-ledgers (l .devices))))
+        (owe-anew limit (l .line) (c .for-devices) fresh (k .starts .devices) (blank-ledgers (l .devices)))))
 
     go : EachTick Fair (run limit l (c ∷ cs)) → OneFinds (blanks (l .devices)) (c ∷ cs) (run limit l (c ∷ cs)) → EachCredited limit (blanks (l .devices)) l (c ∷ cs)
     go (R1.EachTick.tick-and one b) (G.OneFinds.tick-and q o) =

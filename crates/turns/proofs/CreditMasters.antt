@@ -21,6 +21,7 @@ use Rattle.line.specs.declared.Whole.{Whole}
 use Rattle.line.proofs.Leads.{readerAfter, dataAfter}
 use Rattle.turns.specs.Master.{Called, accepted, refused, Ending, requested, requestHeader, isBroadcast, isAnswer, answersMessage, fails, ends, atFrame, atBreak, ifAwaiting, rt1Ends, counts, afterBreak, onSilence, onCharacter, onHeard, masterTakes, behind}
 use Rattle.turns.specs.Link.{MasterCall, no-request, requests, MasterSide, masterCalled, masterTick, masterData}
+use Rattle.turns.specs.Credit.{awaitsAck}
 use Rattle.turns.specs.declared.Stage.{Stage}
 use Rattle.turns.specs.declared.Stage.the-variants.{Free, Waiting, Sending, Awaiting}
 use Rattle.turns.specs.declared.Message.{Message}
@@ -38,6 +39,7 @@ pub record Reports (m : Master) (heard : Heard) (w : Whole) : Type 0 where
   pub hears : m .deaf ≡ false
   pub event-is : taken (m .receiver) heard .event ≡ Frame w
   pub answer-is : isAnswer m (w .header) ≡ true
+  pub awaits : awaitsAck (m .message .stage) ≡ true
 
 NotAnswered : MasterTold → Type 0
 NotAnswered t = (w : Whole) → t ≡ Answered w → ⊥
@@ -98,24 +100,24 @@ frame-reports m v bytes w e = go (answersMessage m (v .header)) refl (byteAt byt
     go true q false z = (answered-same z, answer-is-ack m (v .header) q)
     go false q c z = absurd (break-not m w z)
 
-stage-reports : (s : Stage) (m : Master) (v : Whole) (bytes : List ℕ) (w : Whole) → ifAwaiting s (m .message) (atFrame m v bytes) .told ≡ Answered w → (v ≡ w) × (isAnswer m (v .header) ≡ true)
+stage-reports : (s : Stage) (m : Master) (v : Whole) (bytes : List ℕ) (w : Whole) → ifAwaiting s (m .message) (atFrame m v bytes) .told ≡ Answered w → (v ≡ w) × (isAnswer m (v .header) ≡ true) × (awaitsAck s ≡ true)
 unfolding NotAnswered
 stage-reports Free m v bytes w e = absurd (nothing-not w e)
 stage-reports Waiting m v bytes w e = absurd (nothing-not w e)
 stage-reports (Sending n) m v bytes w e = absurd (nothing-not w e)
-stage-reports (Awaiting n) m v bytes w e = frame-reports m v bytes w e
+stage-reports (Awaiting n) m v bytes w e = let r = frame-reports m v bytes w e in (r .0, r .1, refl)
 
-character-reports : (m : Master) (r : Receiver) (event : Event) (bytes : List ℕ) (w : Whole) → onCharacter m r event bytes .told ≡ Answered w → (event ≡ Frame w) × (isAnswer m (w .header) ≡ true)
+character-reports : (m : Master) (r : Receiver) (event : Event) (bytes : List ℕ) (w : Whole) → onCharacter m r event bytes .told ≡ Answered w → (event ≡ Frame w) × (isAnswer m (w .header) ≡ true) × (awaitsAck (m .message .stage) ≡ true)
 unfolding NotAnswered
 character-reports m r Nothing bytes w e = absurd (nothing-not w e)
 character-reports m r PassedOver bytes w e = absurd (after-break-not m r PassedOver w e)
 character-reports m r Broken bytes w e = absurd (after-break-not m r Broken w e)
 character-reports m r (Frame v) bytes w e =
     let q = stage-reports (m .message .stage) m v bytes w e in
-    (ap Frame (q .0), ap (λ (z : Whole). isAnswer m (z .header)) (sym (q .0)) ∙ q .1)
+    (ap Frame (q .0), ap (λ (z : Whole). isAnswer m (z .header)) (sym (q .0)) ∙ q .1, q .2)
 character-reports m r (Damaged v h) bytes w e = absurd (after-break-not m r (Damaged v h) w e)
 
-heard-reports : (m : Master) (heard : Heard) (bytes : List ℕ) (w : Whole) → onHeard m heard bytes .told ≡ Answered w → (taken (m .receiver) heard .event ≡ Frame w) × (isAnswer m (w .header) ≡ true)
+heard-reports : (m : Master) (heard : Heard) (bytes : List ℕ) (w : Whole) → onHeard m heard bytes .told ≡ Answered w → (taken (m .receiver) heard .event ≡ Frame w) × (isAnswer m (w .header) ≡ true) × (awaitsAck (m .message .stage) ≡ true)
 unfolding NotAnswered
 heard-reports m Silence bytes w e = absurd (silence-not m _ (taken (m .receiver) Silence .event) w e)
 heard-reports m (Character c) bytes w e = character-reports m _ (taken (m .receiver) (Character c) .event) bytes w e
@@ -130,7 +132,7 @@ takes-reports m heard bytes w e = go (m .deaf) refl e
 
     go : (b : Bool) → m .deaf ≡ b → by b .told ≡ Answered w → Reports m heard w
     go true q z = absurd (nothing-not w z)
-    go false q z = let r = heard-reports m heard bytes w z in record { hears = q; event-is = r .0; answer-is = r .1 }
+    go false q z = let r = heard-reports m heard bytes w z in record { hears = q; event-is = r .0; answer-is = r .1; awaits = r .2 }
 
 -- the call of its host changes neither what it tells nor its data buffer
 tick-told : (limit : ℕ) (x : MasterSide) (heard : Heard) (call : MasterCall) → masterTick limit x heard call .told ≡ masterTakes (x .master) heard (masterData x heard) .told

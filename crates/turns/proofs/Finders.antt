@@ -1,4 +1,4 @@
--- The ledgers of the credited answer are those of the premise on command 11, closed at each report: so at most one host's answer stands in them, and where one was credited it is the only one.
+-- The ledgers of the credited answer are those of the premise on command 11, closed at each report and wherever a master sends: so at most one host's answer stands in them, and where one was credited it is the only one.
 use Prim.Native.Nat.{ℕ, _+_, _≤_}
 use native.Mathlib.Omega.{arith}
 use mathlib.Core.Path.{_≡_, sym, subst}
@@ -9,11 +9,13 @@ use Rattle.frame.specs.declared.Header.{Header}
 use Rattle.turns.specs.Master.{seeksTag}
 use Rattle.turns.specs.Link.{DeviceCall, no-call, gives-answer, gives-content, Answer, was-taken, was-refused, DeviceSide, DeviceStep, LinkStep, Calls}
 use Rattle.turns.specs.Ledgers.{Ledger, blank, told, toldBy, calledBy, ledgerAfter, ledgersAfter, blanks, finders}
-use Rattle.turns.specs.Credit.{closed, closedBy, bookedBy, Gave, this-one, another}
+use Rattle.turns.specs.Credit.{closed, closedBy, closedAfter, bookedBy, Gave, this-one, another}
 use Rattle.turns.specs.declared.DeviceTold.{DeviceTold}
 use Rattle.turns.specs.declared.DeviceTold.the-variants.{Request, Broadcast}
 use Rattle.turns.specs.declared.MasterTold.{MasterTold}
 use Rattle.turns.specs.declared.MasterTold.the-variants.{Answered, GivenUp, BroadcastSent}
+use Rattle.turns.specs.declared.Sent.{Sent}
+use Rattle.turns.specs.declared.Sent.the-variants.{Silent, Character}
 
 -- every entry is the same, or closed
 pub data Within : List Ledger → List Ledger → Type 0 where
@@ -37,6 +39,10 @@ within-report MasterTold.Nothing w = w
 within-report (Answered v) w = within-closed w
 within-report (GivenUp n) w = w
 within-report BroadcastSent w = w
+
+within-sent : (t : Sent) {gs fs : List Ledger} → Within gs fs → Within (closedAfter t gs) fs
+within-sent Silent w = w
+within-sent (Character c) w = within-closed w
 
 -- a closed entry stays closed, until its host is told another request
 entry-after : (c : DeviceCall) (s : DeviceStep) (f : Ledger) {gs fs : List Ledger} → Within gs fs → Within (ledgerAfter c s blank ∷ gs) (ledgerAfter c s f ∷ fs)
@@ -64,7 +70,9 @@ within-after [] (s ∷ ss) (closed-and {f} w) = entry-after no-call s f (within-
 within-after (c ∷ cs) (s ∷ ss) (closed-and {f} w) = entry-after c s f (within-after cs ss w)
 
 pub within-tick : (c : Calls) (s : LinkStep) {gs fs : List Ledger} → Within gs fs → Within (bookedBy c s gs) (ledgersAfter (c .for-devices) (s .for-devices) fs)
-within-tick c s w = within-after (c .for-devices) (s .for-devices) (within-report (s .for-primary .told) (within-report (s .for-secondary .told) w))
+within-tick c s w =
+    within-sent (s .for-primary .sent)
+    (within-sent (s .for-secondary .sent) (within-after (c .for-devices) (s .for-devices) (within-report (s .for-primary .told) (within-report (s .for-secondary .told) w))))
 
 pub finders-within : {gs fs : List Ledger} → Within gs fs → finders gs ≤ finders fs
 unfolding finders if_then_else_

@@ -5,6 +5,9 @@ pub mod TagSentences
 pub mod AckBack
 pub mod Attempts
 pub mod AttemptRuns
+pub mod BackLogs
+pub mod BackRuns
+pub mod Backs
 pub mod Beginning
 pub mod Begun
 pub mod Behind
@@ -16,6 +19,7 @@ pub mod Course
 pub mod Credit
 pub mod CreditDevices
 pub mod CreditMasters
+pub mod CreditRuns
 pub mod DeviceSpeaking
 pub mod DeviceTaking
 pub mod Devices

@@ -15,6 +15,10 @@ unfoldable pub use Rattle.turns.specs.Ledgers.{ledgersAfter, blanks, fin
 use Rattle.turns.specs.Demand3.{Premises, masterIn}
 use Rattle.turns.specs.declared.MasterTold.{MasterTold}
 use Rattle.turns.specs.declared.MasterTold.the-variants.{Answered, GivenUp, BroadcastSent}
+use Rattle.turns.specs.declared.Stage.{Stage}
+use Rattle.turns.specs.declared.Stage.the-variants.{Free, Waiting, Sending, Awaiting}
+use Rattle.turns.specs.declared.Sent.{Sent}
+use Rattle.turns.specs.declared.Sent.the-variants.{Silent, Character}
 
 -- ---- what is closed
 
@@ -29,9 +33,17 @@ closedBy (Answered w) gs = closed gs
 closedBy (GivenUp n) gs = gs
 closedBy BroadcastSent gs = gs
 
+-- behind every tick in which a master sends all are closed: what stands in them was told and given behind the last STX on the line
+abbrev pub closedAfter : Sent → List Ledger → List Ledger
+closedAfter Silent gs = gs
+closedAfter (Character c) gs = closed gs
+
 -- a tick of the link
 abbrev pub bookedBy : Calls → LinkStep → List Ledger → List Ledger
-bookedBy c s gs = ledgersAfter (c .for-devices) (s .for-devices) (closedBy (s .for-primary .told) (closedBy (s .for-secondary .told) gs))
+bookedBy c s gs =
+    closedAfter (s .for-primary .sent)
+    (closedAfter (s .for-secondary .sent)
+    (ledgersAfter (c .for-devices) (s .for-devices) (closedBy (s .for-primary .told) (closedBy (s .for-secondary .told) gs))))
 
 -- ---- an answer that is credited
 
@@ -45,10 +57,21 @@ abbrev pub masterOf : Bool → Link → MasterSide
 masterOf true l = l .primary
 masterOf false l = l .secondary
 
--- the ACK that is reported has the message's command; its data are those that the host of a device that was told the message's STX gave as the answer to it. An addressed message is told to the device of its address alone; of those that are told a command 11 by broadcast one host's answer was taken, and no other's.
+-- the message's STX is out, and its ACK awaited
+abbrev pub awaitsAck : Stage → Bool
+awaitsAck Free = false
+awaitsAck Waiting = false
+awaitsAck (Sending n) = false
+awaitsAck (Awaiting n) = true
+
+-- the message's STX was the last on the line: it is out, and what stands in the ledgers was told behind the last. The ACK that is reported has the form, master bit, address and command of the message; its data are those that the host of a device that was told the message's STX gave as the answer to it. An addressed message is told to the device of its address alone; of those that are told a command 11 by broadcast one host's answer was taken, and no other's.
 pub record Credited (primary : Bool) (gs : List Ledger) (l : Link) (s : LinkStep) (w : Whole) : Type 0 where
+  pub awaited : awaitsAck (masterOf primary l .master .message .stage) ≡ true
   pub put : List ℕ
   pub gave : Gave (masterOf primary l .master .message .header) put (l .devices) gs
+  pub form-is : w .header .long ≡ masterOf primary l .master .message .header .long
+  pub bit-is : w .header .primary ≡ masterOf primary l .master .message .header .primary
+  pub address-is : w .header .address ≡ masterOf primary l .master .message .header .address
   pub command-is : w .header .command ≡ masterOf primary l .master .message .header .command
   pub data-is : take (w .count) (masterIn primary s .side .bytes) ≡ put
   pub no-other : seeksTag (masterOf primary l .master .message .header) ≡ true → finders gs ≡ 1

@@ -7,6 +7,7 @@ pub mod Ledgers
 pub mod Bursts
 pub mod Demand3
 pub mod Credit
+pub mod Backs
 pub mod Late
 pub mod Settled
 pub mod Gaps
