@@ -2,3 +2,4 @@
 pub mod Steps
 pub mod Going
 pub mod Kept
+pub mod Every

@@ -2,3 +2,5 @@
 pub mod Places
 pub mod Readings
 pub mod Whole
+pub mod Encode
+pub mod Nearest
