@@ -7,6 +7,8 @@
 //     dc        the device's host gives burst content: command 3 with that many zero bytes
 //     M.. D..   the master or the device hears what it would hear damaged by parity (p), overrun (o) or framing (f), with the bits of the number changed; silence (s); or the character of the number (c)
 //     oc        a third party sends the character of the number
+mod show;
+
 use device::DeviceStarted;
 use device_tick::DeviceTicked;
 use libc::STDIN_FILENO;
@@ -18,7 +20,7 @@ use master::MasterStarted;
 use master::MasterTicked;
 use master::Wanted;
 use party::CallAnswer;
-use party_show::Ear;
+use show::Ear;
 use turns::Device;
 use turns::DeviceTold;
 use turns::Master;
@@ -270,7 +272,7 @@ fn behind(m: MasterSide, d: DeviceSide, log: [u16; 3000], script: &[u8], tick: u
     }
 }
 
-fn show(tick: u16, to_m: Ear, to_d: Ear, b: Both) {
+fn show_both(tick: u16, to_m: Ear, to_d: Ear, b: Both) {
     let m = b.m;
     let d = b.d;
     let log = b.log;
@@ -278,7 +280,7 @@ fn show(tick: u16, to_m: Ear, to_d: Ear, b: Both) {
     let d_ticked = d.ticked;
     let of_ack = m.bytes;
     let of_stx = d.bytes;
-    party_show::show_tick(tick, to_m, to_d, m_ticked, d_ticked, log, of_ack, of_stx);
+    show::show_tick(tick, to_m, to_d, m_ticked, d_ticked, log, of_ack, of_stx);
 }
 
 fn tick_both(b: Both, tick: u16, script: &[u8]) -> Both {
@@ -288,7 +290,7 @@ fn tick_both(b: Both, tick: u16, script: &[u8]) -> Both {
     let m = master_ticks(b.m, to_m, script, tick);
     let d = device_ticks(b.d, to_d, script, tick);
     let next = behind(m, d, log, script, tick);
-    show(tick, to_m, to_d, next);
+    show_both(tick, to_m, to_d, next);
     next
 }
 
@@ -365,7 +367,7 @@ fn line(words: &[u8]) {
             return;
         }
     }
-    party_show::text(words);
+    show::text(words);
 }
 
 fn lines(words: &[u8]) {

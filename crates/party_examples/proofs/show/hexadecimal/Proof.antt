@@ -1,23 +1,21 @@
 use Prim.Native.Nat.{_-_, _≤_}
 use lib.ListN.{length}
 use borrow.Author.Needs.{needs}
-use Rattle.party_show.proofs.characters.Statement.{statement}
-use Rattle.party_show.proofs.characters.Tie as tie
+use Rattle.party_examples.proofs.show.hexadecimal.Statement.{statement}
+use Rattle.party_examples.proofs.show.hexadecimal.Tie as tie
 
 abbrev Inv-loop : tie.InvT-loop
-Inv-loop row from to i₀ i = from ≤ i
+Inv-loop bytes from to i₀ i = from ≤ i
 
 abbrev μ-loop : tie.MeasureT-loop
-μ-loop row from to i₀ i = length row - i
+μ-loop bytes from to i₀ i = length bytes - i
 
-pub characters-spec : {M : Type 1} → statement M
-characters-spec =
+pub hexadecimal-spec : {M : Type 1} → statement M
+hexadecimal-spec =
     tie.close
     (tie.spec
     Inv-loop
     μ-loop
-    (λ c. search needs)
-    (λ c. search needs)
     (λ c. search needs)
     (λ c. search needs)
     (λ c. search needs)

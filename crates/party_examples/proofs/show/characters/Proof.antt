@@ -1,21 +1,23 @@
 use Prim.Native.Nat.{_-_, _≤_}
 use lib.ListN.{length}
 use borrow.Author.Needs.{needs}
-use Rattle.party_show.proofs.hexadecimal.Statement.{statement}
-use Rattle.party_show.proofs.hexadecimal.Tie as tie
+use Rattle.party_examples.proofs.show.characters.Statement.{statement}
+use Rattle.party_examples.proofs.show.characters.Tie as tie
 
 abbrev Inv-loop : tie.InvT-loop
-Inv-loop bytes from to i₀ i = from ≤ i
+Inv-loop row from to i₀ i = from ≤ i
 
 abbrev μ-loop : tie.MeasureT-loop
-μ-loop bytes from to i₀ i = length bytes - i
+μ-loop row from to i₀ i = length row - i
 
-pub hexadecimal-spec : {M : Type 1} → statement M
-hexadecimal-spec =
+pub characters-spec : {M : Type 1} → statement M
+characters-spec =
     tie.close
     (tie.spec
     Inv-loop
     μ-loop
+    (λ c. search needs)
+    (λ c. search needs)
     (λ c. search needs)
     (λ c. search needs)
     (λ c. search needs)

@@ -1,7 +1,7 @@
 use Prim.Native.Nat.{_≤_}
 use borrow.Author.Needs.{needs}
-use Rattle.party_show.proofs.began.Statement.{statement}
-use Rattle.party_show.proofs.began.Tie as tie
+use Rattle.party_examples.proofs.show.began.Statement.{statement}
+use Rattle.party_examples.proofs.show.began.Tie as tie
 
 abbrev Inv-loop : tie.InvT-loop
 Inv-loop row tick i₀ i = i ≤ tick

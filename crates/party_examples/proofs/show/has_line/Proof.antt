@@ -1,7 +1,7 @@
 use borrow.Author.Needs.{needs}
 use Rattle.base.proofs.Choices.{choices}
-use Rattle.party_show.proofs.has_line.Statement.{statement}
-use Rattle.party_show.proofs.has_line.Tie as tie
+use Rattle.party_examples.proofs.show.has_line.Statement.{statement}
+use Rattle.party_examples.proofs.show.has_line.Tie as tie
 
 pub has-line-spec : {M : Type 1} → statement M
 has-line-spec =

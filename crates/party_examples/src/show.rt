@@ -10,7 +10,7 @@ use party::CallAnswer;
 use turns::DeviceTold;
 use turns::MasterTold;
 ghost use mathlib.Core.Path.{_≡_};
-ghost use Rattle.party_show.specs.Lines.{eventShows, tellsHost, refusedBy, hasLine};
+ghost use Rattle.party_examples.specs.Lines.{eventShows, tellsHost, refusedBy, hasLine};
 
 // What a party hears in a tick, and whether the script changed it.
 pub struct Ear {
