@@ -199,7 +199,7 @@ fn damaged_frames() {
     );
 }
 
-fn silent_ticks_passed_over() {
+fn silent_ticks_up_to_expansion() {
     show_run(
         b"a silent tick between two 0xff",
         b"\x00\x00 \xFF\x00\x00 \xFF \xFF \xC6 \x80 \x00 \x00 \x00 \x02 \xAA \xBB \x03 \x02 \x00 \x40 \x14",
@@ -224,6 +224,9 @@ fn silent_ticks_passed_over() {
         b"a silent tick before the second expansion byte",
         b"\x00\x00 \xFF \xFF \xFF \xC6 \x80 \x00 \x00 \x00 \x02 \xAA\x00\x00 \xBB \x03 \x02 \x00 \x40 \x14",
     );
+}
+
+fn silent_ticks_from_command_on() {
     show_run(
         b"a silent tick before the command",
         b"\x00\x00 \xFF \xFF \xFF \xC6 \x80 \x00 \x00 \x00 \x02 \xAA \xBB\x00\x00 \x03 \x02 \x00 \x40 \x14",
@@ -250,7 +253,7 @@ fn silent_ticks_passed_over() {
     );
 }
 
-fn frames_cut_by_silence() {
+fn frames_cut_up_to_expansion() {
     show_run(
         b"two silent ticks between two 0xff, and another frame",
         b"\x00\x00 \xFF\x00\x00\x00\x00 \xFF \xFF \x02 \x80 \x00 \x00 \x82",
@@ -275,6 +278,9 @@ fn frames_cut_by_silence() {
         b"two silent ticks before the second expansion byte, and another frame",
         b"\x00\x00 \xFF \xFF \xFF \xC6 \x80 \x00 \x00 \x00 \x02 \xAA\x00\x00\x00\x00 \xFF \xFF \x02 \x80 \x00 \x00 \x82",
     );
+}
+
+fn frames_cut_from_command_on() {
     show_run(
         b"two silent ticks before the command, and another frame",
         b"\x00\x00 \xFF \xFF \xFF \xC6 \x80 \x00 \x00 \x00 \x02 \xAA \xBB\x00\x00\x00\x00 \xFF \xFF \x02 \x80 \x00 \x00 \x82",
@@ -341,7 +347,9 @@ fn main() {
     broken_frames();
     broken_by_damage();
     damaged_frames();
-    silent_ticks_passed_over();
-    frames_cut_by_silence();
+    silent_ticks_up_to_expansion();
+    silent_ticks_from_command_on();
+    frames_cut_up_to_expansion();
+    frames_cut_from_command_on();
     damage_behind_silence();
 }
