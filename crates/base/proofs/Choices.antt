@@ -53,8 +53,8 @@ module _ {A : Type 0} where
 pub ruleset choices = (refl, if-below, if-not-below, if-at-most, if-above, if-equal, if-unequal, if-true, if-false, if-answer-true, if-answer-false)
 
 -- a definition by cases: w is what a call answered, v the case it is, u what the definition gives for it
-pub by-case : {X A : Type 0} (f : X → A) (w v u : X) (r : A) → w ≡ v → w ≡ u → r ≡ f v → r ≡ f u
-by-case f w v u r e q p = p ∙ ap f (sym e ∙ q)
+pub by-case : {X Y A : Type 0} (g : X → Y) (f : Y → A) (w v : X) (u : Y) (r : A) → w ≡ v → g w ≡ u → r ≡ f (g v) → r ≡ f u
+by-case g f w v u r e q p = p ∙ ap f (ap g (sym e) ∙ q)
 
 -- the other way round: what a choice's value tells of its test
 module _ {A : Type 0} where

@@ -2,3 +2,4 @@
 pub mod Choice
 pub mod Refusal
 pub mod Store
+pub mod Lent

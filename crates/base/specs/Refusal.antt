@@ -1,8 +1,10 @@
--- Document 01, "Refusals, by where each is checked": the number of each.
+-- To be believed: what the engine must do, or what is claimed of it.
+-- Document 01, "Refusals, by where each is checked": the table, and what a call comes to.
 use Prim.Native.Nat.{ℕ}
 use Rattle.base.specs.declared.Refusal.{Refusal}
 use Rattle.base.specs.declared.Refusal.the-variants.{BadProfile, BadRetries, PreambleLength, Address, Command, DataLong, MessageInHand, NoRequest, DataLength, BurstWish, FewPreambles, NoDelimiter, EndsEarly, Unsound, BufferShort}
 
+-- "A refusal gives its number only." 16, "bad script", is the player's, whose answer is a text: crates/player/specs/Play.antt.
 abbrev pub number : Refusal → ℕ
 -- a value is 0 or above 1,000, HOLD not below RT2, RT2 or STO not below RT1 primary, or RT1 secondary not RT1 primary + RT2
 number BadProfile = 1
@@ -34,3 +36,8 @@ number EndsEarly = 13
 number Unsound = 14
 -- buffer too short
 number BufferShort = 15
+
+-- what a call comes to: accepted, with what it gives, or refused with a number of the table
+pub data Called (A : Type 0) : Type 0 where
+  accepted : A → Called A
+  refused : ℕ → Called A

@@ -2,8 +2,8 @@
 //
 // A line of the input is a recording, with four hexadecimal digits for each tick: 32 times the kind of what is heard (0 silence, 1 a character, 2 to 4 parity, overrun and framing damage) plus the host's call, then the character. The calls are 1 an answer with two zero bytes, 2 one that turns burst on and 3 one that turns it off. In tick 0 the host gives the burst content instead, command 3 with two zero bytes.
 use device::DeviceStarted;
+use device_tick::DeviceHostCall;
 use device_tick::DeviceTicked;
-use device_tick::HostCall;
 use libc::STDIN_FILENO;
 use libc::STDOUT_FILENO;
 use line::Profile;
@@ -28,15 +28,15 @@ fn two_digits(a: u8, b: u8) -> u8 {
     (digit(a) % 16) * 16 + digit(b) % 16
 }
 
-fn call_at(at: usize, low: u8) -> HostCall {
+fn call_at(at: usize, low: u8) -> DeviceHostCall {
     if at == 0 {
-        return HostCall::Content(3);
+        return DeviceHostCall::Content(3);
     }
     match low {
-        1 => HostCall::Answers(Wish::Same),
-        2 => HostCall::Answers(Wish::On),
-        3 => HostCall::Answers(Wish::Off),
-        _ => HostCall::Nothing,
+        1 => DeviceHostCall::Answers(Wish::Same),
+        2 => DeviceHostCall::Answers(Wish::On),
+        3 => DeviceHostCall::Answers(Wish::Off),
+        _ => DeviceHostCall::Nothing,
     }
 }
 

@@ -3,12 +3,12 @@ use Prim.Native.Nat.{ℕ, _<_}
 use native.Mathlib.Omega.{arith}
 use mathlib.Core.Bool.{Bool, false}
 use mathlib.Core.Path.{_≡_, sym, ap, _∙_}
+use Rattle.base.specs.Refusal.{Called, accepted}
 use Rattle.base.specs.Choice.{_outside_to_}
 use Rattle.base.proofs.Choices.{inside-high}
 use Rattle.frame.specs.declared.Header.{Header}
 use Rattle.line.specs.declared.Receiver.{Receiver}
-use Rattle.turns.specs.Master.{Called, accepted}
-use Rattle.turns.specs.Device.{behind, wishRefused, answeredBy, answered}
+use Rattle.turns.specs.Device.{deviceWith, wishRefused, answeredBy, answered}
 use Rattle.turns.specs.declared.Device.{Device}
 use Rattle.turns.specs.declared.Turn.{Turn}
 use Rattle.turns.specs.declared.Wish.{Wish}
@@ -18,8 +18,8 @@ accepted-same d e p = ap accepted p
 
 -- a device with another turn and another length
 pub behind-same : (d e : Device) (r : Receiver) (turn t : Turn) (request : Header) (wish : Wish) (length n due : ℕ) → turn ≡ t → length ≡ n
-    → e ≡ behind d r turn request wish length due → e ≡ behind d r t request wish n due
-behind-same d e r turn t request wish length n due p q f = f ∙ (λ i. behind d r (p i) request wish (q i) due)
+    → e ≡ deviceWith d r turn request wish length due → e ≡ deviceWith d r t request wish n due
+behind-same d e r turn t request wish length n due p q f = f ∙ (λ i. deviceWith d r (p i) request wish (q i) due)
 
 -- a definition by cases, at a case that a `match` has told
 pub wish-at : (d : Device) (p q : Wish) (r : Bool) → p ≡ q → r ≡ wishRefused d q → r ≡ wishRefused d p

@@ -3,13 +3,13 @@ use Prim.Native.Nat.{ℕ, _<_, _≤_}
 use native.Mathlib.Omega.{arith}
 use mathlib.Core.Bool.{Bool, true, false}
 use mathlib.Core.Path.{_≡_, refl, sym, ap, _∙_}
+use Rattle.base.specs.Refusal.{Called}
 use Rattle.base.specs.Choice.{if_then_else_, _<?_, _outside_to_}
 use Rattle.base.proofs.Choices.{if-below, if-not-below, if-true, if-false, inside-high}
 use Rattle.frame.specs.Address.{largestAddress}
 use Rattle.line.specs.Reader.{passing, noHeader}
 use Rattle.line.specs.declared.Profile.{Profile}
 use Rattle.line.specs.declared.Receiver.{Receiver}
-use Rattle.turns.specs.Master.{Called}
 use Rattle.turns.specs.Device.{freshDevice}
 use Rattle.turns.specs.declared.Device.{Device}
 use Rattle.turns.specs.declared.Turn.the-variants.{Listens}

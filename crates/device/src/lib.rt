@@ -2,7 +2,7 @@
 use base::Refusal;
 use frame::Header;
 use line::Event;
-use line::Harm;
+use line::FrameDamage;
 use line::Heard;
 use line::Profile;
 use line::Whole;
@@ -15,12 +15,12 @@ use turns::Wish;
 ghost use mathlib.Core.Path.{_≡_};
 ghost use Prim.Native.Nat.{_≤_};
 ghost use lib.ListN.{length, take};
+ghost use Rattle.frame.specs.Limits.{mostData};
 ghost use Rattle.frame.specs.Write.{writeBuffer};
-ghost use Rattle.turns.specs.Device.{behind, errorStatus, errorData, answerHeader, wished, hasNoWish, wishRefused, answersAt, answeredBy, answered, backHeader, freshDevice, deviceStarts};
+ghost use Rattle.turns.specs.Device.{deviceWith, errorStatus, errorData, answerHeader, errorFrame, hasNoWish, wishRefused, answersAt, answeredBy, answered, answerFrame, backHeader, begunFrame, freshDevice, deviceStarts};
 ghost use Rattle.device_heard.specs.Hearing.{lengthBy};
 ghost use Rattle.device.specs.Calls.{startedAs, calledAs};
-ghost use Rattle.device.specs.Buffers.{errorBuffer, begunBuffer};
-ghost use Rattle.device.specs.Promises.{TakeIs, AnswerIs, SendIs};
+ghost use Rattle.device.specs.Promises.{DeviceTakeIs, AnswerIs, SendIs};
 
 // What a start answers.
 pub enum DeviceStarted {
@@ -35,7 +35,7 @@ pub enum DeviceCalled {
 }
 
 // The first data byte of an error answer.
-fn error_status(m: Harm) -> u8
+fn error_status(m: FrameDamage) -> u8
     ensures { λ r. ⌜ r ≡ errorStatus m ⌝ }
 {
     0x80
@@ -45,7 +45,7 @@ fn error_status(m: Harm) -> u8
         + frame_write::flag(m.check, 0x08)
 }
 
-fn error_data(m: Harm) -> [u8; 2]
+fn error_data(m: FrameDamage) -> [u8; 2]
     ensures { λ r. ⌜ r ≡ errorData m ⌝ }
 {
     [error_status(m), 0]
@@ -74,7 +74,7 @@ fn put_frame(preamble: u8, h: Header, bytes: &[u8], frame: &mut [u8; 284])
 
 // The same with the first bytes of a burst content.
 fn put_part(preamble: u8, h: Header, count: u8, contents: &[u8], frame: &mut [u8; 284])
-    requires { ⌜ 255 ≤ length (now contents) ⌝ }
+    requires { ⌜ mostData ≤ length (now contents) ⌝ }
     ensures { λ _. ⌜ now (frame .exit) ≡ writeBuffer preamble h (take count (now (contents .entry))) (now (frame .entry)) 0 ⌝ }
 {
     let end = count as usize;
@@ -82,8 +82,8 @@ fn put_part(preamble: u8, h: Header, count: u8, contents: &[u8], frame: &mut [u8
 }
 
 // The error answer to a damaged frame, into the lent frame buffer.
-fn put_error(d: Device, w: Whole, m: Harm, frame: &mut [u8; 284])
-    ensures { λ _. ⌜ now (frame .exit) ≡ errorBuffer d (Event.Damaged w m) (now (frame .entry)) ⌝ }
+fn put_error(d: Device, w: Whole, m: FrameDamage, frame: &mut [u8; 284])
+    ensures { λ _. ⌜ now (frame .exit) ≡ errorFrame d (Event.Damaged w m) (now (frame .entry)) ⌝ }
 {
     let h = w.header;
     if device_heard::has_error(d, w, m) {
@@ -94,7 +94,7 @@ fn put_error(d: Device, w: Whole, m: Harm, frame: &mut [u8; 284])
 
 // The error answer, by what the reader tells.
 fn put_error_answer(d: Device, event: Event, frame: &mut [u8; 284])
-    ensures { λ _. ⌜ now (frame .exit) ≡ errorBuffer d event (now (frame .entry)) ⌝ }
+    ensures { λ _. ⌜ now (frame .exit) ≡ errorFrame d event (now (frame .entry)) ⌝ }
 {
     match event {
         Event::Nothing => {}
@@ -107,7 +107,7 @@ fn put_error_answer(d: Device, event: Event, frame: &mut [u8; 284])
 
 // Takes what was heard: the device behind it, and what it tells its host. The data of the frame being heard are in the lent data buffer, and an error answer is put into the lent frame buffer.
 pub fn take(d: Device, heard: Heard, bytes: &mut [u8; 255], frame: &mut [u8; 284]) -> DeviceTaken
-    ensures { λ t. ⌜ TakeIs d heard (now (bytes .entry)) (now (frame .entry)) t (now (bytes .exit)) (now (frame .exit)) ⌝ }
+    ensures { λ t. ⌜ DeviceTakeIs d heard (now (bytes .entry)) (now (frame .entry)) t (now (bytes .exit)) (now (frame .exit)) ⌝ }
 {
     let taken = device_heard::take(d, heard, bytes);
     let event = taken.event;
@@ -157,14 +157,14 @@ fn answers_at(d: Device, left: u16) -> Turn
 {
     let profile = d.profile;
     if left == profile.sto {
-        return Turn::Accepted;
+        return Turn::AnswerWaits;
     }
     Turn::Begins
 }
 
 // The device with an answer of so many data bytes.
 fn answering(d: Device, wish: Wish, count: u8, left: u16) -> Device
-    ensures { λ r. ⌜ r ≡ behind d (d .receiver) (answersAt d left) (d .request) wish (lengthBy (d .preamble) (d .request .long) count) (d .due) ⌝ }
+    ensures { λ r. ⌜ r ≡ deviceWith d (d .receiver) (answersAt d left) (d .request) wish (lengthBy (d .preamble) (d .request .long) count) (d .due) ⌝ }
 {
     let receiver = d.receiver;
     let request = d.request;
@@ -182,7 +182,7 @@ fn answering(d: Device, wish: Wish, count: u8, left: u16) -> Device
 
 // An answer of so many data bytes to the request in hand.
 fn answer_request(d: Device, wish: Wish, count: usize, left: u16) -> DeviceCalled
-    ensures { λ r. ⌜ calledAs r ≡ answeredBy 255 d wish count (Turn.Asked left) ⌝ }
+    ensures { λ r. ⌜ calledAs r ≡ answeredBy mostData d wish count (Turn.Asked left) ⌝ }
 {
     if base::outside(count, 2, 255) {
         return DeviceCalled::Refused(Refusal::DataLength);
@@ -194,13 +194,13 @@ fn answer_request(d: Device, wish: Wish, count: usize, left: u16) -> DeviceCalle
 }
 
 fn answer_by(d: Device, wish: Wish, count: usize) -> DeviceCalled
-    ensures { λ r. ⌜ calledAs r ≡ answered 255 d wish count ⌝ }
+    ensures { λ r. ⌜ calledAs r ≡ answered mostData d wish count ⌝ }
 {
     let turn = d.turn;
     match turn {
         Turn::Listens => DeviceCalled::Refused(Refusal::NoRequest),
         Turn::Asked(left) => answer_request(d, wish, count, left),
-        Turn::Accepted => DeviceCalled::Refused(Refusal::NoRequest),
+        Turn::AnswerWaits => DeviceCalled::Refused(Refusal::NoRequest),
         Turn::Begins => DeviceCalled::Refused(Refusal::NoRequest),
         Turn::Answers(_) => DeviceCalled::Refused(Refusal::NoRequest),
         Turn::Follows => DeviceCalled::Refused(Refusal::NoRequest),
@@ -210,7 +210,7 @@ fn answer_by(d: Device, wish: Wish, count: usize) -> DeviceCalled
 
 // The host's answer, into the lent frame buffer.
 fn put_answer(d: Device, wish: Wish, bytes: &[u8], frame: &mut [u8; 284])
-    ensures { λ _. ⌜ now (frame .exit) ≡ writeBuffer (d .preamble) (answerHeader (d .request) (wished (d .burst) wish)) (now (bytes .entry)) (now (frame .entry)) 0 ⌝ }
+    ensures { λ _. ⌜ now (frame .exit) ≡ answerFrame d wish (now (bytes .entry)) (now (frame .entry)) ⌝ }
 {
     let request = d.request;
     put_frame(
@@ -252,7 +252,7 @@ fn back_header(d: Device) -> Header
 
 // The next BACK, into the lent frame buffer.
 fn put_back(d: Device, contents: &[u8; 255], frame: &mut [u8; 284])
-    ensures { λ _. ⌜ now (frame .exit) ≡ begunBuffer d Turn.Follows (now (contents .entry)) (now (frame .entry)) ⌝ }
+    ensures { λ _. ⌜ now (frame .exit) ≡ begunFrame d Turn.Follows (now (contents .entry)) (now (frame .entry)) ⌝ }
 {
     let content = d.content;
     put_part(d.preamble, back_header(d), content.count, contents, frame);
@@ -260,13 +260,13 @@ fn put_back(d: Device, contents: &[u8; 255], frame: &mut [u8; 284])
 
 // The BACK that begins in this tick, if one does.
 fn put_begun(d: Device, contents: &[u8; 255], frame: &mut [u8; 284])
-    ensures { λ _. ⌜ now (frame .exit) ≡ begunBuffer d (d .turn) (now (contents .entry)) (now (frame .entry)) ⌝ }
+    ensures { λ _. ⌜ now (frame .exit) ≡ begunFrame d (d .turn) (now (contents .entry)) (now (frame .entry)) ⌝ }
 {
     let turn = d.turn;
     match turn {
         Turn::Listens => {}
         Turn::Asked(_) => {}
-        Turn::Accepted => {}
+        Turn::AnswerWaits => {}
         Turn::Begins => {}
         Turn::Answers(_) => {}
         Turn::Follows => put_back(d, contents, frame),

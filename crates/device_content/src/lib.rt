@@ -8,13 +8,14 @@ ghost use mathlib.Core.Bool.{true};
 ghost use Prim.Native.Nat.{_≤_};
 ghost use lib.ListN.{length};
 ghost use Rattle.base.specs.Store.{stored};
+ghost use Rattle.frame.specs.Limits.{mostData};
 ghost use Rattle.device.specs.Calls.{calledAs};
-ghost use Rattle.turns.specs.Device.{withContent, contentGiven};
+ghost use Rattle.turns.specs.Device.{deviceWithContent, contentGiven};
 ghost use Rattle.device_content.specs.Content.{ContentIs};
 
 // The device with this content, and no other change.
 fn with_content(d: Device, command: u8, count: u8) -> Device
-    ensures { λ r. ⌜ r ≡ withContent d (record { given = true; command = command; count = count }) ⌝ }
+    ensures { λ r. ⌜ r ≡ deviceWithContent d (record { given = true; command = command; count = count }) ⌝ }
 {
     let profile = d.profile;
     let receiver = d.receiver;
@@ -46,7 +47,7 @@ fn with_content(d: Device, command: u8, count: u8) -> Device
 
 // The device behind a burst content of so many data bytes.
 fn content_by(d: Device, command: u8, count: usize) -> DeviceCalled
-    ensures { λ r. ⌜ calledAs r ≡ contentGiven 255 d command count ⌝ }
+    ensures { λ r. ⌜ calledAs r ≡ contentGiven mostData d command count ⌝ }
 {
     if command == 254 {
         return DeviceCalled::Refused(Refusal::Command);
@@ -59,7 +60,7 @@ fn content_by(d: Device, command: u8, count: usize) -> DeviceCalled
 
 // The data at the front of the lent content.
 fn put_content(bytes: &[u8], contents: &mut [u8])
-    requires { ⌜ (length (now bytes) ≤ 255) × (255 ≤ length (now contents)) ⌝ }
+    requires { ⌜ (length (now bytes) ≤ mostData) × (mostData ≤ length (now contents)) ⌝ }
     ensures { λ _. ⌜ now (contents .exit) ≡ stored (now (contents .entry)) 0 (now (bytes .entry)) ⌝ }
 {
     let mut i = 0;

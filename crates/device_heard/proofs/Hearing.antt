@@ -11,12 +11,12 @@ use Rattle.line.specs.declared.Heard.{Heard}
 use Rattle.line.specs.declared.Heard.the-variants.{Silence, Character, Damaged}
 use Rattle.line.specs.declared.Taken.{Taken}
 use Rattle.party.specs.Hears.{isSilence}
-use Rattle.turns.specs.Device.{tells, onCharacter, deviceTakes}
+use Rattle.turns.specs.Device.{tells, onSilence, onCharacter, deviceTakes}
 use Rattle.turns.specs.Link.{deviceData}
 use Rattle.turns.specs.declared.Device.{Device}
 use Rattle.turns.specs.declared.DeviceTaken.{DeviceTaken}
 use Rattle.turns.specs.declared.DeviceTold.{DeviceTold}
-use Rattle.device_heard.specs.Hearing.{hearsSilence, lent, HeardIs}
+use Rattle.device_heard.specs.Hearing.{lent, HeardIs}
 
 -- `own` is the device made anew
 module _ (d own : Device) (heard : Heard) (bytes : List ℕ) (x : DeviceTaken) (same : own ≡ d) where
@@ -31,7 +31,7 @@ module _ (d own : Device) (heard : Heard) (bytes : List ℕ) (x : DeviceTaken) (
   take-deaf e p = as-own bytes (record { taken = if-true (own .deaf) _ _ _ e p; data-is = if-true (own .deaf) _ _ _ e refl })
 
   module _ (e : own .deaf ≡ false) (s : Bool) (is-s : s ≡ isSilence heard) where
-    pub take-silence : s ≡ true → x ≡ hearsSilence own → HeardIs d heard bytes x bytes
+    pub take-silence : s ≡ true → x ≡ onSilence own (taken (own .receiver) Silence .receiver) → HeardIs d heard bytes x bytes
     unfolding deviceTakes taken takenData
     take-silence t q = as-own bytes (by heard (sym is-s ∙ t))
       where
@@ -40,16 +40,16 @@ module _ (d own : Device) (heard : Heard) (bytes : List ℕ) (x : DeviceTaken) (
         by (Character c) t = absurd (true-false (sym t))
         by (Damaged c k) t = absurd (true-false (sym t))
 
-    pub take-character : (t : Taken) (after : List ℕ) → s ≡ false → Reader.TakeIs (own .receiver) heard bytes t after → x ≡ onCharacter own (t .receiver) (t .event) → HeardIs d heard bytes x after
+    pub take-character : (t : Taken) (after : List ℕ) → s ≡ false → Reader.ReaderTakeIs (own .receiver) heard bytes t after → x ≡ onCharacter own (t .receiver) (t .event) → HeardIs d heard bytes x after
     unfolding deviceTakes
     take-character t after f is q = as-own after (by heard (sym is-s ∙ f) is)
       where
-        heeds : (h : Heard) → t ≡ taken (own .receiver) h → x ≡ onCharacter own (taken (own .receiver) h .receiver) (taken (own .receiver) h .event)
-        heeds h r = q ∙ ap (λ (k : Taken). onCharacter own (k .receiver) (k .event)) r
+        hears : (h : Heard) → t ≡ taken (own .receiver) h → x ≡ onCharacter own (taken (own .receiver) h .receiver) (taken (own .receiver) h .event)
+        hears h r = q ∙ ap (λ (k : Taken). onCharacter own (k .receiver) (k .event)) r
 
-        by : (h : Heard) → isSilence h ≡ false → Reader.TakeIs (own .receiver) h bytes t after → HeardIs own h bytes x after
+        by : (h : Heard) → isSilence h ≡ false → Reader.ReaderTakeIs (own .receiver) h bytes t after → HeardIs own h bytes x after
         by Silence f is = absurd (true-false f)
-        by (Character c) f is = record { taken = if-false (own .deaf) _ _ _ e (heeds (Character c) (is .reader)); data-is = if-false (own .deaf) _ _ _ e (is .buffer) }
-        by (Damaged c k) f is = record { taken = if-false (own .deaf) _ _ _ e (heeds (Damaged c k) (is .reader)); data-is = if-false (own .deaf) _ _ _ e (is .buffer) }
+        by (Character c) f is = record { taken = if-false (own .deaf) _ _ _ e (hears (Character c) (is .reader)); data-is = if-false (own .deaf) _ _ _ e (is .buffer) }
+        by (Damaged c k) f is = record { taken = if-false (own .deaf) _ _ _ e (hears (Damaged c k) (is .reader)); data-is = if-false (own .deaf) _ _ _ e (is .buffer) }
 
 pub ruleset hearings = (refl, take-deaf, take-silence, take-character)

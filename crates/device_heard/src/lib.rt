@@ -1,10 +1,11 @@
 // What a device does behind what it heard. The functions follow the definitions of crates/turns/specs/Device.antt, in their order.
 use frame::Header;
 use line::Event;
-use line::Harm;
+use line::FrameDamage;
 use line::Heard;
 use line::Receiver;
 use line::Whole;
+use turns::Change;
 use turns::Device;
 use turns::DeviceTaken;
 use turns::DeviceTold;
@@ -13,17 +14,10 @@ use turns::Wish;
 ghost use mathlib.Core.Path.{_≡_};
 ghost use mathlib.Core.Bool.{false};
 ghost use Rattle.base.specs.Choice.{if_then_else_};
-ghost use Rattle.turns.specs.Device.{behind, isOwn, dueAfter, hasError, tells, onCharacter, waited, backDue, counts, brokenDue, mayAnswer};
-ghost use Rattle.device_heard.specs.Hearing.{lengthBy, listening, toldOfOther, heedsRequest, heedsFrame, heedsDamage, heedsEvent, nextTurn, nextDue, passedOver, hearsSilence, HeardIs};
-
-// What a device makes of a character, its reader and its wish aside, and what it tells.
-struct Heeded {
-    turn: Turn,
-    request: Header,
-    length: u16,
-    due: u32,
-    told: DeviceTold,
-}
+ghost use Rattle.line.specs.Reader.{gapped, taken};
+ghost use Rattle.line.specs.declared.Heard.the-variants.{Silence};
+ghost use Rattle.turns.specs.Device.{deviceWith, isOwn, mayAnswer, endedBy, dueAfter, hasError, tells, listensOn, afterRequest, afterFrame, afterDamage, afterCharacter, onCharacter, waited, backDue, nextTurn, counts, brokenDue, onSilence};
+ghost use Rattle.device_heard.specs.Hearing.{lengthBy, HeardIs};
 
 // The same device with other parts.
 pub fn with_parts(
@@ -35,7 +29,7 @@ pub fn with_parts(
     length: u16,
     due: u32,
 ) -> Device
-    ensures { λ e. ⌜ e ≡ behind d r turn request wish length due ⌝ }
+    ensures { λ e. ⌜ e ≡ deviceWith d r turn request wish length due ⌝ }
 {
     let p = d.profile;
     let profile = party::same_profile(p);
@@ -71,15 +65,31 @@ fn is_own(d: Device, h: Header) -> bool
     false
 }
 
-// The silent ticks before the next BACK, behind another's frame.
-fn due_after(d: Device, h: Header) -> u32
-    ensures { λ r. ⌜ r ≡ dueAfter d h ⌝ }
+// The silent ticks before the next BACK, behind an undamaged frame of another.
+fn due_after_frame(d: Device, w: Whole) -> u32
+    ensures { λ r. ⌜ r ≡ dueAfter (d .profile) (endedBy (Event.Frame w)) ⌝ }
 {
+    let h = w.header;
     if h.frame == frame::ACK {
         return 1;
     }
     let profile = d.profile;
     profile.rt1p as u32
+}
+
+// The silent ticks before the next BACK, behind a character.
+fn due_after(d: Device, event: Event) -> u32
+    ensures { λ r. ⌜ r ≡ dueAfter (d .profile) (endedBy event) ⌝ }
+{
+    let profile = d.profile;
+    let rt1 = profile.rt1p as u32;
+    match event {
+        Event::Nothing => 0,
+        Event::PassedOver => rt1,
+        Event::Broken => rt1,
+        Event::Frame(w) => due_after_frame(d, w),
+        Event::Damaged(_, _) => rt1,
+    }
 }
 
 // How many characters a frame has.
@@ -93,7 +103,7 @@ pub fn frame_length(preamble: u8, long: bool, count: u8) -> u16
 }
 
 // Whether a damaged frame is answered without the host.
-pub fn has_error(d: Device, w: Whole, m: Harm) -> bool
+pub fn has_error(d: Device, w: Whole, m: FrameDamage) -> bool
     ensures { λ r. ⌜ r ≡ hasError d w m ⌝ }
 {
     let h = w.header;
@@ -106,7 +116,7 @@ pub fn has_error(d: Device, w: Whole, m: Harm) -> bool
     false
 }
 
-fn has_own_address(d: Device, h: Header, m: Harm) -> bool
+fn has_own_address(d: Device, h: Header, m: FrameDamage) -> bool
     ensures { λ r. ⌜ r ≡ (if m .address then false else isOwn d h) ⌝ }
 {
     if m.address {
@@ -115,30 +125,18 @@ fn has_own_address(d: Device, h: Header, m: Harm) -> bool
     is_own(d, h)
 }
 
-// A device that listens, and the ticks before its next BACK.
-fn listens(d: Device, due: u32, told: DeviceTold) -> Heeded
-    ensures { λ h. ⌜ h ≡ listening d due told ⌝ }
+// A device with nothing in hand.
+fn listens(d: Device, told: DeviceTold) -> Change
+    ensures { λ c. ⌜ c ≡ listensOn d told ⌝ }
 {
     let q = d.request;
     let request = tick_reader::same_header(q);
-    Heeded {
+    Change {
         turn: Turn::Listens,
         request: request,
         length: d.length,
-        due: due,
         told: told,
     }
-}
-
-// What is told of a request that is not for this device.
-fn told_of_other(w: Whole) -> DeviceTold
-    ensures { λ t. ⌜ t ≡ toldOfOther w ⌝ }
-{
-    let h = w.header;
-    if party::is_broadcast(h) {
-        return DeviceTold::Broadcast(w);
-    }
-    DeviceTold::Nothing
 }
 
 // Whether its host may answer an STX: one for this device, or command 11 by broadcast.
@@ -152,75 +150,69 @@ fn may_answer(d: Device, h: Header) -> bool
 }
 
 // An undamaged STX without expansion bytes: a request that its host may answer, another broadcast, or another's request.
-fn heeds_request(d: Device, w: Whole) -> Heeded
-    ensures { λ h. ⌜ h ≡ heedsRequest d w ⌝ }
+fn after_request(d: Device, w: Whole) -> Change
+    ensures { λ c. ⌜ c ≡ afterRequest d w ⌝ }
 {
     let h = w.header;
     let profile = d.profile;
-    let due = profile.rt1p as u32;
     if may_answer(d, h) {
         let request = tick_reader::same_header(h);
-        return Heeded {
+        return Change {
             turn: Turn::Asked(profile.sto),
             request: request,
             length: d.length,
-            due: due,
             told: DeviceTold::Request(w),
         };
     }
-    listens(d, due, told_of_other(w))
+    if party::is_broadcast(h) {
+        return listens(d, DeviceTold::Broadcast(w));
+    }
+    listens(d, DeviceTold::Nothing)
 }
 
 // An undamaged frame.
-fn heeds_frame(d: Device, w: Whole) -> Heeded
-    ensures { λ h. ⌜ h ≡ heedsFrame d w ⌝ }
+fn after_frame(d: Device, w: Whole) -> Change
+    ensures { λ c. ⌜ c ≡ afterFrame d w ⌝ }
 {
     let h = w.header;
-    let profile = d.profile;
-    let due = profile.rt1p as u32;
     let expansion = w.expansion;
     if h.frame == frame::STX {
         if expansion == 0 {
-            return heeds_request(d, w);
+            return after_request(d, w);
         }
-        return listens(d, due, DeviceTold::Nothing);
+        return listens(d, DeviceTold::Nothing);
     }
-    listens(d, due_after(d, h), DeviceTold::Nothing)
+    listens(d, DeviceTold::Nothing)
 }
 
 // A damaged frame.
-fn heeds_damage(d: Device, w: Whole, m: Harm) -> Heeded
-    ensures { λ h. ⌜ h ≡ heedsDamage d w m ⌝ }
+fn after_damage(d: Device, w: Whole, m: FrameDamage) -> Change
+    ensures { λ c. ⌜ c ≡ afterDamage d w m ⌝ }
 {
     let h = w.header;
-    let profile = d.profile;
-    let due = profile.rt1p as u32;
     if has_error(d, w, m) {
         let length = frame_length(d.preamble, h.long, 2);
         let request = tick_reader::same_header(h);
-        return Heeded {
-            turn: Turn::Accepted,
+        return Change {
+            turn: Turn::AnswerWaits,
             request: request,
             length: length,
-            due: due,
             told: DeviceTold::Nothing,
         };
     }
-    listens(d, due, DeviceTold::Nothing)
+    listens(d, DeviceTold::Nothing)
 }
 
 // A character, by what the reader tells.
-fn heeds(d: Device, event: Event) -> Heeded
-    ensures { λ h. ⌜ h ≡ heedsEvent d event ⌝ }
+fn after_character(d: Device, event: Event) -> Change
+    ensures { λ c. ⌜ c ≡ afterCharacter d event ⌝ }
 {
-    let profile = d.profile;
-    let due = profile.rt1p as u32;
     match event {
-        Event::Nothing => listens(d, 0, DeviceTold::Nothing),
-        Event::PassedOver => listens(d, due, DeviceTold::Nothing),
-        Event::Broken => listens(d, due, DeviceTold::Nothing),
-        Event::Frame(w) => heeds_frame(d, w),
-        Event::Damaged(w, m) => heeds_damage(d, w, m),
+        Event::Nothing => listens(d, DeviceTold::Nothing),
+        Event::PassedOver => listens(d, DeviceTold::Nothing),
+        Event::Broken => listens(d, DeviceTold::Nothing),
+        Event::Frame(w) => after_frame(d, w),
+        Event::Damaged(w, m) => after_damage(d, w, m),
     }
 }
 
@@ -228,11 +220,12 @@ fn heeds(d: Device, event: Event) -> Heeded
 fn on_character(d: Device, r: Receiver, event: Event) -> DeviceTaken
     ensures { λ t. ⌜ t ≡ onCharacter d r event ⌝ }
 {
-    let h = heeds(d, event);
-    let turn = h.turn;
-    let request = h.request;
-    let told = h.told;
-    let device = with_parts(d, r, turn, request, Wish::Same, h.length, h.due);
+    let c = after_character(d, event);
+    let due = due_after(d, event);
+    let turn = c.turn;
+    let request = c.request;
+    let told = c.told;
+    let device = with_parts(d, r, turn, request, Wish::Same, c.length, due);
     DeviceTaken {
         device: device,
         told: told,
@@ -247,7 +240,7 @@ fn waits(turn: Turn) -> Turn
     match turn {
         Turn::Listens => Turn::Listens,
         Turn::Asked(n) => waits_for_answer(n),
-        Turn::Accepted => Turn::Begins,
+        Turn::AnswerWaits => Turn::Begins,
         Turn::Begins => Turn::Begins,
         Turn::Answers(n) => Turn::Answers(n),
         Turn::Follows => Turn::Follows,
@@ -275,24 +268,15 @@ fn back_due(d: Device, due: u32) -> bool
     false
 }
 
-// The turn behind a silent tick, where a BACK begins and where none does.
-fn next_turn(back: bool, turn: Turn) -> Turn
-    ensures { λ t. ⌜ t ≡ nextTurn back turn ⌝ }
+// The turn behind a silent tick: a BACK begins where its timer ends.
+fn next_turn(d: Device, due: u32) -> Turn
+    ensures { λ t. ⌜ t ≡ nextTurn d due ⌝ }
 {
-    if back {
+    if back_due(d, due) {
         return Turn::Follows;
     }
+    let turn = d.turn;
     waits(turn)
-}
-
-// The silent ticks before the next BACK, behind one of them.
-fn next_due(back: bool, due: u32) -> u32
-    ensures { λ r. ⌜ r ≡ nextDue back due ⌝ }
-{
-    if back {
-        return 0;
-    }
-    party::one_less(due)
 }
 
 // A silent tick.
@@ -301,10 +285,8 @@ fn count_tick(d: Device, r: Receiver, due: u32, event: Event) -> DeviceTaken
 {
     let request = d.request;
     let wish = d.wish;
-    let turn = d.turn;
-    let back = back_due(d, due);
-    let next = next_turn(back, turn);
-    let device = with_parts(d, r, next, request, wish, d.length, next_due(back, due));
+    let next = next_turn(d, due);
+    let device = with_parts(d, r, next, request, wish, d.length, party::one_less(due));
     DeviceTaken {
         device: device,
         told: DeviceTold::Nothing,
@@ -322,7 +304,7 @@ fn broken_due(d: Device) -> u32
 
 // A silent tick inside a frame that is passed over.
 fn passed_over(d: Device) -> DeviceTaken
-    ensures { λ t. ⌜ t ≡ passedOver d ⌝ }
+    ensures { λ t. ⌜ t ≡ tells (deviceWith d (gapped (d .receiver)) (d .turn) (d .request) (d .wish) (d .length) (d .due)) DeviceTold.Nothing Event.Nothing ⌝ }
 {
     let reader = d.receiver;
     let r = tick_reader::gapped_reader(reader);
@@ -350,7 +332,7 @@ fn hears_nothing(d: Device) -> DeviceTaken
 
 // Hears silence. The second silent tick in a row inside a frame breaks it, and both count.
 fn hears_silence(d: Device) -> DeviceTaken
-    ensures { λ t. ⌜ t ≡ hearsSilence d ⌝ }
+    ensures { λ t. ⌜ t ≡ onSilence d (taken (d .receiver) Silence .receiver) ⌝ }
 {
     let reader = d.receiver;
     let place = reader.place;

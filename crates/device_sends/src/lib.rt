@@ -201,7 +201,7 @@ pub fn sends_by(d: Device, frame: &[u8; 284]) -> DeviceSent
     match turn {
         Turn::Listens => sends_nothing(d, Turn::Listens),
         Turn::Asked(n) => sends_nothing(d, Turn::Asked(n)),
-        Turn::Accepted => sends_nothing(d, Turn::Accepted),
+        Turn::AnswerWaits => sends_nothing(d, Turn::AnswerWaits),
         Turn::Begins => begins_answer(d, frame),
         Turn::Answers(n) => answers_from(d, frame, n, d.burst, d.primary),
         Turn::Follows => begins_back(d, frame),

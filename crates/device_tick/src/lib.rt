@@ -2,16 +2,16 @@
 use device::DeviceCalled;
 use line::Event;
 use line::Heard;
-use party::CallAnswer;
+use party::CallStatus;
 use turns::Device;
 use turns::DeviceTold;
 use turns::Sent;
 use turns::Wish;
 ghost use mathlib.Core.Path.{_≡_};
-ghost use Rattle.device_tick.specs.Tick.{uncalled, calledBy, CallIs, TickIs};
+ghost use Rattle.device_tick.specs.Tick.{uncalled, calledBy, DeviceCalledIs, DeviceTickIs};
 
 // A host's call in a tick.
-pub enum HostCall {
+pub enum DeviceHostCall {
     Nothing,
     Answers(Wish),
     // a burst content of this command
@@ -19,9 +19,9 @@ pub enum HostCall {
 }
 
 // A device behind its host's call.
-pub struct CallTaken {
+pub struct DeviceCallTaken {
     pub device: Device,
-    pub answer: CallAnswer,
+    pub result: CallStatus,
 }
 
 // A device behind a tick, what it sends, and what it tells its host.
@@ -30,47 +30,47 @@ pub struct DeviceTicked {
     pub sent: Sent,
     pub told: DeviceTold,
     pub event: Event,
-    pub answer: CallAnswer,
+    pub result: CallStatus,
 }
 
 // A device behind its host's answer or burst content, by what it answered.
-fn called_by(d: Device, r: DeviceCalled) -> CallTaken
+fn called_by(d: Device, r: DeviceCalled) -> DeviceCallTaken
     ensures { λ t. ⌜ t ≡ calledBy d r ⌝ }
 {
     match r {
-        DeviceCalled::Accepted(e) => CallTaken {
+        DeviceCalled::Accepted(e) => DeviceCallTaken {
             device: e,
-            answer: CallAnswer::Taken,
+            result: CallStatus::Taken,
         },
-        DeviceCalled::Refused(why) => CallTaken {
+        DeviceCalled::Refused(why) => DeviceCallTaken {
             device: d,
-            answer: CallAnswer::Refused(why),
+            result: CallStatus::Refused(why),
         },
     }
 }
 
-fn no_call(d: Device) -> CallTaken
+fn no_call(d: Device) -> DeviceCallTaken
     ensures { λ r. ⌜ r ≡ uncalled d ⌝ }
 {
-    CallTaken {
+    DeviceCallTaken {
         device: d,
-        answer: CallAnswer::Nothing,
+        result: CallStatus::Nothing,
     }
 }
 
 fn take_call(
     d: Device,
-    call: HostCall,
+    call: DeviceHostCall,
     put: &[u8],
     contents: &mut [u8; 255],
     frame: &mut [u8; 284],
-) -> CallTaken
-    ensures { λ r. ⌜ CallIs d call (now (put .entry)) (now (frame .entry)) (now (contents .entry)) r (now (frame .exit)) (now (contents .exit)) ⌝ }
+) -> DeviceCallTaken
+    ensures { λ r. ⌜ DeviceCalledIs d call (now (put .entry)) (now (frame .entry)) (now (contents .entry)) r (now (frame .exit)) (now (contents .exit)) ⌝ }
 {
     match call {
-        HostCall::Nothing => no_call(d),
-        HostCall::Answers(wish) => called_by(d, device::answer(d, wish, put, frame)),
-        HostCall::Content(command) => {
+        DeviceHostCall::Nothing => no_call(d),
+        DeviceHostCall::Answers(wish) => called_by(d, device::answer(d, wish, put, frame)),
+        DeviceHostCall::Content(command) => {
             called_by(d, device_content::content(d, command, put, contents))
         }
     }
@@ -80,13 +80,13 @@ fn take_call(
 pub fn tick(
     d: Device,
     heard: Heard,
-    call: HostCall,
+    call: DeviceHostCall,
     put: &[u8],
     contents: &mut [u8; 255],
     frame: &mut [u8; 284],
     bytes: &mut [u8; 255],
 ) -> DeviceTicked
-    ensures { λ r. ⌜ TickIs d heard call (now (put .entry)) (now (frame .entry)) (now (bytes .entry)) (now (contents .entry)) r (now (frame .exit)) (now (bytes .exit)) (now (contents .exit)) ⌝ }
+    ensures { λ r. ⌜ DeviceTickIs d heard call (now (put .entry)) (now (frame .entry)) (now (bytes .entry)) (now (contents .entry)) r (now (frame .exit)) (now (bytes .exit)) (now (contents .exit)) ⌝ }
 {
     let t = device::take(d, heard, bytes, frame);
     let taken = t.device;
@@ -94,7 +94,7 @@ pub fn tick(
     let event = t.event;
     let c = take_call(taken, call, put, contents, frame);
     let called = c.device;
-    let answer = c.answer;
+    let result = c.result;
     let s = device::send(called, contents, frame);
     let next = s.device;
     let sent = s.sent;
@@ -103,6 +103,6 @@ pub fn tick(
         sent: sent,
         told: told,
         event: event,
-        answer: answer,
+        result: result,
     }
 }

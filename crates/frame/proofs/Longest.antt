@@ -6,6 +6,8 @@ use mathlib.Core.Bool.{Bool, true, false}
 use mathlib.Core.List.{List}
 use lib.ListN.{length}
 use Rattle.base.specs.Choice.{if_then_else_}
+use Rattle.base.specs.Refusal.{accepted}
+use Rattle.frame.specs.Limits.{mostPreambles, mostData, longestFrame}
 use Rattle.frame.specs.Delimiter.{ack}
 use Rattle.frame.specs.Address.{addressLength}
 use Rattle.frame.specs.Frame.{frameBytes, frameLength}
@@ -13,8 +15,6 @@ use Rattle.frame.specs.Write.{writeAnswer}
 use Rattle.frame.proofs.Lengths.{frame-count}
 use Rattle.frame.proofs.Taken.{taken}
 use Rattle.frame.specs.declared.Header.{Header}
-use Rattle.frame.specs.declared.Written.{Written}
-use Rattle.frame.specs.declared.Written.the-variants.{To}
 
 pub address-at-most : (long : Bool) → addressLength long ≤ 5
 unfolding if_then_else_
@@ -24,9 +24,9 @@ address-at-most false = omega arith
 pub record Length (preamble : ℕ) (h : Header) (bytes : List ℕ) (place end : ℕ) : Type 0 where
   pub as-the-fields-say : end ≡ place + frameLength preamble h (length bytes)
   pub as-many-bytes : frameLength preamble h (length bytes) ≡ length (frameBytes preamble h bytes)
-  pub at-most : frameLength preamble h (length bytes) ≤ 284
+  pub at-most : frameLength preamble h (length bytes) ≤ longestFrame mostData
 
-pub written-length : (preamble : ℕ) (h : Header) (bytes : List ℕ) (room place end : ℕ) → writeAnswer preamble h (length bytes) room place ≡ To end → Length preamble h bytes place end
+pub written-length : (preamble : ℕ) (h : Header) (bytes : List ℕ) (room place end : ℕ) → writeAnswer preamble h (length bytes) room place ≡ accepted end → Length preamble h bytes place end
 written-length preamble h bytes room place end e =
     let told = taken preamble h (length bytes) room place end e in
     record {
@@ -38,6 +38,6 @@ written-length preamble h bytes room place end e =
 abbrev pub longestHeader : Header
 longestHeader = record { frame = ack; long = true; primary = true; burst = false; address = 1; command = 0 }
 
-pub longest-is-written : writeAnswer 20 longestHeader 255 284 0 ≡ To 284
+pub longest-is-written : writeAnswer mostPreambles longestHeader mostData (longestFrame mostData) 0 ≡ accepted 284
 unfolding writeAnswer if_then_else_
 longest-is-written = refl

@@ -8,6 +8,7 @@ use lib.ListN.{length, take, drop, getD, length-append, List·getD-append}
 use lib.Seq.{length-take-le, take-at, drop-at, getD-take, take-append-add}
 use Rattle.base.specs.Choice.{if_then_else_}
 use Rattle.base.proofs.Choices.{if-is-true, if-is-false}
+use Rattle.base.specs.Refusal.{accepted}
 use Rattle.frame.specs.Delimiter.{delimiterOf}
 use Rattle.frame.specs.Address.{byteAt, masterBit, burstFlag, addressOf, uniqueAddress, pollingAddress}
 use Rattle.frame.specs.Check.{exclusiveOr}
@@ -20,8 +21,6 @@ use Rattle.frame.specs.declared.Delimiter.{Delimiter}
 use Rattle.frame.specs.declared.Delimiter.the-variants.{Is, Not}
 use Rattle.frame.specs.declared.Header.{Header}
 use Rattle.frame.specs.declared.Found.{Found}
-use Rattle.frame.specs.declared.Read.{Read}
-use Rattle.frame.specs.declared.Read.the-variants.{Frame}
 
 -- a delimiter is no preamble
 pub delimited-no-preamble : (b frame : ℕ) (long : Bool) (expansion : ℕ) → delimiterOf b ≡ Is frame long expansion → b ≡ 0xFF → ⊥
@@ -82,7 +81,7 @@ sound-cut preamble t rest f s =
     }
 
 -- the theorem
-pub reads-prefix : (bytes : List ℕ) (f : Found) → readFrame bytes ≡ Frame f → (rest : List ℕ) → readFrame (take (f .end) bytes ++ rest) ≡ Frame f
+pub reads-prefix : (bytes : List ℕ) (f : Found) → readFrame bytes ≡ accepted f → (rest : List ℕ) → readFrame (take (f .end) bytes ++ rest) ≡ accepted f
 reads-prefix bytes f e rest =
     let sound : SoundFrame bytes f = frame-sound bytes f e in
     let p : ℕ = preambles bytes in

@@ -12,6 +12,7 @@ use borrow.Author.Tests.{eq-eqb, ne-eqb}
 use Rattle.base.specs.Choice.{if_then_else_, _=?_}
 use Rattle.base.proofs.Stores.{stored-between}
 use Rattle.base.proofs.Choices.{if-is-true, if-is-false, if-unequal, if-at-most}
+use Rattle.base.specs.Refusal.{Called, accepted}
 use Rattle.frame.specs.Delimiter.{isType, delimiterOf, delimiterByte}
 use Rattle.frame.specs.Address.{addressLength, largestAddress, longAddress, shortAddress, firstByte, byteAt, masterBit, burstFlag, addressOf, uniqueAddress, pollingAddress}
 use Rattle.frame.specs.Check.{exclusiveOr}
@@ -26,9 +27,6 @@ use Rattle.frame.proofs.Taken.{Fits, taken, Typed, is-stx, is-ack, is-b
 use Rattle.frame.specs.declared.Delimiter.the-variants.{Is}
 use Rattle.frame.specs.declared.Header.{Header}
 use Rattle.frame.specs.declared.Found.{Found}
-use Rattle.frame.specs.declared.Read.the-variants.{Frame}
-use Rattle.frame.specs.declared.Written.{Written}
-use Rattle.frame.specs.declared.Written.the-variants.{To}
 
 -- the delimiter that is written is read as the type and the address's form, with no expansion bytes
 pub delimiter-back : (frame : ℕ) (long : Bool) → isType frame ≡ true → delimiterOf (delimiterByte frame long) ≡ Is frame long 0
@@ -190,7 +188,7 @@ no-more h bytes rest e = no-preamble (bodyBytes h bytes ++ rest) (delimiter-no-p
 
 -- the theorem
 pub reads-back : (preamble : ℕ) (h : Header) (bytes rest : List ℕ) → Fits preamble h (length bytes)
-    → readFrame (frameBytes preamble h bytes ++ rest) ≡ Frame (message preamble h (length bytes))
+    → readFrame (frameBytes preamble h bytes ++ rest) ≡ accepted (message preamble h (length bytes))
 unfolding frameBytes
 reads-back preamble h bytes rest fits =
     let body : List ℕ = bodyBytes h bytes ++ rest in
@@ -224,12 +222,12 @@ data-back preamble h bytes rest =
 
 -- Of a write that was taken: reading from the place named gives the message; its end is where the writer stopped; its data are the data.
 pub record ReadsBack (preamble : ℕ) (h : Header) (bytes buffer : List ℕ) (place end : ℕ) : Type 0 where
-  pub message-read : readFrame (drop place (writeBuffer preamble h bytes buffer place)) ≡ Frame (message preamble h (length bytes))
+  pub message-read : readFrame (drop place (writeBuffer preamble h bytes buffer place)) ≡ accepted (message preamble h (length bytes))
   pub end-read : place + message preamble h (length bytes) .end ≡ end
   pub data-read : partOf (drop place (writeBuffer preamble h bytes buffer place)) (message preamble h (length bytes) .start) (length bytes) ≡ bytes
 
 pub written-reads-back : (preamble : ℕ) (h : Header) (bytes buffer : List ℕ) (place end : ℕ)
-    → writeAnswer preamble h (length bytes) (length buffer) place ≡ To end → ReadsBack preamble h bytes buffer place end
+    → writeAnswer preamble h (length bytes) (length buffer) place ≡ accepted end → ReadsBack preamble h bytes buffer place end
 unfolding writeBuffer message
 written-reads-back preamble h bytes buffer place end e =
     let room = taken preamble h (length bytes) (length buffer) place end e in
@@ -237,7 +235,7 @@ written-reads-back preamble h bytes buffer place end e =
     let rest : List ℕ = drop (place + length frame) buffer in
     let inside : place + length frame ≤ length buffer = omega (arith, room .end-is, room .inside, frame-count preamble h bytes) in
     let there : drop place (writeBuffer preamble h bytes buffer place) ≡ frame ++ rest =
-    ap (λ (w : Written). drop place (bufferBy w buffer place frame)) e
+    ap (λ (w : Called ℕ). drop place (bufferBy w buffer place frame)) e
     ∙ ap (drop place) (stored-between buffer place frame inside)
     ∙ drop-at (take place buffer) (frame ++ rest) place (length-take-le place buffer (omega arith)) in
     record {

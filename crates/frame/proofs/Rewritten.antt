@@ -11,6 +11,8 @@ use Rattle.base.specs.Choice.{if_then_else_, _≤?_, _=?_}
 use Rattle.base.proofs.Choices.{true-false, if-is-true, if-is-false, if-at-most}
 use Rattle.base.proofs.Stores.{take-more}
 use Rattle.base.proofs.Tables.{holds-below, holds-at, chain-first, chain-second}
+use Rattle.base.specs.Refusal.{accepted}
+use Rattle.frame.specs.Limits.{fewestPreambles, mostPreambles}
 use Rattle.frame.specs.Delimiter.{isType, delimiterOf, delimiterByte}
 use Rattle.frame.specs.Address.{addressLength, largestAddress, addressBytes, longAddress, shortAddress, firstByte, byteAt, masterBit, burstFlag, addressOf, uniqueAddress, pollingAddress}
 use Rattle.frame.specs.Check.{exclusiveOr}
@@ -24,9 +26,6 @@ use Rattle.frame.specs.declared.Delimiter.{Delimiter}
 use Rattle.frame.specs.declared.Delimiter.the-variants.{Is, Not}
 use Rattle.frame.specs.declared.Header.{Header}
 use Rattle.frame.specs.declared.Found.{Found}
-use Rattle.frame.specs.declared.Read.{Read}
-use Rattle.frame.specs.declared.Read.the-variants.{Frame}
-use Rattle.frame.specs.declared.Written.the-variants.{To}
 
 -- every number of the list is a byte
 pub Bytes : List ℕ → Type 0
@@ -202,8 +201,8 @@ pub record WrittenAgain (bytes : List ℕ) (f : Found) : Type 0 where
   pub same-body : partOf bytes (f .preamble) (f .end - f .preamble) ≡ bodyBytes (f .header) (partOf bytes (f .start) (f .count))
   pub same-count : length (partOf bytes (f .start) (f .count)) ≡ f .count
   -- and the writer takes them, behind any preamble that may be written, wherever there is room
-  pub taken-again : (preamble room at : ℕ) → 5 ≤ preamble → preamble ≤ 20 → at + frameLength preamble (f .header) (f .count) ≤ room
-      → writeAnswer preamble (f .header) (f .count) room at ≡ To (at + frameLength preamble (f .header) (f .count))
+  pub taken-again : (preamble room at : ℕ) → fewestPreambles ≤ preamble → preamble ≤ mostPreambles → at + frameLength preamble (f .header) (f .count) ≤ room
+      → writeAnswer preamble (f .header) (f .count) room at ≡ accepted (at + frameLength preamble (f .header) (f .count))
 
 drop-bytes : (bytes : List ℕ) (n : ℕ) → Bytes bytes → Bytes (drop n bytes)
 unfolding Bytes
@@ -227,7 +226,7 @@ module _ (bytes : List ℕ) (preamble frame : ℕ) (long : Bool) (count : ℕ) (
       part-inside bytes (preamble + (commandPlace long 0 + 2)) count (omega (arith, length-drop preamble bytes))
       ∙ ap (take count) (sym (drop-drop (commandPlace long 0 + 2) preamble bytes))
 
-  fits-again : (p : ℕ) → 5 ≤ p → p ≤ 20 → Fits p (headerOf frame long (commandPlace long 0) (drop preamble bytes)) count
+  fits-again : (p : ℕ) → fewestPreambles ≤ p → p ≤ mostPreambles → Fits p (headerOf frame long (commandPlace long 0) (drop preamble bytes)) count
   unfolding Bytes place h
   fits-again p low high = record {
     preamble-low = low;
@@ -253,7 +252,7 @@ module _ (bytes : List ℕ) (preamble frame : ℕ) (long : Bool) (count : ℕ) (
       }
 
 -- the theorem
-pub read-is-written : (bytes : List ℕ) (f : Found) → Bytes bytes → readFrame bytes ≡ Frame f → f .expansion ≡ 0 → WrittenAgain bytes f
+pub read-is-written : (bytes : List ℕ) (f : Found) → Bytes bytes → readFrame bytes ≡ accepted f → f .expansion ≡ 0 → WrittenAgain bytes f
 read-is-written bytes f small e none =
     let p : ℕ = preambles bytes in
     let t : List ℕ = drop p bytes in

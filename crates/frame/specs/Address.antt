@@ -1,9 +1,11 @@
+-- To be believed: what the engine must do, or what is claimed of it.
 -- Document 01, "Frames": the address, "most significant bit first: master bit (1 primary), burst flag, then a 6-bit polling address in one byte, or a 38-bit unique address in five".
 use Prim.Native.Nat.{ℕ, _+_, _*_, _/_, _%_, _^_, _-_}
 use mathlib.Core.Bool.{Bool}
 use mathlib.Core.List.{List, [], _∷_}
 use lib.ListN.{getD}
 use Rattle.base.specs.Choice.{if_then_else_, _<?_, _=?_}
+use Rattle.frame.specs.Limits.{largestPolling}
 use Rattle.frame.specs.declared.Header.{Header}
 
 -- how many bytes it has
@@ -12,7 +14,7 @@ addressLength long = if long then 5 else 1
 
 -- the largest: 6 bits, or 38 bits
 abbrev pub largestAddress : Bool → ℕ
-largestAddress long = if long then 2 ^ 38 - 1 else 63
+largestAddress long = if long then 2 ^ 38 - 1 else largestPolling
 
 -- "polling above 63 or unique above 38 bits"
 abbrev pub addressTooLarge : Header → Bool

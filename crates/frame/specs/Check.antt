@@ -1,3 +1,4 @@
+-- To be believed: what the engine must do, or what is claimed of it.
 -- Document 01, "Frames": "The check byte makes the exclusive-or from delimiter to check byte zero."
 use Prim.Native.Nat.{ℕ}
 use mathlib.Core.List.{List, [], _∷_}

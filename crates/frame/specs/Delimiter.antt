@@ -1,3 +1,4 @@
+-- To be believed: what the engine must do, or what is claimed of it.
 -- Document 01, "Frames": the delimiter.
 use Prim.Native.Nat.{ℕ, _+_, _/_, _%_}
 use mathlib.Core.Bool.{Bool, true, false}

@@ -1,9 +1,11 @@
+-- To be believed: what the engine must do, or what is claimed of it.
 -- Document 01, "Frames": "Preamble of 0xFF, delimiter, address, expansion bytes, command, byte count, data, check byte."
 use Prim.Native.Nat.{ℕ, _+_}
 use mathlib.Core.Bool.{Bool, false}
 use mathlib.Core.List.{List, [], _∷_, _++_}
 use lib.ListN.{length, replicate}
 use Rattle.base.specs.Choice.{if_then_else_, _<?_}
+use Rattle.frame.specs.Limits.{fewestAnswered}
 use Rattle.frame.specs.Delimiter.{fromDevice, delimiterByte}
 use Rattle.frame.specs.Address.{addressLength, addressBytes}
 use Rattle.frame.specs.Check.{exclusiveOr}
@@ -11,7 +13,7 @@ use Rattle.frame.specs.declared.Header.{Header}
 
 -- "ACK and BACK carry at least 2 data bytes"
 abbrev pub tooFew : ℕ → ℕ → Bool
-tooFew frame count = if fromDevice frame then count <? 2 else false
+tooFew frame count = if fromDevice frame then count <? fewestAnswered else false
 
 -- delimiter, address, command and byte count
 unfoldable pub headerBytes : Header → ℕ → List ℕ

@@ -1,4 +1,5 @@
 -- The HART frame, from document 01, "Frames" and "Refusals", in its order.
+pub mod Limits
 pub mod Delimiter
 pub mod Address
 pub mod Check

@@ -1,10 +1,11 @@
+-- To be believed: what the engine must do, or what is claimed of it.
 -- The frame reader. Document 01, "Frames": "the reader needs two" preambles and "gives the fields, the end, and the data as that part of the caller's bytes"; "Refusals", the line of the frame reader.
 use Prim.Native.Nat.{ℕ, _+_}
 use mathlib.Core.Bool.{Bool}
 use mathlib.Core.List.{List, [], _∷_}
 use lib.ListN.{length, take, drop}
 use Rattle.base.specs.Choice.{if_then_else_, _<?_, _≤?_, _=?_}
-use Rattle.base.specs.declared.Refusal.the-variants.{FewPreambles, NoDelimiter, EndsEarly, Unsound}
+use Rattle.base.specs.Refusal.{number, Called, accepted, refused}
 use Rattle.frame.specs.Delimiter.{delimiterOf}
 use Rattle.frame.specs.Address.{addressLength, byteAt, masterBit, burstFlag, addressOf}
 use Rattle.frame.specs.Check.{exclusiveOr}
@@ -47,34 +48,39 @@ foundAt preamble body frame long expansion place count = record {
 }
 
 -- behind the byte count: "13: bytes end early; 14: ACK or BACK with count below 2, else wrong check byte"
-abbrev pub withCount : ℕ → List ℕ → ℕ → Bool → ℕ → ℕ → ℕ → Read
+abbrev pub withCount : ℕ → List ℕ → ℕ → Bool → ℕ → ℕ → ℕ → Called Found
 withCount preamble body frame long expansion place count =
-    if length body ≤? place + 2 + count then Refused EndsEarly else
-    if tooFew frame count then Refused Unsound else
-    if exclusiveOr (take (place + 3 + count) body) =? 0 then Frame (foundAt preamble body frame long expansion place count) else
-    Refused Unsound
+    if length body ≤? place + 2 + count then refused 13 else
+    if tooFew frame count then refused 14 else
+    if exclusiveOr (take (place + 3 + count) body) =? 0 then accepted (foundAt preamble body frame long expansion place count) else
+    refused 14
 
 -- behind the delimiter
-abbrev pub withCommand : ℕ → List ℕ → ℕ → Bool → ℕ → ℕ → Read
+abbrev pub withCommand : ℕ → List ℕ → ℕ → Bool → ℕ → ℕ → Called Found
 withCommand preamble body frame long expansion place =
-    if length body ≤? place + 1 then Refused EndsEarly else
+    if length body ≤? place + 1 then refused 13 else
     withCount preamble body frame long expansion place (byteAt body (place + 1))
 
 -- "12: the byte behind them is no delimiter"
-abbrev pub withDelimiter : ℕ → List ℕ → Delimiter → Read
-withDelimiter preamble body Not = Refused NoDelimiter
+abbrev pub withDelimiter : ℕ → List ℕ → Delimiter → Called Found
+withDelimiter preamble body Not = refused 12
 withDelimiter preamble body (Is frame long expansion) = withCommand preamble body frame long expansion (commandPlace long expansion)
 
-unfoldable pub readBody : ℕ → List ℕ → Read
+unfoldable pub readBody : ℕ → List ℕ → Called Found
 readBody preamble body =
-    if length body =? 0 then Refused EndsEarly else
+    if length body =? 0 then refused 13 else
     withDelimiter preamble body (delimiterOf (byteAt body 0))
 
 -- "11: fewer than two preambles"
-unfoldable pub readFrame : List ℕ → Read
+unfoldable pub readFrame : List ℕ → Called Found
 readFrame bytes =
-    if preambles bytes <? 2 then Refused FewPreambles else
+    if preambles bytes <? 2 then refused 11 else
     readBody (preambles bytes) (drop (preambles bytes) bytes)
+
+-- what the reader's answer says
+abbrev pub readAs : Read → Called Found
+readAs (Frame f) = accepted f
+readAs (Refused why) = refused (number why)
 
 -- the part of the caller's bytes that begins at a place and has so many bytes; none where it would run past the end
 abbrev pub partOf : List ℕ → ℕ → ℕ → List ℕ

@@ -4,7 +4,8 @@ use frame::Header;
 use frame::Read;
 use frame::Written;
 ghost use mathlib.Core.Path.{_≡_};
-ghost use Rattle.frame_c.specs.Numbers.{bit, foundNumbers, header, WriteCall, ReadCall};
+ghost use Rattle.base.specs.Choice.{bit};
+ghost use Rattle.frame_c.specs.Numbers.{foundNumbers, header, WriteCall, ReadCall};
 
 // Writes a frame, and sets end to where it ends; or gives the refusal's number and changes nothing.
 #[no_mangle]

@@ -9,7 +9,7 @@ use lib.ListN.{length, getD, take, drop, drop-of-length-le, length-drop}
 use lib.Seq.{drop-cons, take-all}
 use Rattle.base.specs.Choice.{if_then_else_, _≤?_, _=?_}
 use Rattle.base.proofs.Choices.{choices, if-is-true, if-is-false, if-equal, if-unequal, if-above, if-at-most, if-below, if-not-below}
-use Rattle.base.specs.declared.Refusal.the-variants.{FewPreambles, EndsEarly}
+use Rattle.base.specs.Refusal.{Called, accepted, refused}
 use Rattle.frame.specs.Address.{addressOf, byteAt, masterBit, burstFlag}
 use Rattle.frame.specs.Check.{exclusiveOr}
 use Rattle.frame.specs.Delimiter.{delimiterOf}
@@ -19,8 +19,6 @@ use Rattle.frame.specs.declared.Delimiter.{Delimiter}
 use Rattle.frame.specs.declared.Delimiter.the-variants.{Is}
 use Rattle.frame.specs.declared.Header.{Header}
 use Rattle.frame.specs.declared.Found.{Found}
-use Rattle.frame.specs.declared.Read.{Read}
-use Rattle.frame.specs.declared.Read.the-variants.{Frame, Refused}
 
 -- the loop: i preambles were passed, and what is left has the rest
 pub record Counted (bytes : List ℕ) (i : ℕ) : Type 0 where
@@ -77,11 +75,11 @@ pub header-is : (frame : ℕ) (long : Bool) (place : ℕ) (body : List ℕ) (a :
 header-is frame long place body a e = ap (λ (x : ℕ). record { frame = frame; long = long; primary = masterBit body; burst = burstFlag body; address = x; command = byteAt body place }) e
 
 pub found-is : (preamble : ℕ) (body : List ℕ) (frame : ℕ) (long : Bool) (expansion place count : ℕ) (h : Header) → h ≡ headerOf frame long place body
-    → Frame (record { preamble = preamble; header = h; expansion = expansion; start = preamble + (place + 2); count = count; end = preamble + (place + 3 + count) }) ≡ Frame (foundAt preamble body frame long expansion place count)
-found-is preamble body frame long expansion place count h e = ap (λ (x : Header). Frame (record { preamble = preamble; header = x; expansion = expansion; start = preamble + (place + 2); count = count; end = preamble + (place + 3 + count) })) e
+    → accepted (record { preamble = preamble; header = h; expansion = expansion; start = preamble + (place + 2); count = count; end = preamble + (place + 3 + count) }) ≡ accepted (foundAt preamble body frame long expansion place count)
+found-is preamble body frame long expansion place count h e = ap (λ (x : Header). accepted (record { preamble = preamble; header = x; expansion = expansion; start = preamble + (place + 2); count = count; end = preamble + (place + 3 + count) })) e
 
 -- the code compares the exclusive-or of what stands before the check byte with the check byte; the definition takes the whole, and tests for zero
-module _ (body : List ℕ) (place count sum : ℕ) (inside : place + 2 + count < length body) (e : sum ≡ exclusiveOr (take (place + 2 + count) body)) (r a b : Read) where
+module _ (body : List ℕ) (place count sum : ℕ) (inside : place + 2 + count < length body) (e : sum ≡ exclusiveOr (take (place + 2 + count) body)) (r a b : Called Found) where
   one-more : place + 2 + count + 1 ≡ place + 3 + count
   one-more = omega arith
 
@@ -92,29 +90,29 @@ module _ (body : List ℕ) (place count sum : ℕ) (inside : place + 2 + count <
   check-left f p = if-unequal _ 0 r a b (λ z. f (e ∙ check-from-zero body (place + 2 + count) inside (ap (λ (n : ℕ). exclusiveOr (take n body)) one-more ∙ z))) p
 
 -- behind the count, the delimiter and the preamble
-pub count-is : (preamble : ℕ) (body : List ℕ) (frame : ℕ) (long : Bool) (expansion place count : ℕ) (r : Read) → count ≡ byteAt body (place + 1) → place + 1 < length body
+pub count-is : (preamble : ℕ) (body : List ℕ) (frame : ℕ) (long : Bool) (expansion place count : ℕ) (r : Called Found) → count ≡ byteAt body (place + 1) → place + 1 < length body
     → r ≡ withCount preamble body frame long expansion place count → r ≡ withCommand preamble body frame long expansion place
 count-is preamble body frame long expansion place count r e h p =
     if-above (length body) (place + 1) r _ _ h (p ∙ ap (λ (n : ℕ). withCount preamble body frame long expansion place n) e)
 
-pub place-is : (preamble : ℕ) (body : List ℕ) (frame : ℕ) (long : Bool) (expansion place : ℕ) (r : Read) → place ≡ commandPlace long expansion
+pub place-is : (preamble : ℕ) (body : List ℕ) (frame : ℕ) (long : Bool) (expansion place : ℕ) (r : Called Found) → place ≡ commandPlace long expansion
     → r ≡ withCommand preamble body frame long expansion place → r ≡ withDelimiter preamble body (Is frame long expansion)
 place-is preamble body frame long expansion place r e p = p ∙ ap (λ (n : ℕ). withCommand preamble body frame long expansion n) e
 
-pub delimiter-is : (preamble : ℕ) (body : List ℕ) (d g : Delimiter) (r : Read) → (length body ≡ 0 → ⊥) → d ≡ g → d ≡ delimiterOf (byteAt body 0) → r ≡ withDelimiter preamble body g → r ≡ readBody preamble body
+pub delimiter-is : (preamble : ℕ) (body : List ℕ) (d g : Delimiter) (r : Called Found) → (length body ≡ 0 → ⊥) → d ≡ g → d ≡ delimiterOf (byteAt body 0) → r ≡ withDelimiter preamble body g → r ≡ readBody preamble body
 unfolding readBody
 delimiter-is preamble body d g r h e q p = if-unequal (length body) 0 r _ _ h (p ∙ ap (λ (x : Delimiter). withDelimiter preamble body x) (sym e ∙ q))
 
-pub no-body : (preamble : ℕ) (body : List ℕ) (r : Read) → length body ≡ 0 → r ≡ Refused EndsEarly → r ≡ readBody preamble body
+pub no-body : (preamble : ℕ) (body : List ℕ) (r : Called Found) → length body ≡ 0 → r ≡ refused 13 → r ≡ readBody preamble body
 unfolding readBody
 no-body preamble body r h p = if-equal (length body) 0 r _ _ h p
 
-pub frame-is : (bytes body : List ℕ) (preamble : ℕ) (r : Read) → preamble ≡ preambles bytes → 2 ≤ preamble → body ≡ drop preamble bytes → r ≡ readBody preamble body → r ≡ readFrame bytes
+pub frame-is : (bytes body : List ℕ) (preamble : ℕ) (r : Called Found) → preamble ≡ preambles bytes → 2 ≤ preamble → body ≡ drop preamble bytes → r ≡ readBody preamble body → r ≡ readFrame bytes
 unfolding readFrame
 frame-is bytes body preamble r e h q p =
     if-not-below (preambles bytes) 2 r _ _ (omega arith) (p ∙ ap (λ (l : List ℕ). readBody preamble l) q ∙ ap (λ (n : ℕ). readBody n (drop n bytes)) e)
 
-pub few-preambles : (bytes : List ℕ) (preamble : ℕ) (r : Read) → preamble ≡ preambles bytes → preamble < 2 → r ≡ Refused FewPreambles → r ≡ readFrame bytes
+pub few-preambles : (bytes : List ℕ) (preamble : ℕ) (r : Called Found) → preamble ≡ preambles bytes → preamble < 2 → r ≡ refused 11 → r ≡ readFrame bytes
 unfolding readFrame
 few-preambles bytes preamble r e h p = if-below (preambles bytes) 2 r _ _ (omega arith) p
 

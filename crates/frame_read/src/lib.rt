@@ -7,8 +7,9 @@ use frame::Read;
 ghost use mathlib.Core.Path.{_≡_};
 ghost use Prim.Native.Nat.{_+_, _^_, _≤_, _<_};
 ghost use lib.ListN.{length};
+ghost use Rattle.frame.specs.Limits.{mostData};
 ghost use Rattle.frame.specs.Address.{addressOf, uniqueAddress};
-ghost use Rattle.frame.specs.Read.{preambles, commandPlace, headerOf, withCount, withCommand, readBody, readFrame, partOf};
+ghost use Rattle.frame.specs.Read.{preambles, commandPlace, headerOf, withCount, withCommand, readBody, readFrame, readAs, partOf};
 
 // How many 0xFF stand in front.
 fn count_preambles(bytes: &[u8]) -> usize
@@ -90,8 +91,8 @@ fn with_count(
     place: usize,
     count: usize,
 ) -> Read
-    requires { ⌜ (commandPlace long 0 ≤ place) × (place ≤ 261) × (count ≤ 255) × (preamble + length (now body) < 2 ^ 64) ⌝ }
-    ensures { λ r. ⌜ r ≡ withCount preamble (now (body .entry)) frame long expansion place count ⌝ }
+    requires { ⌜ (commandPlace long 0 ≤ place) × (place ≤ 261) × (count ≤ mostData) × (preamble + length (now body) < 2 ^ 64) ⌝ }
+    ensures { λ r. ⌜ readAs r ≡ withCount preamble (now (body .entry)) frame long expansion place count ⌝ }
 {
     if body.len() <= place + 2 + count {
         return Read::Refused(Refusal::EndsEarly);
@@ -126,7 +127,7 @@ fn with_command(
     place: usize,
 ) -> Read
     requires { ⌜ (commandPlace long 0 ≤ place) × (place ≤ 261) × (preamble + length (now body) < 2 ^ 64) ⌝ }
-    ensures { λ r. ⌜ r ≡ withCommand preamble (now (body .entry)) frame long expansion place ⌝ }
+    ensures { λ r. ⌜ readAs r ≡ withCommand preamble (now (body .entry)) frame long expansion place ⌝ }
 {
     if body.len() <= place + 1 {
         return Read::Refused(Refusal::EndsEarly);
@@ -138,7 +139,7 @@ fn with_command(
 // The frame whose delimiter is the first byte of a body, behind so many preambles.
 fn read_body(preamble: usize, body: &[u8]) -> Read
     requires { ⌜ preamble + length (now body) < 2 ^ 64 ⌝ }
-    ensures { λ r. ⌜ r ≡ readBody preamble (now (body .entry)) ⌝ }
+    ensures { λ r. ⌜ readAs r ≡ readBody preamble (now (body .entry)) ⌝ }
 {
     if body.len() == 0 {
         return Read::Refused(Refusal::EndsEarly);
@@ -155,7 +156,7 @@ fn read_body(preamble: usize, body: &[u8]) -> Read
 
 // The frame at the front of some bytes.
 pub fn read(bytes: &[u8]) -> Read
-    ensures { λ r. ⌜ r ≡ readFrame (now (bytes .entry)) ⌝ }
+    ensures { λ r. ⌜ readAs r ≡ readFrame (now (bytes .entry)) ⌝ }
 {
     let preamble = count_preambles(bytes);
     if preamble < 2 {

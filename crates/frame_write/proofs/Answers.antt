@@ -8,12 +8,13 @@ use lib.ListN.{length, take, drop, length-take, length-drop}
 use Rattle.base.specs.Choice.{if_then_else_, _<?_, _≤?_}
 use Rattle.base.specs.Store.{stored}
 use Rattle.base.specs.declared.Refusal.{Refusal}
-use Rattle.base.specs.declared.Refusal.the-variants.{BufferShort}
+use Rattle.base.specs.Refusal.{number, Called, accepted, refused}
 use Rattle.base.proofs.Stores.{stored-part, room-behind}
 use Rattle.base.proofs.Choices.{if-is-true, if-is-false, if-at-most, if-above}
+use Rattle.frame.specs.Limits.{largestPolling, mostData}
 use Rattle.frame.specs.Address.{addressLength, largestAddress, addressTooLarge}
 use Rattle.frame.specs.Frame.{headerLength, frameLength, frameBytes}
-use Rattle.frame.specs.Write.{byFields, byRoom, writeAnswer, writeBuffer, bufferBy}
+use Rattle.frame.specs.Write.{byFields, byRoom, writeAnswer, writeBuffer, bufferBy, writtenAs}
 use Rattle.frame.proofs.Taken.{Room, taken, type-small}
 use Rattle.frame.specs.declared.Header.{Header}
 use Rattle.frame.specs.declared.Written.{Written}
@@ -21,21 +22,21 @@ use Rattle.frame.specs.declared.Written.the-variants.{To, Refused}
 
 -- by the address's form
 largest-long : (long : Bool) → long ≡ true → largestAddress long ≡ 2 ^ 38 - 1
-largest-long long e = if-is-true long (2 ^ 38 - 1) 63 e
+largest-long long e = if-is-true long (2 ^ 38 - 1) largestPolling e
 
-largest-short : (long : Bool) → long ≡ false → largestAddress long ≡ 63
-largest-short long e = if-is-false long (2 ^ 38 - 1) 63 e
+largest-short : (long : Bool) → long ≡ false → largestAddress long ≡ largestPolling
+largest-short long e = if-is-false long (2 ^ 38 - 1) largestPolling e
 
 pub large-long : (h : Header) → h .long ≡ true → ((2 ^ 38 - 1) <? h .address) ≡ addressTooLarge h
 large-long h e = ap (λ (n : ℕ). n <? h .address) (sym (largest-long (h .long) e))
 
-pub large-short : (h : Header) → h .long ≡ false → (63 <? h .address) ≡ addressTooLarge h
+pub large-short : (h : Header) → h .long ≡ false → (largestPolling <? h .address) ≡ addressTooLarge h
 large-short h e = ap (λ (n : ℕ). n <? h .address) (sym (largest-short (h .long) e))
 
 pub unique-fits : (h : Header) → h .long ≡ true → h .address ≤ largestAddress (h .long) → h .address < 2 ^ 38
 unique-fits h e r = omega (arith, largest-long (h .long) e)
 
-pub polling-fits : (h : Header) → h .long ≡ false → h .address ≤ largestAddress (h .long) → h .address ≤ 63
+pub polling-fits : (h : Header) → h .long ≡ false → h .address ≤ largestAddress (h .long) → h .address ≤ largestPolling
 polling-fits h e r = omega (arith, largest-short (h .long) e)
 
 pub header-long : (h : Header) → h .long ≡ true → 8 ≡ headerLength h
@@ -51,42 +52,46 @@ pub length-short : (preamble : ℕ) (h : Header) (count : ℕ) → h .long ≡ f
 length-short preamble h count e = omega (arith, header-short h e)
 
 -- by the room
-pub room-enough : (place length room : ℕ) → place ≤ room → length ≤ room - place → To (place + length) ≡ byRoom (place + length) room
-room-enough place length room h k = if-at-most (place + length) room (To (place + length)) (To (place + length)) (Refused BufferShort) (omega arith) refl
+pub room-enough : (place length room : ℕ) → place ≤ room → length ≤ room - place → accepted (place + length) ≡ byRoom (place + length) room
+room-enough place length room h k = if-at-most (place + length) room (accepted (place + length)) (accepted (place + length)) (refused 15) (omega arith) refl
 
-pub room-short : (place length room : ℕ) → room - place < length → Refused BufferShort ≡ byRoom (place + length) room
-room-short place length room k = if-above (place + length) room (Refused BufferShort) (To (place + length)) (Refused BufferShort) (omega arith) refl
+pub room-short : (place length room : ℕ) → room - place < length → refused 15 ≡ byRoom (place + length) room
+room-short place length room k = if-above (place + length) room (refused 15) (accepted (place + length)) (refused 15) (omega arith) refl
 
-pub place-beyond : (place length room : ℕ) → room < place → Refused BufferShort ≡ byRoom (place + length) room
-place-beyond place length room k = if-above (place + length) room (Refused BufferShort) (To (place + length)) (Refused BufferShort) (omega arith) refl
+pub place-beyond : (place length room : ℕ) → room < place → refused 15 ≡ byRoom (place + length) room
+place-beyond place length room k = if-above (place + length) room (refused 15) (accepted (place + length)) (refused 15) (omega arith) refl
 
-pub room-of : (place k length room : ℕ) (r : Written) → k ≡ length → r ≡ byRoom (place + k) room → r ≡ byRoom (place + length) room
+pub room-of : (place k length room : ℕ) (r : Called ℕ) → k ≡ length → r ≡ byRoom (place + k) room → r ≡ byRoom (place + length) room
 room-of place k length room r e p = p ∙ ap (λ (n : ℕ). byRoom (place + n) room) e
 
-pub answer-is : (preamble : ℕ) (h : Header) (count room place : ℕ) (r : Written) → r ≡ byFields preamble h count (byRoom (place + frameLength preamble h count) room) → r ≡ writeAnswer preamble h count room place
+pub answer-is : (preamble : ℕ) (h : Header) (count room place : ℕ) (r : Called ℕ) → r ≡ byFields preamble h count (byRoom (place + frameLength preamble h count) room) → r ≡ writeAnswer preamble h count room place
 unfolding writeAnswer
 answer-is preamble h count room place r p = p
 
 -- the buffer, by the answer
 pub buffer-to : (preamble : ℕ) (h : Header) (bytes buffer after : List ℕ) (place end : ℕ) (r : Written)
-    → r ≡ To end → r ≡ writeAnswer preamble h (length bytes) (length buffer) place → after ≡ stored buffer place (frameBytes preamble h bytes)
+    → r ≡ To end → writtenAs r ≡ writeAnswer preamble h (length bytes) (length buffer) place → after ≡ stored buffer place (frameBytes preamble h bytes)
     → after ≡ writeBuffer preamble h bytes buffer place
 unfolding writeBuffer
-buffer-to preamble h bytes buffer after place end r e q p = p ∙ ap (λ (w : Written). bufferBy w buffer place (frameBytes preamble h bytes)) (sym e ∙ q)
+buffer-to preamble h bytes buffer after place end r e q p = p ∙ ap (λ (w : Called ℕ). bufferBy w buffer place (frameBytes preamble h bytes)) (ap writtenAs (sym e) ∙ q)
 
 pub buffer-refused : (preamble : ℕ) (h : Header) (bytes buffer : List ℕ) (place : ℕ) (why : Refusal) (r : Written)
-    → r ≡ Refused why → r ≡ writeAnswer preamble h (length bytes) (length buffer) place
+    → r ≡ Refused why → writtenAs r ≡ writeAnswer preamble h (length bytes) (length buffer) place
     → buffer ≡ writeBuffer preamble h bytes buffer place
 unfolding writeBuffer
-buffer-refused preamble h bytes buffer place why r e q = ap (λ (w : Written). bufferBy w buffer place (frameBytes preamble h bytes)) (sym e ∙ q)
+buffer-refused preamble h bytes buffer place why r e q = ap (λ (w : Called ℕ). bufferBy w buffer place (frameBytes preamble h bytes)) (ap writtenAs (sym e) ∙ q)
 
-pub answer-same : (a b c : Written) → b ≡ a → b ≡ c → a ≡ c
-answer-same a b c p q = sym p ∙ q
+-- the answer that is passed on
+pub answer-to : (end : ℕ) (r : Written) (c : Called ℕ) → r ≡ To end → writtenAs r ≡ c → accepted end ≡ c
+answer-to end r c e q = ap writtenAs (sym e) ∙ q
+
+pub answer-refused : (n : ℕ) (why : Refusal) (r : Written) (c : Called ℕ) → r ≡ Refused why → n ≡ number why → writtenAs r ≡ c → refused n ≡ c
+answer-refused n why r c e p q = ap refused p ∙ ap writtenAs (sym e) ∙ q
 
 -- what an answer that is no refusal tells
-module _ (preamble : ℕ) (h : Header) (count room place end : ℕ) (r : Written) (e : r ≡ To end) (q : r ≡ writeAnswer preamble h count room place) where
+module _ (preamble : ℕ) (h : Header) (count room place end : ℕ) (r : Written) (e : r ≡ To end) (q : writtenAs r ≡ writeAnswer preamble h count room place) where
   told : Room preamble h count room place end
-  told = taken preamble h count room place end (sym q ∙ e)
+  told = taken preamble h count room place end (sym q ∙ ap writtenAs e)
 
   pub place-inside : place ≤ room
   place-inside = omega (arith, told .end-is, told .inside)
@@ -97,17 +102,17 @@ module _ (preamble : ℕ) (h : Header) (count room place end : ℕ) (r : Written
   pub address-fits : h .address ≤ largestAddress (h .long)
   address-fits = told .fits .address-high
 
-  pub count-fits : count ≤ 255
+  pub count-fits : count ≤ mostData
   count-fits = told .fits .count-high
 
   pub frame-fits : frameLength preamble h count ≤ room - place
   frame-fits = omega (arith, told .end-is, told .inside)
 
-pub part-fits : (preamble : ℕ) (h : Header) (count place end : ℕ) (buffer : List ℕ) (r : Written) → r ≡ To end → r ≡ writeAnswer preamble h count (length buffer) place
+pub part-fits : (preamble : ℕ) (h : Header) (count place end : ℕ) (buffer : List ℕ) (r : Written) → r ≡ To end → writtenAs r ≡ writeAnswer preamble h count (length buffer) place
     → frameLength preamble h count ≤ length (take (length buffer - place) (drop place buffer))
 part-fits preamble h count place end buffer r e q =
     omega (arith, frame-fits preamble h count (length buffer) place end r e q, length-take (length buffer - place) (drop place buffer), length-drop place buffer)
 
 pub ruleset answers = (refl, large-long, large-short, length-long, length-short, room-enough, room-short, place-beyond)
 
-pub ruleset writes = (refl, place-inside, type-fits, address-fits, count-fits, part-fits, stored-part, room-behind, buffer-to, buffer-refused, answer-same)
+pub ruleset writes = (refl, place-inside, type-fits, address-fits, count-fits, part-fits, stored-part, room-behind, buffer-to, buffer-refused, answer-to, answer-refused)

@@ -9,10 +9,11 @@ ghost use Prim.Native.Nat.{_+_, _^_, _≤_, _<_};
 ghost use lib.ListN.{length};
 ghost use Rattle.base.specs.Choice.{if_then_else_};
 ghost use Rattle.base.specs.Store.{stored};
+ghost use Rattle.frame.specs.Limits.{mostPreambles, largestPolling, mostData, longestFrame};
 ghost use Rattle.frame.specs.Address.{addressTooLarge, largestAddress, firstByte};
 ghost use Rattle.frame.specs.Check.{xorFrom};
 ghost use Rattle.frame.specs.Frame.{headerBytes, bodyBytes, preambleBytes, frameBytes, headerLength, frameLength};
-ghost use Rattle.frame.specs.Write.{byRoom, writeAnswer, WriteIs};
+ghost use Rattle.frame.specs.Write.{byRoom, writeAnswer, writtenAs, WriteIs};
 
 // The first n bytes become 0xFF.
 fn put_preamble(part: &mut [u8], n: usize)
@@ -77,7 +78,7 @@ fn long_header(h: Header, count: u8) -> [u8; 8]
 
 // Delimiter, polling address, command and byte count.
 fn short_header(h: Header, count: u8) -> [u8; 4]
-    requires { ⌜ (h .long ≡ false) × (h .address ≤ 63) ⌝ }
+    requires { ⌜ (h .long ≡ false) × (h .address ≤ largestPolling) ⌝ }
     ensures { λ r. ⌜ r ≡ headerBytes h count ⌝ }
 {
     let first = first_byte(h, h.address as u8);
@@ -117,7 +118,7 @@ fn put_checked(part: &mut [u8], bytes: &[u8], x: u8)
 
 // Delimiter to check byte, at the front of part.
 fn put_body(part: &mut [u8], h: Header, bytes: &[u8])
-    requires { ⌜ (headerLength h + length (now bytes) + 1 ≤ length (now part)) × (h .frame ≤ 6) × (h .address ≤ largestAddress (h .long)) × (length (now bytes) ≤ 255) ⌝ }
+    requires { ⌜ (headerLength h + length (now bytes) + 1 ≤ length (now part)) × (h .frame ≤ 6) × (h .address ≤ largestAddress (h .long)) × (length (now bytes) ≤ mostData) ⌝ }
     ensures { λ _. ⌜ now (part .exit) ≡ stored (now (part .entry)) 0 (bodyBytes h (now (bytes .entry))) ⌝ }
 {
     let n = put_header(part, h, bytes.len() as u8);
@@ -127,7 +128,7 @@ fn put_body(part: &mut [u8], h: Header, bytes: &[u8])
 
 // The whole frame, at the front of part.
 fn put_frame(part: &mut [u8], preamble: usize, h: Header, bytes: &[u8])
-    requires { ⌜ (frameLength preamble h (length (now bytes)) ≤ length (now part)) × (h .frame ≤ 6) × (h .address ≤ largestAddress (h .long)) × (length (now bytes) ≤ 255) ⌝ }
+    requires { ⌜ (frameLength preamble h (length (now bytes)) ≤ length (now part)) × (h .frame ≤ 6) × (h .address ≤ largestAddress (h .long)) × (length (now bytes) ≤ mostData) ⌝ }
     ensures { λ _. ⌜ now (part .exit) ≡ stored (now (part .entry)) 0 (frameBytes preamble h (now (bytes .entry))) ⌝ }
 {
     put_preamble(part, preamble);
@@ -146,8 +147,8 @@ pub fn address_too_large(h: Header) -> bool
 
 // How many bytes a frame with so many data bytes has.
 fn frame_length(preamble: usize, h: Header, count: usize) -> usize
-    requires { ⌜ (preamble ≤ 20) × (count ≤ 255) ⌝ }
-    ensures { λ r. ⌜ (r ≡ frameLength preamble h count) × (r ≤ 284) ⌝ }
+    requires { ⌜ (preamble ≤ mostPreambles) × (count ≤ mostData) ⌝ }
+    ensures { λ r. ⌜ (r ≡ frameLength preamble h count) × (r ≤ longestFrame mostData) ⌝ }
 {
     if h.long {
         return preamble + (8 + count + 1);
@@ -157,7 +158,7 @@ fn frame_length(preamble: usize, h: Header, count: usize) -> usize
 
 // Whether so many bytes fit a buffer of room bytes from a place on.
 fn by_room(place: usize, length: usize, room: usize) -> Written
-    ensures { λ r. ⌜ r ≡ byRoom (place + length) room ⌝ }
+    ensures { λ r. ⌜ writtenAs r ≡ byRoom (place + length) room ⌝ }
 {
     if place <= room {
         if length <= room - place {
@@ -170,7 +171,7 @@ fn by_room(place: usize, length: usize, room: usize) -> Written
 
 // What a write answers, for so many data bytes and a buffer of room bytes.
 fn answer(preamble: usize, h: Header, count: usize, room: usize, place: usize) -> Written
-    ensures { λ r. ⌜ r ≡ writeAnswer preamble h count room place ⌝ }
+    ensures { λ r. ⌜ writtenAs r ≡ writeAnswer preamble h count room place ⌝ }
 {
     if base::outside(preamble, 5, 20) {
         return Written::Refused(Refusal::PreambleLength);

@@ -1,38 +1,39 @@
 -- Such a run keeps its promise: by whether its start was accepted.
-use Prim.Native.Nat.{ℕ}
+use Prim.Native.Nat.{ℕ, zero, suc, _≤_}
 use native.Mathlib.Omega.{arith}
 use mathlib.Core.Bool.{Bool, true}
 use mathlib.Core.Path.{_≡_, refl, sym, ap, subst, _∙_}
 use mathlib.Core.List.{List, [], _∷_}
-use lib.ListN.{length, take}
+use lib.ListN.{length}
 use lib.Seq.{take-nil, drop-nil}
 use Rattle.base.specs.Store.{stored}
+use Rattle.base.specs.Refusal.{number, Called, accepted, refused}
 use Rattle.base.specs.declared.Refusal.{Refusal}
-use Rattle.line.specs.Profile.{profileMade}
 use Rattle.line.specs.declared.Heard.{Heard}
-use Rattle.line.specs.declared.MadeProfile.the-variants.{Made}
 use Rattle.line.specs.declared.Profile.{Profile}
 use Rattle.line_c.specs.Recording.{RunIs}
-use Rattle.turns.specs.Master.{Called, accepted, refused, masterStarts}
+use Rattle.turns.specs.Master.{masterStarts}
 use Rattle.turns.specs.Link.{DeviceSide, LinkStep}
 use Rattle.turns.specs.Run.{All, none, and, Distinct, DeviceStarts, EachTick, count, senders}
 use Rattle.turns.specs.Ledgers.{blanks, OneFinds}
 use Rattle.turns.specs.Demand3.{masterIn, NoneBurstsIn}
-use Rattle.turns.specs.Late.{lateRun, Started, starts-now, inTick, BeginTogether, LateStart}
+use Rattle.turns.specs.Late.{lateRun, Started, starts-now, inTick, sendersIn, BeginTogether, InOverlap, LateStart}
 use Rattle.turns.specs.declared.Master.{Master}
 use Rattle.turns.proofs.Fresh.{master-is}
 use Rattle.turns.proofs.Item14.{item-14}
 use Rattle.turns.proofs.Late.{common-start}
 use Rattle.link.specs.declared.Link.{Link}
-use Rattle.link_start.specs.Fresh.{devicesFresh, lentFresh}
+use Rattle.link_start.specs.Fresh.{lentFresh}
 use Rattle.link_start.specs.Start.{linkStarts, linkAs}
 use Rattle.link_start.specs.declared.DevicesSettings.{DevicesSettings}
 use Rattle.link_start.specs.declared.LinkStarted.{LinkStarted}
-use Rattle.link_start.proofs.Started.{started-ready, masters-start, all-start}
+use Rattle.link_start.proofs.Started.{masters-start, all-start}
 use Rattle.tick_list.specs.Ticks.{ticksOf}
-use Rattle.link_run.specs.Run.{hereOf, stepsBy, stepsOf, devicesBy, callsBy, numbersOf, ranAs, ranBy}
+use Rattle.link_run.specs.Run.{hereOf, stepsBy, stepsOf, devicesBy, callsBy, numbersOf, ranAs, ranBy, written, RunKeeps}
 use Rattle.link_run.specs.declared.RunEnded.{RunEnded}
-use Rattle.late_run.specs.Late.{lateStepsBy, lateSteps, Item14Of, LateKeeps}
+use Rattle.link_run.proofs.Kept.{run-keeps}
+use Rattle.link_run.proofs.Senders.{written-tells}
+use Rattle.late_run.specs.Late.{lateStepsBy, lateSteps, LateRunPremises, Item14Of, LateKeeps}
 use Rattle.late_run.specs.Step.{Fresh, LateReady}
 use Rattle.late_run.specs.declared.StartTicks.{StartTicks}
 
@@ -65,20 +66,36 @@ all-started : {p : Profile} {line : Heard} {xs : List DeviceSide} → All (Devic
 all-started none = none
 all-started (and x q) = and (starts-now x) (all-started q)
 
-keeps-by : (p : Profile) (retries : ℕ) (s : DevicesSettings) (a b : ℕ) (ticks : List ℕ) (c : Called Link) → linkStarts p retries s ≡ c → profileMade p ≡ Made p → Distinct (devicesBy c) → EachTick NoneBurstsIn (lateStepsBy a b c ticks)
-    → OneFinds (blanks (devicesBy c)) (callsBy c ticks) (lateStepsBy a b c ticks) → LateStart 255 p retries a b (lateStepsBy a b c ticks)
-keeps-by p retries s a b ticks (refused why) e made distinct bursts finds = no-tick-starts p retries a b
-keeps-by p retries s a b ticks (accepted l) e made distinct bursts finds =
-    let all = all-start p retries s l e distinct in
-    item-14 255 (omega arith) (omega arith) p retries a b (lentFresh l) (ticksOf (hereOf (l .devices)) ticks)
-    (record { made = made; primary = all .primary; secondary = all .secondary; devices = all-started (all .devices); distinct = all .distinct; none-bursts = bursts; one-finds = finds })
-
-pub keeps : (p : Profile) (retries : ℕ) (s : DevicesSettings) (a b : ℕ) (ticks : List ℕ) → Item14Of p retries s a b ticks
+item-14-kept : (p : Profile) (retries : ℕ) (s : DevicesSettings) (a b : ℕ) (ticks : List ℕ) → LateRunPremises p retries s a b ticks → Item14Of p retries s a b ticks
 unfolding lateSteps
-keeps p retries s a b ticks = record { keeps = keeps-by p retries s a b ticks (linkStarts p retries s) refl }
+item-14-kept p retries s a b ticks k = by (linkStarts p retries s) refl
+  where
+    by : (c : Called Link) → linkStarts p retries s ≡ c → LateStart 255 p retries a b (lateStepsBy a b c ticks)
+    by (refused why) e = no-tick-starts p retries a b
+    by (accepted l) e =
+        let all = all-start p retries s l e (subst (λ (c : Called Link). Distinct (devicesBy c)) e (k .distinct)) in
+        item-14 255 (omega arith) (omega arith) p retries a b (lentFresh l) (ticksOf (hereOf (l .devices)) ticks)
+        (record {
+          made = k .made;
+          primary = all .primary;
+          secondary = all .secondary;
+          devices = all-started (all .devices);
+          distinct = all .distinct;
+          none-bursts = subst (λ (c : Called Link). EachTick NoneBurstsIn (lateStepsBy a b c ticks)) e (k .none-bursts);
+          one-finds = subst (λ (c : Called Link). OneFinds (blanks (devicesBy c)) (callsBy c ticks) (lateStepsBy a b c ticks)) e (k .one-finds);
+        })
+
+-- where two send, it is a tick of the overlap
+one-but-in-overlap : (p : Profile) (retries : ℕ) (s : DevicesSettings) (a b : ℕ) (ticks : List ℕ) (i : ℕ) → LateRunPremises p retries s a b ticks → (InOverlap 255 (lateSteps p retries s a b ticks) i → ⊥) → sendersIn (lateSteps p retries s a b ticks) i ≤ 1
+one-but-in-overlap p retries s a b ticks i k f = by (sendersIn (lateSteps p retries s a b ticks) i) (item-14-kept p retries s a b ticks k .one-overlap .two-send i)
+  where
+    by : (n : ℕ) → (2 ≤ n → InOverlap 255 (lateSteps p retries s a b ticks) i) → n ≤ 1
+    by zero h = omega arith
+    by (suc zero) h = omega arith
+    by (suc (suc n)) h = absurd (f (h (omega arith)))
 
 -- where both masters start in tick 0, it is the run of the common start
-pub common : (p : Profile) (retries : ℕ) (s : DevicesSettings) (ticks : List ℕ) → lateSteps p retries s 0 0 ticks ≡ stepsOf p retries s ticks
+common : (p : Profile) (retries : ℕ) (s : DevicesSettings) (ticks : List ℕ) → lateSteps p retries s 0 0 ticks ≡ stepsOf p retries s ticks
 unfolding lateSteps stepsOf
 common p retries s ticks = by (linkStarts p retries s)
   where
@@ -86,32 +103,46 @@ common p retries s ticks = by (linkStarts p retries s)
     by (accepted l) = common-start 255 (lentFresh l) (ticksOf (hereOf (l .devices)) ticks)
     by (refused why) = refl
 
+as-common : (p : Profile) (retries : ℕ) (s : DevicesSettings) (a b : ℕ) (ticks before : List ℕ) (r : RunEnded) (after : List ℕ) → a ≡ 0 → b ≡ 0
+    → ranAs r ≡ ranBy (linkStarts p retries s) (length (written (lateSteps p retries s a b ticks) before)) → after ≡ stored before 0 (written (lateSteps p retries s a b ticks) before) → RunKeeps p retries s ticks before r after
+as-common p retries s a b ticks before r after f g x y =
+    let same : lateSteps p retries s a b ticks ≡ stepsOf p retries s ticks = (λ i. lateSteps p retries s (f i) (g i) ticks) ∙ common p retries s ticks in
+    run-keeps p retries s ticks before r after (x ∙ ap (λ (steps : List LinkStep). ranBy (linkStarts p retries s) (length (written steps before))) same)
+    (y ∙ ap (λ (steps : List LinkStep). stored before 0 (written steps before)) same)
+
 -- ---- the run
 
 fresh : (p : Profile) (primary : Bool) (retries : ℕ) (m : Master) → masterStarts p primary retries ≡ accepted m → Fresh m
 fresh p primary retries m e = subst Fresh (sym (master-is p primary retries m e)) (record { hears-nothing = refl; no-message = refl })
 
 module _ (p : Profile) (retries : ℕ) (s : DevicesSettings) (starts : StartTicks) (ticks before : List ℕ) (started : LinkStarted) (q : linkAs started ≡ linkStarts p retries s) where
-  pub start-ready : (l : Link) → started ≡ LinkStarted.Started l → LateReady starts l devicesFresh
+  pub start-ready : (l : Link) → started ≡ LinkStarted.Started l → LateReady starts l
   start-ready l e =
       let is = sym q ∙ ap linkAs e in
       let masters = masters-start p retries s l is in
       record {
-        devices = started-ready p retries s l is;
         primary = λ h. fresh p _ retries (l .masters .primary) (masters .0);
         secondary = λ h. fresh p _ retries (l .masters .secondary) (masters .1);
       }
 
-  promised : (c : Called Link) (r : RunEnded) (after : List ℕ) → linkStarts p retries s ≡ c
-      → ranAs r ≡ ranBy c (length (take (length before) (numbersOf (lateStepsBy (starts .primary) (starts .secondary) c ticks))))
-      → after ≡ stored before 0 (take (length before) (numbersOf (lateStepsBy (starts .primary) (starts .secondary) c ticks)))
+  abbrev stepsFrom : Called Link → List LinkStep
+  stepsFrom c = lateStepsBy (starts .primary) (starts .secondary) c ticks
+
+  promised : (c : Called Link) (r : RunEnded) (after : List ℕ) → linkStarts p retries s ≡ c → ranAs r ≡ ranBy c (length (written (stepsFrom c) before)) → after ≡ stored before 0 (written (stepsFrom c) before)
       → LateKeeps p retries s (starts .primary) (starts .secondary) ticks before r after
   unfolding lateSteps
-  promised c r after e x y = record {
-    answered = x ∙ ap (λ (k : Called Link). ranBy k (length (take (length before) (numbersOf (lateStepsBy (starts .primary) (starts .secondary) k ticks))))) (sym e);
-    events = y ∙ ap (λ (k : Called Link). stored before 0 (take (length before) (numbersOf (lateStepsBy (starts .primary) (starts .secondary) k ticks)))) (sym e);
-    item-14 = keeps p retries s (starts .primary) (starts .secondary) ticks;
-  }
+  promised c r after e x y =
+      let a = starts .primary in
+      let b = starts .secondary in
+      let result = x ∙ ap (λ (k : Called Link). ranBy k (length (written (stepsFrom k) before))) (sym e) in
+      let stores = y ∙ ap (λ (k : Called Link). stored before 0 (written (stepsFrom k) before)) (sym e) in
+      record {
+        answered = result;
+        events = stores;
+        item-14 = item-14-kept p retries s a b ticks;
+        one-sender = λ k i h f. written-tells (lateSteps p retries s a b ticks) before after i stores h (one-but-in-overlap p retries s a b ticks i k f);
+        common-start = λ f g. as-common p retries s a b ticks before r after f g result stores;
+      }
 
   pub run-accepted : (l : Link) (n : ℕ) (after : List ℕ) → started ≡ LinkStarted.Started l
       → RunIs (numbersOf (lateRun 255 (starts .primary) (starts .secondary) (lentFresh l) (ticksOf (hereOf (l .devices)) ticks))) before n after
@@ -120,6 +151,6 @@ module _ (p : Profile) (retries : ℕ) (s : DevicesSettings) (starts : StartTick
 
   pub run-refused : (why : Refusal) → started ≡ LinkStarted.Refused why → LateKeeps p retries s (starts .primary) (starts .secondary) ticks before (RunEnded.Refused why) before
   unfolding numbersOf stored
-  run-refused why e = promised (refused why) (RunEnded.Refused why) before (sym q ∙ ap linkAs e) refl (sym (ap (λ (l : List ℕ). stored before 0 l) (take-nil (length before))))
+  run-refused why e = promised (refused (number why)) (RunEnded.Refused why) before (sym q ∙ ap linkAs e) refl (sym (ap (λ (l : List ℕ). stored before 0 l) (take-nil (length before))))
 
 pub ruleset kept = (refl, start-ready, run-accepted, run-refused)

@@ -10,7 +10,8 @@ use Rattle.base.proofs.Choices.{if-is-true, if-is-false}
 use Rattle.line.specs.declared.Event.the-variants.{Nothing}
 use Rattle.line.specs.declared.Heard.{Heard}
 use Rattle.turns.specs.Master.{tells, sends, sendsBy, masterTakes, masterSends}
-use Rattle.turns.specs.Link.{none, no-request, MasterSide, MasterStep, LinkStep, joins, sides, carried, masterData, masterSent, masterTick, linkTick, linkAfter}
+use Rattle.turns.specs.Party.{none}
+use Rattle.turns.specs.Link.{no-request, MasterSide, MasterStep, LinkStep, joins, sides, carried, masterData, masterSent, masterTick, linkTick, linkAfter}
 use Rattle.turns.specs.Link as L
 use Rattle.turns.specs.Late.{lateMaster, lateTick}
 use Rattle.turns.specs.Run.{count, deviceSenders}
@@ -19,20 +20,20 @@ use Rattle.turns.specs.declared.MasterTold.{MasterTold}
 use Rattle.turns.specs.declared.Sent.the-variants.{Silent}
 use Rattle.turns.specs.declared.Stage.{Stage}
 use Rattle.master.specs.Tick as M
-use Rattle.master.specs.declared.HostCall.{HostCall}
+use Rattle.master.specs.declared.MasterHostCall.{MasterHostCall}
 use Rattle.link.specs.Link.{MasterLent, DevicesLent, LinkIs, after}
 use Rattle.link.specs.Stands.{masterCallOf, callsOf, linkOf, linkStepOf}
 use Rattle.link.specs.declared.Link.{Link}
 use Rattle.link.specs.declared.LinkCalls.{LinkCalls}
 use Rattle.link.specs.declared.LinkTicked.{LinkTicked}
 use Rattle.link.specs.declared.MasterCall.{MasterCall}
-use Rattle.link.proofs.Agrees.{step-agrees, after-agrees, ready-again}
-use Rattle.tick_list.specs.Coded.{TickIs}
+use Rattle.link.proofs.Agrees.{step-agrees, after-agrees}
+use Rattle.tick_list.specs.Coded.{TickReadIs}
 use Rattle.tick_list.specs.declared.TickRead.{TickRead}
 use Rattle.link_run.specs.Run.{taken, hereOf, tickNumber}
 use Rattle.link_run.specs.Step.{deviceSendersIn, tickedNumber}
 use Rattle.link_run.proofs.Steps.{calls-are, number-agrees, same-here}
-use Rattle.late_run.specs.Step.{startsBehind, callTaken, callsTaken, masterBehind, linkBehind, Fresh, LateReady, stepAt, StepIs}
+use Rattle.late_run.specs.Step.{startsBehind, callTaken, callsTaken, masterBehind, linkBehind, Fresh, LateReady, stepAt, LateStepIs}
 use Rattle.late_run.specs.declared.StartTicks.{StartTicks}
 
 -- ---- a master
@@ -50,13 +51,13 @@ fresh-ticked x heard f =
 -- what the code makes of a master in a tick is what lateMaster gives
 pub record AsLate (start : ℕ) (x : MasterSide) (heard : Heard) (call : L.MasterCall) (t : MasterStep) : Type 0 where
   pub sent-is : t .sent ≡ lateMaster 255 start x heard call .sent
-  pub answer-is : t .answer ≡ lateMaster 255 start x heard call .answer
+  pub answer-is : t .result ≡ lateMaster 255 start x heard call .result
   pub side-is : M.sideOf (masterBehind start (x .master) (t .side .master)) (t .side .frame) (t .side .bytes) ≡ lateMaster 255 start x heard call .side
 
 not-started : (n : ℕ) → (suc n =? 0) ≡ false
 not-started n = ne-eqb (suc n) 0 (λ e. omega (arith, e))
 
-none-taken : (n : ℕ) (c : MasterCall) → callTaken (suc n) c ≡ record { call = HostCall.Nothing; part = c .part }
+none-taken : (n : ℕ) (c : MasterCall) → callTaken (suc n) c ≡ record { call = MasterHostCall.Nothing; part = c .part }
 none-taken n c = if-is-false (suc n =? 0) _ _ (not-started n)
 
 put-back : (n : ℕ) (before ticked : Master) → masterBehind (suc n) before ticked ≡ before
@@ -67,14 +68,14 @@ as-late : (start : ℕ) (x : MasterSide) (heard : Heard) (c : MasterCall) (put :
 unfolding if_then_else_
 as-late zero x heard c put t f e = record {
   sent-is = ap (λ (u : MasterStep). u .sent) e;
-  answer-is = ap (λ (u : MasterStep). u .answer) e;
+  answer-is = ap (λ (u : MasterStep). u .result) e;
   side-is = ap (λ (u : MasterStep). u .side) e;
 }
 as-late (suc n) x heard c put t f e =
     let q = e ∙ ap (λ (k : MasterCall). masterTick 255 x heard (masterCallOf k put)) (none-taken n c) ∙ fresh-ticked x heard (f (omega arith)) in
     record {
       sent-is = ap (λ (u : MasterStep). u .sent) q;
-      answer-is = ap (λ (u : MasterStep). u .answer) q;
+      answer-is = ap (λ (u : MasterStep). u .result) q;
       side-is = λ i. M.sideOf (put-back n (x .master) (t .side .master) i) (q i .side .frame) (q i .side .bytes);
     }
 
@@ -84,7 +85,7 @@ still-fresh (suc n) before ticked f h = subst Fresh (sym (put-back n before tick
 
 -- ---- the tick
 
-module _ (l : Link) (starts : StartTicks) (ticks : List ℕ) (at : ℕ) (p s p-after s-after : MasterLent) (d d-after : DevicesLent) (read : TickRead) (t : LinkTicked) (reads : TickIs ticks at read) (is : LinkIs l (callsTaken starts (read .calls)) ticks p s d t p-after s-after d-after) where
+module _ (l : Link) (starts : StartTicks) (ticks : List ℕ) (at : ℕ) (p s p-after s-after : MasterLent) (d d-after : DevicesLent) (read : TickRead) (t : LinkTicked) (reads : TickReadIs ticks at read) (is : LinkIs l (callsTaken starts (read .calls)) ticks p s d t p-after s-after d-after) where
   -- what the code did, and what turns gives for the calls that were read
   abbrev did : LinkStep
   did = linkStepOf t p-after s-after d-after
@@ -92,7 +93,7 @@ module _ (l : Link) (starts : StartTicks) (ticks : List ℕ) (at : ℕ) (p s p-a
   abbrev given : LinkStep
   given = lateTick 255 (starts .primary) (starts .secondary) (linkOf l p s d) (callsOf l (read .calls) ticks)
 
-  module _ (k : LateReady starts l d) where
+  module _ (k : LateReady starts l) where
     for-primary : AsLate (starts .primary) (linkOf l p s d .primary) (l .line) (masterCallOf (read .calls .masters .primary) ticks) (did .for-primary)
     for-primary = as-late (starts .primary) (linkOf l p s d .primary) (l .line) (read .calls .masters .primary) ticks (did .for-primary) (k .primary) (is .masters .primary .step)
 
@@ -101,7 +102,7 @@ module _ (l : Link) (starts : StartTicks) (ticks : List ℕ) (at : ℕ) (p s p-a
 
     for-devices : did .for-devices ≡ given .for-devices
     unfolding lateTick linkTick
-    for-devices = ap (λ (u : LinkStep). u .for-devices) (step-agrees l (callsTaken starts (read .calls)) ticks p s d t p-after s-after d-after is (k .devices))
+    for-devices = ap (λ (u : LinkStep). u .for-devices) (step-agrees l (callsTaken starts (read .calls)) ticks p s d t p-after s-after d-after is)
 
     number-given : tickNumber did ≡ tickNumber given
     unfolding lateTick
@@ -121,22 +122,21 @@ module _ (l : Link) (starts : StartTicks) (ticks : List ℕ) (at : ℕ) (p s p-a
           line = (ap (λ (x : L.Link). x .line) q ∙ (λ j. joins (for-primary .sent-is j) (joins (for-secondary .sent-is j) (carried (for-devices j))))) i;
         }
 
-    ready-behind : LateReady (startsBehind starts) (linkBehind starts l (after t)) d-after
+    ready-behind : LateReady (startsBehind starts) (linkBehind starts l (after t))
     ready-behind = record {
-      devices = ready-again l (callsTaken starts (read .calls)) ticks p s d t p-after s-after d-after is (k .devices);
       primary = still-fresh (starts .primary) (l .masters .primary) (t .masters .primary .master) (k .primary);
       secondary = still-fresh (starts .secondary) (l .masters .secondary) (t .masters .secondary .master) (k .secondary);
     }
 
   step-is : (link : Link) (number : ℕ) → link ≡ linkBehind starts l (after t) → number ≡ tickedNumber (t .masters) (deviceSendersIn (t .devices))
-      → StepIs l starts ticks at p s d (record { link = link; number = number; next = read .next }) p-after s-after d-after
+      → LateStepIs l starts ticks at p s d (record { link = link; number = number; next = read .next }) p-after s-after d-after
   step-is link number e n = record {
     steps = λ k.
         let here : given ≡ stepAt l starts p s d ticks at = ap (lateTick 255 (starts .primary) (starts .secondary) (linkOf l p s d)) (calls-are l ticks at read reads) in
         record {
           behind-is = ap (λ (x : Link). linkOf x p-after s-after d-after) e ∙ link-given k ∙ ap linkAfter here;
           number-is = n ∙ number-agrees l (callsTaken starts (read .calls)) ticks p s p-after s-after d d-after t is ∙ number-given k ∙ ap tickNumber here;
-          ready = subst (λ (x : Link). LateReady (startsBehind starts) x d-after) (sym e) (ready-behind k);
+          ready = subst (λ (x : Link). LateReady (startsBehind starts) x) (sym e) (ready-behind k);
           here = ap (λ (x : Link). hereOf (x .devices)) e ∙ same-here l (callsTaken starts (read .calls)) ticks p s p-after s-after d d-after t is;
           next = reads .next;
         };
@@ -144,7 +144,7 @@ module _ (l : Link) (starts : StartTicks) (ticks : List ℕ) (at : ℕ) (p s p-a
 
 -- with the calls as the code has them
 pub step-taken : (l : Link) (starts : StartTicks) (ticks : List ℕ) (at : ℕ) (p s p-after s-after : MasterLent) (d d-after : DevicesLent) (read : TickRead) (t : LinkTicked) (calls : LinkCalls) (link : Link) (number : ℕ)
-    → TickIs ticks at read → calls ≡ callsTaken starts (read .calls) → LinkIs l calls ticks p s d t p-after s-after d-after → link ≡ linkBehind starts l (after t) → number ≡ tickedNumber (t .masters) (deviceSendersIn (t .devices))
-    → StepIs l starts ticks at p s d (record { link = link; number = number; next = read .next }) p-after s-after d-after
+    → TickReadIs ticks at read → calls ≡ callsTaken starts (read .calls) → LinkIs l calls ticks p s d t p-after s-after d-after → link ≡ linkBehind starts l (after t) → number ≡ tickedNumber (t .masters) (deviceSendersIn (t .devices))
+    → LateStepIs l starts ticks at p s d (record { link = link; number = number; next = read .next }) p-after s-after d-after
 step-taken l starts ticks at p s p-after s-after d d-after read t calls link number reads e is f n =
     step-is l starts ticks at p s p-after s-after d d-after read t reads (subst (λ (c : LinkCalls). LinkIs l c ticks p s d t p-after s-after d-after) e is) link number f n

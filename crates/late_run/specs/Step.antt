@@ -1,3 +1,4 @@
+-- Inner contracts: nothing that is to be believed rests on them.
 -- One tick of such a run: the link behind it, its number, and the place behind it in the list. The code ticks all parties; a master that has not started has no call in that tick, and behind it is what it was before.
 use Prim.Native.Nat.{ℕ, _-_, _<_}
 use mathlib.Core.Path.{_≡_}
@@ -5,13 +6,14 @@ use mathlib.Core.Bool.{true}
 use mathlib.Core.List.{List}
 use lib.ListN.{drop}
 use Rattle.base.specs.Choice.{if_then_else_, _=?_}
+use Rattle.frame.specs.Limits.{mostData}
 use Rattle.turns.specs.Link.{LinkStep, linkAfter}
 use Rattle.turns.specs.Late.{lateTick}
 use Rattle.turns.specs.declared.Master.{Master}
 use Rattle.turns.specs.declared.Stage.the-variants.{Free}
-use Rattle.master.specs.declared.HostCall.{HostCall}
+use Rattle.master.specs.declared.MasterHostCall.{MasterHostCall}
 use Rattle.link.specs.Link.{MasterLent, DevicesLent}
-use Rattle.link.specs.Stands.{linkOf, LinkReady}
+use Rattle.link.specs.Stands.{linkOf}
 use Rattle.link.specs.declared.Link.{Link}
 use Rattle.link.specs.declared.LinkCalls.{LinkCalls}
 use Rattle.link.specs.declared.MasterCall.{MasterCall}
@@ -28,7 +30,7 @@ startsBehind s = record { primary = s .primary - 1; secondary = s .secondary - 1
 
 -- the calls that are taken: none of a master that has not started
 abbrev pub callTaken : ℕ → MasterCall → MasterCall
-callTaken start c = if start =? 0 then c else record { call = HostCall.Nothing; part = c .part }
+callTaken start c = if start =? 0 then c else record { call = MasterHostCall.Nothing; part = c .part }
 
 abbrev pub callsTaken : StartTicks → LinkCalls → LinkCalls
 callsTaken s c = record {
@@ -51,23 +53,22 @@ pub record Fresh (m : Master) : Type 0 where
   pub hears-nothing : m .deaf ≡ true
   pub no-message : m .message .stage ≡ Free
 
--- the devices are such as a start and ticks reach, and a master that has not started is fresh
-pub record LateReady (s : StartTicks) (l : Link) (d : DevicesLent) : Type 0 where
-  pub devices : LinkReady (l .devices) d
+-- a master that has not started is fresh
+pub record LateReady (s : StartTicks) (l : Link) : Type 0 where
   pub primary : 0 < s .primary → Fresh (l .masters .primary)
   pub secondary : 0 < s .secondary → Fresh (l .masters .secondary)
 
 -- the tick that turns gives for the calls at this place of the list
 abbrev pub stepAt : Link → StartTicks → MasterLent → MasterLent → DevicesLent → List ℕ → ℕ → LinkStep
-stepAt l starts p s d ticks at = lateTick 255 (starts .primary) (starts .secondary) (linkOf l p s d) (callsIn (hereOf (l .devices)) (drop at ticks))
+stepAt l starts p s d ticks at = lateTick mostData (starts .primary) (starts .secondary) (linkOf l p s d) (callsIn (hereOf (l .devices)) (drop at ticks))
 
-pub record Stepping (l : Link) (starts : StartTicks) (ticks : List ℕ) (at : ℕ) (p s : MasterLent) (d : DevicesLent) (r : Stepped) (p-after s-after : MasterLent) (d-after : DevicesLent) : Type 0 where
+pub record LateStepping (l : Link) (starts : StartTicks) (ticks : List ℕ) (at : ℕ) (p s : MasterLent) (d : DevicesLent) (r : Stepped) (p-after s-after : MasterLent) (d-after : DevicesLent) : Type 0 where
   pub behind-is : linkOf (r .link) p-after s-after d-after ≡ linkAfter (stepAt l starts p s d ticks at)
   pub number-is : r .number ≡ tickNumber (stepAt l starts p s d ticks at)
-  pub ready : LateReady (startsBehind starts) (r .link) d-after
+  pub ready : LateReady (startsBehind starts) (r .link)
   pub here : hereOf (r .link .devices) ≡ hereOf (l .devices)
   pub next : BehindIs ticks at 8 (r .next)
 
 -- so it is for a link that is ready
-pub record StepIs (l : Link) (starts : StartTicks) (ticks : List ℕ) (at : ℕ) (p s : MasterLent) (d : DevicesLent) (r : Stepped) (p-after s-after : MasterLent) (d-after : DevicesLent) : Type 0 where
-  pub steps : LateReady starts l d → Stepping l starts ticks at p s d r p-after s-after d-after
+pub record LateStepIs (l : Link) (starts : StartTicks) (ticks : List ℕ) (at : ℕ) (p s : MasterLent) (d : DevicesLent) (r : Stepped) (p-after s-after : MasterLent) (d-after : DevicesLent) : Type 0 where
+  pub steps : LateReady starts l → LateStepping l starts ticks at p s d r p-after s-after d-after

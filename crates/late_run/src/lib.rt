@@ -13,6 +13,7 @@ use link_start::LinkStarted;
 use turns::Master;
 ghost use mathlib.Core.Path.{_≡_};
 ghost use Prim.Native.Nat.{_-_};
+ghost use Rattle.frame.specs.Limits.{mostData};
 ghost use Rattle.line_c.specs.Recording.{RunIs};
 ghost use Rattle.turns.specs.Late.{lateRun};
 ghost use Rattle.link.specs.Link.{masterLends, devicesLend, after};
@@ -21,7 +22,7 @@ ghost use Rattle.link_start.specs.Fresh.{masterFresh, devicesFresh};
 ghost use Rattle.tick_list.specs.Ticks.{ticksOf};
 ghost use Rattle.link_run.specs.Run.{numbersOf, hereOf};
 ghost use Rattle.late_run.specs.Late.{LateKeeps};
-ghost use Rattle.late_run.specs.Step.{callTaken, callsTaken, masterBehind, mastersBehind, linkBehind, startsBehind, LateReady, StepIs};
+ghost use Rattle.late_run.specs.Step.{callTaken, callsTaken, masterBehind, mastersBehind, linkBehind, startsBehind, LateReady, LateStepIs};
 
 // In how many ticks each master starts: 0 for one that has started.
 pub struct StartTicks {
@@ -57,7 +58,7 @@ fn call_taken(start: u64, c: MasterCall) -> MasterCall
     }
     let part = c.part;
     MasterCall {
-        call: master::HostCall::Nothing,
+        call: master::MasterHostCall::Nothing,
         part: part,
     }
 }
@@ -132,7 +133,7 @@ fn step_at(
     bytes: &mut [[u8; 255]; 6],
     contents: &mut [[u8; 255]; 6],
 ) -> Stepped
-    ensures { λ r. ⌜ StepIs l s (now (ticks .entry)) at (masterLends (now (stx .entry)) (now (own .entry))) (masterLends (now (stxs .entry)) (now (owns .entry))) (devicesLend (now (frames .entry)) (now (bytes .entry)) (now (contents .entry))) r (masterLends (now (stx .exit)) (now (own .exit))) (masterLends (now (stxs .exit)) (now (owns .exit))) (devicesLend (now (frames .exit)) (now (bytes .exit)) (now (contents .exit))) ⌝ }
+    ensures { λ r. ⌜ LateStepIs l s (now (ticks .entry)) at (masterLends (now (stx .entry)) (now (own .entry))) (masterLends (now (stxs .entry)) (now (owns .entry))) (devicesLend (now (frames .entry)) (now (bytes .entry)) (now (contents .entry))) r (masterLends (now (stx .exit)) (now (own .exit))) (masterLends (now (stxs .exit)) (now (owns .exit))) (devicesLend (now (frames .exit)) (now (bytes .exit)) (now (contents .exit))) ⌝ }
 {
     let read = tick_list::read(ticks, at);
     let listed = read.calls;
@@ -171,8 +172,8 @@ fn run_from(
     bytes: &mut [[u8; 255]; 6],
     contents: &mut [[u8; 255]; 6],
 ) -> usize
-    requires { ⌜ LateReady starts start (devicesLend (now frames) (now bytes) (now contents)) ⌝ }
-    ensures { λ r. ⌜ RunIs (numbersOf (lateRun 255 (starts .primary) (starts .secondary) (linkOf start (masterLends (now (stx .entry)) (now (own .entry))) (masterLends (now (stxs .entry)) (now (owns .entry))) (devicesLend (now (frames .entry)) (now (bytes .entry)) (now (contents .entry)))) (ticksOf (hereOf (start .devices)) (now (ticks .entry))))) (now (events .entry)) r (now (events .exit)) ⌝ }
+    requires { ⌜ LateReady starts start ⌝ }
+    ensures { λ r. ⌜ RunIs (numbersOf (lateRun mostData (starts .primary) (starts .secondary) (linkOf start (masterLends (now (stx .entry)) (now (own .entry))) (masterLends (now (stxs .entry)) (now (owns .entry))) (devicesLend (now (frames .entry)) (now (bytes .entry)) (now (contents .entry)))) (ticksOf (hereOf (start .devices)) (now (ticks .entry))))) (now (events .entry)) r (now (events .exit)) ⌝ }
 {
     let mut l = start;
     let mut s = starts;
@@ -207,8 +208,8 @@ fn run_from(
 
 // A run of a link that was started, with buffers of its own.
 fn run_started(start: Link, starts: StartTicks, ticks: &[u8], events: &mut [u8]) -> usize
-    requires { ⌜ LateReady starts start devicesFresh ⌝ }
-    ensures { λ r. ⌜ RunIs (numbersOf (lateRun 255 (starts .primary) (starts .secondary) (linkOf start masterFresh masterFresh devicesFresh) (ticksOf (hereOf (start .devices)) (now (ticks .entry))))) (now (events .entry)) r (now (events .exit)) ⌝ }
+    requires { ⌜ LateReady starts start ⌝ }
+    ensures { λ r. ⌜ RunIs (numbersOf (lateRun mostData (starts .primary) (starts .secondary) (linkOf start masterFresh masterFresh devicesFresh) (ticksOf (hereOf (start .devices)) (now (ticks .entry))))) (now (events .entry)) r (now (events .exit)) ⌝ }
 {
     let mut stx = [0u8; 284];
     let mut own = [0u8; 255];

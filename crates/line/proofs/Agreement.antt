@@ -11,6 +11,7 @@ use lib.Seq.{take-all, take-at, drop-at, drop-append-add, getD-append-add}
 use lib.Bits.{bitXor, xor-zero-l}
 use borrow.Author.Tests.{lt-ltb, ltb-true, ltb-false, eqb-true, eqb-false}
 use Rattle.base.specs.Choice.{if_then_else_, _=?_, _<?_}
+use Rattle.base.specs.Refusal.{accepted}
 use Rattle.base.specs.Store.{stored}
 use Rattle.base.proofs.Choices.{if-is-true, if-is-false, if-at-most}
 use Rattle.base.proofs.Stores.{stored-front}
@@ -23,16 +24,15 @@ use Rattle.frame.specs.declared.Delimiter.the-variants.{Is, Not}
 use Rattle.frame.specs.Read.{preambles, commandPlace, headerOf, foundAt, readFrame, partOf}
 use Rattle.frame.specs.declared.Header.{Header}
 use Rattle.frame.specs.declared.Found.{Found}
-use Rattle.frame.specs.declared.Read.{Read}
 use Rattle.frame.proofs.Sound.{Sound, sound-frame}
 use Rattle.frame.proofs.Preambles.{preambles-are, no-preamble}
 use Rattle.frame.proofs.Prefix.{delimited-no-preamble}
 use Rattle.frame.proofs.Checks.{xor-append}
 use Rattle.frame.proofs.Lengths.{preamble-count}
-use Rattle.line.specs.Reader.{idle, blank, noHarm, taken, takenData, tells, next, breaks, counted, atCount, atData, atCheck, ended, harmed, withCheck, atIdle, atPreamble, begins, atFirst, atAddress, atCommand, atExpansion, firstHeader, addressHeader, commandHeader}
+use Rattle.line.specs.Reader.{idle, blank, noDamage, taken, takenData, tells, next, breaks, counted, atCount, atData, atCheck, ended, isDamaged, withCheck, atIdle, atPreamble, begins, atFirst, atAddress, atCommand, atExpansion, firstHeader, addressHeader, commandHeader}
 use Rattle.line.specs.declared.Event.{Event}
 use Rattle.line.specs.declared.Event.the-variants.{Nothing, PassedOver, Broken, Frame, Damaged}
-use Rattle.line.specs.declared.Harm.{Harm}
+use Rattle.line.specs.declared.FrameDamage.{FrameDamage}
 use Rattle.line.specs.declared.Heard.the-variants.{Character}
 use Rattle.line.specs.declared.Place.{Place}
 use Rattle.line.specs.declared.Place.the-variants.{Idle, Preamble, First, Address, Expansion, Command, Count, Data, Check}
@@ -57,7 +57,7 @@ broken-frame w e = let z : _≡_ {A = ℕ} 0 1 = cc in omega arith
 
 -- what the check byte tells of a frame without damage, by whether the exclusive-or is zero
 checked : Whole → Bool → Event
-checked w right = ended w (withCheck noHarm (if right then false else true))
+checked w right = ended w (withCheck noDamage (if right then false else true))
 
 checked-nothing : (w : Whole) (right : Bool) → checked w right ≡ Nothing → ⊥
 unfolding checked if_then_else_
@@ -119,7 +119,7 @@ AllBytes (x ∷ xs) = (x ≤ 255) × AllBytes xs
 
 -- a reader behind the delimiter and before the byte count, of a frame without damage
 abbrev atPlace : Place → Header → ℕ → ℕ → Receiver
-atPlace place h expansion sum = record { place = place; header = h; expansion = expansion; count = 0; sum = sum; harm = noHarm; gap = false }
+atPlace place h expansion sum = record { place = place; header = h; expansion = expansion; count = 0; sum = sum; damage = noDamage; gap = false }
 
 -- the byte count breaks the frame, or leads to the check byte or the data
 data NextCount (h : Header) (expansion sum k : ℕ) : Type 0 where
@@ -599,7 +599,7 @@ module _ (c : ℕ) (w : Whole) where
 -- what the theorem says: the slice reader finds a frame in the characters that were heard, with the same fields and the same data
 pub record SliceReads (cs : List ℕ) (c : ℕ) (w : Whole) (b : List ℕ) : Type 0 where
   pub found : Found
-  pub reads : readFrame (cs ++ (c ∷ [])) ≡ Read.Frame found
+  pub reads : readFrame (cs ++ (c ∷ [])) ≡ accepted found
   pub same-header : found .header ≡ w .header
   pub same-expansion : found .expansion ≡ w .expansion
   pub same-count : found .count ≡ w .count
@@ -693,7 +693,7 @@ slice-reads cs c w b small quiet e room =
     sound (pr .frame) (pr .long) (pr .expansion) d (tr .command) (tr .count) (ar .address) (tr .extra) (tr .bytes) c
     p (pr .delimited) (ar .address-long) (tr .extra-long) (tr .as-many) (ap (λ (n : ℕ). tooFew n (tr .count)) (sym same-type) ∙ tr .enough) zero-sum in
     let no-more : preambles t ≡ 0 = no-preamble t (delimited-no-preamble d (pr .frame) (pr .long) (pr .expansion) (pr .delimited)) in
-    let reads : readFrame (cs ++ (c ∷ [])) ≡ Read.Frame (foundAt p t (pr .frame) (pr .long) (pr .expansion) k (tr .count)) =
+    let reads : readFrame (cs ++ (c ∷ [])) ≡ accepted (foundAt p t (pr .frame) (pr .long) (pr .expansion) k (tr .count)) =
     ap readFrame all
     ∙ sound-frame (preambleBytes p ++ t) p t _ (preambles-are p t no-more) (drop-at (preambleBytes p) t p (sym (preamble-count p))) (omega arith) s in
     let whole : Whole = record { header = commandHeader (ar .h) (tr .command); expansion = pr .expansion; count = tr .count } in

@@ -15,11 +15,11 @@ use Rattle.frame.specs.declared.Delimiter.the-variants.{Is, Not}
 use Rattle.frame.specs.declared.Header.{Header}
 use Rattle.frame.proofs.Taken as Write
 use Rattle.line.specs.Gaps.{IsCharacter, is-sound, is-damaged, SecondBreaks, NothingBroken, SilentTicks, GapsBefore, no-more, at-once, behind-silence, from-first, Ends, last, before, SameEnd, GapsPassedOver, characters, FrameWithGaps}
-use Rattle.line.specs.Reader.{idle, blank, passing, tells, gapped, taken, takenData, next, breaks, begins, counted, marked, addressHarm, kindHarm, atIdle, atPreamble, atFirst, atAddress, atExpansion, atCommand, atCount, atData, atCheck, ended, harmed, character, damaged}
+use Rattle.line.specs.Reader.{idle, blank, passing, tells, gapped, taken, takenData, next, breaks, begins, counted, marked, addressDamaged, kindDamaged, atIdle, atPreamble, atFirst, atAddress, atExpansion, atCommand, atCount, atData, atCheck, ended, isDamaged, character, damaged}
 use Rattle.line.specs.declared.Damage.{Damage}
 use Rattle.line.specs.declared.Event.{Event}
 use Rattle.line.specs.declared.Event.the-variants.{Nothing, PassedOver, Frame}
-use Rattle.line.specs.declared.Harm.{Harm}
+use Rattle.line.specs.declared.FrameDamage.{FrameDamage}
 use Rattle.line.specs.declared.Heard as H
 use Rattle.line.specs.declared.Heard.the-variants.{Silence, Character, Damaged}
 use Rattle.line.specs.declared.Place.{Place}
@@ -72,13 +72,13 @@ unfolding if_then_else_
 in-frame x true = refl
 in-frame x false = refl
 
-ended-told : (w : Whole) (m : Harm) (t : Bool) → (if t then Event.Damaged w m else Frame w) ≡ Nothing → ⊥
+ended-told : (w : Whole) (m : FrameDamage) (t : Bool) → (if t then Event.Damaged w m else Frame w) ≡ Nothing → ⊥
 unfolding if_then_else_
 ended-told w m true e = let z : _≡_ {A = ℕ} 0 1 = cc in omega arith
 ended-told w m false e = let z : _≡_ {A = ℕ} 0 1 = cc in omega arith
 
-behind-ended : (w : Whole) (m : Harm) → Behind (tells idle (ended w m))
-behind-ended w m = without (ended-told w m (harmed m)) (outside-idle idle refl)
+behind-ended : (w : Whole) (m : FrameDamage) → Behind (tells idle (ended w m))
+behind-ended w m = without (ended-told w m (isDamaged m)) (outside-idle idle refl)
 
 behind-first : (r : Receiver) (c : ℕ) → Behind (atFirst r c)
 unfolding atFirst
@@ -121,13 +121,13 @@ behind-damaged : (place : Place) (r : Receiver) (c : ℕ) (kind : Damage) → Be
 behind-damaged Passing r c kind = behind-passing
 behind-damaged Idle r c kind = behind-breaks
 behind-damaged (Preamble n) r c kind = behind-breaks
-behind-damaged First r c kind = behind-first (marked r (addressHarm (r .harm))) c
-behind-damaged (Address n) r c kind = behind-address (marked r (addressHarm (r .harm))) n c
-behind-damaged (Expansion n) r c kind = behind-expansion (marked r (addressHarm (r .harm))) n c
-behind-damaged Command r c kind = behind-command (marked r (kindHarm kind (r .harm))) c
+behind-damaged First r c kind = behind-first (marked r (addressDamaged (r .damage))) c
+behind-damaged (Address n) r c kind = behind-address (marked r (addressDamaged (r .damage))) n c
+behind-damaged (Expansion n) r c kind = behind-expansion (marked r (addressDamaged (r .damage))) n c
+behind-damaged Command r c kind = behind-command (marked r (kindDamaged kind (r .damage))) c
 behind-damaged Count r c kind = behind-breaks
-behind-damaged (Data n) r c kind = behind-data (marked r (kindHarm kind (r .harm))) n c
-behind-damaged Check r c kind = behind-check (marked r (kindHarm kind (r .harm))) c
+behind-damaged (Data n) r c kind = behind-data (marked r (kindDamaged kind (r .damage))) n c
+behind-damaged Check r c kind = behind-check (marked r (kindDamaged kind (r .damage))) c
 
 behind : (r : Receiver) {h : H.Heard} → IsCharacter h → Behind (taken r h)
 unfolding taken

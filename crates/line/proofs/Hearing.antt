@@ -20,7 +20,7 @@ use Rattle.frame.specs.declared.Delimiter.the-variants.{Is}
 use Rattle.frame.specs.declared.Header.{Header}
 use Rattle.frame.proofs.Checks.{xor-append}
 use Rattle.frame.proofs.Reread.{delimiter-back, delimiter-no-preamble, first, master-back, burst-back, bits-back}
-use Rattle.line.specs.Reader.{tells, idle, blank, noHarm, taken, takenData, begins, atPreamble, atFirst, atAddress, atCommand, atCount, atCheck, behindAddress, firstHeader, addressHeader, commandHeader, ended, withCheck}
+use Rattle.line.specs.Reader.{tells, idle, blank, noDamage, taken, takenData, begins, atPreamble, atFirst, atAddress, atCommand, atCount, atCheck, behindAddress, firstHeader, addressHeader, commandHeader, ended, withCheck}
 use Rattle.line.specs.declared.Event.{Event}
 use Rattle.line.specs.declared.Event.the-variants.{Nothing, Frame}
 use Rattle.line.specs.declared.Heard.the-variants.{Character}
@@ -33,10 +33,10 @@ use Rattle.line.proofs.Leads.{Leads, stays, hears, leads-on, preamble-l
 
 -- the reader behind a delimiter, and at the command, the byte count
 abbrev opened : ℕ → Bool → ℕ → Receiver
-opened frame long sum = record { place = First; header = record { frame = frame; long = long; primary = false; burst = false; address = 0; command = 0 }; expansion = 0; count = 0; sum = sum; harm = noHarm; gap = false }
+opened frame long sum = record { place = First; header = record { frame = frame; long = long; primary = false; burst = false; address = 0; command = 0 }; expansion = 0; count = 0; sum = sum; damage = noDamage; gap = false }
 
 abbrev atCountWith : Header → ℕ → Receiver
-atCountWith h sum = record { place = Count; header = h; expansion = 0; count = 0; sum = sum; harm = noHarm; gap = false }
+atCountWith h sum = record { place = Count; header = h; expansion = 0; count = 0; sum = sum; damage = noDamage; gap = false }
 
 -- the delimiter
 delimiter-leads : (b : List ℕ) (frame : ℕ) (long : Bool) → isType frame ≡ true
@@ -205,4 +205,4 @@ unfolding taken atCheck if_then_else_
 frame-told h bytes =
     let x : ℕ = exclusiveOr (protectedBytes h bytes) in
     let right : (bitXor x x =? 0) ≡ true = eq-eqb (bitXor x x) 0 (xor-self x) in
-    ap (λ (t : Bool). tells idle (ended (wholeMessage h bytes) (withCheck noHarm (if t then false else true)))) right
+    ap (λ (t : Bool). tells idle (ended (wholeMessage h bytes) (withCheck noDamage (if t then false else true)))) right

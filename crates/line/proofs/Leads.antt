@@ -13,7 +13,7 @@ use Rattle.base.proofs.Choices.{if-below, if-not-below}
 use Rattle.frame.specs.Check.{xorFrom}
 use Rattle.frame.specs.Frame.{preambleBytes}
 use Rattle.frame.specs.declared.Header.{Header}
-use Rattle.line.specs.Reader.{tells, idle, blank, noHarm, taken, takenData, atIdle, atPreamble, atData, next}
+use Rattle.line.specs.Reader.{tells, idle, blank, noDamage, taken, takenData, atIdle, atPreamble, atData, next}
 use Rattle.line.specs.declared.Event.the-variants.{Nothing}
 use Rattle.line.specs.declared.Heard.the-variants.{Character}
 use Rattle.line.specs.declared.Place.{Place}
@@ -43,10 +43,10 @@ preamble-leads b n = hears refl refl (hears refl refl (more-preamble b n))
 
 -- in the data, and at the check byte, of a frame without damage
 abbrev pub inData : Header → ℕ → ℕ → ℕ → ℕ → Receiver
-inData h expansion count n sum = record { place = Data n; header = h; expansion = expansion; count = count; sum = sum; harm = noHarm; gap = false }
+inData h expansion count n sum = record { place = Data n; header = h; expansion = expansion; count = count; sum = sum; damage = noDamage; gap = false }
 
 abbrev pub atEnd : Header → ℕ → ℕ → ℕ → Receiver
-atEnd h expansion count sum = record { place = Check; header = h; expansion = expansion; count = count; sum = sum; harm = noHarm; gap = false }
+atEnd h expansion count sum = record { place = Check; header = h; expansion = expansion; count = count; sum = sum; damage = noDamage; gap = false }
 
 -- the data bytes are stored one behind the other, whatever they are, and lead to the check byte: none of them starts another frame
 pub data-leads : (h : Header) (expansion count n sum : ℕ) (b : List ℕ) (c : ℕ) (cs : List ℕ) → count ≡ n + length (c ∷ cs) → count ≤ 255

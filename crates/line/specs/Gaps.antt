@@ -1,13 +1,14 @@
+-- To be believed: what the engine must do, or what is claimed of it.
 -- Document 02, item 1: "One silent tick inside a frame is now passed over. The second in a row breaks the frame". What the reader of Reader tells, tick by tick, of a frame with silent ticks inside: the claims SilentTicks, GapsPassedOver and FrameWithGaps, proved in proofs/Gaps.
 use Prim.Native.Nat.{ℕ, _≤_}
 use mathlib.Core.Path.{_≡_}
 use mathlib.Core.List.{List, [], _∷_}
 use lib.ListN.{length}
+use Rattle.base.specs.Refusal.{accepted}
 use Rattle.base.specs.Store.{stored}
 use Rattle.frame.specs.Frame.{frameBytes}
 use Rattle.frame.specs.Write.{writeAnswer}
 use Rattle.frame.specs.declared.Header.{Header}
-use Rattle.frame.specs.declared.Written.the-variants.{To}
 use Rattle.line.specs.Reader.{idle, tells, taken, takenData}
 use Rattle.line.specs.declared.Damage.{Damage}
 use Rattle.line.specs.declared.Event.the-variants.{Nothing, Broken, Frame}
@@ -74,5 +75,5 @@ characters (c ∷ cs) = Character c ∷ characters cs
 -- A frame that the writer writes, with two or more 0xFF of its preamble and single silent ticks inside, tells nothing before its last character, and there the message that was written, with its data at the front of the lent buffer.
 abbrev pub FrameWithGaps : Type 0
 FrameWithGaps =
-    (written heard room place end : ℕ) (h : Header) (bytes b : List ℕ) (hs : List Heard) → writeAnswer written h (length bytes) room place ≡ To end → 2 ≤ heard
+    (written heard room place end : ℕ) (h : Header) (bytes b : List ℕ) (hs : List Heard) → writeAnswer written h (length bytes) room place ≡ accepted end → 2 ≤ heard
     → Gapped (characters (frameBytes heard h bytes)) hs → Ends idle b hs (tells idle (Frame (record { header = h; expansion = 0; count = length bytes }))) (stored b 0 bytes)

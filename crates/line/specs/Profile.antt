@@ -1,8 +1,9 @@
+-- To be believed: what the engine must do, or what is claimed of it.
 -- Document 01, "Timers": "A profile has five numbers in ticks"; "Refusals", the line of the profile.
 use Prim.Native.Nat.{ℕ, _+_}
 use mathlib.Core.Bool.{Bool, true, false}
 use Rattle.base.specs.Choice.{if_then_else_, _<?_, _≤?_, _=?_, _outside_to_}
-use Rattle.base.specs.declared.Refusal.the-variants.{BadProfile}
+use Rattle.base.specs.Refusal.{number, Called, accepted, refused}
 use Rattle.line.specs.declared.Profile.{Profile}
 use Rattle.line.specs.declared.MadeProfile.{MadeProfile}
 use Rattle.line.specs.declared.MadeProfile.the-variants.{Made, Refused}
@@ -33,5 +34,10 @@ orderRefused p =
     if p .rt1s =? p .rt1p + p .rt2 then false else true
 
 -- "1"
-abbrev pub profileMade : Profile → MadeProfile
-profileMade p = if valueRefused p then Refused BadProfile else if orderRefused p then Refused BadProfile else Made p
+abbrev pub profileMade : Profile → Called Profile
+profileMade p = if valueRefused p then refused 1 else if orderRefused p then refused 1 else accepted p
+
+-- what the answer says
+abbrev pub madeAs : MadeProfile → Called Profile
+madeAs (Made p) = accepted p
+madeAs (Refused why) = refused (number why)

@@ -1,3 +1,4 @@
+-- To be believed: what the engine must do, or what is claimed of it.
 -- The tick reader: document 01, "Frames", the paragraph on the line, with document 02, item 1, for a silent tick inside a frame. It takes what is heard in a tick, and tells what became of a frame.
 use Prim.Native.Nat.{ℕ, _+_, _-_, _*_, _/_, _%_, _^_}
 use mathlib.Core.Bool.{Bool, true, false}
@@ -6,6 +7,7 @@ use mathlib.Core.List.{List, [], _∷_}
 use lib.Bits.{bitXor}
 use Rattle.base.specs.Choice.{if_then_else_, _<?_, _=?_}
 use Rattle.base.specs.Store.{stored}
+use Rattle.frame.specs.Limits.{mostData}
 use Rattle.frame.specs.Delimiter.{delimiterOf}
 use Rattle.frame.specs.Frame.{tooFew}
 use Rattle.frame.specs.declared.Delimiter.{Delimiter}
@@ -17,7 +19,7 @@ use Rattle.line.specs.declared.Heard.{Heard}
 use Rattle.line.specs.declared.Heard.the-variants.{Silence, Character, Damaged}
 use Rattle.line.specs.declared.Place.{Place}
 use Rattle.line.specs.declared.Place.the-variants.{Passing, Idle, Preamble, First, Address, Expansion, Command, Count, Data, Check}
-use Rattle.line.specs.declared.Harm.{Harm}
+use Rattle.line.specs.declared.FrameDamage.{FrameDamage}
 use Rattle.line.specs.declared.Receiver.{Receiver}
 use Rattle.line.specs.declared.Whole.{Whole}
 use Rattle.line.specs.declared.Event.{Event}
@@ -28,11 +30,11 @@ use Rattle.line.specs.declared.Taken.{Taken}
 abbrev pub noHeader : Header
 noHeader = record { frame = 0; long = false; primary = false; burst = false; address = 0; command = 0 }
 
-abbrev pub noHarm : Harm
-noHarm = record { parity = false; overrun = false; framing = false; check = false; address = false }
+abbrev pub noDamage : FrameDamage
+noDamage = record { parity = false; overrun = false; framing = false; check = false; address = false }
 
 abbrev pub blank : Place → Receiver
-blank place = record { place = place; header = noHeader; expansion = 0; count = 0; sum = 0; harm = noHarm; gap = false }
+blank place = record { place = place; header = noHeader; expansion = 0; count = 0; sum = 0; damage = noDamage; gap = false }
 
 -- before a frame
 abbrev pub idle : Receiver
@@ -51,7 +53,7 @@ breaks = tells passing Broken
 
 -- the reader behind a silent tick that is passed over
 abbrev pub gapped : Receiver → Receiver
-gapped r = record { place = r .place; header = r .header; expansion = r .expansion; count = r .count; sum = r .sum; harm = r .harm; gap = true }
+gapped r = record { place = r .place; header = r .header; expansion = r .expansion; count = r .count; sum = r .sum; damage = r .damage; gap = true }
 
 -- a silent tick inside a frame: "One silent tick inside a frame is now passed over. The second in a row breaks the frame"; then, as in document 01, "the next character may start another"
 unfoldable pub silentInside : Receiver → Taken
@@ -80,7 +82,7 @@ summed r c = bitXor (r .sum) c
 
 -- the reader with one character more of the frame, at its next place
 abbrev pub next : Receiver → Header → Place → ℕ → Taken
-next r h place c = tells (record { place = place; header = h; expansion = r .expansion; count = r .count; sum = summed r c; harm = r .harm; gap = false }) Nothing
+next r h place c = tells (record { place = place; header = h; expansion = r .expansion; count = r .count; sum = summed r c; damage = r .damage; gap = false }) Nothing
 
 -- before a frame: 0xFF, or a character "that is neither 0xFF nor a delimiter"
 unfoldable pub atIdle : ℕ → Taken
@@ -96,7 +98,7 @@ begins c (Is frame long expansion) =
       expansion = expansion;
       count = 0;
       sum = c;
-      harm = noHarm;
+      damage = noDamage;
       gap = false;
     }) Nothing
 
@@ -133,7 +135,7 @@ atCommand r c = next r (commandHeader (r .header) c) Count c
 
 -- the byte count: "an ACK or BACK with count below 2" breaks the frame
 abbrev pub counted : Receiver → ℕ → Place → Taken
-counted r c place = tells (record { place = place; header = r .header; expansion = r .expansion; count = c; sum = summed r c; harm = r .harm; gap = false }) Nothing
+counted r c place = tells (record { place = place; header = r .header; expansion = r .expansion; count = c; sum = summed r c; damage = r .damage; gap = false }) Nothing
 
 unfoldable pub atCount : Receiver → ℕ → Taken
 atCount r c = if tooFew (r .header .frame) c then breaks else if c =? 0 then counted r c Check else counted r c (Data 0)
@@ -146,17 +148,17 @@ atData r n c = if n + 1 <? r .count then next r (r .header) (Data (n + 1)) c els
 abbrev pub wholeOf : Receiver → Whole
 wholeOf r = record { header = r .header; expansion = r .expansion; count = r .count }
 
-abbrev pub harmed : Harm → Bool
-harmed m = if m .parity then true else if m .overrun then true else if m .framing then true else if m .check then true else m .address
+abbrev pub isDamaged : FrameDamage → Bool
+isDamaged m = if m .parity then true else if m .overrun then true else if m .framing then true else if m .check then true else m .address
 
-abbrev pub withCheck : Harm → Bool → Harm
+abbrev pub withCheck : FrameDamage → Bool → FrameDamage
 withCheck m wrong = record { parity = m .parity; overrun = m .overrun; framing = m .framing; check = wrong; address = m .address }
 
-abbrev pub ended : Whole → Harm → Event
-ended w m = if harmed m then Event.Damaged w m else Frame w
+abbrev pub ended : Whole → FrameDamage → Event
+ended w m = if isDamaged m then Event.Damaged w m else Frame w
 
 unfoldable pub atCheck : Receiver → ℕ → Taken
-atCheck r c = tells idle (ended (wholeOf r) (withCheck (r .harm) (if summed r c =? 0 then false else true)))
+atCheck r c = tells idle (ended (wholeOf r) (withCheck (r .damage) (if summed r c =? 0 then false else true)))
 
 -- a character, by the reader's place
 abbrev pub character : Place → Receiver → ℕ → Taken
@@ -172,29 +174,29 @@ character (Data n) r c = atData r n c
 character Check r c = atCheck r c
 
 -- damage in address or expansion bytes, and damage in command, data or check byte by its kind
-abbrev pub addressHarm : Harm → Harm
-addressHarm m = record { parity = m .parity; overrun = m .overrun; framing = m .framing; check = m .check; address = true }
+abbrev pub addressDamaged : FrameDamage → FrameDamage
+addressDamaged m = record { parity = m .parity; overrun = m .overrun; framing = m .framing; check = m .check; address = true }
 
-abbrev pub kindHarm : Damage → Harm → Harm
-kindHarm Parity m = record { parity = true; overrun = m .overrun; framing = m .framing; check = m .check; address = m .address }
-kindHarm Overrun m = record { parity = m .parity; overrun = true; framing = m .framing; check = m .check; address = m .address }
-kindHarm Framing m = record { parity = m .parity; overrun = m .overrun; framing = true; check = m .check; address = m .address }
+abbrev pub kindDamaged : Damage → FrameDamage → FrameDamage
+kindDamaged Parity m = record { parity = true; overrun = m .overrun; framing = m .framing; check = m .check; address = m .address }
+kindDamaged Overrun m = record { parity = m .parity; overrun = true; framing = m .framing; check = m .check; address = m .address }
+kindDamaged Framing m = record { parity = m .parity; overrun = m .overrun; framing = true; check = m .check; address = m .address }
 
-abbrev pub marked : Receiver → Harm → Receiver
-marked r m = record { place = r .place; header = r .header; expansion = r .expansion; count = r .count; sum = r .sum; harm = m; gap = r .gap }
+abbrev pub marked : Receiver → FrameDamage → Receiver
+marked r m = record { place = r .place; header = r .header; expansion = r .expansion; count = r .count; sum = r .sum; damage = m; gap = r .gap }
 
 -- a damaged character, by the reader's place: "So does damage in preamble, delimiter or byte count"; elsewhere the frame goes on, damaged
 abbrev pub damaged : Place → Receiver → ℕ → Damage → Taken
 damaged Passing r c kind = tells passing PassedOver
 damaged Idle r c kind = breaks
 damaged (Preamble n) r c kind = breaks
-damaged First r c kind = atFirst (marked r (addressHarm (r .harm))) c
-damaged (Address n) r c kind = atAddress (marked r (addressHarm (r .harm))) n c
-damaged (Expansion n) r c kind = atExpansion (marked r (addressHarm (r .harm))) n c
-damaged Command r c kind = atCommand (marked r (kindHarm kind (r .harm))) c
+damaged First r c kind = atFirst (marked r (addressDamaged (r .damage))) c
+damaged (Address n) r c kind = atAddress (marked r (addressDamaged (r .damage))) n c
+damaged (Expansion n) r c kind = atExpansion (marked r (addressDamaged (r .damage))) n c
+damaged Command r c kind = atCommand (marked r (kindDamaged kind (r .damage))) c
 damaged Count r c kind = breaks
-damaged (Data n) r c kind = atData (marked r (kindHarm kind (r .harm))) n c
-damaged Check r c kind = atCheck (marked r (kindHarm kind (r .harm))) c
+damaged (Data n) r c kind = atData (marked r (kindDamaged kind (r .damage))) n c
+damaged Check r c kind = atCheck (marked r (kindDamaged kind (r .damage))) c
 
 -- a tick of the reader
 unfoldable pub taken : Receiver → Heard → Taken
@@ -204,7 +206,7 @@ taken r (Damaged c kind) = damaged (r .place) r c kind
 
 -- the lent buffer has 255 bytes: a data byte is stored at its number
 abbrev pub keptByte : ℕ → ℕ → List ℕ → List ℕ
-keptByte n c bytes = if n <? 255 then stored bytes n (c ∷ []) else bytes
+keptByte n c bytes = if n <? mostData then stored bytes n (c ∷ []) else bytes
 
 abbrev pub kept : Place → ℕ → List ℕ → List ℕ
 kept Passing c bytes = bytes
@@ -224,6 +226,6 @@ takenData r (Character c) bytes = kept (r .place) c bytes
 takenData r (Damaged c kind) bytes = kept (r .place) c bytes
 
 -- what a tick promises
-pub record TakeIs (r : Receiver) (heard : Heard) (bytes : List ℕ) (t : Taken) (after : List ℕ) : Type 0 where
+pub record ReaderTakeIs (r : Receiver) (heard : Heard) (bytes : List ℕ) (t : Taken) (after : List ℕ) : Type 0 where
   pub reader : t ≡ taken r heard
   pub buffer : after ≡ takenData r heard bytes

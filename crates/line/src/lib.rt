@@ -3,7 +3,7 @@ use base::Refusal;
 use frame::Header;
 ghost use mathlib.Core.Path.{_≡_};
 ghost use Rattle.line.specs.Heard.{damageNumber};
-ghost use Rattle.line.specs.Profile.{fskProfile, c8pskProfile, valueRefused, orderRefused, profileMade};
+ghost use Rattle.line.specs.Profile.{fskProfile, c8pskProfile, valueRefused, orderRefused, profileMade, madeAs};
 
 // How a character was damaged.
 pub enum Damage {
@@ -60,7 +60,7 @@ pub enum Place {
 }
 
 // What is wrong with a frame: damage in command, data or check byte by its kind, a wrong check byte, damage in address or expansion bytes.
-pub struct Harm {
+pub struct FrameDamage {
     pub parity: bool,
     pub overrun: bool,
     pub framing: bool,
@@ -76,7 +76,7 @@ pub struct Receiver {
     pub count: u8,
     // the exclusive-or of the characters from the delimiter on
     pub sum: u8,
-    pub harm: Harm,
+    pub damage: FrameDamage,
     // one silent tick inside the frame has just been passed over
     pub gap: bool,
 }
@@ -98,7 +98,7 @@ pub enum Event {
     // a whole frame
     Frame(Whole),
     // a whole frame that is damaged
-    Damaged(Whole, Harm),
+    Damaged(Whole, FrameDamage),
 }
 
 // The tick reader after a tick, and what it tells.
@@ -187,7 +187,7 @@ fn order_refused(p: Profile) -> bool
 impl Profile {
     // A profile of other values, or refusal 1.
     pub fn checked(self) -> MadeProfile
-        ensures { λ r. ⌜ r ≡ profileMade self ⌝ }
+        ensures { λ r. ⌜ madeAs r ≡ profileMade self ⌝ }
     {
         if value_refused(self) {
             return MadeProfile::Refused(Refusal::BadProfile);

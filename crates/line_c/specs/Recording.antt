@@ -1,3 +1,4 @@
+-- How the code stands for what is to be believed.
 -- A recording of the line has two bytes for each tick: 32 times the kind of what was heard, and the character.
 use Prim.Native.Nat.{ℕ, _/_}
 use mathlib.Core.Path.{_≡_}

@@ -1,7 +1,7 @@
 // Feeds recorded ticks to the tick reader, and prints each tick in which it tells something.
 use libc::STDOUT_FILENO;
 use line::Event;
-use line::Harm;
+use line::FrameDamage;
 use line::Whole;
 
 fn text(words: &[u8]) {
@@ -55,7 +55,7 @@ fn frame_heard(w: Whole, bytes: &[u8; 255]) {
     hexadecimal(bytes, w.count);
 }
 
-fn harmed(m: Harm) {
+fn isDamaged(m: FrameDamage) {
     flag(b" harm parity ", m.parity);
     flag(b" overrun ", m.overrun);
     flag(b" framing ", m.framing);
@@ -83,7 +83,7 @@ fn show_event(tick: usize, event: Event, bytes: &[u8; 255]) {
         Event::Damaged(w, m) => {
             show(tick, b"damaged");
             frame_heard(w, bytes);
-            harmed(m);
+            isDamaged(m);
             text(b"\n");
         }
     }

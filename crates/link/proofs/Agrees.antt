@@ -1,30 +1,27 @@
--- A tick of the code's link is `linkTick` of turns, where the frame writer takes the devices' frames, and it leaves such devices again; what the line carries behind it is so always.
+-- A tick of the code's link is `linkTick` of turns.
 use Prim.Native.Nat.{ℕ}
-use mathlib.Core.List.{List, [], _∷_, _++_}
-use mathlib.Core.Path.{_≡_, refl, sym, ap, subst, _∙_}
+use mathlib.Core.List.{List, _∷_, _++_}
+use mathlib.Core.Path.{_≡_, refl, sym, ap, _∙_}
 use native.Mathlib.Omega.{arith}
 use lib.ListN.{length}
 use Rattle.line.specs.declared.Heard.{Heard}
-use Rattle.turns.specs.Link.{DeviceSide, DeviceStep, LinkStep, joins, sides, carried, deviceTick, deviceTicks, linkTick, linkAfter}
+use Rattle.turns.specs.Link.{DeviceSide, DeviceStep, joins, sides, carried, deviceTicks, linkTick, linkAfter}
 use Rattle.turns.specs.Link as L
 use Rattle.turns.specs.declared.Device.{Device}
-use Rattle.device.specs.Ready.{Ready}
-use Rattle.device.proofs.Reached.{SideReady, tick-ready}
-use Rattle.device_tick.specs.Tick.{callOf, sideOf, writtenTick}
-use Rattle.device_tick.specs.declared.HostCall.{HostCall}
-use Rattle.device_tick.proofs.Ticks.{tick-agrees}
+use Rattle.device_tick.specs.Tick.{sideOf}
+use Rattle.device_tick.specs.declared.DeviceHostCall.{DeviceHostCall}
 use Rattle.slots.specs.Slot.{Lent, slotSides, slotCalls, slotSteps, slotTicks, SlotIs}
 use Rattle.slots.specs.Slots.{devicesAfter}
 use Rattle.slots.specs.declared.Slot.{Slot}
 use Rattle.slots.specs.declared.Slot.the-variants.{Absent, Present}
 use Rattle.slots.specs.declared.SlotTicked.{SlotTicked}
 use Rattle.link.specs.Link.{MasterLent, DevicesLent, mastersLine, LinkIs, after}
-use Rattle.link.specs.Stands.{devicesOf, deviceStepsOf, linkOf, callsOf, linkStepOf, SlotReady, LinkReady}
+use Rattle.link.specs.Stands.{devicesOf, deviceStepsOf, linkOf, callsOf, linkStepOf}
 use Rattle.link.specs.declared.Link.{Link}
 use Rattle.link.specs.declared.LinkCalls.{LinkCalls}
 use Rattle.link.specs.declared.LinkTicked.{LinkTicked}
 
-module _ (s : Slot) (heard : Heard) (call : HostCall) (put : List ℕ) (x : Lent) (r : SlotTicked) (after : Lent) (is : SlotIs s heard call put x r after) where
+module _ (s : Slot) (heard : Heard) (call : DeviceHostCall) (put : List ℕ) (x : Lent) (r : SlotTicked) (after : Lent) (is : SlotIs s heard call put x r after) where
   -- a slot is present behind a tick where it was before
   pub none-comes : (d : Device) → s ≡ Absent → r .slot ≡ Present d → ⊥
   none-comes d k l =
@@ -37,16 +34,16 @@ module _ (s : Slot) (heard : Heard) (call : HostCall) (put : List ℕ) (x : Lent
       omega (arith, count)
 
   -- a slot in front of the others
-  onto : (t : Slot) (xs : List DeviceSide) (calls : List L.DeviceCall) (steps : List DeviceStep) → SlotReady t x → steps ≡ deviceTicks 255 heard xs calls
+  onto : (t : Slot) (xs : List DeviceSide) (calls : List L.DeviceCall) (steps : List DeviceStep) → steps ≡ deviceTicks 255 heard xs calls
       → (slotTicks t heard call put x ++ steps) ≡ deviceTicks 255 heard (slotSides t x ++ xs) (slotCalls t call put ++ calls)
   unfolding deviceTicks
-  onto Absent xs calls steps k e = e
-  onto (Present d) xs calls steps k e = λ i. tick-agrees (sideOf d (x .frame) (x .bytes) (x .contents)) heard call put (k d refl) i ∷ e i
+  onto Absent xs calls steps e = e
+  onto (Present d) xs calls steps e = ap (λ (ss : List DeviceStep). slotTicks (Present d) heard call put x ++ ss) e
 
   -- the same of what the code did
-  step-onto : (xs : List DeviceSide) (calls : List L.DeviceCall) (steps : List DeviceStep) → SlotReady s x → steps ≡ deviceTicks 255 heard xs calls
+  step-onto : (xs : List DeviceSide) (calls : List L.DeviceCall) (steps : List DeviceStep) → steps ≡ deviceTicks 255 heard xs calls
       → (slotSteps r (r .slot) after ++ steps) ≡ deviceTicks 255 heard (slotSides s x ++ xs) (slotCalls s call put ++ calls)
-  step-onto xs calls steps k e = ap (λ (y : List DeviceStep). y ++ steps) (is .steps) ∙ onto s xs calls steps k e
+  step-onto xs calls steps e = ap (λ (y : List DeviceStep). y ++ steps) (is .steps) ∙ onto s xs calls steps e
 
   -- what a slot adds to the line
   sent-onto : (steps : List DeviceStep) (others : Heard) → others ≡ carried steps → joins (r .sent) others ≡ carried (slotSteps r (r .slot) after ++ steps)
@@ -57,24 +54,6 @@ module _ (s : Slot) (heard : Heard) (call : HostCall) (put : List ℕ) (x : Lent
       by t (Present d) k l = ap (joins (r .sent)) e
       by Absent Absent k l = ap (λ (y : SlotTicked). joins (y .sent) others) (is .absent k .nothing) ∙ e
       by (Present d) Absent k l = absurd (none-goes d k l)
-
-  -- the device behind the tick is one that ticks reach
-  first-of : DeviceStep → List DeviceStep → DeviceStep
-  first-of d [] = d
-  first-of d (y ∷ ys) = y
-
-  slot-ready : SlotReady s x → SlotReady (r .slot) after
-  unfolding first-of
-  slot-ready k e l = by s refl
-    where
-      by : (t : Slot) → s ≡ t → Ready e (after .frame) (after .contents)
-      by Absent m = absurd (none-comes e m l)
-      by (Present d) m =
-          let before : DeviceSide = sideOf d (x .frame) (x .bytes) (x .contents) in
-          let same : slotSteps r (Present e) after ≡ slotTicks (Present d) heard call put x = ap (λ (u : Slot). slotSteps r u after) (sym l) ∙ is .steps ∙ ap (λ (t : Slot). slotTicks t heard call put x) m in
-          let step : first-of (writtenTick before heard call put) (slotSteps r (Present e) after) ≡ writtenTick before heard call put = ap (first-of (writtenTick before heard call put)) same in
-          let ticked = step ∙ tick-agrees before heard call put (k d m) in
-          subst SideReady (sym ticked) (tick-ready before heard (callOf call put) (k d m))
 
 -- a slot behind the tick, in front of the others
 side-onto : (u : Slot) (r : SlotTicked) (x : Lent) (steps : List DeviceStep) (rest : List DeviceSide) → rest ≡ sides steps → (slotSides u x ++ rest) ≡ sides (slotSteps r u x ++ steps)
@@ -97,24 +76,24 @@ module _ (l : Link) (c : LinkCalls) (put : List ℕ) (p s : MasterLent) (d : Dev
       (sent-onto _ _ _ _ _ _ _ (q .fifth) _ _
       (sent-onto _ _ _ _ _ _ _ (q .sixth) _ _ refl))))))
 
-  devices-agree : LinkReady (l .devices) d → deviceStepsOf (r .devices) d-after ≡ linkTick 255 (linkOf l p s d) (callsOf l c put) .for-devices
+  devices-agree : deviceStepsOf (r .devices) d-after ≡ linkTick 255 (linkOf l p s d) (callsOf l c put) .for-devices
   unfolding linkTick deviceTicks
-  devices-agree k =
+  devices-agree =
       let q = is .devices in
-      step-onto _ _ _ _ _ _ _ (q .first) _ _ _ (k .first)
-      (step-onto _ _ _ _ _ _ _ (q .second) _ _ _ (k .second)
-      (step-onto _ _ _ _ _ _ _ (q .third) _ _ _ (k .third)
-      (step-onto _ _ _ _ _ _ _ (q .fourth) _ _ _ (k .fourth)
-      (step-onto _ _ _ _ _ _ _ (q .fifth) _ _ _ (k .fifth)
-      (step-onto _ _ _ _ _ _ _ (q .sixth) _ _ _ (k .sixth) refl)))))
+      step-onto _ _ _ _ _ _ _ (q .first) _ _ _
+      (step-onto _ _ _ _ _ _ _ (q .second) _ _ _
+      (step-onto _ _ _ _ _ _ _ (q .third) _ _ _
+      (step-onto _ _ _ _ _ _ _ (q .fourth) _ _ _
+      (step-onto _ _ _ _ _ _ _ (q .fifth) _ _ _
+      (step-onto _ _ _ _ _ _ _ (q .sixth) _ _ _ refl)))))
 
   -- what all parties did
-  pub step-agrees : LinkReady (l .devices) d → linkStepOf r p-after s-after d-after ≡ linkTick 255 (linkOf l p s d) (callsOf l c put)
+  pub step-agrees : linkStepOf r p-after s-after d-after ≡ linkTick 255 (linkOf l p s d) (callsOf l c put)
   unfolding linkTick
-  step-agrees k = λ i. record {
+  step-agrees = λ i. record {
     for-primary = is .masters .primary .step i;
     for-secondary = is .masters .secondary .step i;
-    for-devices = devices-agree k i;
+    for-devices = devices-agree i;
   }
 
   devices-after : devicesOf (devicesAfter (r .devices)) d-after ≡ sides (deviceStepsOf (r .devices) d-after)
@@ -134,14 +113,4 @@ module _ (l : Link) (c : LinkCalls) (put : List ℕ) (p s : MasterLent) (d : Dev
     secondary = linkStepOf r p-after s-after d-after .for-secondary .side;
     devices = devices-after i;
     line = line-agrees i;
-  }
-
-  pub ready-again : LinkReady (l .devices) d → LinkReady (devicesAfter (r .devices)) d-after
-  ready-again k = let q = is .devices in record {
-    first = slot-ready _ _ _ _ _ _ _ (q .first) (k .first);
-    second = slot-ready _ _ _ _ _ _ _ (q .second) (k .second);
-    third = slot-ready _ _ _ _ _ _ _ (q .third) (k .third);
-    fourth = slot-ready _ _ _ _ _ _ _ (q .fourth) (k .fourth);
-    fifth = slot-ready _ _ _ _ _ _ _ (q .fifth) (k .fifth);
-    sixth = slot-ready _ _ _ _ _ _ _ (q .sixth) (k .sixth);
   }

@@ -5,7 +5,7 @@ use mathlib.Core.Path.{_≡_, refl, ap, subst, _∙_}
 use lib.ListN.{length, take, drop}
 use Rattle.line.specs.declared.Heard.{Heard}
 use Rattle.turns.specs.declared.Master.{Master}
-use Rattle.master.specs.Tick.{TickIs}
+use Rattle.master.specs.Tick.{MasterTickIs}
 use Rattle.master.specs.declared.MasterTicked.{MasterTicked}
 use Rattle.slots.specs.Part.{dataOf, PartIs}
 use Rattle.slots.specs.Slots.{SixIs, devicesAfter}
@@ -23,9 +23,9 @@ use Rattle.link.specs.declared.MastersTicked.{MastersTicked}
 -- a master, with its part of what is put
 pub master-is : (m : Master) (heard : Heard) (called : MasterCall) (put frame bytes : List ℕ) (r : MasterTicked) (frame-after bytes-after : List ℕ) (b : Bounds)
     → PartIs (called .part .from) (called .part .count) (length put) b
-    → TickIs m heard (called .call) (take (b .end - b .start) (drop (b .start) put)) frame bytes r frame-after bytes-after
-    → TickIs m heard (called .call) (dataOf (called .part) put) frame bytes r frame-after bytes-after
-master-is m heard called put frame bytes r frame-after bytes-after b p q = subst (λ (l : List ℕ). TickIs m heard (called .call) l frame bytes r frame-after bytes-after) (p .is put refl) q
+    → MasterTickIs m heard (called .call) (take (b .end - b .start) (drop (b .start) put)) frame bytes r frame-after bytes-after
+    → MasterTickIs m heard (called .call) (dataOf (called .part) put) frame bytes r frame-after bytes-after
+master-is m heard called put frame bytes r frame-after bytes-after b p q = subst (λ (l : List ℕ). MasterTickIs m heard (called .call) l frame bytes r frame-after bytes-after) (p .is put refl) q
 
 pub link-is : (l : Link) (calls : LinkCalls) (put : List ℕ) (p s p-after s-after : MasterLent) (d d-after : DevicesLent) (m : MastersTicked) (t : DevicesTicked) (devices line : Heard)
     → MastersAre (l .masters) (l .line) (calls .masters) put p s m p-after s-after

@@ -1,3 +1,4 @@
+-- How the code stands for what is to be believed.
 -- A link: two masters and six slots on one line, and its tick.
 use Prim.Native.Nat.{ℕ}
 use mathlib.Core.List.{List}
@@ -6,7 +7,7 @@ use Rattle.line.specs.declared.Heard.{Heard}
 use Rattle.line.specs.declared.Heard.the-variants.{Silence}
 use Rattle.turns.specs.Link.{joins}
 use Rattle.turns.specs.declared.Master.{Master}
-use Rattle.master.specs.Tick.{TickIs}
+use Rattle.master.specs.Tick.{MasterTickIs}
 use Rattle.master.specs.declared.MasterTicked.{MasterTicked}
 use Rattle.slots.specs.Part.{dataOf}
 use Rattle.slots.specs.Slots.{SixIs, devicesAfter}
@@ -40,7 +41,7 @@ masterLends frame bytes = record { frame = frame; bytes = bytes }
 
 -- a tick of a master, whose call names its data in what is put
 abbrev pub OfMaster : Heard → Master → MasterCall → List ℕ → MasterLent → MasterTicked → MasterLent → Type 0
-OfMaster heard m called put x r after = TickIs m heard (called .call) (dataOf (called .part) put) (x .frame) (x .bytes) r (after .frame) (after .bytes)
+OfMaster heard m called put x r after = MasterTickIs m heard (called .call) (dataOf (called .part) put) (x .frame) (x .bytes) r (after .frame) (after .bytes)
 
 -- a tick of both masters: `p` and `s` are what is lent, `p-after` and `s-after` the same behind the tick
 pub record MastersAre (m : Masters) (heard : Heard) (calls : MastersCalls) (put : List ℕ) (p s : MasterLent) (r : MastersTicked) (p-after s-after : MasterLent) : Type 0 where

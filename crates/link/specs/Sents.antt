@@ -1,3 +1,4 @@
+-- To be believed: what the engine must do, or what is claimed of it.
 -- Document 01, "The player": what every party sent in each tick of a run, in the parties' order.
 use mathlib.Core.List.{List, [], _∷_}
 use Rattle.turns.specs.Link.{DeviceStep, LinkStep}

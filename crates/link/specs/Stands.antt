@@ -1,11 +1,9 @@
+-- How the code stands for what is to be believed.
 -- How a link of the code stands for a `Link` of crates/turns/specs/Link.antt: its devices are those of the present slots, in the slots' order.
 use Prim.Native.Nat.{ℕ}
 use mathlib.Core.List.{List, [], _++_}
-use mathlib.Core.Path.{_≡_}
 use Rattle.turns.specs.Link.{DeviceSide, DeviceStep, LinkStep, Calls}
 use Rattle.turns.specs.Link as L
-use Rattle.turns.specs.declared.Device.{Device}
-use Rattle.device.specs.Ready.{Ready}
 use Rattle.master.specs.Tick as M
 use Rattle.slots.specs.Part.{dataOf}
 use Rattle.slots.specs.Slot.{Lent, slotSides, slotCalls, slotSteps}
@@ -14,7 +12,6 @@ use Rattle.slots.specs.declared.Devices.{Devices}
 use Rattle.slots.specs.declared.DevicesCalls.{DevicesCalls}
 use Rattle.slots.specs.declared.DevicesTicked.{DevicesTicked}
 use Rattle.slots.specs.declared.Slot.{Slot}
-use Rattle.slots.specs.declared.Slot.the-variants.{Present}
 use Rattle.slots.specs.declared.SlotCall.{SlotCall}
 use Rattle.slots.specs.declared.SlotTicked.{SlotTicked}
 use Rattle.link.specs.Link.{MasterLent, DevicesLent}
@@ -79,15 +76,3 @@ linkStepOf r p s d = record {
   for-secondary = M.stepOf (r .masters .secondary) (s .frame) (s .bytes);
   for-devices = deviceStepsOf (r .devices) d;
 }
-
--- every present device is one that a start and ticks reach: the frame writer takes its frames
-abbrev pub SlotReady : Slot → Lent → Type 0
-SlotReady s x = (d : Device) → s ≡ Present d → Ready d (x .frame) (x .contents)
-
-pub record LinkReady (s : Devices) (d : DevicesLent) : Type 0 where
-  pub first : SlotReady (s .low .left) (ofSlot d 0)
-  pub second : SlotReady (s .low .right) (ofSlot d 1)
-  pub third : SlotReady (s .middle .left) (ofSlot d 2)
-  pub fourth : SlotReady (s .middle .right) (ofSlot d 3)
-  pub fifth : SlotReady (s .high .left) (ofSlot d 4)
-  pub sixth : SlotReady (s .high .right) (ofSlot d 5)

@@ -1,7 +1,7 @@
 // A link: one primary, one secondary and six slots for devices on one line, and its tick.
 use line::Damage;
 use line::Heard;
-use master::HostCall;
+use master::MasterHostCall;
 use master::MasterTicked;
 use slots::Devices;
 use slots::DevicesCalls;
@@ -12,7 +12,7 @@ use turns::Master;
 use turns::Sent;
 ghost use mathlib.Core.Path.{_≡_};
 ghost use Rattle.turns.specs.Link.{joins};
-ghost use Rattle.master.specs.Tick.{TickIs};
+ghost use Rattle.master.specs.Tick.{MasterTickIs};
 ghost use Rattle.slots.specs.Part.{dataOf};
 ghost use Rattle.link.specs.Link.{pairLine, devicesLine, mastersLine, masterLends, devicesLend, MastersAre, LinkIs, mastersAfter, after};
 
@@ -39,7 +39,7 @@ pub fn join(sent: Sent, heard: Heard) -> Heard
 
 // A host's call to a master in a tick, with the data of a request.
 pub struct MasterCall {
-    pub call: HostCall,
+    pub call: MasterHostCall,
     pub part: Part,
 }
 
@@ -68,7 +68,7 @@ fn master_tick(
     frame: &mut [u8; 284],
     bytes: &mut [u8; 255],
 ) -> MasterTicked
-    ensures { λ r. ⌜ TickIs m heard (called .call) (dataOf (called .part) (now (put .entry))) (now (frame .entry)) (now (bytes .entry)) r (now (frame .exit)) (now (bytes .exit)) ⌝ }
+    ensures { λ r. ⌜ MasterTickIs m heard (called .call) (dataOf (called .part) (now (put .entry))) (now (frame .entry)) (now (bytes .entry)) r (now (frame .exit)) (now (bytes .exit)) ⌝ }
 {
     let call = called.call;
     let part = called.part;

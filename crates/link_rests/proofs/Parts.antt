@@ -27,11 +27,11 @@ pub slot-rests-at : (s t : Slot) (r : Bool) → s ≡ t → r ≡ slotRests t �
 slot-rests-at s t r e p = p ∙ ap slotRests (sym e)
 
 -- a party with other parts
-pub device-rested : (n : ℕ) (d e : Device) (r : Receiver) (due : ℕ) → r ≡ idle → due ≡ d .due - n → e ≡ D.behind d r Listens (d .request) (d .wish) (d .length) due → e ≡ deviceRested n d
-device-rested n d e r due p q k = k ∙ (λ i. D.behind d (p i) Listens (d .request) (d .wish) (d .length) (q i))
+pub device-rested : (n : ℕ) (d e : Device) (r : Receiver) (due : ℕ) → r ≡ idle → due ≡ d .due - n → e ≡ D.deviceWith d r Listens (d .request) (d .wish) (d .length) due → e ≡ deviceRested n d
+device-rested n d e r due p q k = k ∙ (λ i. D.deviceWith d (p i) Listens (d .request) (d .wish) (d .length) (q i))
 
-pub master-rested : (n : ℕ) (m k : Master) (r : Receiver) (t : Timer) → r ≡ idle → t ≡ timerRested n (m .profile) (m .timer) → k ≡ M.behind m r (m .burst) (m .noted) t (m .message) → k ≡ masterRested n m
-master-rested n m k r t p q e = e ∙ (λ i. M.behind m (p i) (m .burst) (m .noted) (q i) (m .message))
+pub master-rested : (n : ℕ) (m k : Master) (r : Receiver) (t : Timer) → r ≡ idle → t ≡ timerRested n (m .profile) (m .timer) → k ≡ M.masterWith m r (m .burst) (m .noted) t (m .message) → k ≡ masterRested n m
+master-rested n m k r t p q e = e ∙ (λ i. M.masterWith m (p i) (m .burst) (m .noted) (q i) (m .message))
 
 pub slot-rested : (n : ℕ) (s : Slot) (d e : Device) → s ≡ Present d → e ≡ deviceRested n d → Present e ≡ slotRested n s
 slot-rested n s d e p q = ap Present q ∙ ap (slotRested n) (sym p)

@@ -13,8 +13,9 @@ use Rattle.line.specs.declared.Place.{Place}
 use Rattle.line.specs.declared.Place.the-variants.{Passing, Idle, Preamble, First, Address, Expansion, Command, Count, Data, Check}
 use Rattle.line.specs.declared.Receiver.{Receiver}
 use Rattle.turns.specs.Master.{masterTakes, masterSends}
-use Rattle.turns.specs.Device.{behind, deviceTakes, deviceSends}
-use Rattle.turns.specs.Link.{no-request, no-call, none, MasterSide, MasterStep, masterTick, DeviceSide, DeviceStep, deviceTick}
+use Rattle.turns.specs.Device.{deviceWith, deviceTakes, deviceSends}
+use Rattle.turns.specs.Party.{none}
+use Rattle.turns.specs.Link.{no-request, no-call, MasterSide, MasterStep, masterTick, DeviceSide, DeviceStep, deviceTick}
 use Rattle.turns.specs.declared.Device.{Device}
 use Rattle.turns.specs.declared.DeviceTold.{DeviceTold}
 use Rattle.turns.specs.declared.Master.{Master}
@@ -23,7 +24,7 @@ use Rattle.turns.specs.declared.Sent.the-variants.{Silent}
 use Rattle.turns.specs.declared.Stage.{Stage}
 use Rattle.turns.specs.declared.Stage.the-variants.{Free, Waiting, Sending, Awaiting}
 use Rattle.turns.specs.declared.Turn.{Turn}
-use Rattle.turns.specs.declared.Turn.the-variants.{Listens, Asked, Accepted, Begins, Answers, Follows, Bursts}
+use Rattle.turns.specs.declared.Turn.the-variants.{Listens, Asked, AnswerWaits, Begins, Answers, Follows, Bursts}
 use Rattle.link_rests.specs.Rests.{isIdle, isListening, isFree, deviceRests, masterRests, deviceRested, timerRested, masterRested}
 
 -- ---- what the tests tell
@@ -43,7 +44,7 @@ idle-is Check e = absurd (true-false (sym e))
 listening-is : (t : Turn) → isListening t ≡ true → t ≡ Listens
 listening-is Listens e = refl
 listening-is (Asked n) e = absurd (true-false (sym e))
-listening-is Accepted e = absurd (true-false (sym e))
+listening-is AnswerWaits e = absurd (true-false (sym e))
 listening-is Begins e = absurd (true-false (sym e))
 listening-is (Answers n) e = absurd (true-false (sym e))
 listening-is Follows e = absurd (true-false (sym e))
@@ -99,10 +100,10 @@ abbrev pub deviceSide : ℕ → DeviceSide → DeviceSide
 deviceSide n x = record { device = deviceRested n (x .device); frame = x .frame; bytes = x .bytes; contents = x .contents }
 
 abbrev pub deviceStep : DeviceSide → DeviceStep
-deviceStep x = record { side = deviceSide 1 x; sent = Silent; told = DeviceTold.Nothing; answer = none }
+deviceStep x = record { side = deviceSide 1 x; sent = Silent; told = DeviceTold.Nothing; result = none }
 
-at-place : (r : Receiver) → r .place ≡ Idle → r ≡ record { place = Idle; header = r .header; expansion = r .expansion; count = r .count; sum = r .sum; harm = r .harm; gap = r .gap }
-at-place r e = λ i. record { place = e i; header = r .header; expansion = r .expansion; count = r .count; sum = r .sum; harm = r .harm; gap = r .gap }
+at-place : (r : Receiver) → r .place ≡ Idle → r ≡ record { place = Idle; header = r .header; expansion = r .expansion; count = r .count; sum = r .sum; damage = r .damage; gap = r .gap }
+at-place r e = λ i. record { place = e i; header = r .header; expansion = r .expansion; count = r .count; sum = r .sum; damage = r .damage; gap = r .gap }
 
 -- the same device, with what is known of it in place
 abbrev restingDevice : Device → Device
@@ -111,7 +112,7 @@ restingDevice d = record {
   preamble = d .preamble;
   polling = d .polling;
   unique = d .unique;
-  receiver = record { place = Idle; header = d .receiver .header; expansion = d .receiver .expansion; count = d .receiver .count; sum = d .receiver .sum; harm = d .receiver .harm; gap = d .receiver .gap };
+  receiver = record { place = Idle; header = d .receiver .header; expansion = d .receiver .expansion; count = d .receiver .count; sum = d .receiver .sum; damage = d .receiver .damage; gap = d .receiver .gap };
   deaf = false;
   turn = Listens;
   request = d .request;
@@ -156,7 +157,7 @@ pub device-rests-on : (n : ℕ) (d : Device) → DeviceRests d → DeviceRests (
 device-rests-on n d r = record { hears = r .hears; calm = r .calm; turn-is = refl; place-is = refl }
 
 pub device-one-more : (n : ℕ) (d : Device) → deviceRested 1 (deviceRested n d) ≡ deviceRested (suc n) d
-device-one-more n d = let k : d .due - n - 1 ≡ d .due - suc n = omega arith in ap (λ (due : ℕ). behind d idle Listens (d .request) (d .wish) (d .length) due) k
+device-one-more n d = let k : d .due - n - 1 ≡ d .due - suc n = omega arith in ap (λ (due : ℕ). deviceWith d idle Listens (d .request) (d .wish) (d .length) due) k
 
 -- ---- the same of a master
 
@@ -164,14 +165,14 @@ abbrev pub masterSide : ℕ → MasterSide → MasterSide
 masterSide n x = record { master = masterRested n (x .master); frame = x .frame; bytes = x .bytes }
 
 abbrev pub masterStep : MasterSide → MasterStep
-masterStep x = record { side = masterSide 1 x; sent = Silent; told = MasterTold.Nothing; answer = none }
+masterStep x = record { side = masterSide 1 x; sent = Silent; told = MasterTold.Nothing; result = none }
 
 abbrev restingMaster : Master → Master
 restingMaster m = record {
   primary = m .primary;
   profile = m .profile;
   retries = m .retries;
-  receiver = record { place = Idle; header = m .receiver .header; expansion = m .receiver .expansion; count = m .receiver .count; sum = m .receiver .sum; harm = m .receiver .harm; gap = m .receiver .gap };
+  receiver = record { place = Idle; header = m .receiver .header; expansion = m .receiver .expansion; count = m .receiver .count; sum = m .receiver .sum; damage = m .receiver .damage; gap = m .receiver .gap };
   deaf = false;
   burst = false;
   noted = m .noted;

@@ -1,34 +1,28 @@
 -- A link that rests: what it is behind any number of ticks, and that nobody sends in them.
-use Prim.Native.Nat.{ℕ, zero, suc, _≤_}
-use native.Mathlib.Omega.{arith}
-use mathlib.Core.Bool.{Bool, true, false}
+use Prim.Native.Nat.{ℕ, zero, suc}
+use mathlib.Core.Bool.{true, false}
 use mathlib.Core.Path.{_≡_, refl, sym, ap, subst, _∙_}
 use mathlib.Core.List.{List, [], _∷_, _++_}
-use lib.ListN.{length, replicate}
 use Rattle.base.specs.Choice.{if_then_else_}
 use Rattle.base.proofs.Choices.{true-false}
 use Rattle.base.proofs.Tables.{chain-first, chain-second}
 use Rattle.line.specs.declared.Heard.{Heard}
 use Rattle.line.specs.declared.Heard.the-variants.{Silence, Character, Damaged}
-use Rattle.turns.specs.Link.{no-call, DeviceSide, DeviceStep, LinkStep, deviceTick, deviceTicks, linkTick, sides, carried, linkAfter, joins}
+use Rattle.turns.specs.Link.{DeviceSide, DeviceStep, deviceTicks, linkTick, sides, carried, linkAfter}
 use Rattle.turns.specs.Link as L
 use Rattle.turns.specs.Run.{All, none, and}
-use Rattle.turns.specs.declared.Device.{Device}
 use Rattle.turns.specs.declared.Sent.{Sent}
 use Rattle.turns.specs.declared.Sent.the-variants.{Silent}
 use Rattle.party.specs.Hears.{isSilence}
-use Rattle.device.specs.Ready.{Ready}
-use Rattle.device.proofs.Reached.{SideReady, tick-ready}
 use Rattle.slots.specs.Slot.{Lent, slotSides}
-use Rattle.slots.specs.declared.Devices.{Devices}
 use Rattle.slots.specs.declared.Slot.{Slot}
 use Rattle.slots.specs.declared.Slot.the-variants.{Absent, Present}
 use Rattle.link.specs.Link.{MasterLent, DevicesLent}
 use Rattle.link.specs.Sents.{devicesSent, sentOf}
-use Rattle.link.specs.Stands.{six, ofSlot, devicesOf, linkOf, SlotReady, LinkReady}
+use Rattle.link.specs.Stands.{devicesOf, linkOf}
 use Rattle.link.specs.declared.Link.{Link}
 use Rattle.link_rests.specs.Uncalled.{uncalledTick, afterTicks}
-use Rattle.link_rests.specs.Rests.{deviceRests, masterRests, slotRests, pairRests, devicesRest, mastersRest, linkRests, timerRested, deviceRested, slotRested, devicesRested, linkRested}
+use Rattle.link_rests.specs.Rests.{masterRests, slotRests, pairRests, devicesRest, mastersRest, linkRests, timerRested, deviceRested, slotRested, devicesRested, linkRested}
 use Rattle.link_rests.proofs.Resting.{DeviceRests, device-rests, MasterRests, master-rests, deviceSide, deviceStep, device-tick, device-rests-on, device-one-more, masterSide, masterStep, master-tick, master-rests-on}
 
 -- ---- the devices
@@ -194,43 +188,3 @@ module _ (l : Link) (x y : MasterLent) (d : DevicesLent) where
       rest-sent (afterTicks (suc n) (linkOf l x y d)) (rests-on (suc n) (linkOf l x y d) (link-rests e))
       ∙ ap (λ (z : L.Link). Silent ∷ Silent ∷ silents (z .devices)) (rests-for n (linkOf l x y d) (link-rests e))
       ∙ ap (λ (ss : List Sent). Silent ∷ Silent ∷ ss) (silents-same (suc n) (devicesOf (l .devices) d))
-
--- ---- the devices' limits
-
-ready-once : (d : Device) (frame contents : List ℕ) → DeviceRests d → Ready d frame contents → Ready (deviceRested 1 d) frame contents
-ready-once d frame contents r k =
-    let x : DeviceSide = record { device = d; frame = frame; bytes = []; contents = contents } in
-    subst SideReady (device-tick x r) (tick-ready x Silence no-call k)
-
-ready-rested : (n : ℕ) (d : Device) (frame contents : List ℕ) → DeviceRests d → Ready d frame contents → Ready (deviceRested (suc n) d) frame contents
-ready-rested zero d frame contents r k = ready-once d frame contents r k
-ready-rested (suc n) d frame contents r k =
-    subst (λ (f : Device). Ready f frame contents) (device-one-more (suc n) d) (ready-once (deviceRested (suc n) d) frame contents (device-rests-on (suc n) d r) (ready-rested n d frame contents r k))
-
-deviceIn : Device → Slot → Device
-deviceIn d Absent = d
-deviceIn d (Present e) = e
-
-present : Slot → ℕ
-present Absent = 0
-present (Present d) = 1
-
-slot-ready : (n : ℕ) (s : Slot) (x : Lent) → slotRests s ≡ true → SlotReady s x → SlotReady (slotRested (suc n) s) x
-unfolding deviceIn present
-slot-ready n Absent x e k d q = let no : _≡_ {A = ℕ} 0 1 = ap present q in absurd (omega arith)
-slot-ready n (Present f) x e k d q = subst (λ (g : Device). Ready g (x .frame) (x .contents)) (ap (deviceIn d) q) (ready-rested n f (x .frame) (x .contents) (device-rests f e) (k f refl))
-
-pub rested-ready : (n : ℕ) (s : Devices) (d : DevicesLent) → devicesRest s ≡ true → LinkReady s d → LinkReady (devicesRested (suc n) s) d
-rested-ready n s d e k =
-    let rest = chain-second (pairRests (s .low)) (if pairRests (s .middle) then pairRests (s .high) else false) e in
-    let lows = chain-first (pairRests (s .low)) (if pairRests (s .middle) then pairRests (s .high) else false) e in
-    let middles = chain-first (pairRests (s .middle)) (pairRests (s .high)) rest in
-    let highs = chain-second (pairRests (s .middle)) (pairRests (s .high)) rest in
-    record {
-      first = slot-ready n (s .low .left) (ofSlot d 0) (chain-first (slotRests (s .low .left)) (slotRests (s .low .right)) lows) (k .first);
-      second = slot-ready n (s .low .right) (ofSlot d 1) (chain-second (slotRests (s .low .left)) (slotRests (s .low .right)) lows) (k .second);
-      third = slot-ready n (s .middle .left) (ofSlot d 2) (chain-first (slotRests (s .middle .left)) (slotRests (s .middle .right)) middles) (k .third);
-      fourth = slot-ready n (s .middle .right) (ofSlot d 3) (chain-second (slotRests (s .middle .left)) (slotRests (s .middle .right)) middles) (k .fourth);
-      fifth = slot-ready n (s .high .left) (ofSlot d 4) (chain-first (slotRests (s .high .left)) (slotRests (s .high .right)) highs) (k .fifth);
-      sixth = slot-ready n (s .high .right) (ofSlot d 5) (chain-second (slotRests (s .high .left)) (slotRests (s .high .right)) highs) (k .sixth);
-    }

@@ -1,3 +1,4 @@
+-- Inner contracts: nothing that is to be believed rests on them.
 -- A link that rests: the line is silent, no master has a message, no device bursts, and nobody has heard anything of a frame. Until a host calls, nothing but timers changes, and nobody sends.
 use Prim.Native.Nat.{ℕ, zero, suc, _-_}
 use mathlib.Core.Bool.{Bool, true, false}
@@ -17,7 +18,7 @@ use Rattle.turns.specs.declared.Stage.{Stage}
 use Rattle.turns.specs.declared.Stage.the-variants.{Free, Waiting, Sending, Awaiting}
 use Rattle.turns.specs.declared.Timer.{Timer}
 use Rattle.turns.specs.declared.Turn.{Turn}
-use Rattle.turns.specs.declared.Turn.the-variants.{Listens, Asked, Accepted, Begins, Answers, Follows, Bursts}
+use Rattle.turns.specs.declared.Turn.the-variants.{Listens, Asked, AnswerWaits, Begins, Answers, Follows, Bursts}
 use Rattle.party.specs.Hears.{isSilence}
 use Rattle.slots.specs.declared.Devices.{Devices}
 use Rattle.slots.specs.declared.Pair.{Pair}
@@ -44,7 +45,7 @@ isIdle Check = false
 abbrev pub isListening : Turn → Bool
 isListening Listens = true
 isListening (Asked n) = false
-isListening Accepted = false
+isListening AnswerWaits = false
 isListening Begins = false
 isListening (Answers n) = false
 isListening Follows = false
@@ -82,7 +83,7 @@ linkRests l = if isSilence (l .line) then (if mastersRest (l .masters) then devi
 
 -- a device's timer runs out
 abbrev pub deviceRested : ℕ → Device → Device
-deviceRested n d = D.behind d idle Listens (d .request) (d .wish) (d .length) (d .due - n)
+deviceRested n d = D.deviceWith d idle Listens (d .request) (d .wish) (d .length) (d .due - n)
 
 -- a master's windows open again and again
 unfoldable pub timerRested : ℕ → Profile → Timer → Timer
@@ -90,7 +91,7 @@ timerRested zero p t = t
 timerRested (suc n) p t = countClear p (timerRested n p t)
 
 abbrev pub masterRested : ℕ → Master → Master
-masterRested n m = M.behind m idle (m .burst) (m .noted) (timerRested n (m .profile) (m .timer)) (m .message)
+masterRested n m = M.masterWith m idle (m .burst) (m .noted) (timerRested n (m .profile) (m .timer)) (m .message)
 
 abbrev pub slotRested : ℕ → Slot → Slot
 slotRested n Absent = Absent

@@ -40,7 +40,7 @@ fn is_listening(turn: Turn) -> bool
     match turn {
         Turn::Listens => true,
         Turn::Asked(_) => false,
-        Turn::Accepted => false,
+        Turn::AnswerWaits => false,
         Turn::Begins => false,
         Turn::Answers(_) => false,
         Turn::Follows => false,

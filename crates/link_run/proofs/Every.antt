@@ -5,8 +5,8 @@ use mathlib.Core.Path.{_≡_, refl, ap, _∙_}
 use mathlib.Core.Bool.{Bool}
 use mathlib.Core.List.{List, [], _∷_, _++_}
 use lib.ListN.{length}
+use Rattle.base.specs.Refusal.{accepted}
 use Rattle.line.specs.declared.Profile.{Profile}
-use Rattle.turns.specs.Master.{accepted}
 use Rattle.turns.specs.Link.{DeviceSide, Calls}
 use Rattle.slots.specs.Slot.{Lent, slotSides}
 use Rattle.slots.specs.declared.Devices.{Devices}

@@ -1,34 +1,33 @@
 -- Laws of one tick of a run: its calls, its number, and that the same slots have devices behind it.
-use Prim.Native.Nat.{ℕ, _+_, _*_}
+use Prim.Native.Nat.{ℕ, _+_}
 use native.Mathlib.Omega.{arith}
-use mathlib.Core.Path.{_≡_, refl, sym, ap, subst, _∙_}
+use mathlib.Core.Path.{_≡_, refl, ap, _∙_}
 use mathlib.Core.List.{List, [], _∷_, _++_}
 use lib.ListN.{drop}
 use Rattle.line.specs.declared.Heard.{Heard}
-use Rattle.turns.specs.Link.{DeviceStep, LinkStep, Calls, linkTick, linkAfter}
+use Rattle.turns.specs.Link.{DeviceStep, linkTick, linkAfter}
 use Rattle.turns.specs.Link as L
-use Rattle.turns.specs.Run.{count, deviceSenders, senders}
+use Rattle.turns.specs.Run.{count, deviceSenders}
 use Rattle.master.specs.Tick as M
 use Rattle.device_tick.specs.Tick as D
-use Rattle.device_tick.specs.declared.HostCall.{HostCall}
+use Rattle.device_tick.specs.declared.DeviceHostCall.{DeviceHostCall}
 use Rattle.slots.specs.Slot.{Lent, slotSteps, SlotIs}
 use Rattle.slots.specs.Slots.{devicesAfter}
-use Rattle.slots.specs.declared.Devices.{Devices}
 use Rattle.slots.specs.declared.Slot.{Slot}
 use Rattle.slots.specs.declared.Slot.the-variants.{Absent, Present}
 use Rattle.slots.specs.declared.SlotCall.{SlotCall}
 use Rattle.slots.specs.declared.SlotTicked.{SlotTicked}
 use Rattle.link.specs.Link.{MasterLent, DevicesLent, LinkIs, after}
-use Rattle.link.specs.Stands.{six, slotCallOf, callsOf, deviceStepsOf, linkOf, linkStepOf, LinkReady}
+use Rattle.link.specs.Stands.{six, slotCallOf, callsOf, deviceStepsOf, linkOf, linkStepOf}
 use Rattle.link.specs.declared.Link.{Link}
 use Rattle.link.specs.declared.LinkCalls.{LinkCalls}
 use Rattle.link.specs.declared.LinkTicked.{LinkTicked}
-use Rattle.link.proofs.Agrees.{none-comes, none-goes, step-agrees, after-agrees, ready-again}
-use Rattle.tick_list.specs.Ticks.{Here, ifHere, callsIn}
-use Rattle.tick_list.specs.Coded.{SlotCallIs, TickIs}
+use Rattle.link.proofs.Agrees.{none-comes, none-goes, step-agrees, after-agrees}
+use Rattle.tick_list.specs.Ticks.{ifHere, callsIn}
+use Rattle.tick_list.specs.Coded.{SlotCallIs, TickReadIs}
 use Rattle.tick_list.specs.declared.TickRead.{TickRead}
 use Rattle.link_run.specs.Run.{isHere, hereOf, tickNumber}
-use Rattle.link_run.specs.Step.{deviceSendersIn, tickedNumber, stepAt, Stepping, StepIs}
+use Rattle.link_run.specs.Step.{deviceSendersIn, tickedNumber, stepAt, StepIs}
 
 -- ---- the calls
 
@@ -36,7 +35,7 @@ slot-call : (s : Slot) (ticks rest : List ℕ) (c : SlotCall) → SlotCallIs tic
 slot-call Absent ticks rest c k = refl
 slot-call (Present d) ticks rest c k = λ i. D.callOf (k .call-is i) (k .data-is i) ∷ []
 
-pub calls-are : (l : Link) (ticks : List ℕ) (at : ℕ) (r : TickRead) → TickIs ticks at r → callsOf l (r .calls) ticks ≡ callsIn (hereOf (l .devices)) (drop at ticks)
+pub calls-are : (l : Link) (ticks : List ℕ) (at : ℕ) (r : TickRead) → TickReadIs ticks at r → callsOf l (r .calls) ticks ≡ callsIn (hereOf (l .devices)) (drop at ticks)
 unfolding callsIn
 calls-are l ticks at r t = λ i. record {
   for-primary = M.callOf (t .primary .call-is i) (t .primary .data-is i);
@@ -48,7 +47,7 @@ calls-are l ticks at r t = λ i. record {
 
 -- ---- a slot
 
-module _ (s : Slot) (heard : Heard) (call : HostCall) (put : List ℕ) (x : Lent) (r : SlotTicked) (behind : Lent) (is : SlotIs s heard call put x r behind) where
+module _ (s : Slot) (heard : Heard) (call : DeviceHostCall) (put : List ℕ) (x : Lent) (r : SlotTicked) (behind : Lent) (is : SlotIs s heard call put x r behind) where
   senders-onto : (steps : List DeviceStep) (n : ℕ) → n ≡ deviceSenders steps → count (r .sent) + n ≡ deviceSenders (slotSteps r (r .slot) behind ++ steps)
   unfolding deviceSenders
   senders-onto steps n e = by s (r .slot) refl refl
@@ -96,17 +95,14 @@ module _ (l : Link) (calls : LinkCalls) (put : List ℕ) (p s p-after s-after : 
     sixth = still-here _ _ _ _ _ _ _ (q .sixth) i;
   }
 
-module _ (l : Link) (ticks : List ℕ) (at : ℕ) (p s p-after s-after : MasterLent) (d d-after : DevicesLent) (read : TickRead) (t : LinkTicked) (reads : TickIs ticks at read) (is : LinkIs l (read .calls) ticks p s d t p-after s-after d-after) where
+module _ (l : Link) (ticks : List ℕ) (at : ℕ) (p s p-after s-after : MasterLent) (d d-after : DevicesLent) (read : TickRead) (t : LinkTicked) (reads : TickReadIs ticks at read) (is : LinkIs l (read .calls) ticks p s d t p-after s-after d-after) where
   pub step-is : (link : Link) (number : ℕ) → link ≡ after t → number ≡ tickedNumber (t .masters) (deviceSendersIn (t .devices))
       → StepIs l ticks at p s d (record { link = link; number = number; next = read .next }) p-after s-after d-after
-  step-is link number e n = record {
-    steps = λ k.
-        let step : linkStepOf t p-after s-after d-after ≡ stepAt l p s d ticks at = step-agrees l (read .calls) ticks p s d t p-after s-after d-after is k ∙ ap (linkTick 255 (linkOf l p s d)) (calls-are l ticks at read reads) in
-        record {
-          behind-is = ap (λ (x : Link). linkOf x p-after s-after d-after) e ∙ after-agrees l (read .calls) ticks p s d t p-after s-after d-after is ∙ ap linkAfter step;
-          number-is = n ∙ number-agrees l (read .calls) ticks p s p-after s-after d d-after t is ∙ ap tickNumber step;
-          ready = subst (λ (x : Link). LinkReady (x .devices) d-after) (sym e) (ready-again l (read .calls) ticks p s d t p-after s-after d-after is k);
-          here = ap (λ (x : Link). hereOf (x .devices)) e ∙ same-here l (read .calls) ticks p s p-after s-after d d-after t is;
-          next = reads .next;
-        };
-  }
+  step-is link number e n =
+      let step : linkStepOf t p-after s-after d-after ≡ stepAt l p s d ticks at = step-agrees l (read .calls) ticks p s d t p-after s-after d-after is ∙ ap (linkTick 255 (linkOf l p s d)) (calls-are l ticks at read reads) in
+      record {
+        behind-is = ap (λ (x : Link). linkOf x p-after s-after d-after) e ∙ after-agrees l (read .calls) ticks p s d t p-after s-after d-after is ∙ ap linkAfter step;
+        number-is = n ∙ number-agrees l (read .calls) ticks p s p-after s-after d d-after t is ∙ ap tickNumber step;
+        here = ap (λ (x : Link). hereOf (x .devices)) e ∙ same-here l (read .calls) ticks p s p-after s-after d d-after t is;
+        next = reads .next;
+      }

@@ -1,19 +1,23 @@
--- Document 01, "Runs of the link": "A run is a list of ticks from tick 0, in which every party is fresh". What every party does in each tick of a lent list, and demand 3 for that run.
-use Prim.Native.Nat.{ℕ, _+_, _*_}
+-- How the code stands for what is to be believed.
+-- Document 01, "Runs of the link": "A run is a list of ticks from tick 0, in which every party is fresh". What every party does in each tick of a lent list, and what is promised of that run: demand 3, the credited answer and the BACKs.
+use Prim.Native.Nat.{ℕ, _+_, _*_, _/_, _%_, _≤_, _<_}
 use mathlib.Core.Path.{_≡_}
 use mathlib.Core.Bool.{Bool, true, false}
 use mathlib.Core.List.{List, [], _∷_}
-use lib.ListN.{length, take}
+use lib.ListN.{length, take, getD}
+use Rattle.base.specs.Refusal.{number, Called, accepted, refused}
 use Rattle.base.specs.Store.{stored}
+use Rattle.frame.specs.Limits.{mostData}
 use Rattle.line.specs.Profile.{profileMade}
-use Rattle.line.specs.declared.MadeProfile.the-variants.{Made}
 use Rattle.line.specs.declared.Profile.{Profile}
-use Rattle.turns.specs.Master.{Called, accepted, refused}
-use Rattle.turns.specs.Link.{Answer, none, was-taken, was-refused, MasterStep, DeviceSide, LinkStep, Calls}
+use Rattle.turns.specs.Party.{CallResult, none, was-taken, was-refused}
+use Rattle.turns.specs.Link.{DeviceSide, LinkStep, Calls}
 use Rattle.turns.specs.Link as L
 use Rattle.turns.specs.Run.{Distinct, EachTick, OneBursts, NoTwoSend, count, senders}
 use Rattle.turns.specs.Ledgers.{blanks, OneFinds}
 use Rattle.turns.specs.Demand3.{WaitIn}
+use Rattle.turns.specs.Credit.{EachCredited}
+use Rattle.turns.specs.Backs.{noContents, EachBack}
 use Rattle.slots.specs.declared.Devices.{Devices}
 use Rattle.slots.specs.declared.Slot.{Slot}
 use Rattle.slots.specs.declared.Slot.the-variants.{Absent, Present}
@@ -22,7 +26,6 @@ use Rattle.link.specs.declared.Link.{Link}
 use Rattle.link_start.specs.Fresh.{devicesFresh, lentFresh}
 use Rattle.link_start.specs.Start.{linkStarts}
 use Rattle.link_start.specs.declared.DevicesSettings.{DevicesSettings}
-use Rattle.link_start.specs.declared.SlotSetting.{SlotSetting}
 use Rattle.tick_list.specs.Ticks.{Here, ticksOf}
 use Rattle.link_run.specs.declared.RunEnded.{RunEnded}
 
@@ -43,9 +46,9 @@ hereOf s = record {
   sixth = isHere (s .high .right);
 }
 
--- what every party does in each tick; 255 is the longest data
+-- what every party does in each tick
 abbrev pub runSteps : L.Link → List Calls → List LinkStep
-runSteps l ticks = L.run 255 l ticks
+runSteps l ticks = L.run mostData l ticks
 
 -- the same from the parties' start on, with the list as bytes; no tick where a start is refused
 abbrev pub stepsBy : Called Link → List ℕ → List LinkStep
@@ -71,7 +74,7 @@ FindsBy c ticks = OneFinds (blanks (devicesBy c)) (callsBy c ticks) (stepsBy c t
 -- ---- what is written of it
 
 -- 1 for a request that was taken
-abbrev pub taken : Answer → ℕ
+abbrev pub taken : CallResult → ℕ
 taken none = 0
 taken was-taken = 1
 taken (was-refused why) = 0
@@ -80,8 +83,8 @@ taken (was-refused why) = 0
 abbrev pub tickNumber : LinkStep → ℕ
 tickNumber s =
     senders s
-    + 16 * (taken (s .for-primary .answer) + 4 * count (s .for-primary .sent))
-    + 32 * (taken (s .for-secondary .answer) + 4 * count (s .for-secondary .sent))
+    + 16 * (taken (s .for-primary .result) + 4 * count (s .for-primary .sent))
+    + 32 * (taken (s .for-secondary .result) + 4 * count (s .for-secondary .sent))
 
 unfoldable pub numbersOf : List LinkStep → List ℕ
 numbersOf [] = []
@@ -90,21 +93,66 @@ numbersOf (s ∷ ss) = tickNumber s ∷ numbersOf ss
 -- what a run answers: how many numbers it gave, or why a start was refused
 abbrev pub ranAs : RunEnded → Called ℕ
 ranAs (RunEnded.Ran n) = accepted n
-ranAs (RunEnded.Refused why) = refused why
+ranAs (RunEnded.Refused why) = refused (number why)
 
 abbrev pub ranBy : Called Link → ℕ → Called ℕ
 ranBy (accepted l) n = accepted n
 ranBy (refused why) n = refused why
 
--- ---- demand 3, for the run that was made
+-- ---- who sends, as a tick's number tells it
 
--- "Let a primary master, a secondary master and devices that share no address all start in the same tick with one profile and one retry limit R. .. if .. at most one device bursts at a time" and, by item 6, "at most one host's answer to each command 11 is taken", "then no two send in one tick, and every accepted message's first character goes out within" its ticks. That all start so is how the run begins; that no character is damaged or lost is how its line is defined.
-pub record Demand3Of (p : Profile) (retries : ℕ) (s : DevicesSettings) (ticks : List ℕ) : Type 0 where
-  pub keeps : profileMade p ≡ Made p → Distinct (devicesBy (linkStarts p retries s)) → EachTick OneBursts (stepsOf p retries s ticks) → FindsBy (linkStarts p retries s) ticks
-      → EachTick NoTwoSend (stepsOf p retries s ticks) × WaitIn 255 p retries (stepsOf p retries s ticks)
+-- how many send
+abbrev pub sendersTold : ℕ → ℕ
+sendersTold n = n % 16
 
--- what a run promises: its answer, the numbers at the front of the lent events, as many as there is room for, and demand 3
+-- 1 if the primary sends
+abbrev pub primaryTold : ℕ → ℕ
+primaryTold n = n / 64 % 2
+
+-- 1 if the secondary sends
+abbrev pub secondaryTold : ℕ → ℕ
+secondaryTold n = n / 128 % 2
+
+-- the number tells of at most one sender: one at most is counted, and a master that sends is counted
+pub record OneSender (n : ℕ) : Type 0 where
+  pub at-most-one : sendersTold n ≤ 1
+  pub masters-counted : primaryTold n + secondaryTold n ≤ sendersTold n
+
+-- ---- demand 3, the credited answer and the BACKs, for the run that was made
+
+-- "Let a primary master, a secondary master and devices that share no address all start in the same tick with one profile and one retry limit R. .. if .. at most one device bursts at a time" and, by item 6, "at most one host's answer to each command 11 is taken". That all start so is how the run begins; that no character is damaged or lost is how its line is defined.
+pub record RunPremises (p : Profile) (retries : ℕ) (s : DevicesSettings) (ticks : List ℕ) : Type 0 where
+  -- the profile is one that the check takes
+  pub made : profileMade p ≡ accepted p
+  pub distinct : Distinct (devicesBy (linkStarts p retries s))
+  pub one-bursts : EachTick OneBursts (stepsOf p retries s ticks)
+  pub one-finds : FindsBy (linkStarts p retries s) ticks
+
+-- "then no two send in one tick, and every accepted message's first character goes out within" its ticks
+abbrev pub Demand3Of : Profile → ℕ → DevicesSettings → List ℕ → Type 0
+Demand3Of p retries s ticks = EachTick NoTwoSend (stepsOf p retries s ticks) × WaitIn mostData p retries (stepsOf p retries s ticks)
+
+-- beyond demand 3, of the link l that was started: every answer that a master reports is credited
+abbrev pub CreditOf : Profile → ℕ → DevicesSettings → List ℕ → Type 0
+CreditOf p retries s ticks =
+    (l : Link) → linkStarts p retries s ≡ accepted l → EachCredited mostData (blanks (devicesBy (accepted l))) (lentFresh l) (callsBy (accepted l) ticks)
+
+-- and every BACK that a master finds whole is as its device's host gave it
+abbrev pub BacksOf : Profile → ℕ → DevicesSettings → List ℕ → Type 0
+BacksOf p retries s ticks =
+    (l : Link) → linkStarts p retries s ≡ accepted l → EachBack mostData (noContents (devicesBy (accepted l))) (lentFresh l) (callsBy (accepted l) ticks)
+
+-- ---- what a run promises
+
+-- the numbers that it writes, as many as there is room for
+abbrev pub written : List LinkStep → List ℕ → List ℕ
+written steps before = take (length before) (numbersOf steps)
+
+-- its answer, and the numbers at the front of the lent events; and where the premises hold demand 3, the credited answer and the BACKs of the run, and at most one sender in each number that was written
 pub record RunKeeps (p : Profile) (retries : ℕ) (s : DevicesSettings) (ticks before : List ℕ) (r : RunEnded) (after : List ℕ) : Type 0 where
-  pub answered : ranAs r ≡ ranBy (linkStarts p retries s) (length (take (length before) (numbersOf (stepsOf p retries s ticks))))
-  pub events : after ≡ stored before 0 (take (length before) (numbersOf (stepsOf p retries s ticks)))
-  pub demand-3 : Demand3Of p retries s ticks
+  pub answered : ranAs r ≡ ranBy (linkStarts p retries s) (length (written (stepsOf p retries s ticks) before))
+  pub events : after ≡ stored before 0 (written (stepsOf p retries s ticks) before)
+  pub demand-3 : RunPremises p retries s ticks → Demand3Of p retries s ticks
+  pub credit : RunPremises p retries s ticks → CreditOf p retries s ticks
+  pub backs : RunPremises p retries s ticks → BacksOf p retries s ticks
+  pub one-sender : RunPremises p retries s ticks → (i : ℕ) → i < length (written (stepsOf p retries s ticks) before) → OneSender (getD after i 0)

@@ -1,16 +1,18 @@
+-- Inner contracts: nothing that is to be believed rests on them.
 -- One tick of a run: the link behind it, its number, and the place behind it in the list.
-use Prim.Native.Nat.{ℕ, _+_, _*_, _<_}
+use Prim.Native.Nat.{ℕ, _+_, _*_}
 use mathlib.Core.Path.{_≡_}
 use mathlib.Core.List.{List}
-use lib.ListN.{length, drop}
+use lib.ListN.{drop}
+use Rattle.frame.specs.Limits.{mostData}
 use Rattle.turns.specs.Link.{LinkStep, linkTick, linkAfter}
 use Rattle.turns.specs.Run.{count}
-use Rattle.party.specs.Calls.{answerOf}
+use Rattle.party.specs.Calls.{resultOf}
 use Rattle.master.specs.declared.MasterTicked.{MasterTicked}
 use Rattle.slots.specs.declared.DevicesTicked.{DevicesTicked}
 use Rattle.slots.specs.declared.PairTicked.{PairTicked}
 use Rattle.link.specs.Link.{MasterLent, DevicesLent}
-use Rattle.link.specs.Stands.{linkOf, LinkReady}
+use Rattle.link.specs.Stands.{linkOf}
 use Rattle.link.specs.declared.Link.{Link}
 use Rattle.link.specs.declared.MastersTicked.{MastersTicked}
 use Rattle.tick_list.specs.Ticks.{callsIn}
@@ -27,7 +29,7 @@ deviceSendersIn t = pairSenders (t .low) + (pairSenders (t .middle) + pairSender
 
 -- what a master adds to a tick's number, in units of 16
 abbrev pub masterNumber : MasterTicked → ℕ
-masterNumber t = taken (answerOf (t .answer)) + 4 * count (t .sent)
+masterNumber t = taken (resultOf (t .result)) + 4 * count (t .sent)
 
 -- the number of a tick in which so many devices send
 abbrev pub tickedNumber : MastersTicked → ℕ → ℕ
@@ -35,15 +37,10 @@ tickedNumber t devices = (count (t .primary .sent) + (count (t .secondary .sent)
 
 -- the tick that turns gives for the calls at this place of the list
 abbrev pub stepAt : Link → MasterLent → MasterLent → DevicesLent → List ℕ → ℕ → LinkStep
-stepAt l p s d ticks at = linkTick 255 (linkOf l p s d) (callsIn (hereOf (l .devices)) (drop at ticks))
+stepAt l p s d ticks at = linkTick mostData (linkOf l p s d) (callsIn (hereOf (l .devices)) (drop at ticks))
 
-pub record Stepping (l : Link) (ticks : List ℕ) (at : ℕ) (p s : MasterLent) (d : DevicesLent) (r : Stepped) (p-after s-after : MasterLent) (d-after : DevicesLent) : Type 0 where
+pub record StepIs (l : Link) (ticks : List ℕ) (at : ℕ) (p s : MasterLent) (d : DevicesLent) (r : Stepped) (p-after s-after : MasterLent) (d-after : DevicesLent) : Type 0 where
   pub behind-is : linkOf (r .link) p-after s-after d-after ≡ linkAfter (stepAt l p s d ticks at)
   pub number-is : r .number ≡ tickNumber (stepAt l p s d ticks at)
-  pub ready : LinkReady (r .link .devices) d-after
   pub here : hereOf (r .link .devices) ≡ hereOf (l .devices)
   pub next : BehindIs ticks at 8 (r .next)
-
--- so it is where the devices are such as a start and ticks reach
-pub record StepIs (l : Link) (ticks : List ℕ) (at : ℕ) (p s : MasterLent) (d : DevicesLent) (r : Stepped) (p-after s-after : MasterLent) (d-after : DevicesLent) : Type 0 where
-  pub steps : LinkReady (l .devices) d → Stepping l ticks at p s d r p-after s-after d-after

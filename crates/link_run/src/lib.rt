@@ -1,4 +1,4 @@
-// A run of the link over a lent list of ticks, for which demand 3 is promised.
+// A run of the link over a lent list of ticks, for which demand 3, the credited answer and the BACKs are promised.
 use base::Refusal;
 use line::Profile;
 use link::Link;
@@ -7,17 +7,17 @@ use link::MastersTicked;
 use link_start::DevicesSettings;
 use link_start::LinkStarted;
 use master::MasterTicked;
-use party::CallAnswer;
+use party::CallStatus;
 use slots::DevicesTicked;
 use slots::PairTicked;
 use turns::Sent;
 ghost use mathlib.Core.Path.{_≡_};
 ghost use Prim.Native.Nat.{_+_, _≤_};
-ghost use Rattle.party.specs.Calls.{answerOf};
+ghost use Rattle.party.specs.Calls.{resultOf};
 ghost use Rattle.turns.specs.Run.{count};
 ghost use Rattle.line_c.specs.Recording.{RunIs};
 ghost use Rattle.link.specs.Link.{masterLends, devicesLend};
-ghost use Rattle.link.specs.Stands.{linkOf, LinkReady};
+ghost use Rattle.link.specs.Stands.{linkOf};
 ghost use Rattle.link_start.specs.Fresh.{masterFresh, devicesFresh};
 ghost use Rattle.tick_list.specs.Ticks.{ticksOf};
 ghost use Rattle.link_run.specs.Run.{taken, numbersOf, hereOf, RunKeeps, runSteps};
@@ -34,13 +34,13 @@ fn count_of(sent: Sent) -> u8
 }
 
 // 1 for a request that was taken.
-fn taken_of(answer: CallAnswer) -> u8
-    ensures { λ r. ⌜ (r ≡ taken (answerOf answer)) × (r ≤ 1) ⌝ }
+fn taken_of(result: CallStatus) -> u8
+    ensures { λ r. ⌜ (r ≡ taken (resultOf result)) × (r ≤ 1) ⌝ }
 {
-    match answer {
-        CallAnswer::Nothing => 0,
-        CallAnswer::Taken => 1,
-        CallAnswer::Refused(_) => 0,
+    match result {
+        CallStatus::Nothing => 0,
+        CallStatus::Taken => 1,
+        CallStatus::Refused(_) => 0,
     }
 }
 
@@ -67,9 +67,9 @@ fn device_senders(t: DevicesTicked) -> u8
 fn master_number(t: MasterTicked) -> u8
     ensures { λ r. ⌜ (r ≡ masterNumber t) × (r ≤ 5) ⌝ }
 {
-    let answer = t.answer;
+    let result = t.result;
     let sent = t.sent;
-    taken_of(answer) + 4 * count_of(sent)
+    taken_of(result) + 4 * count_of(sent)
 }
 
 fn masters_number(t: MastersTicked, devices: u8) -> u8
@@ -152,7 +152,6 @@ fn run_from(
     bytes: &mut [[u8; 255]; 6],
     contents: &mut [[u8; 255]; 6],
 ) -> usize
-    requires { ⌜ LinkReady (start .devices) (devicesLend (now frames) (now bytes) (now contents)) ⌝ }
     ensures { λ r. ⌜ RunIs (numbersOf (runSteps (linkOf start (masterLends (now (stx .entry)) (now (own .entry))) (masterLends (now (stxs .entry)) (now (owns .entry))) (devicesLend (now (frames .entry)) (now (bytes .entry)) (now (contents .entry)))) (ticksOf (hereOf (start .devices)) (now (ticks .entry))))) (now (events .entry)) r (now (events .exit)) ⌝ }
 {
     let mut l = start;
@@ -174,7 +173,6 @@ fn run_from(
 
 // A run of a link that was started, with buffers of its own.
 fn run_started(start: Link, ticks: &[u8], events: &mut [u8]) -> usize
-    requires { ⌜ LinkReady (start .devices) devicesFresh ⌝ }
     ensures { λ r. ⌜ RunIs (numbersOf (runSteps (linkOf start masterFresh masterFresh devicesFresh) (ticksOf (hereOf (start .devices)) (now (ticks .entry))))) (now (events .entry)) r (now (events .exit)) ⌝ }
 {
     let mut stx = [0u8; 284];
@@ -204,7 +202,7 @@ pub enum RunEnded {
     Refused(Refusal),
 }
 
-// Starts a link and runs it over a lent list of ticks. Each tick's number goes to the front of the lent events, for as many ticks as both hold. What is promised is the run that the definitions give, and demand 3 of it.
+// Starts a link and runs it over a lent list of ticks. Each tick's number goes to the front of the lent events, for as many ticks as both hold. What is promised is the run that the definitions give, demand 3, the credited answer and the BACKs of it, and at most one sender in each number.
 pub fn run(
     profile: Profile,
     retries: u8,

@@ -38,18 +38,18 @@ pub further-at : (t u r : Turn) (n : ℕ) → t ≡ u → r ≡ further u n → 
 further-at t u r n e p = p ∙ ap (λ (x : Turn). further x n) (sym e)
 
 module _ (speaks : Bool) (r : Receiver) (n : ℕ) (d e : Device) where
-  pub device-spoke : (p : Receiver) (t : Turn) → speaks ≡ true → p ≡ passing → t ≡ further (d .turn) n → e ≡ D.behind d p t (d .request) (d .wish) (d .length) 0 → e ≡ deviceSpoken speaks r n d
-  device-spoke p t q f g k = k ∙ (λ i. D.behind d (f i) (g i) (d .request) (d .wish) (d .length) 0) ∙ sym (if-is-true speaks _ _ q)
+  pub device-spoke : (p : Receiver) (t : Turn) → speaks ≡ true → p ≡ passing → t ≡ further (d .turn) n → e ≡ D.deviceWith d p t (d .request) (d .wish) (d .length) 0 → e ≡ deviceSpoken speaks r n d
+  device-spoke p t q f g k = k ∙ (λ i. D.deviceWith d (f i) (g i) (d .request) (d .wish) (d .length) 0) ∙ sym (if-is-true speaks _ _ q)
 
-  pub device-heard : speaks ≡ false → e ≡ D.behind d r Listens (d .request) Same (d .length) 0 → e ≡ deviceSpoken speaks r n d
+  pub device-heard : speaks ≡ false → e ≡ D.deviceWith d r Listens (d .request) Same (d .length) 0 → e ≡ deviceSpoken speaks r n d
   device-heard q k = k ∙ sym (if-is-false speaks _ _ q)
 
 module _ (speaks : Bool) (r : Receiver) (n : ℕ) (m k : Master) (t : Timer) where
-  pub master-spoke : (p : Receiver) (g : Message) → speaks ≡ true → p ≡ passing → t ≡ M.timer 0 → g ≡ M.staged (m .message) (Sending n) → k ≡ M.behind m p (m .burst) (m .noted) t g → k ≡ masterSpoken speaks r n m
-  master-spoke p g q f h j e = e ∙ (λ i. M.behind m (f i) (m .burst) (m .noted) (h i) (j i)) ∙ sym (if-is-true speaks _ _ q)
+  pub master-spoke : (p : Receiver) (g : Message) → speaks ≡ true → p ≡ passing → t ≡ M.timer 0 → g ≡ M.messageAt (m .message) (Sending n) → k ≡ M.masterWith m p (m .burst) (m .noted) t g → k ≡ masterSpoken speaks r n m
+  master-spoke p g q f h j e = e ∙ (λ i. M.masterWith m (f i) (m .burst) (m .noted) (h i) (j i)) ∙ sym (if-is-true speaks _ _ q)
 
-  pub master-heard : speaks ≡ false → t ≡ M.timer 0 → k ≡ M.behind m r (m .burst) (m .noted) t (m .message) → k ≡ masterSpoken speaks r n m
-  master-heard q h e = e ∙ (λ i. M.behind m r (m .burst) (m .noted) (h i) (m .message)) ∙ sym (if-is-false speaks _ _ q)
+  pub master-heard : speaks ≡ false → t ≡ M.timer 0 → k ≡ M.masterWith m r (m .burst) (m .noted) t (m .message) → k ≡ masterSpoken speaks r n m
+  master-heard q h e = e ∙ (λ i. M.masterWith m r (m .burst) (m .noted) (h i) (m .message)) ∙ sym (if-is-false speaks _ _ q)
 
 pub slot-spoken : (speaks : Bool) (r : Receiver) (n : ℕ) (s : Slot) (d e : Device) → s ≡ Present d → e ≡ deviceSpoken speaks r n d → Present e ≡ slotSpoken speaks r n s
 slot-spoken speaks r n s d e p q = ap Present q ∙ ap (slotSpoken speaks r n) (sym p)

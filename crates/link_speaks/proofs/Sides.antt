@@ -23,7 +23,7 @@ use Rattle.turns.specs.declared.Sent.{Sent}
 use Rattle.turns.specs.declared.Stage.{Stage}
 use Rattle.turns.specs.declared.Stage.the-variants.{Free, Waiting, Sending, Awaiting}
 use Rattle.turns.specs.declared.Turn.{Turn}
-use Rattle.turns.specs.declared.Turn.the-variants.{Listens, Asked, Accepted, Begins, Answers, Follows, Bursts}
+use Rattle.turns.specs.declared.Turn.the-variants.{Listens, Asked, AnswerWaits, Begins, Answers, Follows, Bursts}
 use Rattle.link_rests.specs.Rests.{isIdle}
 use Rattle.link_speaks.specs.Speaks.{hearerRole, turnRole, stageRole, stagedHearer, deviceRole, masterRole, lineAt, readerAt, dataAt, further, deviceSpoken, masterSpoken, dataBut}
 use Rattle.link_speaks.specs.declared.Role.{Role}
@@ -79,7 +79,7 @@ turn-deaf : (t : Turn) (length : ℕ) → turnRole t length ≡ Hears → ⊥
 unfolding kindOf
 turn-deaf Listens length k = differ Other Hears k (λ h. omega (arith, h))
 turn-deaf (Asked n) length k = differ Other Hears k (λ h. omega (arith, h))
-turn-deaf Accepted length k = differ Other Hears k (λ h. omega (arith, h))
+turn-deaf AnswerWaits length k = differ Other Hears k (λ h. omega (arith, h))
 turn-deaf Begins length k = differ Other Hears k (λ h. omega (arith, h))
 turn-deaf (Answers n) length k = differ (Speaks n length) Hears k (λ h. omega (arith, h))
 turn-deaf Follows length k = differ Other Hears k (λ h. omega (arith, h))
@@ -100,7 +100,7 @@ device-speaking from length d e = go (d .deaf) refl e
     by : (t : Turn) → d .deaf ≡ true → d .turn ≡ t → turnRole t (d .length) ≡ Speaks from length → Speaking from length d
     by Listens q f k = differ Other (Speaks from length) k (λ h. omega (arith, h))
     by (Asked n) q f k = differ Other (Speaks from length) k (λ h. omega (arith, h))
-    by Accepted q f k = differ Other (Speaks from length) k (λ h. omega (arith, h))
+    by AnswerWaits q f k = differ Other (Speaks from length) k (λ h. omega (arith, h))
     by Begins q f k = differ Other (Speaks from length) k (λ h. omega (arith, h))
     by (Answers n) q f k = in-answer q (f ∙ ap (λ (r : Role). Answers (nextOf r)) k) (ap lengthOf k)
     by Follows q f k = differ Other (Speaks from length) k (λ h. omega (arith, h))
@@ -193,7 +193,7 @@ module _ (frame : List ℕ) (from length : ℕ) where
   -- the speaker in its answer or in its burst: `turned` is the turn at a character's number
   module _ (x : DeviceSide) (heard : Heard) (turned : ℕ → Turn) (f : x .device .turn ≡ turned from) (on : (a b : ℕ) → further (turned a) b ≡ turned b) where
     abbrev spoke : ℕ → Turn → DeviceSide
-    spoke n t = withDevice x (D.behind (x .device) passing t (x .device .request) (x .device .wish) (x .device .length) 0) (x .bytes)
+    spoke n t = withDevice x (D.deviceWith (x .device) passing t (x .device .request) (x .device .wish) (x .device .length) 0) (x .bytes)
 
     turn-next : (n : ℕ) → turned (from + n + 1) ≡ further (x .device .turn) (from + suc n)
     turn-next n = let k : from + n + 1 ≡ from + suc n = omega arith in ap turned k ∙ sym (on from (from + suc n)) ∙ ap (λ (t : Turn). further t (from + suc n)) (sym f)
@@ -214,7 +214,7 @@ module _ (frame : List ℕ) (from length : ℕ) where
     below-at (suc n) g k = ap (λ (l : ℕ). from + suc n + 1 <? l) g ∙ k
 
     speaks-on : ((y : DeviceSide) (i : ℕ) → y .device .deaf ≡ true → y .device .turn ≡ turned i → (i + 1 <? y .device .length) ≡ true
-        → deviceTick 255 y heard no-call ≡ deviceDoes (withDevice y (D.behind (y .device) passing (turned (i + 1)) (y .device .request) (y .device .wish) (y .device .length) 0) (y .bytes)) (Sent.Character (byteAt (y .frame) i)))
+        → deviceTick 255 y heard no-call ≡ deviceDoes (withDevice y (D.deviceWith (y .device) passing (turned (i + 1)) (y .device .request) (y .device .wish) (y .device .length) 0) (y .bytes)) (Sent.Character (byteAt (y .frame) i)))
         → x .device .deaf ≡ true → x .device .length ≡ length → (n : ℕ) → (from + n + 1 <? length) ≡ true
         → deviceTick 255 (sideAt true n x) heard no-call ≡ deviceDoes (sideAt true (suc n) x) (Sent.Character (byteAt (x .frame) (from + n)))
     unfolding sideAt if_then_else_

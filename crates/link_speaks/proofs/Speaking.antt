@@ -16,7 +16,8 @@ use Rattle.turns.specs.Master as M
 use Rattle.turns.specs.Master.{masterTakes, masterSends}
 use Rattle.turns.specs.Device as D
 use Rattle.turns.specs.Device.{deviceTakes, deviceSends}
-use Rattle.turns.specs.Link.{no-request, no-call, none, MasterSide, MasterStep, masterCalls, masterTick, DeviceSide, DeviceStep, deviceCalls, deviceTick}
+use Rattle.turns.specs.Party.{none}
+use Rattle.turns.specs.Link.{no-request, no-call, MasterSide, MasterStep, masterCalls, masterTick, DeviceSide, DeviceStep, deviceCalls, deviceTick}
 use Rattle.turns.specs.declared.Device.{Device}
 use Rattle.turns.specs.declared.DeviceSent.{DeviceSent}
 use Rattle.turns.specs.declared.DeviceTold.{DeviceTold}
@@ -36,7 +37,7 @@ abbrev pub withDevice : DeviceSide → Device → List ℕ → DeviceSide
 withDevice x d bytes = record { device = d; frame = x .frame; bytes = bytes; contents = x .contents }
 
 abbrev pub deviceDoes : DeviceSide → Sent → DeviceStep
-deviceDoes x sent = record { side = x; sent = sent; told = DeviceTold.Nothing; answer = none }
+deviceDoes x sent = record { side = x; sent = sent; told = DeviceTold.Nothing; result = none }
 
 -- the same device, with what is known of it in place
 abbrev known : Device → Bool → Turn → Device
@@ -66,7 +67,7 @@ module _ (x : DeviceSide) where
       deviceCalls 255 (D.onCharacter d (t .receiver) (t .event)) no-call (D.errorFrame d (D.onCharacter d (t .receiver) (t .event) .event) (x .frame)) (takenData (d .receiver) (Character c) (x .bytes)) (x .contents)
 
   pub device-hears : (c : ℕ) (r : Receiver) → x .device .deaf ≡ false → taken (x .device .receiver) (Character c) ≡ tells r Event.Nothing
-      → deviceTick 255 x (Character c) no-call ≡ deviceDoes (withDevice x (D.behind (x .device) r Listens (x .device .request) Same (x .device .length) 0) (takenData (x .device .receiver) (Character c) (x .bytes))) Sent.Silent
+      → deviceTick 255 x (Character c) no-call ≡ deviceDoes (withDevice x (D.deviceWith (x .device) r Listens (x .device .request) Same (x .device .length) 0) (takenData (x .device .receiver) (Character c) (x .bytes))) Sent.Silent
   unfolding deviceTick deviceTakes deviceSends if_then_else_
   device-hears c r e k =
       let d = x .device in
@@ -74,13 +75,13 @@ module _ (x : DeviceSide) where
       let hears = known d false (d .turn) in
       ap (λ (y : Device). deviceTick 255 (withDevice x y (x .bytes)) (Character c) no-call) same
       ∙ ap (λ (t : Taken). heardBy hears t c) k
-      ∙ ap (λ (y : Device). deviceDoes (withDevice x (D.behind y r Listens (y .request) Same (y .length) 0) (takenData (y .receiver) (Character c) (x .bytes))) Sent.Silent) (sym same)
+      ∙ ap (λ (y : Device). deviceDoes (withDevice x (D.deviceWith y r Listens (y .request) Same (y .length) 0) (takenData (y .receiver) (Character c) (x .bytes))) Sent.Silent) (sym same)
 
   abbrev sentBy : DeviceSent → DeviceStep
   sentBy s = deviceDoes (withDevice x (s .device) (x .bytes)) (s .sent)
 
   pub device-answers : (heard : Heard) (i : ℕ) → x .device .deaf ≡ true → x .device .turn ≡ Answers i → (i + 1 <? x .device .length) ≡ true
-      → deviceTick 255 x heard no-call ≡ deviceDoes (withDevice x (D.behind (x .device) passing (Answers (i + 1)) (x .device .request) (x .device .wish) (x .device .length) 0) (x .bytes)) (Sent.Character (byteAt (x .frame) i))
+      → deviceTick 255 x heard no-call ≡ deviceDoes (withDevice x (D.deviceWith (x .device) passing (Answers (i + 1)) (x .device .request) (x .device .wish) (x .device .length) 0) (x .bytes)) (Sent.Character (byteAt (x .frame) i))
   unfolding deviceTick deviceTakes deviceSends if_then_else_
   device-answers heard i e f k =
       let d = x .device in
@@ -88,10 +89,10 @@ module _ (x : DeviceSide) where
       let speaks = known d true (Answers i) in
       ap (λ (y : Device). deviceTick 255 (withDevice x y (x .bytes)) heard no-call) same
       ∙ ap sentBy (if-is-true (i + 1 <? d .length) (D.sends speaks true (Answers (i + 1)) (d .length) (d .burst) (d .primary) 0 passing (Sent.Character (byteAt (x .frame) i))) _ k)
-      ∙ ap (λ (y : Device). deviceDoes (withDevice x (D.behind y passing (Answers (i + 1)) (y .request) (y .wish) (y .length) 0) (x .bytes)) (Sent.Character (byteAt (x .frame) i))) (sym same)
+      ∙ ap (λ (y : Device). deviceDoes (withDevice x (D.deviceWith y passing (Answers (i + 1)) (y .request) (y .wish) (y .length) 0) (x .bytes)) (Sent.Character (byteAt (x .frame) i))) (sym same)
 
   pub device-bursts : (heard : Heard) (i : ℕ) → x .device .deaf ≡ true → x .device .turn ≡ Bursts i → (i + 1 <? x .device .length) ≡ true
-      → deviceTick 255 x heard no-call ≡ deviceDoes (withDevice x (D.behind (x .device) passing (Bursts (i + 1)) (x .device .request) (x .device .wish) (x .device .length) 0) (x .bytes)) (Sent.Character (byteAt (x .frame) i))
+      → deviceTick 255 x heard no-call ≡ deviceDoes (withDevice x (D.deviceWith (x .device) passing (Bursts (i + 1)) (x .device .request) (x .device .wish) (x .device .length) 0) (x .bytes)) (Sent.Character (byteAt (x .frame) i))
   unfolding deviceTick deviceTakes deviceSends if_then_else_
   device-bursts heard i e f k =
       let d = x .device in
@@ -99,7 +100,7 @@ module _ (x : DeviceSide) where
       let speaks = known d true (Bursts i) in
       ap (λ (y : Device). deviceTick 255 (withDevice x y (x .bytes)) heard no-call) same
       ∙ ap sentBy (if-is-true (i + 1 <? d .length) (D.sends speaks true (Bursts (i + 1)) (d .length) (d .burst) (d .primary) 0 passing (Sent.Character (byteAt (x .frame) i))) _ k)
-      ∙ ap (λ (y : Device). deviceDoes (withDevice x (D.behind y passing (Bursts (i + 1)) (y .request) (y .wish) (y .length) 0) (x .bytes)) (Sent.Character (byteAt (x .frame) i))) (sym same)
+      ∙ ap (λ (y : Device). deviceDoes (withDevice x (D.deviceWith y passing (Bursts (i + 1)) (y .request) (y .wish) (y .length) 0) (x .bytes)) (Sent.Character (byteAt (x .frame) i))) (sym same)
 
 -- ---- a master
 
@@ -107,7 +108,7 @@ abbrev pub withMaster : MasterSide → Master → List ℕ → MasterSide
 withMaster x m bytes = record { master = m; frame = x .frame; bytes = bytes }
 
 abbrev pub masterDoes : MasterSide → Sent → MasterStep
-masterDoes x sent = record { side = x; sent = sent; told = MasterTold.Nothing; answer = none }
+masterDoes x sent = record { side = x; sent = sent; told = MasterTold.Nothing; result = none }
 
 abbrev knownMaster : Master → Bool → Stage → Master
 knownMaster m deaf stage = record {
@@ -119,7 +120,7 @@ knownMaster m deaf stage = record {
   burst = m .burst;
   noted = m .noted;
   timer = m .timer;
-  message = M.staged (m .message) stage;
+  message = M.messageAt (m .message) stage;
 }
 
 is-known-master : (m : Master) (deaf : Bool) (stage : Stage) → m .deaf ≡ deaf → m .message .stage ≡ stage → m ≡ knownMaster m deaf stage
@@ -136,7 +137,7 @@ module _ (x : MasterSide) where
   heardAs m t c = masterCalls 255 (M.onCharacter m (t .receiver) (t .event) (takenData (m .receiver) (Character c) (x .bytes))) no-request (x .frame) (takenData (m .receiver) (Character c) (x .bytes))
 
   abbrev hearsOn : Master → Receiver → ℕ → MasterStep
-  hearsOn m r c = masterDoes (withMaster x (M.behind m r (m .burst) (m .noted) (M.timer 0) (m .message)) (takenData (m .receiver) (Character c) (x .bytes))) Sent.Silent
+  hearsOn m r c = masterDoes (withMaster x (M.masterWith m r (m .burst) (m .noted) (M.timer 0) (m .message)) (takenData (m .receiver) (Character c) (x .bytes))) Sent.Silent
 
   silent-on : (s : Stage) → HearsIn s → (r : Receiver) (c : ℕ) → heardAs (knownMaster (x .master) false s) (tells r Event.Nothing) c ≡ hearsOn (knownMaster (x .master) false s) r c
   unfolding masterSends if_then_else_
@@ -159,7 +160,7 @@ module _ (x : MasterSide) where
   sentAs s = masterDoes (withMaster x (s .master) (x .bytes)) (s .sent)
 
   pub master-speaks : (heard : Heard) (i : ℕ) → x .master .deaf ≡ true → x .master .message .stage ≡ Sending i → (i + 1 <? x .master .message .length) ≡ true
-      → masterTick 255 x heard no-request ≡ masterDoes (withMaster x (M.behind (x .master) passing (x .master .burst) (x .master .noted) (M.timer 0) (M.staged (x .master .message) (Sending (i + 1)))) (x .bytes)) (Sent.Character (byteAt (x .frame) i))
+      → masterTick 255 x heard no-request ≡ masterDoes (withMaster x (M.masterWith (x .master) passing (x .master .burst) (x .master .noted) (M.timer 0) (M.messageAt (x .master .message) (Sending (i + 1)))) (x .bytes)) (Sent.Character (byteAt (x .frame) i))
   unfolding masterTick masterTakes masterSends if_then_else_
   master-speaks heard i e f k =
       let m = x .master in
@@ -167,4 +168,4 @@ module _ (x : MasterSide) where
       let speaks = knownMaster m true (Sending i) in
       ap (λ (y : Master). masterTick 255 (withMaster x y (x .bytes)) heard no-request) same
       ∙ ap sentAs (if-is-true (i + 1 <? m .message .length) (M.sends speaks true (M.timer 0) (M.attempted (speaks .message) (Sending (i + 1)) (m .message .attempts)) passing (Sent.Character (byteAt (x .frame) i))) _ k)
-      ∙ ap (λ (y : Master). masterDoes (withMaster x (M.behind y passing (y .burst) (y .noted) (M.timer 0) (M.staged (y .message) (Sending (i + 1)))) (x .bytes)) (Sent.Character (byteAt (x .frame) i))) (sym same)
+      ∙ ap (λ (y : Master). masterDoes (withMaster x (M.masterWith y passing (y .burst) (y .noted) (M.timer 0) (M.messageAt (y .message) (Sending (i + 1)))) (x .bytes)) (Sent.Character (byteAt (x .frame) i))) (sym same)

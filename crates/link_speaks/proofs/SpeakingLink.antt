@@ -1,13 +1,13 @@
 -- A link in which one party speaks: what it is behind so many ticks, and what is sent in each of them.
-use Prim.Native.Nat.{ℕ, zero, suc, _+_, _-_, _≤_, _<_}
+use Prim.Native.Nat.{ℕ, zero, suc, _+_, _<_}
 use native.Mathlib.Omega.{arith}
 use mathlib.Core.Bool.{Bool, true, false}
-use mathlib.Core.Path.{_≡_, refl, sym, ap, subst, _∙_}
+use mathlib.Core.Path.{_≡_, refl, sym, ap, _∙_}
 use mathlib.Core.List.{List, [], _∷_}
 use lib.ListN.{getD}
-use borrow.Author.Tests.{eqb-true, ne-eqb}
+use borrow.Author.Tests.{eqb-true}
 use Rattle.base.specs.Choice.{if_then_else_, _<?_, _=?_}
-use Rattle.base.proofs.Choices.{true-false, went-then, if-is-false}
+use Rattle.base.proofs.Choices.{true-false, went-then}
 use Rattle.base.proofs.Tables.{chain-first, chain-second}
 use Rattle.frame.specs.Address.{byteAt}
 use Rattle.line.specs.Reader.{taken}
@@ -21,24 +21,21 @@ use Rattle.turns.specs.declared.Master.{Master}
 use Rattle.turns.specs.declared.Sent.{Sent}
 use Rattle.device_tick.specs.Tick as T
 use Rattle.master.specs.Tick as M
-use Rattle.device.specs.Ready.{Ready}
-use Rattle.device.proofs.Reached.{SideReady, tick-ready}
-use Rattle.slots.specs.Slot.{Lent}
 use Rattle.slots.specs.declared.Slot.{Slot}
 use Rattle.slots.specs.declared.Slot.the-variants.{Absent, Present}
 use Rattle.link.specs.Link.{MasterLent, DevicesLent}
 use Rattle.link.specs.Sents.{devicesSent, sentOf}
-use Rattle.link.specs.Stands.{ofSlot, linkOf, SlotReady, LinkReady}
+use Rattle.link.specs.Stands.{linkOf}
 use Rattle.link.specs.declared.Link.{Link}
 use Rattle.link_rests.specs.Uncalled.{uncalledTick, afterTicks}
-use Rattle.link_speaks.specs.Speaks.{deviceRole, slotRole, masterRole, rolesOf, speakerFrom, isPreamble, speakerOf, lineAt, readerAt, dataAt, isNothing, goesOn, deviceSpoken, masterSpoken, slotSpoken, devicesSpoken, linkSpoken, dataBut, says, sayAlone, frameOf, DataHeard}
+use Rattle.link_speaks.specs.Speaks.{deviceRole, slotRole, masterRole, rolesOf, speakerFrom, isPreamble, speakerOf, lineAt, readerAt, isNothing, goesOn, deviceSpoken, masterSpoken, linkSpoken, says, sayAlone, frameOf, DataHeard}
 use Rattle.link_speaks.specs.declared.Role.{Role}
 use Rattle.link_speaks.specs.declared.Role.the-variants.{Hears, Speaks, Other}
 use Rattle.link_speaks.specs.declared.Speaker.{Speaker}
 use Rattle.link_speaks.specs.declared.Speaker.the-variants.{Nobody, Party}
 use Rattle.link_speaks.proofs.Speaking.{deviceDoes, masterDoes}
 use Rattle.link_speaks.proofs.Sides.{device-hearing, device-speaking, master-hearing, master-speaking, sideAt, side-hears, side-speaks, masterAt, master-side-hears, master-side-speaks}
-use Rattle.link_speaks.proofs.Alone.{roleFor, nobody-speaks, Alone, alone-is, line-alone}
+use Rattle.link_speaks.proofs.Alone.{roleFor, nobody-speaks, alone-is, line-alone}
 
 -- a slot with a role has its device
 data Has : Slot → Type 0 where
@@ -289,53 +286,3 @@ module _ (l : Link) (k from length : ℕ) (x y : MasterLent) (d : DevicesLent) (
 
   pub spoken-sent : Sends k from length x y d l
   spoken-sent = known .sent
-
--- ---- the devices' limits
-
-ready-at : (frame : List ℕ) (from length : ℕ) (speaks : Bool) (x : DeviceSide) → deviceRole (x .device) ≡ roleFor speaks from length → (speaks ≡ true → x .frame ≡ frame) → (n : ℕ) → ((i : ℕ) → i < n → GoesOn frame from length i)
-    → Ready (x .device) (x .frame) (x .contents) → Ready (sideAt frame from length speaks n x .device) (sideAt frame from length speaks n x .frame) (sideAt frame from length speaks n x .contents)
-unfolding sideAt
-ready-at frame from length speaks x e f zero g r = r
-ready-at frame from length speaks x e f (suc n) g r =
-    subst SideReady (device-step frame from length speaks x e f n (g n (omega arith))) (tick-ready (sideAt frame from length speaks n x) (Character (lineAt frame from n)) no-call (ready-at frame from length speaks x e f n (λ i h. g i (omega arith)) r))
-
-deviceIn : Device → Slot → Device
-deviceIn d Absent = d
-deviceIn d (Present e) = e
-
-slot-ready : (frame : List ℕ) (from length : ℕ) (speaks : Bool) (s : Slot) → Has s → (before after : Lent) → slotRole s ≡ roleFor speaks from length → (speaks ≡ true → before .frame ≡ frame) → (n : ℕ) → ((i : ℕ) → i < suc n → GoesOn frame from length i)
-    → after .frame ≡ before .frame → after .contents ≡ before .contents → SlotReady s before → SlotReady (slotSpoken speaks (readerAt frame from (suc n)) (from + suc n) s) after
-unfolding sideAt deviceIn
-slot-ready frame from length speaks _ (has d) before after e f n g p q k t m =
-    let behind : Device = deviceSpoken speaks (readerAt frame from (suc n)) (from + suc n) d in
-    let r = ready-at frame from length speaks (T.sideOf d (before .frame) (before .bytes) (before .contents)) e f (suc n) g (k d refl) in
-    subst (λ (v : Device). Ready v (after .frame) (after .contents)) (ap (deviceIn t) m)
-    (subst (λ (v : List ℕ). Ready behind (after .frame) v) (sym q) (subst (λ (v : List ℕ). Ready behind v (before .contents)) (sym p) r))
-
-module _ (l : Link) (k from length : ℕ) (x y : MasterLent) (d d' : DevicesLent) (e : speakerOf l ≡ Party k from length) (frames-same : d' .frames ≡ d .frames) (contents-same : d' .contents ≡ d .contents) where
-  abbrev spokenFrame : List ℕ
-  spokenFrame = frameOf k (x .frame) (y .frame) (d .frames)
-
-  own-frame : (i : ℕ) → (k =? (i + 2)) ≡ true → getD (d .frames) i [] ≡ spokenFrame
-  own-frame i q =
-      let same : k ≡ i + 2 = eqb-true k (i + 2) q in
-      let at : i ≡ k - 2 = omega (arith, same) in
-      ap (λ (j : ℕ). getD (d .frames) j []) at
-      ∙ sym (if-is-false (k =? 0) (x .frame) _ (ne-eqb k 0 (λ z. omega (arith, z, same))) ∙ if-is-false (k =? 1) (y .frame) _ (ne-eqb k 1 (λ z. omega (arith, z, same))))
-
-  at-slot : (i : ℕ) (s : Slot) → slotRole s ≡ roleFor (k =? (i + 2)) from length → (n : ℕ) → ((j : ℕ) → j < suc n → GoesOn spokenFrame from length j)
-      → SlotReady s (ofSlot d i) → SlotReady (slotSpoken (k =? (i + 2)) (readerAt spokenFrame from (suc n)) (from + suc n) s) (ofSlot d' i)
-  at-slot i s r n g = slot-ready spokenFrame from length (k =? (i + 2)) s (has-device s (k =? (i + 2)) from length r) (ofSlot d i) (ofSlot d' i) r (own-frame i) n g
-      (ap (λ (z : List (List ℕ)). getD z i []) frames-same) (ap (λ (z : List (List ℕ)). getD z i []) contents-same)
-
-  pub spoken-ready : (n : ℕ) → ((i : ℕ) → i < suc n → GoesOn spokenFrame from length i) → LinkReady (l .devices) d → LinkReady (devicesSpoken k (readerAt spokenFrame from (suc n)) (from + suc n) (l .devices)) d'
-  spoken-ready n g r =
-      let v = parts-are l k from length e in
-      record {
-        first = at-slot 0 (l .devices .low .left) (v .r2) n g (r .first);
-        second = at-slot 1 (l .devices .low .right) (v .r3) n g (r .second);
-        third = at-slot 2 (l .devices .middle .left) (v .r4) n g (r .third);
-        fourth = at-slot 3 (l .devices .middle .right) (v .r5) n g (r .fourth);
-        fifth = at-slot 4 (l .devices .high .left) (v .r6) n g (r .fifth);
-        sixth = at-slot 5 (l .devices .high .right) (v .r7) n g (r .sixth);
-      }

@@ -1,3 +1,4 @@
+-- Inner contracts: nothing that is to be believed rests on them.
 -- A link in which one party speaks: it is in the middle of its frame, and all the others hear that frame from its first character on. Until the frame ends or a host calls, the one goes on from character to character, and the readers of the others all stand at one place. So one reader serves them all.
 use Prim.Native.Nat.{ℕ, zero, suc, _+_, _-_, _≤_, _<_}
 use mathlib.Core.Bool.{Bool, true, false}
@@ -21,7 +22,7 @@ use Rattle.turns.specs.declared.Sent.{Sent}
 use Rattle.turns.specs.declared.Stage.{Stage}
 use Rattle.turns.specs.declared.Stage.the-variants.{Free, Waiting, Sending, Awaiting}
 use Rattle.turns.specs.declared.Turn.{Turn}
-use Rattle.turns.specs.declared.Turn.the-variants.{Listens, Asked, Accepted, Begins, Answers, Follows, Bursts}
+use Rattle.turns.specs.declared.Turn.the-variants.{Listens, Asked, AnswerWaits, Begins, Answers, Follows, Bursts}
 use Rattle.turns.specs.declared.Wish.the-variants.{Same}
 use Rattle.slots.specs.declared.Devices.{Devices}
 use Rattle.slots.specs.declared.Slot.{Slot}
@@ -45,7 +46,7 @@ hearerRole place = if isIdle place then Hears else Other
 abbrev pub turnRole : Turn → ℕ → Role
 turnRole Listens length = Other
 turnRole (Asked n) length = Other
-turnRole Accepted length = Other
+turnRole AnswerWaits length = Other
 turnRole Begins length = Other
 turnRole (Answers n) length = Speaks n length
 turnRole Follows length = Other
@@ -151,7 +152,7 @@ ticksFrom frame from length (suc more) n = if goesOn frame from length n then ti
 abbrev pub further : Turn → ℕ → Turn
 further Listens n = Listens
 further (Asked m) n = Asked m
-further Accepted n = Accepted
+further AnswerWaits n = AnswerWaits
 further Begins n = Begins
 further (Answers m) n = Answers n
 further Follows n = Follows
@@ -159,13 +160,13 @@ further (Bursts m) n = Bursts n
 
 abbrev pub deviceSpoken : Bool → Receiver → ℕ → Device → Device
 deviceSpoken speaks r n d =
-    if speaks then D.behind d passing (further (d .turn) n) (d .request) (d .wish) (d .length) 0
-    else D.behind d r Listens (d .request) Same (d .length) 0
+    if speaks then D.deviceWith d passing (further (d .turn) n) (d .request) (d .wish) (d .length) 0
+    else D.deviceWith d r Listens (d .request) Same (d .length) 0
 
 abbrev pub masterSpoken : Bool → Receiver → ℕ → Master → Master
 masterSpoken speaks r n m =
-    if speaks then M.behind m passing (m .burst) (m .noted) (M.timer 0) (M.staged (m .message) (Sending n))
-    else M.behind m r (m .burst) (m .noted) (M.timer 0) (m .message)
+    if speaks then M.masterWith m passing (m .burst) (m .noted) (M.timer 0) (M.messageAt (m .message) (Sending n))
+    else M.masterWith m r (m .burst) (m .noted) (M.timer 0) (m .message)
 
 abbrev pub slotSpoken : Bool → Receiver → ℕ → Slot → Slot
 slotSpoken speaks r n Absent = Absent

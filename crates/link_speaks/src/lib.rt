@@ -68,7 +68,7 @@ fn turn_role(turn: Turn, length: u16) -> Role
     match turn {
         Turn::Listens => Role::Other,
         Turn::Asked(_) => Role::Other,
-        Turn::Accepted => Role::Other,
+        Turn::AnswerWaits => Role::Other,
         Turn::Begins => Role::Other,
         Turn::Answers(n) => Role::Speaks(n, length),
         Turn::Follows => Role::Other,
@@ -398,7 +398,7 @@ fn further_turn(turn: Turn, n: u16) -> Turn
     match turn {
         Turn::Listens => Turn::Listens,
         Turn::Asked(m) => Turn::Asked(m),
-        Turn::Accepted => Turn::Accepted,
+        Turn::AnswerWaits => Turn::AnswerWaits,
         Turn::Begins => Turn::Begins,
         Turn::Answers(_) => Turn::Answers(n),
         Turn::Follows => Turn::Follows,

@@ -1,16 +1,17 @@
+-- How the code stands for what is to be believed.
 -- The start of a link: the lowest number of its parties' refusals, or the fresh link, with nothing on the line before.
 use Prim.Native.Nat.{ℕ}
 use mathlib.Core.Bool.{true, false}
 use Rattle.base.specs.Choice.{if_then_else_, _≤?_}
-use Rattle.base.specs.Refusal.{number}
-use Rattle.base.specs.declared.Refusal.{Refusal}
+use Rattle.base.specs.Refusal.{number, Called, accepted, refused}
 use Rattle.line.specs.declared.Heard.the-variants.{Silence}
 use Rattle.line.specs.declared.Profile.{Profile}
-use Rattle.turns.specs.Master.{Called, accepted, refused, masterStarts}
+use Rattle.turns.specs.Master.{masterStarts}
 use Rattle.turns.specs.Device.{deviceStarts}
 use Rattle.turns.specs.declared.Device.{Device}
 use Rattle.turns.specs.declared.Master.{Master}
 use Rattle.slots.specs.declared.Devices.{Devices}
+use Rattle.slots.specs.declared.Pair.{Pair}
 use Rattle.link_start.specs.declared.DevicesBegun.{DevicesBegun}
 use Rattle.link_start.specs.declared.DevicesSettings.{DevicesSettings}
 use Rattle.link.specs.declared.Link.{Link}
@@ -27,64 +28,80 @@ use Rattle.link_start.specs.declared.Verdict.{Verdict}
 use Rattle.link_start.specs.declared.Verdict.the-variants.{Taken}
 
 -- "In one place the lowest applies."
-abbrev pub lower : Refusal → Refusal → Refusal
-lower v w = if number v ≤? number w then v else w
+abbrev pub lower : ℕ → ℕ → ℕ
+lower v w = if v ≤? w then v else w
 
-abbrev pub lowest : Verdict → Verdict → Verdict
-lowest Taken y = y
-lowest (Verdict.Refused v) Taken = Verdict.Refused v
-lowest (Verdict.Refused v) (Verdict.Refused w) = Verdict.Refused (lower v w)
+-- two starts: what they make together where both were accepted, else the lowest number
+abbrev pub both : {A B C : Type 0} → (A → B → C) → Called A → Called B → Called C
+both makes (accepted a) (accepted b) = accepted (makes a b)
+both makes (accepted a) (refused w) = refused w
+both makes (refused v) (accepted b) = refused v
+both makes (refused v) (refused w) = refused (lower v w)
 
 -- a slot's device, where its start accepted it
-abbrev pub slotBegun : Called Device → SlotBegun
-slotBegun (accepted d) = record { slot = Present d; verdict = Taken }
-slotBegun (refused why) = record { slot = Absent; verdict = Verdict.Refused why }
+abbrev pub inSlot : Called Device → Called Slot
+inSlot (accepted d) = accepted (Present d)
+inSlot (refused why) = refused why
 
-abbrev pub slotStarts : Profile → SlotSetting → SlotBegun
-slotStarts p SlotSetting.Absent = record { slot = Absent; verdict = Taken }
-slotStarts p (SlotSetting.Present s) = slotBegun (deviceStarts p (s .preamble) (s .polling) (s .unique))
+abbrev pub slotStarts : Profile → SlotSetting → Called Slot
+slotStarts p SlotSetting.Absent = accepted Absent
+slotStarts p (SlotSetting.Present s) = inSlot (deviceStarts p (s .preamble) (s .polling) (s .unique))
 
-abbrev pub pairBegun : SlotBegun → SlotBegun → PairBegun
-pairBegun a b = record { pair = record { left = a .slot; right = b .slot }; verdict = lowest (a .verdict) (b .verdict) }
+abbrev pub pairOf : Slot → Slot → Pair
+pairOf a b = record { left = a; right = b }
 
-abbrev pub pairStarts : Profile → PairSettings → PairBegun
-pairStarts p s = pairBegun (slotStarts p (s .left)) (slotStarts p (s .right))
+abbrev pub pairStarts : Profile → PairSettings → Called Pair
+pairStarts p s = both pairOf (slotStarts p (s .left)) (slotStarts p (s .right))
 
-abbrev pub devicesBegun : PairBegun → PairBegun → PairBegun → DevicesBegun
-devicesBegun a b c = record {
-  devices = record { low = a .pair; middle = b .pair; high = c .pair };
-  verdict = lowest (a .verdict) (lowest (b .verdict) (c .verdict));
-}
+abbrev pub threeOf : Pair → Pair × Pair → Devices
+threeOf low rest = record { low = low; middle = rest .0; high = rest .1 }
 
-abbrev pub devicesStart : Profile → DevicesSettings → DevicesBegun
-devicesStart p s = devicesBegun (pairStarts p (s .low)) (pairStarts p (s .middle)) (pairStarts p (s .high))
+-- two of the three pairs
+abbrev pub twoOf : Pair → Pair → Pair × Pair
+twoOf middle high = (middle, high)
 
-abbrev pub bothMasters : Called Master → Called Master → Called Masters
-bothMasters (accepted a) (accepted b) = accepted (record { primary = a; secondary = b })
-bothMasters (accepted a) (refused w) = refused w
-bothMasters (refused v) (accepted b) = refused v
-bothMasters (refused v) (refused w) = refused (lower v w)
+abbrev pub devicesStart : Profile → DevicesSettings → Called Devices
+devicesStart p s = both threeOf (pairStarts p (s .low)) (both twoOf (pairStarts p (s .middle)) (pairStarts p (s .high)))
+
+abbrev pub mastersOf : Master → Master → Masters
+mastersOf a b = record { primary = a; secondary = b }
 
 abbrev pub mastersStart : Profile → ℕ → Called Masters
-mastersStart p retries = bothMasters (masterStarts p true retries) (masterStarts p false retries)
+mastersStart p retries = both mastersOf (masterStarts p true retries) (masterStarts p false retries)
 
 abbrev pub freshLink : Masters → Devices → Link
 freshLink m d = record { masters = m; devices = d; line = Silence }
 
-abbrev pub linkBegun : Called Masters → Devices → Verdict → Called Link
-linkBegun (accepted m) d Taken = accepted (freshLink m d)
-linkBegun (accepted m) d (Verdict.Refused w) = refused w
-linkBegun (refused v) d Taken = refused v
-linkBegun (refused v) d (Verdict.Refused w) = refused (lower v w)
-
 abbrev pub linkStarts : Profile → ℕ → DevicesSettings → Called Link
-linkStarts p retries s = linkBegun (mastersStart p retries) (devicesStart p s .devices) (devicesStart p s .verdict)
+linkStarts p retries s = both freshLink (mastersStart p retries) (devicesStart p s)
 
--- the answers: what was made, or the refusal with its number in document 01's table
+-- ---- what the code's answers say
+
+-- what was made, with the verdict on it
+abbrev pub made : {A : Type 0} → A → Verdict → Called A
+made a Taken = accepted a
+made a (Verdict.Refused why) = refused (number why)
+
+-- a verdict alone, and the lowest of two
+abbrev pub verdictAs : Verdict → Called (Unit {0})
+verdictAs v = made tt v
+
+abbrev pub lowest : Called (Unit {0}) → Called (Unit {0}) → Called (Unit {0})
+lowest x y = both (λ a b. tt) x y
+
+abbrev pub slotAs : SlotBegun → Called Slot
+slotAs b = made (b .slot) (b .verdict)
+
+abbrev pub pairAs : PairBegun → Called Pair
+pairAs b = made (b .pair) (b .verdict)
+
+abbrev pub devicesAs : DevicesBegun → Called Devices
+devicesAs b = made (b .devices) (b .verdict)
+
 abbrev pub mastersAs : MastersStarted → Called Masters
 mastersAs (MastersStarted.Started m) = accepted m
-mastersAs (MastersStarted.Refused why) = refused why
+mastersAs (MastersStarted.Refused why) = refused (number why)
 
 abbrev pub linkAs : LinkStarted → Called Link
 linkAs (LinkStarted.Started l) = accepted l
-linkAs (LinkStarted.Refused why) = refused why
+linkAs (LinkStarted.Refused why) = refused (number why)

@@ -10,9 +10,9 @@ use slots::Pair;
 use slots::Slot;
 use turns::Master;
 ghost use mathlib.Core.Path.{_≡_};
-ghost use Rattle.turns.specs.Master.{accepted, refused};
+ghost use Rattle.base.specs.Refusal.{number, accepted, refused};
 ghost use Rattle.master.specs.Answers.{started};
-ghost use Rattle.link_start.specs.Start.{lower, lowest, slotStarts, pairBegun, pairStarts, devicesBegun, devicesStart, bothMasters, mastersStart, linkBegun, linkStarts, mastersAs, linkAs};
+ghost use Rattle.link_start.specs.Start.{lower, both, slotStarts, pairOf, pairStarts, threeOf, twoOf, devicesStart, mastersOf, mastersStart, freshLink, linkStarts, verdictAs, lowest, slotAs, pairAs, devicesAs, mastersAs, linkAs};
 
 // What a device is started with.
 pub struct Setting {
@@ -70,7 +70,7 @@ pub enum LinkStarted {
 
 // The refusal with the lower number.
 fn lower_of(v: Refusal, w: Refusal) -> Refusal
-    ensures { λ r. ⌜ r ≡ lower v w ⌝ }
+    ensures { λ r. ⌜ number r ≡ lower (number v) (number w) ⌝ }
 {
     let a = v.number();
     let b = w.number();
@@ -81,7 +81,7 @@ fn lower_of(v: Refusal, w: Refusal) -> Refusal
 }
 
 fn lowest_with(v: Refusal, y: Verdict) -> Verdict
-    ensures { λ r. ⌜ r ≡ lowest (Verdict.Refused v) y ⌝ }
+    ensures { λ r. ⌜ verdictAs r ≡ lowest (refused (number v)) (verdictAs y) ⌝ }
 {
     match y {
         Verdict::Taken => Verdict::Refused(v),
@@ -90,7 +90,7 @@ fn lowest_with(v: Refusal, y: Verdict) -> Verdict
 }
 
 fn lowest_of(x: Verdict, y: Verdict) -> Verdict
-    ensures { λ r. ⌜ r ≡ lowest x y ⌝ }
+    ensures { λ r. ⌜ verdictAs r ≡ lowest (verdictAs x) (verdictAs y) ⌝ }
 {
     match x {
         Verdict::Taken => y,
@@ -99,7 +99,7 @@ fn lowest_of(x: Verdict, y: Verdict) -> Verdict
 }
 
 fn device_begins(profile: Profile, s: Setting) -> SlotBegun
-    ensures { λ r. ⌜ r ≡ slotStarts profile (SlotSetting.Present s) ⌝ }
+    ensures { λ r. ⌜ slotAs r ≡ slotStarts profile (SlotSetting.Present s) ⌝ }
 {
     let d = device::start(profile, s.preamble, s.polling, s.unique);
     match d {
@@ -115,7 +115,7 @@ fn device_begins(profile: Profile, s: Setting) -> SlotBegun
 }
 
 fn slot_begins(profile: Profile, s: SlotSetting) -> SlotBegun
-    ensures { λ r. ⌜ r ≡ slotStarts profile s ⌝ }
+    ensures { λ r. ⌜ slotAs r ≡ slotStarts profile s ⌝ }
 {
     match s {
         SlotSetting::Absent => SlotBegun {
@@ -127,7 +127,7 @@ fn slot_begins(profile: Profile, s: SlotSetting) -> SlotBegun
 }
 
 fn pair_of(a: SlotBegun, b: SlotBegun) -> PairBegun
-    ensures { λ r. ⌜ r ≡ pairBegun a b ⌝ }
+    ensures { λ r. ⌜ pairAs r ≡ both pairOf (slotAs a) (slotAs b) ⌝ }
 {
     let left = a.slot;
     let right = b.slot;
@@ -144,7 +144,7 @@ fn pair_of(a: SlotBegun, b: SlotBegun) -> PairBegun
 }
 
 fn pair_begins(profile: Profile, s: PairSettings) -> PairBegun
-    ensures { λ r. ⌜ r ≡ pairStarts profile s ⌝ }
+    ensures { λ r. ⌜ pairAs r ≡ pairStarts profile s ⌝ }
 {
     let a = s.left;
     let b = s.right;
@@ -152,7 +152,7 @@ fn pair_begins(profile: Profile, s: PairSettings) -> PairBegun
 }
 
 fn devices_of(a: PairBegun, b: PairBegun, c: PairBegun) -> DevicesBegun
-    ensures { λ r. ⌜ r ≡ devicesBegun a b c ⌝ }
+    ensures { λ r. ⌜ devicesAs r ≡ both threeOf (pairAs a) (both twoOf (pairAs b) (pairAs c)) ⌝ }
 {
     let low = a.pair;
     let middle = b.pair;
@@ -172,7 +172,7 @@ fn devices_of(a: PairBegun, b: PairBegun, c: PairBegun) -> DevicesBegun
 }
 
 fn devices_begin(profile: Profile, s: DevicesSettings) -> DevicesBegun
-    ensures { λ r. ⌜ r ≡ devicesStart profile s ⌝ }
+    ensures { λ r. ⌜ devicesAs r ≡ devicesStart profile s ⌝ }
 {
     let a = s.low;
     let b = s.middle;
@@ -185,7 +185,7 @@ fn devices_begin(profile: Profile, s: DevicesSettings) -> DevicesBegun
 }
 
 fn secondary_beside(a: Master, s: MasterStarted) -> MastersStarted
-    ensures { λ r. ⌜ mastersAs r ≡ bothMasters (accepted a) (started s) ⌝ }
+    ensures { λ r. ⌜ mastersAs r ≡ both mastersOf (accepted a) (started s) ⌝ }
 {
     match s {
         MasterStarted::Started(b) => MastersStarted::Started(Masters {
@@ -197,7 +197,7 @@ fn secondary_beside(a: Master, s: MasterStarted) -> MastersStarted
 }
 
 fn secondary_behind(v: Refusal, s: MasterStarted) -> MastersStarted
-    ensures { λ r. ⌜ mastersAs r ≡ bothMasters (refused v) (started s) ⌝ }
+    ensures { λ r. ⌜ mastersAs r ≡ both mastersOf (refused (number v)) (started s) ⌝ }
 {
     match s {
         MasterStarted::Started(_) => MastersStarted::Refused(v),
@@ -206,7 +206,7 @@ fn secondary_behind(v: Refusal, s: MasterStarted) -> MastersStarted
 }
 
 fn both_masters(p: MasterStarted, s: MasterStarted) -> MastersStarted
-    ensures { λ r. ⌜ mastersAs r ≡ bothMasters (started p) (started s) ⌝ }
+    ensures { λ r. ⌜ mastersAs r ≡ both mastersOf (started p) (started s) ⌝ }
 {
     match p {
         MasterStarted::Started(a) => secondary_beside(a, s),
@@ -223,7 +223,7 @@ fn masters_begin(profile: Profile, retries: u8) -> MastersStarted
 }
 
 fn with_masters(m: Masters, d: DevicesBegun) -> LinkStarted
-    ensures { λ r. ⌜ linkAs r ≡ linkBegun (accepted m) (d .devices) (d .verdict) ⌝ }
+    ensures { λ r. ⌜ linkAs r ≡ both freshLink (accepted m) (devicesAs d) ⌝ }
 {
     let devices = d.devices;
     let verdict = d.verdict;
@@ -238,7 +238,7 @@ fn with_masters(m: Masters, d: DevicesBegun) -> LinkStarted
 }
 
 fn without_masters(v: Refusal, d: DevicesBegun) -> LinkStarted
-    ensures { λ r. ⌜ linkAs r ≡ linkBegun (refused v) (d .devices) (d .verdict) ⌝ }
+    ensures { λ r. ⌜ linkAs r ≡ both freshLink (refused (number v)) (devicesAs d) ⌝ }
 {
     let verdict = d.verdict;
     match verdict {

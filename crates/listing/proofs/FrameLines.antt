@@ -24,9 +24,9 @@ use Rattle.turns.specs.Gaps.{masterSents, deviceSents, IsFrame, NoGap, no-tick,
 use Rattle.turns.specs.declared.Sent.{Sent}
 use Rattle.turns.specs.declared.Sent.the-variants.{Silent}
 use Rattle.turns.proofs.NoGaps.{master-leaves-no-gap, device-leaves-no-gap}
-use Rattle.listing.specs.Lines.{Line, lineOf, quietEar, PartyLines, goesOn, frameEnds, endsBy, endsWith, oneMore, listens}
+use Rattle.listing.specs.Lines.{Line, lineOf, quietMonitor, PartyLines, goesOn, frameEnds, endsBy, endsWith, oneMore, listens}
 use Rattle.listing.specs.FrameLines.{characters, aloneFor, partyLines, frameLine, Frames, at-stop, silent, sent-to-end, stopped, ListedAsSent, MasterListed, DeviceListed}
-use Rattle.listing.specs.declared.Ear.{Ear}
+use Rattle.listing.specs.declared.Monitor.{Monitor}
 
 -- ---- choices
 
@@ -97,10 +97,10 @@ whole-at-last w f =
       short = omega (arith, long .as-the-fields-say, long .at-most);
     }
 
--- ---- the ear
+-- ---- the monitor
 
-abbrev earAt : Receiver → ℕ → Bool → Ear
-earAt r k alone = record { receiver = r; count = k; alone = alone }
+abbrev monitorAt : Receiver → ℕ → Bool → Monitor
+monitorAt r k alone = record { receiver = r; count = k; alone = alone }
 
 more : (k : ℕ) → k < 65535 → oneMore k ≡ k + 1
 more k h = sym (if-below k 65535 (k + 1) (k + 1) 65535 h refl)
@@ -108,41 +108,41 @@ more k h = sym (if-below k 65535 (k + 1) (k + 1) 65535 h refl)
 module _ (lone : ℕ → Bool) (party : ℕ) where
   -- a character of which the reader tells nothing, and the last of a frame
   hears-nothing : (tick : ℕ) (r s : Receiver) (k c : ℕ) (alone : Bool) → taken r (Character c) ≡ tells s Nothing
-      → listens tick party (lone tick) (earAt r k alone) (Sent.Character c) ≡ goesOn s (oneMore k) (if alone then lone tick else false)
+      → listens tick party (lone tick) (monitorAt r k alone) (Sent.Character c) ≡ goesOn s (oneMore k) (if alone then lone tick else false)
   unfolding listens endsWith
   hears-nothing tick r s k c alone e = ap (λ (t : Taken). endsBy tick party (oneMore k) (if alone then lone tick else false) (t .receiver) (t .event)) e
 
   hears-last : (tick : ℕ) (r : Receiver) (k c : ℕ) (alone : Bool) (w : Whole) → taken r (Character c) ≡ tells idle (Frame w)
-      → listens tick party (lone tick) (earAt r k alone) (Sent.Character c) ≡ frameEnds (lineOf tick party (w .header) (oneMore k)) (if alone then lone tick else false)
+      → listens tick party (lone tick) (monitorAt r k alone) (Sent.Character c) ≡ frameEnds (lineOf tick party (w .header) (oneMore k)) (if alone then lone tick else false)
   unfolding listens endsWith
   hears-last tick r k c alone w e = ap (λ (t : Taken). endsBy tick party (oneMore k) (if alone then lone tick else false) (t .receiver) (t .event)) e
 
   -- the lines behind a tick
   behindTick : ℕ → List Sent → PartyLines → List Line
-  behindTick tick us x = x .lines ++ partyLines lone party (tick + 1) (x .ear) us
+  behindTick tick us x = x .lines ++ partyLines lone party (tick + 1) (x .monitor) us
 
   -- characters of which the reader tells nothing
   no-line : {r s : Receiver} {b d cs : List ℕ} (tick k : ℕ) (alone : Bool) (us : List Sent) → Leads r b cs s d → k + length cs ≤ 65535
-      → partyLines lone party tick (earAt r k alone) (characters cs ++ us)
-      ≡ partyLines lone party (tick + length cs) (earAt s (k + length cs) (if alone then aloneFor lone tick (length cs) else false)) us
+      → partyLines lone party tick (monitorAt r k alone) (characters cs ++ us)
+      ≡ partyLines lone party (tick + length cs) (monitorAt s (k + length cs) (if alone then aloneFor lone tick (length cs) else false)) us
   unfolding partyLines characters aloneFor behindTick
   no-line {r} tick k alone us stays small =
       let t : tick ≡ tick + 0 = omega arith in
       let n : k ≡ k + 0 = omega arith in
-      λ i. partyLines lone party (t i) (earAt r (n i) (itself alone i)) us
+      λ i. partyLines lone party (t i) (monitorAt r (n i) (itself alone i)) us
   no-line {r} tick k alone us (hears {s = s} {t = t} {c = c} {cs = cs} p q l) small =
       let below : k < 65535 = omega arith in
       let ticks : tick + 1 + length cs ≡ tick + suc (length cs) = omega arith in
       let counts : k + 1 + length cs ≡ k + suc (length cs) = omega arith in
       let now : Bool = if alone then lone tick else false in
       ap (behindTick tick (characters cs ++ us)) (hears-nothing tick r s k c alone p)
-      ∙ ap (λ (n : ℕ). partyLines lone party (tick + 1) (earAt s n now) (characters cs ++ us)) (more k below)
+      ∙ ap (λ (n : ℕ). partyLines lone party (tick + 1) (monitorAt s n now) (characters cs ++ us)) (more k below)
       ∙ no-line (tick + 1) (k + 1) now us l (omega arith)
-      ∙ (λ i. partyLines lone party (ticks i) (earAt t (counts i) (both-then alone (lone tick) (aloneFor lone (tick + 1) (length cs)) i)) us)
+      ∙ (λ i. partyLines lone party (ticks i) (monitorAt t (counts i) (both-then alone (lone tick) (aloneFor lone (tick + 1) (length cs)) i)) us)
 
   -- the stop comes before the last character
   no-line-at-stop : {r s : Receiver} {b d cs : List ℕ} (tick k n : ℕ) (alone : Bool) (us : List ℕ) → Leads r b cs s d → n ≤ length cs
-      → partyLines lone party tick (earAt r k alone) (characters (take n (cs ++ us))) ≡ []
+      → partyLines lone party tick (monitorAt r k alone) (characters (take n (cs ++ us))) ≡ []
   unfolding partyLines characters behindTick
   no-line-at-stop tick k zero alone us l small = refl
   no-line-at-stop tick k (suc n) alone us stays small = absurd (omega arith)
@@ -152,7 +152,7 @@ module _ (lone : ℕ → Bool) (party : ℕ) where
 
   -- a frame from its first character to its last
   one-line : (tick : ℕ) (w : List ℕ) (f : IsFrame w) (us : List Sent)
-      → partyLines lone party tick quietEar (characters w ++ us) ≡ frameLine lone party tick w f ++ partyLines lone party (tick + length w) quietEar us
+      → partyLines lone party tick quietMonitor (characters w ++ us) ≡ frameLine lone party tick w f ++ partyLines lone party (tick + length w) quietMonitor us
   unfolding partyLines frameLine frameEnds behindTick
   one-line tick w f us =
       let x = whole-at-last w f in
@@ -165,11 +165,11 @@ module _ (lone : ℕ → Bool) (party : ℕ) where
       let last : tick + n ≡ tick + length w - 1 = omega (arith, long) in
       let behind : tick + n + 1 ≡ tick + length w = omega (arith, long) in
       let count : oneMore (0 + n) ≡ length w = more (0 + n) (omega (arith, long, x .short)) ∙ (omega (arith, long)) in
-      ap (λ (l : List ℕ). partyLines lone party tick quietEar (characters l ++ us)) (x .is)
-      ∙ ap (partyLines lone party tick quietEar) (characters-end (x .front) c us)
+      ap (λ (l : List ℕ). partyLines lone party tick quietMonitor (characters l ++ us)) (x .is)
+      ∙ ap (partyLines lone party tick quietMonitor) (characters-end (x .front) c us)
       ∙ no-line tick 0 true (Sent.Character c ∷ us) (x .leads) (omega (arith, long, x .short))
       ∙ ap (behindTick (tick + n) us) (hears-last (tick + n) (x .reader) (0 + n) c before (x .whole) (x .told))
-      ∙ (λ i. (if alone i then lineOf (last i) party (x .header-is i) (count i) ∷ [] else []) ++ partyLines lone party (behind i) quietEar us)
+      ∙ (λ i. (if alone i then lineOf (last i) party (x .header-is i) (count i) ∷ [] else []) ++ partyLines lone party (behind i) quietMonitor us)
 
   -- ---- what a party sends, as silent ticks and frames
 
@@ -215,14 +215,14 @@ listed-as-sent lone party tick _ _ (sent-to-end {w = w} {ss = ss} {ls = ls} f fs
 listed-as-sent lone party tick _ _ (stopped {n = n} {w = w} f below) =
     let x = whole-at-last w f in
     let long : length w ≡ length (x .front) + 1 = ap (λ (l : List ℕ). length l) (x .is) ∙ length-append (x .front) (x .last ∷ []) in
-    ap (λ (l : List ℕ). partyLines lone party tick quietEar (characters (take n l))) (x .is)
+    ap (λ (l : List ℕ). partyLines lone party tick quietMonitor (characters (take n l))) (x .is)
     ∙ no-line-at-stop lone party tick 0 n true (x .last ∷ []) (x .leads) (omega (arith, long))
 
-pub no-gap-listed : (lone : ℕ → Bool) (party tick : ℕ) (ss : List Sent) → NoGap [] ss → Frames lone party tick ss (partyLines lone party tick quietEar ss)
+pub no-gap-listed : (lone : ℕ → Bool) (party tick : ℕ) (ss : List Sent) → NoGap [] ss → Frames lone party tick ss (partyLines lone party tick quietMonitor ss)
 unfolding characters
 no-gap-listed lone party tick ss g = go (behind lone party tick g)
   where
-    go : Behind lone party tick [] ss → Frames lone party tick ss (partyLines lone party tick quietEar ss)
+    go : Behind lone party tick [] ss → Frames lone party tick ss (partyLines lone party tick quietMonitor ss)
     go (ends rest ls at t e f) =
         let now : at ≡ tick = omega (arith, t) in
         let here : Frames lone party tick ss ls = subst₂ (λ (n : ℕ) (l : List Sent). Frames lone party n l ls) now e f in

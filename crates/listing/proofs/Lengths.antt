@@ -19,7 +19,7 @@ use Rattle.turns.specs.declared.Sent.{Sent}
 use Rattle.turns.specs.declared.Sent.the-variants.{Silent}
 use Rattle.listing.specs.Lines.{Line, frameEnds, endsBy, endsWith, oneMore, listens, linesOf, senders, isLone, tickLines, linesFrom}
 use Rattle.listing.specs.Text.{decimalOf, decimal, headLine, typeName, masterDigit, word, lineText, linesText}
-use Rattle.listing.specs.declared.Ear.{Ear}
+use Rattle.listing.specs.declared.Monitor.{Monitor}
 
 -- ---- a line
 
@@ -102,7 +102,7 @@ both-most true false = (omega arith, omega arith)
 both-most false true = (omega arith, omega arith)
 both-most false false = (omega arith, omega arith)
 
-party-most : (tick party : ℕ) (lone : Bool) (e : Ear) (s : Sent) → (length (listens tick party lone e s .lines) ≤ count s) × (length (listens tick party lone e s .lines) ≤ most lone)
+party-most : (tick party : ℕ) (lone : Bool) (e : Monitor) (s : Sent) → (length (listens tick party lone e s .lines) ≤ count s) × (length (listens tick party lone e s .lines) ≤ most lone)
 unfolding listens
 party-most tick party lone e Silent = (omega arith, omega arith)
 party-most tick party lone e (Sent.Character c) =
@@ -110,21 +110,21 @@ party-most tick party lone e (Sent.Character c) =
     let bounds = both-most (e .alone) lone in
     (omega (arith, here, bounds .0, bounds .1), omega (arith, here, bounds .0))
 
-lines-senders : (tick party : ℕ) (lone : Bool) (es : List Ear) (ss : List Sent) → length (linesOf tick party lone es ss .lines) ≤ senders ss
+lines-senders : (tick party : ℕ) (lone : Bool) (es : List Monitor) (ss : List Sent) → length (linesOf tick party lone es ss .lines) ≤ senders ss
 unfolding linesOf senders
 lines-senders tick party lone [] ss = omega arith
 lines-senders tick party lone (e ∷ es) [] = omega arith
 lines-senders tick party lone (e ∷ es) (s ∷ ss) =
     omega (arith, length-append (listens tick party lone e s .lines) (linesOf tick (party + 1) lone es ss .lines), party-most tick party lone e s .0, lines-senders tick (party + 1) lone es ss)
 
-lines-shared : (tick party : ℕ) (es : List Ear) (ss : List Sent) → length (linesOf tick party false es ss .lines) ≤ 0
+lines-shared : (tick party : ℕ) (es : List Monitor) (ss : List Sent) → length (linesOf tick party false es ss .lines) ≤ 0
 unfolding linesOf if_then_else_
 lines-shared tick party [] ss = omega arith
 lines-shared tick party (e ∷ es) [] = omega arith
 lines-shared tick party (e ∷ es) (s ∷ ss) =
     omega (arith, length-append (listens tick party false e s .lines) (linesOf tick (party + 1) false es ss .lines), party-most tick party false e s .1, lines-shared tick (party + 1) es ss)
 
-pub tick-most : (tick : ℕ) (es : List Ear) (ss : List Sent) → length (tickLines tick es ss .lines) ≤ 1
+pub tick-most : (tick : ℕ) (es : List Monitor) (ss : List Sent) → length (tickLines tick es ss .lines) ≤ 1
 unfolding tickLines
 tick-most tick es ss = go (isLone ss) refl
   where
@@ -134,13 +134,13 @@ tick-most tick es ss = go (isLone ss) refl
 
 -- ---- a list of ticks
 
-from-most : (tick : ℕ) (es : List Ear) (ticks : List (List Sent)) → length (linesFrom tick es ticks) ≤ length ticks
+from-most : (tick : ℕ) (es : List Monitor) (ticks : List (List Sent)) → length (linesFrom tick es ticks) ≤ length ticks
 unfolding linesFrom
 from-most tick es [] = omega arith
 from-most tick es (ss ∷ ticks) =
     let now = tickLines tick es ss in
-    omega (arith, length-append (now .lines) (linesFrom (tick + 1) (now .ears) ticks), tick-most tick es ss, from-most (tick + 1) (now .ears) ticks)
+    omega (arith, length-append (now .lines) (linesFrom (tick + 1) (now .monitors) ticks), tick-most tick es ss, from-most (tick + 1) (now .monitors) ticks)
 
 -- the header line has 30 bytes
-pub listing-most : (tick : ℕ) (es : List Ear) (ticks : List (List Sent)) → length (headLine ++ linesText (linesFrom tick es ticks)) ≤ 30 + 25 * length ticks
+pub listing-most : (tick : ℕ) (es : List Monitor) (ticks : List (List Sent)) → length (headLine ++ linesText (linesFrom tick es ticks)) ≤ 30 + 25 * length ticks
 listing-most tick es ticks = omega (arith, length-append headLine (linesText (linesFrom tick es ticks)), lines-most (linesFrom tick es ticks), from-most tick es ticks)

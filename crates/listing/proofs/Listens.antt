@@ -15,47 +15,47 @@ use Rattle.line.specs.declared.Event.the-variants.{Nothing, PassedOver, Broken,
 use Rattle.line.specs.declared.Receiver.{Receiver}
 use Rattle.line.specs.declared.Taken.{Taken}
 use Rattle.line.specs.declared.Whole.{Whole}
-use Rattle.line.specs.declared.Harm.{Harm}
+use Rattle.line.specs.declared.FrameDamage.{FrameDamage}
 use Rattle.turns.specs.Run.{count}
 use Rattle.turns.specs.declared.Sent.{Sent}
 use Rattle.turns.specs.declared.Sent.the-variants.{Silent}
-use Rattle.listing.specs.Lines.{Line, lineOf, quietEar, PartyLines, goesOn, frameEnds, endsBy, endsWith, oneMore, listens, TickLines, besides, linesOf, senders, tickLines, linesFrom}
+use Rattle.listing.specs.Lines.{Line, lineOf, quietMonitor, PartyLines, goesOn, frameEnds, endsBy, endsWith, oneMore, listens, TickLines, besides, linesOf, senders, tickLines, linesFrom}
 use Rattle.listing.specs.Put.{Out, outOf, put, PutIs}
 use Rattle.listing.specs.Text.{lineText, linesText}
-use Rattle.listing.specs.Promises.{SendsIs, PartyIs, TickIs}
-use Rattle.listing.specs.declared.Ear.{Ear}
+use Rattle.listing.specs.Promises.{SendsIs, PartyIs, TickLinesAre}
+use Rattle.listing.specs.declared.Monitor.{Monitor}
 use Rattle.listing.proofs.Puts.{put-append, put-none, put-same, put-then, put-length}
 
--- quiet ears
-pub quiet-reader : (r : Receiver) → r ≡ idle → record { receiver = r; count = 0; alone = true } ≡ quietEar
+-- quiet monitors
+pub quiet-reader : (r : Receiver) → r ≡ idle → record { receiver = r; count = 0; alone = true } ≡ quietMonitor
 quiet-reader r p = ap (λ (x : Receiver). record { receiver = x; count = 0; alone = true }) p
 
-pub quiet-all : (e : Ear) → e ≡ quietEar → replicate 8 e ≡ replicate 8 quietEar
-quiet-all e p = ap (λ (x : Ear). replicate 8 x) p
+pub quiet-all : (e : Monitor) → e ≡ quietMonitor → replicate 8 e ≡ replicate 8 quietMonitor
+quiet-all e p = ap (λ (x : Monitor). replicate 8 x) p
 
 pub ruleset quiet = (quiet-reader, quiet-all)
 
 -- no line
-party-none : (e f : Ear) (before : List ℕ) (at : ℕ) → f ≡ e → PartyIs (record { ear = e; lines = [] }) before at f at before
+party-none : (e f : Monitor) (before : List ℕ) (at : ℕ) → f ≡ e → PartyIs (record { monitor = e; lines = [] }) before at f at before
 unfolding linesText
-party-none e f before at p = record { ear-is = p; text = put-none before at }
+party-none e f before at p = record { monitor-is = p; text = put-none before at }
 
 -- a frame that ended
 one-line : (l : Line) → lineText l ≡ linesText (l ∷ [])
 unfolding linesText
 one-line l = sym (append-nil (lineText l))
 
-pub ends-alone : (l : Line) (alone : Bool) (e : Ear) (before after : List ℕ) (at r : ℕ) → alone ≡ true → e ≡ quietEar → PutIs (lineText l) before at r after → PartyIs (frameEnds l alone) before at e r after
+pub ends-alone : (l : Line) (alone : Bool) (e : Monitor) (before after : List ℕ) (at r : ℕ) → alone ≡ true → e ≡ quietMonitor → PutIs (lineText l) before at r after → PartyIs (frameEnds l alone) before at e r after
 unfolding frameEnds
 ends-alone l alone e before after at r a p q = record {
-  ear-is = p;
+  monitor-is = p;
   text = put-same (lineText l) (linesText (if alone then l ∷ [] else [])) before at r after q (one-line l ∙ ap linesText (sym (if-is-true alone (l ∷ []) [] a)));
 }
 
-pub ends-with-others : (l : Line) (alone : Bool) (e : Ear) (before : List ℕ) (at : ℕ) → alone ≡ false → e ≡ quietEar → PartyIs (frameEnds l alone) before at e at before
+pub ends-with-others : (l : Line) (alone : Bool) (e : Monitor) (before : List ℕ) (at : ℕ) → alone ≡ false → e ≡ quietMonitor → PartyIs (frameEnds l alone) before at e at before
 unfolding frameEnds linesText
 ends-with-others l alone e before at a p = record {
-  ear-is = p;
+  monitor-is = p;
   text = put-same [] (linesText (if alone then l ∷ [] else [])) before at at before (put-none before at) (ap linesText (sym (if-is-false alone (l ∷ []) [] a)));
 }
 
@@ -63,17 +63,17 @@ pub ruleset ends = (refl, ends-alone, ends-with-others)
 
 -- behind a character, by what the reader tells
 module _ (tick party count : ℕ) (alone : Bool) (t : Taken) (before : List ℕ) (at : ℕ) where
-  by-event : (e : Event) (f : Ear) (r : ℕ) (after : List ℕ) → t .event ≡ e → PartyIs (endsBy tick party count alone (t .receiver) e) before at f r after → PartyIs (endsWith tick party count alone t) before at f r after
+  by-event : (e : Event) (f : Monitor) (r : ℕ) (after : List ℕ) → t .event ≡ e → PartyIs (endsBy tick party count alone (t .receiver) e) before at f r after → PartyIs (endsWith tick party count alone t) before at f r after
   unfolding endsWith
   by-event e f r after p q = subst (λ (x : Event). PartyIs (endsBy tick party count alone (t .receiver) x) before at f r after) (sym p) q
 
   abbrev GoesOn : Type 0
-  GoesOn = PartyIs (endsWith tick party count alone t) before at (goesOn (t .receiver) count alone .ear) at before
+  GoesOn = PartyIs (endsWith tick party count alone t) before at (goesOn (t .receiver) count alone .monitor) at before
 
   goes : (e : Event) → t .event ≡ e → endsBy tick party count alone (t .receiver) e ≡ goesOn (t .receiver) count alone → GoesOn
-  goes e p q = by-event e (goesOn (t .receiver) count alone .ear) at before p
-      (subst (λ (x : PartyLines). PartyIs x before at (goesOn (t .receiver) count alone .ear) at before) (sym q)
-      (party-none (goesOn (t .receiver) count alone .ear) (goesOn (t .receiver) count alone .ear) before at refl))
+  goes e p q = by-event e (goesOn (t .receiver) count alone .monitor) at before p
+      (subst (λ (x : PartyLines). PartyIs x before at (goesOn (t .receiver) count alone .monitor) at before) (sym q)
+      (party-none (goesOn (t .receiver) count alone .monitor) (goesOn (t .receiver) count alone .monitor) before at refl))
 
   pub told-nothing : t .event ≡ Nothing → GoesOn
   told-nothing p = goes Nothing p refl
@@ -84,16 +84,16 @@ module _ (tick party count : ℕ) (alone : Bool) (t : Taken) (before : List ℕ)
   pub told-broken : t .event ≡ Broken → GoesOn
   told-broken p = goes Broken p refl
 
-  pub told-damaged : (w : Whole) (m : Harm) → t .event ≡ Damaged w m → GoesOn
+  pub told-damaged : (w : Whole) (m : FrameDamage) → t .event ≡ Damaged w m → GoesOn
   told-damaged w m p = goes (Damaged w m) p refl
 
-  pub told-frame : (w : Whole) (f : Ear) (r : ℕ) (after : List ℕ) → t .event ≡ Frame w → PartyIs (frameEnds (lineOf tick party (w .header) count) alone) before at f r after → PartyIs (endsWith tick party count alone t) before at f r after
+  pub told-frame : (w : Whole) (f : Monitor) (r : ℕ) (after : List ℕ) → t .event ≡ Frame w → PartyIs (frameEnds (lineOf tick party (w .header) count) alone) before at f r after → PartyIs (endsWith tick party count alone t) before at f r after
   told-frame w f r after p q = by-event (Frame w) f r after p q
 
 pub ruleset tells = (refl, told-nothing, told-passed-over, told-broken, told-damaged, told-frame)
 
 -- a character
-pub hears : (tick party : ℕ) (lone : Bool) (e : Ear) (c : ℕ) (n : ℕ) (alone : Bool) (t : Taken) (before after : List ℕ) (at : ℕ) (f : Ear) (r : ℕ)
+pub hears : (tick party : ℕ) (lone : Bool) (e : Monitor) (c : ℕ) (n : ℕ) (alone : Bool) (t : Taken) (before after : List ℕ) (at : ℕ) (f : Monitor) (r : ℕ)
     → t ≡ character (e .receiver .place) (e .receiver) c → n ≡ oneMore (e .count) → alone ≡ (if e .alone then lone else false) → PartyIs (endsWith tick party n alone t) before at f r after
     → PartyIs (listens tick party lone e (Sent.Character c)) before at f r after
 unfolding listens taken
@@ -101,11 +101,11 @@ hears tick party lone e c n alone t before after at f r p q s v =
     subst (λ (x : PartyLines). PartyIs x before at f r after) (λ i. endsWith tick party (q i) (s i) (p i)) v
 
 -- a party, by what it sends
-pub listens-silent : (tick party : ℕ) (lone : Bool) (e : Ear) (s : Sent) (before : List ℕ) (at : ℕ) (f : Ear) → s ≡ Silent → f ≡ quietEar → PartyIs (listens tick party lone e s) before at f at before
+pub listens-silent : (tick party : ℕ) (lone : Bool) (e : Monitor) (s : Sent) (before : List ℕ) (at : ℕ) (f : Monitor) → s ≡ Silent → f ≡ quietMonitor → PartyIs (listens tick party lone e s) before at f at before
 unfolding listens
-listens-silent tick party lone e s before at f p q = subst (λ (x : Sent). PartyIs (listens tick party lone e x) before at f at before) (sym p) (party-none quietEar f before at q)
+listens-silent tick party lone e s before at f p q = subst (λ (x : Sent). PartyIs (listens tick party lone e x) before at f at before) (sym p) (party-none quietMonitor f before at q)
 
-pub listens-character : (tick party : ℕ) (lone : Bool) (e : Ear) (s : Sent) (c : ℕ) (before after : List ℕ) (at : ℕ) (f : Ear) (r : ℕ) → s ≡ Sent.Character c
+pub listens-character : (tick party : ℕ) (lone : Bool) (e : Monitor) (s : Sent) (c : ℕ) (before after : List ℕ) (at : ℕ) (f : Monitor) (r : ℕ) → s ≡ Sent.Character c
     → PartyIs (listens tick party lone e (Sent.Character c)) before at f r after → PartyIs (listens tick party lone e s) before at f r after
 listens-character tick party lone e s c before after at f r p v = subst (λ (x : Sent). PartyIs (listens tick party lone e x) before at f r after) (sym p) v
 
@@ -146,87 +146,87 @@ lines-append [] ks = refl
 lines-append (l ∷ ls) ks = append-assoc (lineText l) (linesText ls) (linesText ks) ∙ ap (λ (x : List ℕ). lineText l ++ x) (lines-append ls ks)
 
 -- a party, and those behind it
-tick-besides : (x : PartyLines) (y : TickLines) (before between after : List ℕ) (at m r : ℕ) (e : Ear) (es : List Ear)
-    → PartyIs x before at e m between → TickIs y between m es r after → TickIs (besides x y) before at (e ∷ es) r after
+tick-besides : (x : PartyLines) (y : TickLines) (before between after : List ℕ) (at m r : ℕ) (e : Monitor) (es : List Monitor)
+    → PartyIs x before at e m between → TickLinesAre y between m es r after → TickLinesAre (besides x y) before at (e ∷ es) r after
 tick-besides x y before between after at m r e es p q = record {
-  ears-are = λ i. p .ear-is i ∷ q .ears-are i;
+  monitors-are = λ i. p .monitor-is i ∷ q .monitors-are i;
   text = put-same (linesText (x .lines) ++ linesText (y .lines)) (linesText (x .lines ++ y .lines)) before at r after
       (put-then (linesText (x .lines)) (linesText (y .lines)) before between after at m r (p .text) (q .text))
       (lines-append (x .lines) (y .lines));
 }
 
-tick-none : (before : List ℕ) (at : ℕ) → TickIs (record { ears = []; lines = [] }) before at [] at before
+tick-none : (before : List ℕ) (at : ℕ) → TickLinesAre (record { monitors = []; lines = [] }) before at [] at before
 unfolding linesText
-tick-none before at = record { ears-are = refl; text = put-none before at }
+tick-none before at = record { monitors-are = refl; text = put-none before at }
 
-front-more : (es fs : List Ear) (i : ℕ) (e : Ear) → i < length es → take i es ++ (e ∷ fs) ≡ take (i + 1) (set es i e) ++ fs
+front-more : (es fs : List Monitor) (i : ℕ) (e : Monitor) → i < length es → take i es ++ (e ∷ fs) ≡ take (i + 1) (set es i e) ++ fs
 front-more es fs i e h =
     sym (append-assoc (take i es) (e ∷ []) fs)
-    ∙ ap (λ (l : List Ear). l ++ fs) (sym (take-suc-set es i e h))
+    ∙ ap (λ (l : List Monitor). l ++ fs) (sym (take-suc-set es i e h))
     ∙ ap (λ (n : ℕ). take n (set es i e) ++ fs) (sym (add-one i))
 
 -- a loop over eight parties: what is left gives what the whole gives
-pub record Listening (whole : TickLines) (tick : ℕ) (lone : Bool) (ss : List Sent) (before : List ℕ) (at : ℕ) (es : List Ear) (bytes : List ℕ) (place i : ℕ) : Type 0 where
-  pub ears : length es ≡ 8
+pub record Listening (whole : TickLines) (tick : ℕ) (lone : Bool) (ss : List Sent) (before : List ℕ) (at : ℕ) (es : List Monitor) (bytes : List ℕ) (place i : ℕ) : Type 0 where
+  pub monitors : length es ≡ 8
   pub parties : length ss ≡ 8
   pub within : i ≤ 8
   pub same-length : length bytes ≡ length before
-  pub left : (fs : List Ear) (r : ℕ) (after : List ℕ) → TickIs (linesOf tick i lone (drop i es) (drop i ss)) bytes place fs r after → TickIs whole before at (take i es ++ fs) r after
+  pub left : (fs : List Monitor) (r : ℕ) (after : List ℕ) → TickLinesAre (linesOf tick i lone (drop i es) (drop i ss)) bytes place fs r after → TickLinesAre whole before at (take i es ++ fs) r after
 
-pub listening-none : (tick : ℕ) (lone : Bool) (es : List Ear) (ss : List Sent) (before : List ℕ) (at : ℕ) → length es ≡ 8 → length ss ≡ 8 → Listening (linesOf tick 0 lone es ss) tick lone ss before at es before at 0
-listening-none tick lone es ss before at e f = record { ears = e; parties = f; within = omega arith; same-length = refl; left = λ fs r after p. p }
+pub listening-none : (tick : ℕ) (lone : Bool) (es : List Monitor) (ss : List Sent) (before : List ℕ) (at : ℕ) → length es ≡ 8 → length ss ≡ 8 → Listening (linesOf tick 0 lone es ss) tick lone ss before at es before at 0
+listening-none tick lone es ss before at e f = record { monitors = e; parties = f; within = omega arith; same-length = refl; left = λ fs r after p. p }
 
-next-party : (tick i : ℕ) (lone : Bool) (es : List Ear) (ss : List Sent) (d : Ear) (o : Sent) → i < length es → i < length ss
+next-party : (tick i : ℕ) (lone : Bool) (es : List Monitor) (ss : List Sent) (d : Monitor) (o : Sent) → i < length es → i < length ss
     → linesOf tick i lone (drop i es) (drop i ss) ≡ besides (listens tick i lone (getD es i d) (getD ss i o)) (linesOf tick (i + 1) lone (drop (i + 1) es) (drop (i + 1) ss))
 unfolding linesOf
 next-party tick i lone es ss d o h k =
     (λ j. linesOf tick i lone (drop-cons es i d h j) (drop-cons ss i o k j))
     ∙ ap (λ (n : ℕ). besides (listens tick i lone (getD es i d) (getD ss i o)) (linesOf tick (i + 1) lone (drop n es) (drop n ss))) (sym (add-one i))
 
-pub listening-more : {whole : TickLines} {tick : ℕ} {lone : Bool} {ss : List Sent} {before : List ℕ} {at : ℕ} {es : List Ear} {bytes : List ℕ} {place i : ℕ} {e : Ear} {k : ℕ} {after : List ℕ} (d : Ear) (o : Sent)
+pub listening-more : {whole : TickLines} {tick : ℕ} {lone : Bool} {ss : List Sent} {before : List ℕ} {at : ℕ} {es : List Monitor} {bytes : List ℕ} {place i : ℕ} {e : Monitor} {k : ℕ} {after : List ℕ} (d : Monitor) (o : Sent)
     → Listening whole tick lone ss before at es bytes place i → i < 8 → PartyIs (listens tick i lone (getD es i d) (getD ss i o)) bytes place e k after
     → Listening whole tick lone ss before at (set es i e) after k (i + 1)
 listening-more {whole} {tick} {lone} {ss} {before} {at} {es} {bytes} {place} {i} {e} {k} {after} d o v h p = record {
-  ears = length-set es i e ∙ v .ears;
+  monitors = length-set es i e ∙ v .monitors;
   parties = v .parties;
   within = omega arith;
   same-length = put-length (linesText (listens tick i lone (getD es i d) (getD ss i o) .lines)) bytes place k after (p .text) ∙ v .same-length;
   left = λ fs r behind q.
-      let rest = subst (λ (l : List Ear). TickIs (linesOf tick (i + 1) lone l (drop (i + 1) ss)) after k fs r behind) (drop-set-lt (i + 1) es i e (omega arith)) q in
+      let rest = subst (λ (l : List Monitor). TickLinesAre (linesOf tick (i + 1) lone l (drop (i + 1) ss)) after k fs r behind) (drop-set-lt (i + 1) es i e (omega arith)) q in
       let both = tick-besides (listens tick i lone (getD es i d) (getD ss i o)) (linesOf tick (i + 1) lone (drop (i + 1) es) (drop (i + 1) ss)) bytes after behind place k r e fs p rest in
       let front : take i es ++ (e ∷ fs) ≡ take (i + 1) (set es i e) ++ fs = front-more es fs i e (omega arith) in
-      subst (λ (l : List Ear). TickIs whole before at l r behind) front
-      (v .left (e ∷ fs) r behind (subst (λ (x : TickLines). TickIs x bytes place (e ∷ fs) r behind) (sym (next-party tick i lone es ss d o (omega arith) (omega arith))) both));
+      subst (λ (l : List Monitor). TickLinesAre whole before at l r behind) front
+      (v .left (e ∷ fs) r behind (subst (λ (x : TickLines). TickLinesAre x bytes place (e ∷ fs) r behind) (sym (next-party tick i lone es ss d o (omega arith) (omega arith))) both));
 }
 
-pub listening-all : (whole : TickLines) (tick : ℕ) (lone : Bool) (ss : List Sent) (before : List ℕ) (at : ℕ) (es : List Ear) (bytes : List ℕ) (place i : ℕ)
-    → Listening whole tick lone ss before at es bytes place i → 8 ≤ i → TickIs whole before at es place bytes
+pub listening-all : (whole : TickLines) (tick : ℕ) (lone : Bool) (ss : List Sent) (before : List ℕ) (at : ℕ) (es : List Monitor) (bytes : List ℕ) (place i : ℕ)
+    → Listening whole tick lone ss before at es bytes place i → 8 ≤ i → TickLinesAre whole before at es place bytes
 unfolding linesOf
 listening-all whole tick lone ss before at es bytes place i v h =
     let over : length es ≤ i = omega arith in
-    let none = subst (λ (l : List Ear). TickIs (linesOf tick i lone l (drop i ss)) bytes place [] place bytes) (sym (drop-of-length-le es over)) (tick-none bytes place) in
-    subst (λ (l : List Ear). TickIs whole before at l place bytes) (append-nil (take i es) ∙ take-all i es (omega arith)) (v .left [] place bytes none)
+    let none = subst (λ (l : List Monitor). TickLinesAre (linesOf tick i lone l (drop i ss)) bytes place [] place bytes) (sym (drop-of-length-le es over)) (tick-none bytes place) in
+    subst (λ (l : List Monitor). TickLinesAre whole before at l place bytes) (append-nil (take i es) ∙ take-all i es (omega arith)) (v .left [] place bytes none)
 
 pub ruleset parties = (listening-none, listening-all)
 
 -- nobody sends
-nobody : (tick party : ℕ) (lone : Bool) (es : List Ear) (ss : List Sent) (before : List ℕ) (at : ℕ) → length es ≡ length ss → senders ss ≡ 0
-    → TickIs (linesOf tick party lone es ss) before at (replicate (length ss) quietEar) at before
+nobody : (tick party : ℕ) (lone : Bool) (es : List Monitor) (ss : List Sent) (before : List ℕ) (at : ℕ) → length es ≡ length ss → senders ss ≡ 0
+    → TickLinesAre (linesOf tick party lone es ss) before at (replicate (length ss) quietMonitor) at before
 unfolding linesOf senders
 nobody tick party lone [] [] before at e h = tick-none before at
 nobody tick party lone [] (s ∷ ss) before at e h = absurd (omega arith)
 nobody tick party lone (f ∷ es) [] before at e h = absurd (omega arith)
 nobody tick party lone (f ∷ es) (Silent ∷ ss) before at e h =
-    tick-besides (listens tick party lone f Silent) (linesOf tick (party + 1) lone es ss) before before before at at at quietEar (replicate (length ss) quietEar)
-    (listens-silent tick party lone f Silent before at quietEar refl refl)
+    tick-besides (listens tick party lone f Silent) (linesOf tick (party + 1) lone es ss) before before before at at at quietMonitor (replicate (length ss) quietMonitor)
+    (listens-silent tick party lone f Silent before at quietMonitor refl refl)
     (nobody tick (party + 1) lone es ss before at (omega arith) (omega arith))
 nobody tick party lone (f ∷ es) (Sent.Character c ∷ ss) before at e h = absurd (omega arith)
 
-pub tick-silent : (tick n : ℕ) (es fs : List Ear) (ss : List Sent) (before : List ℕ) (at : ℕ)
-    → n ≡ senders ss → n ≡ 0 → length es ≡ 8 → length ss ≡ 8 → fs ≡ replicate 8 quietEar → TickIs (tickLines tick es ss) before at fs at before
+pub tick-silent : (tick n : ℕ) (es fs : List Monitor) (ss : List Sent) (before : List ℕ) (at : ℕ)
+    → n ≡ senders ss → n ≡ 0 → length es ≡ 8 → length ss ≡ 8 → fs ≡ replicate 8 quietMonitor → TickLinesAre (tickLines tick es ss) before at fs at before
 unfolding tickLines
 tick-silent tick n es fs ss before at e z h k q =
-    subst (λ (l : List Ear). TickIs (linesOf tick 0 (senders ss ≤? 1) es ss) before at l at before) (ap (λ (m : ℕ). replicate m quietEar) k ∙ sym q)
+    subst (λ (l : List Monitor). TickLinesAre (linesOf tick 0 (senders ss ≤? 1) es ss) before at l at before) (ap (λ (m : ℕ). replicate m quietMonitor) k ∙ sym q)
     (nobody tick 0 (senders ss ≤? 1) es ss before at (h ∙ sym k) (sym e ∙ z))
 
 -- one party sends, and no other
@@ -239,45 +239,45 @@ unfolding senders
 alone-senders c _ _ (speaks-here h) = omega (arith, h)
 alone-senders c _ _ (speaks-behind {k} {ss} a) = omega (arith, alone-senders c k ss a)
 
-alone-lines : (tick party : ℕ) (lone : Bool) (c k : ℕ) (es : List Ear) (ss : List Sent) (before after : List ℕ) (at r : ℕ) (d e : Ear) → AloneIn c k ss → length es ≡ length ss
-    → PartyIs (listens tick (party + k) lone (getD es k d) (Sent.Character c)) before at e r after → TickIs (linesOf tick party lone es ss) before at (set (replicate (length ss) quietEar) k e) r after
+alone-lines : (tick party : ℕ) (lone : Bool) (c k : ℕ) (es : List Monitor) (ss : List Sent) (before after : List ℕ) (at r : ℕ) (d e : Monitor) → AloneIn c k ss → length es ≡ length ss
+    → PartyIs (listens tick (party + k) lone (getD es k d) (Sent.Character c)) before at e r after → TickLinesAre (linesOf tick party lone es ss) before at (set (replicate (length ss) quietMonitor) k e) r after
 unfolding linesOf
 alone-lines tick party lone c _ [] _ before after at r d e (speaks-here h) l p = absurd (omega (arith, l))
 alone-lines tick party lone c _ (f ∷ es) _ before after at r d e (speaks-here {ss} h) l p =
     let here : party + 0 ≡ party = omega arith in
-    tick-besides (listens tick party lone f (Sent.Character c)) (linesOf tick (party + 1) lone es ss) before after after at r r e (replicate (length ss) quietEar)
+    tick-besides (listens tick party lone f (Sent.Character c)) (linesOf tick (party + 1) lone es ss) before after after at r r e (replicate (length ss) quietMonitor)
     (subst (λ (n : ℕ). PartyIs (listens tick n lone f (Sent.Character c)) before at e r after) here p)
     (nobody tick (party + 1) lone es ss after r (omega (arith, l)) h)
 alone-lines tick party lone c _ [] _ before after at r d e (speaks-behind a) l p = absurd (omega (arith, l))
 alone-lines tick party lone c _ (f ∷ es) _ before after at r d e (speaks-behind {k} {ss} a) l p =
     let behind : party + suc k ≡ party + 1 + k = omega arith in
-    tick-besides (listens tick party lone f Silent) (linesOf tick (party + 1) lone es ss) before before after at at r quietEar (set (replicate (length ss) quietEar) k e)
-    (listens-silent tick party lone f Silent before at quietEar refl refl)
+    tick-besides (listens tick party lone f Silent) (linesOf tick (party + 1) lone es ss) before before after at at r quietMonitor (set (replicate (length ss) quietMonitor) k e)
+    (listens-silent tick party lone f Silent before at quietMonitor refl refl)
     (alone-lines tick (party + 1) lone c k es ss before after at r d e a (omega (arith, l)) (subst (λ (n : ℕ). PartyIs (listens tick n lone (getD es k d) (Sent.Character c)) before at e r after) behind p))
 
-pub tick-alone : (tick c k : ℕ) (es : List Ear) (ss : List Sent) (before after : List ℕ) (at r : ℕ) (d e : Ear) → AloneIn c k ss → length es ≡ 8 → length ss ≡ 8
-    → PartyIs (listens tick k true (getD es k d) (Sent.Character c)) before at e r after → TickIs (tickLines tick es ss) before at (set (replicate 8 quietEar) k e) r after
+pub tick-alone : (tick c k : ℕ) (es : List Monitor) (ss : List Sent) (before after : List ℕ) (at r : ℕ) (d e : Monitor) → AloneIn c k ss → length es ≡ 8 → length ss ≡ 8
+    → PartyIs (listens tick k true (getD es k d) (Sent.Character c)) before at e r after → TickLinesAre (tickLines tick es ss) before at (set (replicate 8 quietMonitor) k e) r after
 unfolding tickLines
 tick-alone tick c k es ss before after at r d e a h l p =
     let one : true ≡ (senders ss ≤? 1) = ap (λ (n : ℕ). n ≤? 1) (sym (alone-senders c k ss a)) in
     let lines = alone-lines tick 0 true c k es ss before after at r d e a (h ∙ sym l) (subst (λ (n : ℕ). PartyIs (listens tick n true (getD es k d) (Sent.Character c)) before at e r after) (omega arith) p) in
-    subst (λ (n : ℕ). TickIs (linesOf tick 0 (senders ss ≤? 1) es ss) before at (set (replicate n quietEar) k e) r after) l
-    (subst (λ (b : Bool). TickIs (linesOf tick 0 b es ss) before at (set (replicate (length ss) quietEar) k e) r after) one lines)
+    subst (λ (n : ℕ). TickLinesAre (linesOf tick 0 (senders ss ≤? 1) es ss) before at (set (replicate n quietMonitor) k e) r after) l
+    (subst (λ (b : Bool). TickLinesAre (linesOf tick 0 b es ss) before at (set (replicate (length ss) quietMonitor) k e) r after) one lines)
 
 -- a tick
-pub tick-is : (tick n : ℕ) (es : List Ear) (ss : List Sent) (before : List ℕ) (at : ℕ) (fs : List Ear) (r : ℕ) (after : List ℕ)
-    → n ≡ senders ss → TickIs (linesOf tick 0 (n ≤? 1) es ss) before at fs r after → TickIs (tickLines tick es ss) before at fs r after
+pub tick-is : (tick n : ℕ) (es : List Monitor) (ss : List Sent) (before : List ℕ) (at : ℕ) (fs : List Monitor) (r : ℕ) (after : List ℕ)
+    → n ≡ senders ss → TickLinesAre (linesOf tick 0 (n ≤? 1) es ss) before at fs r after → TickLinesAre (tickLines tick es ss) before at fs r after
 unfolding tickLines
-tick-is tick n es ss before at fs r after e p = subst (λ (m : ℕ). TickIs (linesOf tick 0 (m ≤? 1) es ss) before at fs r after) e p
+tick-is tick n es ss before at fs r after e p = subst (λ (m : ℕ). TickLinesAre (linesOf tick 0 (m ≤? 1) es ss) before at fs r after) e p
 
 -- a loop over ticks: behind one of them, what is left gives what the whole gives
-pub tick-goes-on : (tick : ℕ) (es fs : List Ear) (ss : List Sent) (ticks : List (List Sent)) (before after : List ℕ) (at r : ℕ) → TickIs (tickLines tick es ss) before at fs r after
+pub tick-goes-on : (tick : ℕ) (es fs : List Monitor) (ss : List Sent) (ticks : List (List Sent)) (before after : List ℕ) (at r : ℕ) → TickLinesAre (tickLines tick es ss) before at fs r after
     → put (outOf before at) (linesText (linesFrom tick es (ss ∷ ticks))) ≡ put (outOf after r) (linesText (linesFrom (tick + 1) fs ticks))
 unfolding linesFrom
 tick-goes-on tick es fs ss ticks before after at r p =
     let now = tickLines tick es ss in
-    let rest = linesFrom (tick + 1) (now .ears) ticks in
+    let rest = linesFrom (tick + 1) (now .monitors) ticks in
     ap (put (outOf before at)) (sym (lines-append (now .lines) rest))
     ∙ put-append (linesText (now .lines)) (linesText rest) (outOf before at)
     ∙ ap (λ (o : Out). put o (linesText rest)) (sym (p .text .out))
-    ∙ ap (λ (l : List Ear). put (outOf after r) (linesText (linesFrom (tick + 1) l ticks))) (sym (p .ears-are))
+    ∙ ap (λ (l : List Monitor). put (outOf after r) (linesText (linesFrom (tick + 1) l ticks))) (sym (p .monitors-are))

@@ -14,9 +14,9 @@ use Rattle.line.specs.declared.Heard.the-variants.{Character}
 use Rattle.line.specs.declared.Receiver.{Receiver}
 use Rattle.turns.specs.declared.Sent.{Sent}
 use Rattle.turns.specs.declared.Sent.the-variants.{Silent}
-use Rattle.listing.specs.Lines.{Line, lineOf, quietEar, PartyLines, frameEnds, endsBy, endsWith, oneMore, listens, linesOf, isLone, tickLines, linesFrom}
+use Rattle.listing.specs.Lines.{Line, lineOf, quietMonitor, PartyLines, frameEnds, endsBy, endsWith, oneMore, listens, linesOf, isLone, tickLines, linesFrom}
 use Rattle.listing.specs.FrameLines.{partyLines, Frames, linesBy, sentBy, Ticks, no-more, one-more, OutputListed}
-use Rattle.listing.specs.declared.Ear.{Ear}
+use Rattle.listing.specs.declared.Monitor.{Monitor}
 use Rattle.listing.proofs.FrameLines.{no-gap-listed}
 
 abbrev none : List Line
@@ -53,21 +53,21 @@ module _ (k tick party : ℕ) where
   event-by count alone r (Frame w) = frame-by (lineOf tick party (w .header) count) alone refl
   event-by count alone r (Damaged w m) = no-lines (party =? k)
 
-  listens-by : (lone : Bool) (e : Ear) (s : Sent) → linesBy k (listens tick party lone e s .lines) ≡ (if party =? k then listens tick party lone e s .lines else [])
+  listens-by : (lone : Bool) (e : Monitor) (s : Sent) → linesBy k (listens tick party lone e s .lines) ≡ (if party =? k then listens tick party lone e s .lines else [])
   unfolding listens endsWith linesBy
   listens-by lone e Silent = no-lines (party =? k)
   listens-by lone e (Sent.Character c) =
       event-by (oneMore (e .count)) (if e .alone then lone else false) (taken (e .receiver) (Character c) .receiver) (taken (e .receiver) (Character c) .event)
 
-own : (tick k : ℕ) (lone : Bool) (e : Ear) (s : Sent) → linesBy k (listens tick k lone e s .lines) ≡ listens tick k lone e s .lines
+own : (tick k : ℕ) (lone : Bool) (e : Monitor) (s : Sent) → linesBy k (listens tick k lone e s .lines) ≡ listens tick k lone e s .lines
 own tick k lone e s = listens-by k tick k lone e s ∙ sym (if-equal k k _ (listens tick k lone e s .lines) [] refl refl)
 
-others : (tick k party : ℕ) (lone : Bool) (e : Ear) (s : Sent) → (party ≡ k → ⊥) → linesBy k (listens tick party lone e s .lines) ≡ []
+others : (tick k party : ℕ) (lone : Bool) (e : Monitor) (s : Sent) → (party ≡ k → ⊥) → linesBy k (listens tick party lone e s .lines) ≡ []
 others tick k party lone e s ne = listens-by k tick party lone e s ∙ sym (if-unequal party k _ (listens tick party lone e s .lines) [] ne refl)
 
 -- ---- a tick
 
-nobody-before : (tick k party : ℕ) (lone : Bool) (es : List Ear) (ss : List Sent) → k < party → linesBy k (linesOf tick party lone es ss .lines) ≡ []
+nobody-before : (tick k party : ℕ) (lone : Bool) (es : List Monitor) (ss : List Sent) → k < party → linesBy k (linesOf tick party lone es ss .lines) ≡ []
 unfolding linesOf linesBy
 nobody-before tick k party lone [] ss below = refl
 nobody-before tick k party lone (e ∷ es) [] below = refl
@@ -76,12 +76,12 @@ nobody-before tick k party lone (e ∷ es) (s ∷ ss) below =
     ∙ ap (λ (l : List Line). l ++ linesBy k (linesOf tick (party + 1) lone es ss .lines)) (others tick k party lone e s (λ q. omega arith))
     ∙ nobody-before tick k (party + 1) lone es ss (omega arith)
 
--- the lines and the ear of the party that stands k behind the first
-record Of (tick party k : ℕ) (lone : Bool) (es : List Ear) (ss : List Sent) : Type 0 where
-  lines-are : linesBy (party + k) (linesOf tick party lone es ss .lines) ≡ listens tick (party + k) lone (getD es k quietEar) (getD ss k Silent) .lines
-  ear-is : getD (linesOf tick party lone es ss .ears) k quietEar ≡ listens tick (party + k) lone (getD es k quietEar) (getD ss k Silent) .ear
+-- the lines and the monitor of the party that stands k behind the first
+record Of (tick party k : ℕ) (lone : Bool) (es : List Monitor) (ss : List Sent) : Type 0 where
+  lines-are : linesBy (party + k) (linesOf tick party lone es ss .lines) ≡ listens tick (party + k) lone (getD es k quietMonitor) (getD ss k Silent) .lines
+  monitor-is : getD (linesOf tick party lone es ss .monitors) k quietMonitor ≡ listens tick (party + k) lone (getD es k quietMonitor) (getD ss k Silent) .monitor
 
-of-tick : (tick party k : ℕ) (lone : Bool) (es : List Ear) (ss : List Sent) → length es ≡ length ss → k < length es → Of tick party k lone es ss
+of-tick : (tick party k : ℕ) (lone : Bool) (es : List Monitor) (ss : List Sent) → length es ≡ length ss → k < length es → Of tick party k lone es ss
 unfolding linesOf
 of-tick tick party k lone [] ss same below = absurd (omega arith)
 of-tick tick party k lone (e ∷ es) [] same below = absurd (omega (arith, same))
@@ -93,7 +93,7 @@ of-tick tick party zero lone (e ∷ es) (s ∷ ss) same below =
           ∙ ap (λ (l : List Line). linesBy party (listens tick party lone e s .lines) ++ l) (nobody-before tick party (party + 1) lone es ss (omega arith))
           ∙ append-nil (linesBy party (listens tick party lone e s .lines))
           ∙ own tick party lone e s);
-      ear-is = ap (λ (n : ℕ). listens tick n lone e s .ear) here;
+      monitor-is = ap (λ (n : ℕ). listens tick n lone e s .monitor) here;
     }
 of-tick tick party (suc k) lone (e ∷ es) (s ∷ ss) same below =
     let there : party + 1 + k ≡ party + suc k = omega arith in
@@ -101,11 +101,11 @@ of-tick tick party (suc k) lone (e ∷ es) (s ∷ ss) same below =
     record {
       lines-are = lines-by-append (party + suc k) (listens tick party lone e s .lines) (linesOf tick (party + 1) lone es ss .lines)
           ∙ ap (λ (l : List Line). l ++ linesBy (party + suc k) (linesOf tick (party + 1) lone es ss .lines)) (others tick (party + suc k) party lone e s (λ q. omega (arith, q)))
-          ∙ subst (λ (n : ℕ). linesBy n (linesOf tick (party + 1) lone es ss .lines) ≡ listens tick n lone (getD es k quietEar) (getD ss k Silent) .lines) there (rest .lines-are);
-      ear-is = rest .ear-is ∙ ap (λ (n : ℕ). listens tick n lone (getD es k quietEar) (getD ss k Silent) .ear) there;
+          ∙ subst (λ (n : ℕ). linesBy n (linesOf tick (party + 1) lone es ss .lines) ≡ listens tick n lone (getD es k quietMonitor) (getD ss k Silent) .lines) there (rest .lines-are);
+      monitor-is = rest .monitor-is ∙ ap (λ (n : ℕ). listens tick n lone (getD es k quietMonitor) (getD ss k Silent) .monitor) there;
     }
 
-as-many : (tick party : ℕ) (lone : Bool) (es : List Ear) (ss : List Sent) → length es ≡ length ss → length (linesOf tick party lone es ss .ears) ≡ length es
+as-many : (tick party : ℕ) (lone : Bool) (es : List Monitor) (ss : List Sent) → length es ≡ length ss → length (linesOf tick party lone es ss .monitors) ≡ length es
 unfolding linesOf
 as-many tick party lone [] ss same = refl
 as-many tick party lone (e ∷ es) [] same = absurd (omega (arith, same))
@@ -113,27 +113,27 @@ as-many tick party lone (e ∷ es) (s ∷ ss) same = ap (λ (n : ℕ). suc n) (a
 
 -- ---- the output
 
-of-output : (lone : ℕ → Bool) (n party tick : ℕ) (es : List Ear) (ticks : List (List Sent)) → Ticks lone n tick ticks → length es ≡ n → party < n
-    → linesBy party (linesFrom tick es ticks) ≡ partyLines lone party tick (getD es party quietEar) (sentBy party ticks)
+of-output : (lone : ℕ → Bool) (n party tick : ℕ) (es : List Monitor) (ticks : List (List Sent)) → Ticks lone n tick ticks → length es ≡ n → party < n
+    → linesBy party (linesFrom tick es ticks) ≡ partyLines lone party tick (getD es party quietMonitor) (sentBy party ticks)
 unfolding linesFrom tickLines linesBy partyLines sentBy
 of-output lone n party tick es _ no-more long below = refl
 of-output lone n party tick es _ (one-more {ss = ss} {ticks = ticks} sized says t) long below =
     let now = linesOf tick 0 (isLone ss) es ss in
     let at = of-tick tick 0 party (isLone ss) es ss (long ∙ sym sized) (omega (arith, long)) in
     let zero-on : 0 + party ≡ party = omega arith in
-    let x : Bool → PartyLines = λ (b : Bool). listens tick party b (getD es party quietEar) (getD ss party Silent) in
+    let x : Bool → PartyLines = λ (b : Bool). listens tick party b (getD es party quietMonitor) (getD ss party Silent) in
     let lines : linesBy party (now .lines) ≡ x (isLone ss) .lines =
-    subst (λ (m : ℕ). linesBy m (now .lines) ≡ listens tick m (isLone ss) (getD es party quietEar) (getD ss party Silent) .lines) zero-on (at .lines-are) in
-    let ear : getD (now .ears) party quietEar ≡ x (isLone ss) .ear =
-    subst (λ (m : ℕ). getD (now .ears) party quietEar ≡ listens tick m (isLone ss) (getD es party quietEar) (getD ss party Silent) .ear) zero-on (at .ear-is) in
-    lines-by-append party (now .lines) (linesFrom (tick + 1) (now .ears) ticks)
-    ∙ ap (λ (l : List Line). linesBy party (now .lines) ++ l) (of-output lone n party (tick + 1) (now .ears) ticks t (as-many tick 0 (isLone ss) es ss (long ∙ sym sized) ∙ long) below)
-    ∙ (λ i. lines i ++ partyLines lone party (tick + 1) (ear i) (sentBy party ticks))
-    ∙ (λ i. x (sym says i) .lines ++ partyLines lone party (tick + 1) (x (sym says i) .ear) (sentBy party ticks))
+    subst (λ (m : ℕ). linesBy m (now .lines) ≡ listens tick m (isLone ss) (getD es party quietMonitor) (getD ss party Silent) .lines) zero-on (at .lines-are) in
+    let monitor : getD (now .monitors) party quietMonitor ≡ x (isLone ss) .monitor =
+    subst (λ (m : ℕ). getD (now .monitors) party quietMonitor ≡ listens tick m (isLone ss) (getD es party quietMonitor) (getD ss party Silent) .monitor) zero-on (at .monitor-is) in
+    lines-by-append party (now .lines) (linesFrom (tick + 1) (now .monitors) ticks)
+    ∙ ap (λ (l : List Line). linesBy party (now .lines) ++ l) (of-output lone n party (tick + 1) (now .monitors) ticks t (as-many tick 0 (isLone ss) es ss (long ∙ sym sized) ∙ long) below)
+    ∙ (λ i. lines i ++ partyLines lone party (tick + 1) (monitor i) (sentBy party ticks))
+    ∙ (λ i. x (sym says i) .lines ++ partyLines lone party (tick + 1) (x (sym says i) .monitor) (sentBy party ticks))
 
 pub output-listed : OutputListed
 output-listed lone n party tick ticks t below g =
-    let quiet : getD (replicate n quietEar) party quietEar ≡ quietEar = getD-replicate n party quietEar quietEar below in
+    let quiet : getD (replicate n quietMonitor) party quietMonitor ≡ quietMonitor = getD-replicate n party quietMonitor quietMonitor below in
     subst (λ (l : List Line). Frames lone party tick (sentBy party ticks) l)
-    (ap (λ (e : Ear). partyLines lone party tick e (sentBy party ticks)) (sym quiet) ∙ sym (of-output lone n party tick (replicate n quietEar) ticks t (length-replicate {A = Ear} n quietEar) below))
+    (ap (λ (e : Monitor). partyLines lone party tick e (sentBy party ticks)) (sym quiet) ∙ sym (of-output lone n party tick (replicate n quietMonitor) ticks t (length-replicate {A = Monitor} n quietMonitor) below))
     (no-gap-listed lone party tick (sentBy party ticks) g)

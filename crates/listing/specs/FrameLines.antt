@@ -1,12 +1,13 @@
+-- To be believed: what the engine must do, or what is claimed of it.
 -- Document 01, "The player": "one line per frame that its sender sent to the end before the stop, alone in each tick". What a master or a device sends from its start on are silent ticks and frames, and the output has a line for each frame that it sent to the end alone, and no other line of that party.
 use Prim.Native.Nat.{ℕ, zero, suc, _+_, _-_, _<_}
 use mathlib.Core.Path.{_≡_}
 use mathlib.Core.Bool.{Bool, true, false}
 use mathlib.Core.List.{List, [], _∷_, _++_}
 use lib.ListN.{length, take, getD, replicate}
+use Rattle.base.specs.Refusal.{accepted}
 use Rattle.base.specs.Choice.{if_then_else_, _=?_}
 use Rattle.line.specs.Profile.{profileMade}
-use Rattle.line.specs.declared.MadeProfile.the-variants.{Made}
 use Rattle.line.specs.declared.Profile.{Profile}
 use Rattle.turns.specs.Link.{MasterSide, DeviceSide}
 use Rattle.turns.specs.Run.{MasterStarts, DeviceStarts}
@@ -14,8 +15,8 @@ use Rattle.turns.specs.Bursts.{DeviceInput}
 use Rattle.turns.specs.Gaps.{MasterInput, masterSents, deviceSents, IsFrame, NoGap}
 use Rattle.turns.specs.declared.Sent.{Sent}
 use Rattle.turns.specs.declared.Sent.the-variants.{Silent, Character}
-use Rattle.listing.specs.Lines.{Line, lineOf, quietEar, listens, isLone, linesFrom}
-use Rattle.listing.specs.declared.Ear.{Ear}
+use Rattle.listing.specs.Lines.{Line, lineOf, quietMonitor, listens, isLone, linesFrom}
+use Rattle.listing.specs.declared.Monitor.{Monitor}
 
 -- a frame's characters, one in each tick
 unfoldable pub characters : List ℕ → List Sent
@@ -28,9 +29,9 @@ aloneFor lone tick zero = true
 aloneFor lone tick (suc n) = if lone tick then aloneFor lone (tick + 1) n else false
 
 -- the lines of one party, from this tick on, by what it sends
-unfoldable pub partyLines : (ℕ → Bool) → ℕ → ℕ → Ear → List Sent → List Line
+unfoldable pub partyLines : (ℕ → Bool) → ℕ → ℕ → Monitor → List Sent → List Line
 partyLines lone party tick e [] = []
-partyLines lone party tick e (s ∷ ss) = listens tick party (lone tick) e s .lines ++ partyLines lone party (tick + 1) (listens tick party (lone tick) e s .ear) ss
+partyLines lone party tick e (s ∷ ss) = listens tick party (lone tick) e s .lines ++ partyLines lone party (tick + 1) (listens tick party (lone tick) e s .monitor) ss
 
 -- the line of a frame whose first character is sent in this tick: "tick of its last character, party, type, master (0 primary), length in characters"
 unfoldable pub frameLine : (ℕ → Bool) → ℕ → ℕ → (w : List ℕ) → IsFrame w → List Line
@@ -46,18 +47,18 @@ pub data Frames (lone : ℕ → Bool) (party : ℕ) : ℕ → List Sent → List
 
 -- However the silent ticks and frames are told apart, the lines are those of the output.
 abbrev pub ListedAsSent : Type 0
-ListedAsSent = (lone : ℕ → Bool) (party tick : ℕ) (ss : List Sent) (ls : List Line) → Frames lone party tick ss ls → partyLines lone party tick quietEar ss ≡ ls
+ListedAsSent = (lone : ℕ → Bool) (party tick : ℕ) (ss : List Sent) (ls : List Line) → Frames lone party tick ss ls → partyLines lone party tick quietMonitor ss ≡ ls
 
 -- every master and device that started, whatever it hears and its host calls
 abbrev pub MasterListed : ℕ → Type 0
 MasterListed limit =
-    (lone : ℕ → Bool) (party tick : ℕ) (p : Profile) (primary : Bool) (retries : ℕ) (x : MasterSide) (inputs : List MasterInput) → profileMade p ≡ Made p → MasterStarts p primary retries x
-    → Frames lone party tick (masterSents limit x inputs) (partyLines lone party tick quietEar (masterSents limit x inputs))
+    (lone : ℕ → Bool) (party tick : ℕ) (p : Profile) (primary : Bool) (retries : ℕ) (x : MasterSide) (inputs : List MasterInput) → profileMade p ≡ accepted p → MasterStarts p primary retries x
+    → Frames lone party tick (masterSents limit x inputs) (partyLines lone party tick quietMonitor (masterSents limit x inputs))
 
 abbrev pub DeviceListed : ℕ → Type 0
 DeviceListed limit =
-    (lone : ℕ → Bool) (party tick : ℕ) (p : Profile) (x : DeviceSide) (inputs : List DeviceInput) → profileMade p ≡ Made p → DeviceStarts p x
-    → Frames lone party tick (deviceSents limit x inputs) (partyLines lone party tick quietEar (deviceSents limit x inputs))
+    (lone : ℕ → Bool) (party tick : ℕ) (p : Profile) (x : DeviceSide) (inputs : List DeviceInput) → profileMade p ≡ accepted p → DeviceStarts p x
+    → Frames lone party tick (deviceSents limit x inputs) (partyLines lone party tick quietMonitor (deviceSents limit x inputs))
 
 -- ---- in the output of all parties
 
@@ -80,4 +81,4 @@ pub data Ticks (lone : ℕ → Bool) (n : ℕ) : ℕ → List (List Sent) → Ty
 abbrev pub OutputListed : Type 0
 OutputListed =
     (lone : ℕ → Bool) (n party tick : ℕ) (ticks : List (List Sent)) → Ticks lone n tick ticks → party < n → NoGap [] (sentBy party ticks)
-    → Frames lone party tick (sentBy party ticks) (linesBy party (linesFrom tick (replicate n quietEar) ticks))
+    → Frames lone party tick (sentBy party ticks) (linesBy party (linesFrom tick (replicate n quietMonitor) ticks))

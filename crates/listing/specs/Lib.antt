@@ -4,3 +4,4 @@ pub mod FrameLines
 pub mod Text
 pub mod Put
 pub mod Promises
+pub mod Rows

@@ -1,3 +1,4 @@
+-- To be believed: what the engine must do, or what is claimed of it.
 -- Document 01, "The player": "one line per frame that its sender sent to the end before the stop, alone in each tick". What every party sent in a tick is a list: primary, secondary, then the devices.
 use Prim.Native.Nat.{ℕ, _+_}
 use mathlib.Core.Bool.{Bool, true, false}
@@ -13,7 +14,7 @@ use Rattle.line.specs.declared.Taken.{Taken}
 use Rattle.turns.specs.Run.{count}
 use Rattle.turns.specs.declared.Sent.{Sent}
 use Rattle.turns.specs.declared.Sent.the-variants.{Silent}
-use Rattle.listing.specs.declared.Ear.{Ear}
+use Rattle.listing.specs.declared.Monitor.{Monitor}
 
 -- "tick of its last character, party, type, master (0 primary), length in characters"
 pub record Line : Type 0 where
@@ -27,22 +28,22 @@ lineOf tick party header length = record { tick = tick; party = party; header = 
 
 -- ---- one party
 
--- an ear listens to one party's characters with a tick reader. This one has heard nothing of a frame.
-abbrev pub quietEar : Ear
-quietEar = record { receiver = idle; count = 0; alone = true }
+-- a monitor listens to one party's characters with a tick reader. This one has heard nothing of a frame.
+abbrev pub quietMonitor : Monitor
+quietMonitor = record { receiver = idle; count = 0; alone = true }
 
--- an ear behind a tick, and the line of the frame that ended in it
+-- a monitor behind a tick, and the line of the frame that ended in it
 pub record PartyLines : Type 0 where
-  pub ear : Ear
+  pub monitor : Monitor
   pub lines : List Line
 
 -- the frame is not at its end, or is none
 abbrev pub goesOn : Receiver → ℕ → Bool → PartyLines
-goesOn r count alone = record { ear = record { receiver = r; count = count; alone = alone }; lines = [] }
+goesOn r count alone = record { monitor = record { receiver = r; count = count; alone = alone }; lines = [] }
 
 -- a frame that was sent to the end, "alone in each tick" or not
 unfoldable pub frameEnds : Line → Bool → PartyLines
-frameEnds l alone = record { ear = quietEar; lines = if alone then l ∷ [] else [] }
+frameEnds l alone = record { monitor = quietMonitor; lines = if alone then l ∷ [] else [] }
 
 -- behind a character, by what the reader tells of it
 abbrev pub endsBy : ℕ → ℕ → ℕ → Bool → Receiver → Event → PartyLines
@@ -60,26 +61,26 @@ abbrev pub oneMore : ℕ → ℕ
 oneMore n = if n <? 65535 then n + 1 else 65535
 
 -- a tick of one party. The characters of a frame are sent in ticks one behind the other, so a silent tick begins anew.
-unfoldable pub listens : ℕ → ℕ → Bool → Ear → Sent → PartyLines
-listens tick party lone e Silent = record { ear = quietEar; lines = [] }
+unfoldable pub listens : ℕ → ℕ → Bool → Monitor → Sent → PartyLines
+listens tick party lone e Silent = record { monitor = quietMonitor; lines = [] }
 listens tick party lone e (Sent.Character c) =
     endsWith tick party (oneMore (e .count)) (if e .alone then lone else false) (taken (e .receiver) (Character c))
 
 -- ---- every party
 
--- the ears behind a tick, and the lines of the frames that ended in it
+-- the monitors behind a tick, and the lines of the frames that ended in it
 pub record TickLines : Type 0 where
-  pub ears : List Ear
+  pub monitors : List Monitor
   pub lines : List Line
 
 -- a party, and those behind it
 abbrev pub besides : PartyLines → TickLines → TickLines
-besides h r = record { ears = h .ear ∷ r .ears; lines = h .lines ++ r .lines }
+besides h r = record { monitors = h .monitor ∷ r .monitors; lines = h .lines ++ r .lines }
 
--- the parties from this number on, an ear for each
-unfoldable pub linesOf : ℕ → ℕ → Bool → List Ear → List Sent → TickLines
-linesOf tick party lone [] ss = record { ears = []; lines = [] }
-linesOf tick party lone (e ∷ es) [] = record { ears = []; lines = [] }
+-- the parties from this number on, a monitor for each
+unfoldable pub linesOf : ℕ → ℕ → Bool → List Monitor → List Sent → TickLines
+linesOf tick party lone [] ss = record { monitors = []; lines = [] }
+linesOf tick party lone (e ∷ es) [] = record { monitors = []; lines = [] }
 linesOf tick party lone (e ∷ es) (s ∷ ss) = besides (listens tick party lone e s) (linesOf tick (party + 1) lone es ss)
 
 -- how many of them send
@@ -92,10 +93,15 @@ abbrev pub isLone : List Sent → Bool
 isLone ss = senders ss ≤? 1
 
 -- a tick of all parties
-unfoldable pub tickLines : ℕ → List Ear → List Sent → TickLines
+unfoldable pub tickLines : ℕ → List Monitor → List Sent → TickLines
 tickLines tick es ss = linesOf tick 0 (isLone ss) es ss
 
 -- the lines of a list of ticks, from this one on
-unfoldable pub linesFrom : ℕ → List Ear → List (List Sent) → List Line
+unfoldable pub linesFrom : ℕ → List Monitor → List (List Sent) → List Line
 linesFrom tick es [] = []
-linesFrom tick es (ss ∷ ticks) = tickLines tick es ss .lines ++ linesFrom (tick + 1) (tickLines tick es ss .ears) ticks
+linesFrom tick es (ss ∷ ticks) = tickLines tick es ss .lines ++ linesFrom (tick + 1) (tickLines tick es ss .monitors) ticks
+
+-- and the monitors behind them
+unfoldable pub monitorsFrom : ℕ → List Monitor → List (List Sent) → List Monitor
+monitorsFrom tick es [] = es
+monitorsFrom tick es (ss ∷ ticks) = monitorsFrom (tick + 1) (tickLines tick es ss .monitors) ticks

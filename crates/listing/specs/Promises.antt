@@ -1,4 +1,5 @@
--- What is promised of a tick: the ears behind it, and the text of its lines in the lent output buffer.
+-- Inner contracts: nothing that is to be believed rests on them.
+-- What is promised of a tick: the monitors behind it, and the text of its lines in the lent output buffer.
 use Prim.Native.Nat.{ℕ, _≤_}
 use mathlib.Core.List.{List}
 use mathlib.Core.Path.{_≡_}
@@ -7,19 +8,19 @@ use Rattle.turns.specs.declared.Sent.{Sent}
 use Rattle.listing.specs.Lines.{PartyLines, TickLines}
 use Rattle.listing.specs.Put.{PutIs}
 use Rattle.listing.specs.Text.{linesText}
-use Rattle.listing.specs.declared.Ear.{Ear}
+use Rattle.listing.specs.declared.Monitor.{Monitor}
 
 -- whether a party sends, as a number
 pub record SendsIs (s : Sent) (r : ℕ) : Type 0 where
   pub number : r ≡ count s
   pub most : r ≤ 1
 
--- one party: its ear, and the place behind its line
-pub record PartyIs (x : PartyLines) (before : List ℕ) (at : ℕ) (e : Ear) (r : ℕ) (after : List ℕ) : Type 0 where
-  pub ear-is : e ≡ x .ear
+-- one party: its monitor, and the place behind its line
+pub record PartyIs (x : PartyLines) (before : List ℕ) (at : ℕ) (e : Monitor) (r : ℕ) (after : List ℕ) : Type 0 where
+  pub monitor-is : e ≡ x .monitor
   pub text : PutIs (linesText (x .lines)) before at r after
 
--- several parties: their ears, and the place behind their lines
-pub record TickIs (x : TickLines) (before : List ℕ) (at : ℕ) (es : List Ear) (r : ℕ) (after : List ℕ) : Type 0 where
-  pub ears-are : es ≡ x .ears
+-- several parties: their monitors, and the place behind their lines
+pub record TickLinesAre (x : TickLines) (before : List ℕ) (at : ℕ) (es : List Monitor) (r : ℕ) (after : List ℕ) : Type 0 where
+  pub monitors-are : es ≡ x .monitors
   pub text : PutIs (linesText (x .lines)) before at r after

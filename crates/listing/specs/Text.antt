@@ -1,3 +1,4 @@
+-- To be believed: what the engine must do, or what is claimed of it.
 -- Document 01, "The player": the text of the output, a line for each frame behind the header line.
 use Prim.Native.Nat.{ℕ, _+_, _/_, _%_, zero, suc}
 use mathlib.Core.Bool.{Bool}

@@ -1,4 +1,4 @@
-// The player's output: an ear for each party that listens to what it sends, and the lines of the frames that it hears, put as text into a lent buffer.
+// The player's output: a monitor for each party that listens to what it sends, and the lines of the frames that it hears, put as text into a lent buffer.
 use frame::Header;
 use line::Event;
 use line::Receiver;
@@ -7,16 +7,18 @@ use turns::Sent;
 ghost use mathlib.Core.Path.{_≡_};
 ghost use mathlib.Core.List.{[], _∷_};
 ghost use mathlib.Core.Bool.{false};
-ghost use lib.ListN.{replicate};
+ghost use lib.ListN.{length, replicate};
 ghost use Prim.Native.Nat.{_<_, _+_};
 ghost use Rattle.base.specs.Choice.{if_then_else_};
-ghost use Rattle.listing.specs.Lines.{lineOf, quietEar, frameEnds, endsWith, oneMore, listens, linesOf, senders, tickLines};
+ghost use Rattle.base.specs.Lent.{before};
+ghost use Rattle.listing.specs.Lines.{lineOf, quietMonitor, frameEnds, endsWith, oneMore, listens, linesOf, senders, tickLines};
 ghost use Rattle.listing.specs.Text.{decimalOf, decimal, headLine, typeName, masterDigit, word, lineText};
 ghost use Rattle.listing.specs.Put.{PutIs};
-ghost use Rattle.listing.specs.Promises.{SendsIs, PartyIs, TickIs};
+ghost use Rattle.listing.specs.Promises.{SendsIs, PartyIs, TickLinesAre};
+ghost use Rattle.listing.specs.Rows.{lesser, rowsListed, heardSoFar, RowIs, RowsAre};
 
 // What was heard of one party's characters.
-pub struct Ear {
+pub struct Monitor {
     pub receiver: Receiver,
     // how many characters of the frame there were
     pub count: u16,
@@ -24,21 +26,21 @@ pub struct Ear {
     pub alone: bool,
 }
 
-// An ear for each party: 0 primary, 1 secondary, then the devices.
-pub type Ears = [Ear; 8];
+// A monitor for each party: 0 primary, 1 secondary, then the devices.
+pub type Monitors = [Monitor; 8];
 
 // What every party sent in a tick, in the same order.
 pub type Sents = [Sent; 8];
 
-// The ears behind a tick, and the place behind its lines in the output.
+// The monitors behind a tick, and the place behind its lines in the output.
 pub struct Listened {
-    pub ears: Ears,
+    pub monitors: Monitors,
     pub at: usize,
 }
 
 // The same of one party.
-pub struct EarHeard {
-    pub ear: Ear,
+pub struct MonitorHeard {
+    pub monitor: Monitor,
     pub at: usize,
 }
 
@@ -169,23 +171,23 @@ pub fn put_line(
     put_byte(b'\n', out, e)
 }
 
-// An ear that has heard nothing of a frame.
-pub fn quiet_ear() -> Ear
-    ensures { λ r. ⌜ r ≡ quietEar ⌝ }
+// A monitor that has heard nothing of a frame.
+pub fn quiet_monitor() -> Monitor
+    ensures { λ r. ⌜ r ≡ quietMonitor ⌝ }
 {
     let r = tick_reader::idle_reader();
-    Ear {
+    Monitor {
         receiver: r,
         count: 0,
         alone: true,
     }
 }
 
-// The ears before the first tick.
-pub fn quiet_ears() -> Ears
-    ensures { λ r. ⌜ r ≡ replicate 8 quietEar ⌝ }
+// The monitors before the first tick.
+pub fn quiet_monitors() -> Monitors
+    ensures { λ r. ⌜ r ≡ replicate 8 quietMonitor ⌝ }
 {
-    let e = quiet_ear();
+    let e = quiet_monitor();
     [e; 8]
 }
 
@@ -208,21 +210,24 @@ fn frame_ends(
     alone: bool,
     out: &mut [u8],
     at: usize,
-) -> EarHeard
-    ensures { λ h. ⌜ PartyIs (frameEnds (lineOf tick party header length) alone) (now (out .entry)) at (h .ear) (h .at) (now (out .exit)) ⌝ }
+) -> MonitorHeard
+    ensures { λ h. ⌜ PartyIs (frameEnds (lineOf tick party header length) alone) (now (out .entry)) at (h .monitor) (h .at) (now (out .exit)) ⌝ }
 {
-    let ear = quiet_ear();
+    let monitor = quiet_monitor();
     if alone {
         let place = put_line(tick, party, header, length, out, at);
-        return EarHeard {
-            ear: ear,
+        return MonitorHeard {
+            monitor: monitor,
             at: place,
         };
     }
-    EarHeard { ear: ear, at: at }
+    MonitorHeard {
+        monitor: monitor,
+        at: at,
+    }
 }
 
-// An ear behind a character, by what its reader tells.
+// A monitor behind a character, by what its reader tells.
 fn ends_with(
     tick: u16,
     party: u16,
@@ -231,25 +236,37 @@ fn ends_with(
     t: Taken,
     out: &mut [u8],
     at: usize,
-) -> EarHeard
-    ensures { λ h. ⌜ PartyIs (endsWith tick party count alone t) (now (out .entry)) at (h .ear) (h .at) (now (out .exit)) ⌝ }
+) -> MonitorHeard
+    ensures { λ h. ⌜ PartyIs (endsWith tick party count alone t) (now (out .entry)) at (h .monitor) (h .at) (now (out .exit)) ⌝ }
 {
     let r = t.receiver;
     let event = t.event;
-    let ear = Ear {
+    let monitor = Monitor {
         receiver: r,
         count: count,
         alone: alone,
     };
     match event {
-        Event::Nothing => EarHeard { ear: ear, at: at },
-        Event::PassedOver => EarHeard { ear: ear, at: at },
-        Event::Broken => EarHeard { ear: ear, at: at },
+        Event::Nothing => MonitorHeard {
+            monitor: monitor,
+            at: at,
+        },
+        Event::PassedOver => MonitorHeard {
+            monitor: monitor,
+            at: at,
+        },
+        Event::Broken => MonitorHeard {
+            monitor: monitor,
+            at: at,
+        },
         Event::Frame(w) => {
             let header = w.header;
             frame_ends(tick, party, header, count, alone, out, at)
         }
-        Event::Damaged(_, _) => EarHeard { ear: ear, at: at },
+        Event::Damaged(_, _) => MonitorHeard {
+            monitor: monitor,
+            at: at,
+        },
     }
 }
 
@@ -268,38 +285,41 @@ pub fn hear(
     tick: u16,
     party: u16,
     lone: bool,
-    ear: Ear,
+    monitor: Monitor,
     c: u8,
     out: &mut [u8],
     at: usize,
-) -> EarHeard
-    ensures { λ h. ⌜ PartyIs (listens tick party lone ear (Sent.Character c)) (now (out .entry)) at (h .ear) (h .at) (now (out .exit)) ⌝ }
+) -> MonitorHeard
+    ensures { λ h. ⌜ PartyIs (listens tick party lone monitor (Sent.Character c)) (now (out .entry)) at (h .monitor) (h .at) (now (out .exit)) ⌝ }
 {
-    let r = ear.receiver;
+    let r = monitor.receiver;
     let t = tick_reader::heard_character(r, c);
-    let count = one_more(ear.count);
-    let alone = both(ear.alone, lone);
+    let count = one_more(monitor.count);
+    let alone = both(monitor.alone, lone);
     ends_with(tick, party, count, alone, t, out, at)
 }
 
-// A tick of one party: its ear behind it, and the line of the frame that ended.
+// A tick of one party: its monitor behind it, and the line of the frame that ended.
 fn listen(
     tick: u16,
     party: u16,
     lone: bool,
-    ear: Ear,
+    monitor: Monitor,
     sent: Sent,
     out: &mut [u8],
     at: usize,
-) -> EarHeard
-    ensures { λ h. ⌜ PartyIs (listens tick party lone ear sent) (now (out .entry)) at (h .ear) (h .at) (now (out .exit)) ⌝ }
+) -> MonitorHeard
+    ensures { λ h. ⌜ PartyIs (listens tick party lone monitor sent) (now (out .entry)) at (h .monitor) (h .at) (now (out .exit)) ⌝ }
 {
     match sent {
         Sent::Silent => {
-            let quiet = quiet_ear();
-            EarHeard { ear: quiet, at: at }
+            let quiet = quiet_monitor();
+            MonitorHeard {
+                monitor: quiet,
+                at: at,
+            }
         }
-        Sent::Character(c) => hear(tick, party, lone, ear, c, out, at),
+        Sent::Character(c) => hear(tick, party, lone, monitor, c, out, at),
     }
 }
 
@@ -331,42 +351,152 @@ fn senders_of(sents: Sents) -> usize
 fn listen_all(
     tick: u16,
     lone: bool,
-    ears: Ears,
+    monitors: Monitors,
     sents: Sents,
     out: &mut [u8],
     at: usize,
 ) -> Listened
-    ensures { λ h. ⌜ TickIs (linesOf tick 0 lone ears sents) (now (out .entry)) at (h .ears) (h .at) (now (out .exit)) ⌝ }
+    ensures { λ h. ⌜ TickLinesAre (linesOf tick 0 lone monitors sents) (now (out .entry)) at (h .monitors) (h .at) (now (out .exit)) ⌝ }
 {
-    let mut list = ears;
+    let mut list = monitors;
     let mut place = at;
     let mut i = 0;
     while i < 8 {
         let e = list[i];
         let s = sents[i];
         let h = listen(tick, i as u16, lone, e, s, out, place);
-        let next = h.ear;
+        let next = h.monitor;
         list[i] = next;
         place = h.at;
         i += 1;
     }
     Listened {
-        ears: list,
+        monitors: list,
         at: place,
     }
 }
 
-// A tick: the ears behind it, and the lines of the frames that ended in it, put into the output.
-pub fn tick_lines(tick: u16, ears: Ears, sents: Sents, out: &mut [u8], at: usize) -> Listened
-    ensures { λ h. ⌜ TickIs (tickLines tick ears sents) (now (out .entry)) at (h .ears) (h .at) (now (out .exit)) ⌝ }
+// A tick: the monitors behind it, and the lines of the frames that ended in it, put into the output.
+pub fn tick_lines(
+    tick: u16,
+    monitors: Monitors,
+    sents: Sents,
+    out: &mut [u8],
+    at: usize,
+) -> Listened
+    ensures { λ h. ⌜ TickLinesAre (tickLines tick monitors sents) (now (out .entry)) at (h .monitors) (h .at) (now (out .exit)) ⌝ }
 {
     let n = senders_of(sents);
     if n == 0 {
-        let quiet = quiet_ears();
+        let quiet = quiet_monitors();
         return Listened {
-            ears: quiet,
+            monitors: quiet,
             at: at,
         };
     }
-    listen_all(tick, n <= 1, ears, sents, out, at)
+    listen_all(tick, n <= 1, monitors, sents, out, at)
+}
+
+// The smaller of two numbers.
+fn lesser_of(a: u16, b: u16) -> u16
+    ensures { λ r. ⌜ r ≡ lesser a b ⌝ }
+{
+    if a < b {
+        return a;
+    }
+    b
+}
+
+// How many of 64 rows are listed from this tick on.
+fn rows_listed(tick: u16, count: u16) -> u16
+    ensures { λ r. ⌜ r ≡ rowsListed tick count ⌝ }
+{
+    let most = lesser_of(count, 64);
+    lesser_of(most, 65535 - tick)
+}
+
+// There are eight numbers in a row, and 64 rows: what the arrays' type says, in words that the promises below need.
+fn eight_numbers(row: &[u16])
+    requires { ⌜ length (now row) ≡ 8 ⌝ }
+    ensures { λ _. ⌜ length (before row) ≡ 8 ⌝ }
+{}
+
+fn all_rows(rows: &[[u16; 8]])
+    requires { ⌜ length (now rows) ≡ 64 ⌝ }
+    ensures { λ _. ⌜ length (before rows) ≡ 64 ⌝ }
+{}
+
+// Whether at most one party sends in a tick.
+fn row_is_lone(row: &[u16; 8]) -> bool
+    ensures { λ r. ⌜ RowIs (before row) r ⌝ }
+{
+    eight_numbers(row);
+    let mut n: usize = 0;
+    let mut i = 0;
+    while i < 8 {
+        let c = row[i];
+        i += 1;
+        if c < 256 {
+            n += 1;
+        }
+    }
+    n <= 1
+}
+
+// What a monitor has heard of a frame.
+fn heard_so_far(m: Monitor) -> Monitor
+    ensures { λ r. ⌜ r ≡ heardSoFar m ⌝ }
+{
+    if m.count == 0 {
+        return quiet_monitor();
+    }
+    m
+}
+
+// So many ticks from this one on: the monitors behind them, and the lines of the frames that ended in them, put into the output.
+// Row k of sent is what each party sent in the tick k behind the first: the character, or 256 for none.
+pub fn list_ticks(
+    monitors: Monitors,
+    tick: u16,
+    count: u16,
+    sent: &[[u16; 8]; 64],
+    out: &mut [u8],
+    at: usize,
+) -> Listened
+    ensures { λ h. ⌜ RowsAre monitors tick count sent out at h ⌝ }
+{
+    all_rows(sent);
+    let most = rows_listed(tick, count);
+    let mut list = monitors;
+    let mut place = at;
+    let mut k: u16 = 0;
+    while k < most {
+        let row = k as usize;
+        let lone = row_is_lone(&sent[row]);
+        let mut next = 0;
+        while next < 8 {
+            let i = next;
+            next += 1;
+            let c = sent[row][i];
+            if c < 256 {
+                let m = list[i];
+                let begun = heard_so_far(m);
+                let h = hear(tick + k, i as u16, lone, begun, c as u8, out, place);
+                let behind = h.monitor;
+                list[i] = behind;
+                place = h.at;
+            } else {
+                let m = list[i];
+                if 0 < m.count {
+                    let quiet = quiet_monitor();
+                    list[i] = quiet;
+                }
+            }
+        }
+        k += 1;
+    }
+    Listened {
+        monitors: list,
+        at: place,
+    }
 }

@@ -4,33 +4,35 @@ use mathlib.Core.List.{List}
 use mathlib.Core.Path.{_≡_, refl, sym, ap, _∙_}
 use lib.ListN.{length}
 use Rattle.base.specs.Store.{stored}
+use Rattle.base.specs.Refusal.{number, Called, accepted, refused}
 use Rattle.base.specs.declared.Refusal.{Refusal}
 use Rattle.frame.specs.Frame.{frameBytes}
 use Rattle.frame.specs.declared.Header.{Header}
 use Rattle.line.specs.declared.Event.{Event}
 use Rattle.line.specs.declared.Heard.{Heard}
 use Rattle.line.specs.declared.Receiver.{Receiver}
-use Rattle.turns.specs.Master.{Called, accepted, refused, Request, requestHeader, requested, behind, tells, masterTakes, masterSends}
-use Rattle.turns.specs.Link.{Answer, MasterCall, MasterStep, was-taken, was-refused, masterData, masterSent, masterCalled, masterCalls, masterTick}
+use Rattle.turns.specs.Party.{Request, CallResult, was-taken, was-refused}
+use Rattle.turns.specs.Master.{requestHeader, requested, masterWith, tells, masterTakes, masterSends}
+use Rattle.turns.specs.Link.{MasterCall, MasterStep, masterData, masterSent, masterCalled, masterCalls, masterTick}
 use Rattle.turns.specs.declared.Master.{Master}
 use Rattle.turns.specs.declared.MasterSent.{MasterSent}
 use Rattle.turns.specs.declared.MasterTaken.{MasterTaken}
 use Rattle.turns.specs.declared.MasterTold.{MasterTold}
 use Rattle.turns.specs.declared.Message.{Message}
 use Rattle.turns.specs.declared.Noted.{Noted}
-use Rattle.master_heard.specs.Takes.{heardBytes, TakeIs}
+use Rattle.master_heard.specs.Takes.{heardBytes, MasterTakeIs}
 use Rattle.master.specs.Answers.{asks, asked, askedFrame, RequestIs}
 use Rattle.master.specs.declared.MasterRequested.{MasterRequested}
-use Rattle.party.specs.Calls.{answerOf}
-use Rattle.party.specs.declared.CallAnswer.{CallAnswer}
-use Rattle.master.specs.Tick.{callOf, sideOf, stepOf, uncalled, CallIs, TickIs}
-use Rattle.master.specs.declared.CallTaken.{CallTaken}
-use Rattle.master.specs.declared.HostCall.{HostCall}
+use Rattle.party.specs.Calls.{resultOf}
+use Rattle.party.specs.declared.CallStatus.{CallStatus}
+use Rattle.master.specs.Tick.{callOf, sideOf, stepOf, uncalled, MasterCalledIs, MasterTickIs}
+use Rattle.master.specs.declared.MasterCallTaken.{MasterCallTaken}
+use Rattle.master.specs.declared.MasterHostCall.{MasterHostCall}
 use Rattle.master.specs.declared.MasterTicked.{MasterTicked}
-use Rattle.master.specs.declared.Wanted.{Wanted}
+use Rattle.master.specs.declared.RequestFields.{RequestFields}
 
 -- a request that was answered
-module _ (m : Master) (w : Wanted) (put frame after : List ℕ) (r : MasterRequested) where
+module _ (m : Master) (w : RequestFields) (put frame after : List ℕ) (r : MasterRequested) where
   q : Request
   q = asks (w .preamble) (w .long) (w .address) (w .command)
 
@@ -38,10 +40,10 @@ module _ (m : Master) (w : Wanted) (put frame after : List ℕ) (r : MasterReque
   stx = frameBytes (q .preamble) (requestHeader m q) put
 
   module _ (is : RequestIs m (asks (w .preamble) (w .long) (w .address) (w .command)) put frame r after) where
-    pub call-accepted : (n : Master) → r ≡ MasterRequested.Accepted n → CallIs m (HostCall.Requests w) put frame (record { master = n; answer = CallAnswer.Taken }) after
+    pub call-accepted : (n : Master) → r ≡ MasterRequested.Accepted n → MasterCalledIs m (MasterHostCall.Requests w) put frame (record { master = n; result = CallStatus.Taken }) after
     unfolding q stx
     call-accepted n e =
-        let called : requested 255 m q (length put) ≡ accepted n = sym (is .answer) ∙ ap asked e in
+        let called : requested 255 m q (length put) ≡ accepted n = sym (is .result) ∙ ap asked e in
         let buffer : stored frame 0 stx ≡ after = sym (is .buffer ∙ ap (λ (c : Called Master). askedFrame c frame stx) called) in
         record {
           goes = λ told event bytes.
@@ -49,28 +51,28 @@ module _ (m : Master) (w : Wanted) (put frame after : List ℕ) (r : MasterReque
               ∙ ap (λ (f : List ℕ). masterSent (masterSends n f) f bytes told was-taken) buffer;
         }
 
-    pub call-refused : (why : Refusal) → r ≡ MasterRequested.Refused why → CallIs m (HostCall.Requests w) put frame (record { master = m; answer = CallAnswer.Refused why }) after
+    pub call-refused : (why : Refusal) → r ≡ MasterRequested.Refused why → MasterCalledIs m (MasterHostCall.Requests w) put frame (record { master = m; result = CallStatus.Refused why }) after
     unfolding q stx
     call-refused why e =
-        let called : requested 255 m q (length put) ≡ refused why = sym (is .answer) ∙ ap asked e in
+        let called : requested 255 m q (length put) ≡ refused (number why) = sym (is .result) ∙ ap asked e in
         let buffer : frame ≡ after = sym (is .buffer ∙ ap (λ (c : Called Master). askedFrame c frame stx) called) in
         record {
           goes = λ told event bytes.
               ap (λ (c : Called Master). masterCalled c m stx frame bytes told) called
-              ∙ ap (λ (f : List ℕ). masterSent (masterSends m f) f bytes told (was-refused why)) buffer;
+              ∙ ap (λ (f : List ℕ). masterSent (masterSends m f) f bytes told (was-refused (number why))) buffer;
         }
 
 -- by the call
-pub call-none : (m : Master) (call : HostCall) (put frame : List ℕ) (r : CallTaken) → call ≡ HostCall.Nothing → r ≡ uncalled m → CallIs m call put frame r frame
+pub call-none : (m : Master) (call : MasterHostCall) (put frame : List ℕ) (r : MasterCallTaken) → call ≡ MasterHostCall.Nothing → r ≡ uncalled m → MasterCalledIs m call put frame r frame
 call-none m call put frame r e p = record {
   goes = λ told event bytes.
-      ap (λ (c : HostCall). masterCalls 255 (tells m told event) (callOf c put) frame bytes) e
-      ∙ ap (λ (x : CallTaken). masterSent (masterSends (x .master) frame) frame bytes told (answerOf (x .answer))) (sym p);
+      ap (λ (c : MasterHostCall). masterCalls 255 (tells m told event) (callOf c put) frame bytes) e
+      ∙ ap (λ (x : MasterCallTaken). masterSent (masterSends (x .master) frame) frame bytes told (resultOf (x .result))) (sym p);
 }
 
-pub call-some : (m : Master) (call : HostCall) (w : Wanted) (put frame after : List ℕ) (r : CallTaken) → call ≡ HostCall.Requests w → CallIs m (HostCall.Requests w) put frame r after → CallIs m call put frame r after
+pub call-some : (m : Master) (call : MasterHostCall) (w : RequestFields) (put frame after : List ℕ) (r : MasterCallTaken) → call ≡ MasterHostCall.Requests w → MasterCalledIs m (MasterHostCall.Requests w) put frame r after → MasterCalledIs m call put frame r after
 call-some m call w put frame after r e p = record {
-  goes = λ told event bytes. ap (λ (c : HostCall). masterCalls 255 (tells m told event) (callOf c put) frame bytes) e ∙ p .goes told event bytes;
+  goes = λ told event bytes. ap (λ (c : MasterHostCall). masterCalls 255 (tells m told event) (callOf c put) frame bytes) e ∙ p .goes told event bytes;
 }
 
 -- a message and a master are what their fields make of them
@@ -79,19 +81,19 @@ message-same g h e = λ i. record { stage = g .stage; header = e i; length = g .
 
 pub master-same : (m : Master) (r : Receiver) (n : Noted) (g : Message) → r ≡ m .receiver → n ≡ m .noted → g ≡ m .message
     → _≡_ {A = Master} (record { primary = m .primary; profile = m .profile; retries = m .retries; receiver = r; deaf = m .deaf; burst = m .burst; noted = n; timer = m .timer; message = g }) m
-master-same m r n g p q e = λ i. behind m (p i) (m .burst) (q i) (m .timer) (e i)
+master-same m r n g p q e = λ i. masterWith m (p i) (m .burst) (q i) (m .timer) (e i)
 
 -- the whole tick
-pub tick-is : (m own : Master) (heard : Heard) (call : HostCall) (put frame bytes frame-after bytes-after : List ℕ) (t : MasterTaken) (c : CallTaken) (s : MasterSent)
-    → own ≡ m → TakeIs own heard bytes t bytes-after → CallIs (t .master) call put frame c frame-after → s ≡ masterSends (c .master) frame-after
-    → TickIs m heard call put frame bytes (record { master = s .master; sent = s .sent; told = t .told; event = t .event; answer = c .answer }) frame-after bytes-after
+pub tick-is : (m own : Master) (heard : Heard) (call : MasterHostCall) (put frame bytes frame-after bytes-after : List ℕ) (t : MasterTaken) (c : MasterCallTaken) (s : MasterSent)
+    → own ≡ m → MasterTakeIs own heard bytes t bytes-after → MasterCalledIs (t .master) call put frame c frame-after → s ≡ masterSends (c .master) frame-after
+    → MasterTickIs m heard call put frame bytes (record { master = s .master; sent = s .sent; told = t .told; event = t .event; result = c .result }) frame-after bytes-after
 unfolding masterTick
 tick-is m own heard call put frame bytes frame-after bytes-after t c s same p q e =
     let takes : t ≡ masterTakes m heard bytes-after = p .takes ∙ ap (λ (x : Master). masterTakes x heard bytes-after) same in
     let buffer : bytes-after ≡ heardBytes m heard bytes = p .buffer ∙ ap (λ (x : Master). heardBytes x heard bytes) same in
     record {
       step =
-          ap (λ (x : MasterSent). masterSent x frame-after bytes-after (t .told) (answerOf (c .answer))) e
+          ap (λ (x : MasterSent). masterSent x frame-after bytes-after (t .told) (resultOf (c .result))) e
           ∙ sym (q .goes (t .told) (t .event) bytes-after)
           ∙ ap (λ (x : MasterTaken). masterCalls 255 x (callOf call put) frame bytes-after) takes
           ∙ ap (λ (b : List ℕ). masterCalls 255 (masterTakes m heard b) (callOf call put) frame b) buffer;

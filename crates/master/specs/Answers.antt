@@ -1,12 +1,16 @@
+-- How the code stands for what is to be believed.
 -- What a master's start and its host's request answer, by the definitions of crates/turns.
 use Prim.Native.Nat.{ℕ}
 use mathlib.Core.Path.{_≡_}
 use mathlib.Core.Bool.{Bool}
 use mathlib.Core.List.{List}
 use lib.ListN.{length}
+use Rattle.base.specs.Refusal.{number, Called, accepted, refused}
 use Rattle.base.specs.Store.{stored}
+use Rattle.frame.specs.Limits.{mostData}
 use Rattle.frame.specs.Frame.{frameBytes}
-use Rattle.turns.specs.Master.{Called, accepted, refused, Request, requestHeader, requested}
+use Rattle.turns.specs.Party.{Request}
+use Rattle.turns.specs.Master.{requestHeader, requested}
 use Rattle.turns.specs.declared.Master.{Master}
 use Rattle.master.specs.declared.MasterStarted.{MasterStarted}
 use Rattle.master.specs.declared.MasterStarted.the-variants.{Started, Refused}
@@ -15,7 +19,7 @@ use Rattle.master.specs.declared.MasterRequested.{MasterRequested}
 -- a fresh master, or the refusal with its number in document 01's table
 abbrev pub started : MasterStarted → Called Master
 started (Started m) = accepted m
-started (Refused why) = refused why
+started (Refused why) = refused (number why)
 
 -- what a request says, its data aside
 abbrev pub asks : ℕ → Bool → ℕ → ℕ → Request
@@ -24,7 +28,7 @@ asks preamble long address command = record { preamble = preamble; long = long; 
 -- a master with the message in hand, or the refusal with its number in document 01's table
 abbrev pub asked : MasterRequested → Called Master
 asked (MasterRequested.Accepted m) = accepted m
-asked (MasterRequested.Refused why) = refused why
+asked (MasterRequested.Refused why) = refused (number why)
 
 -- the lent frame buffer: with the STX where the request is accepted, as it was where it is refused
 abbrev pub askedFrame : Called Master → List ℕ → List ℕ → List ℕ
@@ -32,5 +36,5 @@ askedFrame (accepted m) frame put = stored frame 0 put
 askedFrame (refused why) frame put = frame
 
 pub record RequestIs (m : Master) (q : Request) (bytes frame : List ℕ) (r : MasterRequested) (after : List ℕ) : Type 0 where
-  pub answer : asked r ≡ requested 255 m q (length bytes)
-  pub buffer : after ≡ askedFrame (requested 255 m q (length bytes)) frame (frameBytes (q .preamble) (requestHeader m q) bytes)
+  pub result : asked r ≡ requested mostData m q (length bytes)
+  pub buffer : after ≡ askedFrame (requested mostData m q (length bytes)) frame (frameBytes (q .preamble) (requestHeader m q) bytes)

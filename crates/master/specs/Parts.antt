@@ -1,3 +1,4 @@
+-- Inner contracts: nothing that is to be believed rests on them.
 -- Names for parts of the definitions in crates/turns/specs/Master.antt.
 use Prim.Native.Nat.{ℕ}
 use mathlib.Core.Bool.{true, false}
@@ -8,7 +9,7 @@ use Rattle.base.specs.Store.{stored}
 use Rattle.frame.specs.Frame.{frameBytes, frameLength}
 use Rattle.frame.specs.declared.Header.{Header}
 use Rattle.line.specs.Reader.{passing}
-use Rattle.turns.specs.Master.{behind, sends, attempted}
+use Rattle.turns.specs.Master.{masterWith, sends, attempted}
 use Rattle.turns.specs.declared.Master.{Master}
 use Rattle.turns.specs.declared.MasterSent.{MasterSent}
 use Rattle.turns.specs.declared.Sent.{Sent}
@@ -18,10 +19,10 @@ use Rattle.turns.specs.declared.Timer.{Timer}
 
 -- a master with a message that waits
 abbrev pub withMessage : Master → Header → ℕ → Master
-withMessage m h length = behind m (m .receiver) (m .burst) (m .noted) (m .timer) (record { stage = Waiting; header = h; length = length; attempts = 0 })
+withMessage m h length = masterWith m (m .receiver) (m .burst) (m .noted) (m .timer) (record { stage = Waiting; header = h; length = length; attempts = 0 })
 
 -- a frame is put into a buffer from its first byte on, and is so many characters long
-pub record PutIs (preamble : ℕ) (h : Header) (bytes frame : List ℕ) (n : ℕ) (after : List ℕ) : Type 0 where
+pub record FramePutIs (preamble : ℕ) (h : Header) (bytes frame : List ℕ) (n : ℕ) (after : List ℕ) : Type 0 where
   pub count : n ≡ frameLength preamble h (length bytes)
   pub buffer : after ≡ stored frame 0 (frameBytes preamble h bytes)
 

@@ -1,41 +1,43 @@
+-- How the code stands for what is to be believed.
 -- A tick of a master, by `masterTick` of crates/turns/specs/Link.antt.
 use Prim.Native.Nat.{ℕ}
 use mathlib.Core.List.{List}
 use mathlib.Core.Path.{_≡_}
+use Rattle.frame.specs.Limits.{mostData}
 use Rattle.line.specs.declared.Event.{Event}
 use Rattle.line.specs.declared.Heard.{Heard}
 use Rattle.turns.specs.Master.{tells, masterTakes, masterSends}
 use Rattle.turns.specs.Link.{MasterCall, no-request, requests, MasterSide, MasterStep, masterSent, masterCalls, masterTick}
 use Rattle.turns.specs.declared.Master.{Master}
 use Rattle.turns.specs.declared.MasterTold.{MasterTold}
-use Rattle.party.specs.Calls.{answerOf}
-use Rattle.party.specs.declared.CallAnswer.{CallAnswer}
+use Rattle.party.specs.Calls.{resultOf}
+use Rattle.party.specs.declared.CallStatus.{CallStatus}
 use Rattle.master.specs.Answers.{asks}
-use Rattle.master.specs.declared.HostCall.{HostCall}
-use Rattle.master.specs.declared.CallTaken.{CallTaken}
+use Rattle.master.specs.declared.MasterHostCall.{MasterHostCall}
+use Rattle.master.specs.declared.MasterCallTaken.{MasterCallTaken}
 use Rattle.master.specs.declared.MasterTicked.{MasterTicked}
 
 -- the call, with the data that are lent beside it
-abbrev pub callOf : HostCall → List ℕ → MasterCall
-callOf HostCall.Nothing put = no-request
-callOf (HostCall.Requests q) put = requests (asks (q .preamble) (q .long) (q .address) (q .command)) put
+abbrev pub callOf : MasterHostCall → List ℕ → MasterCall
+callOf MasterHostCall.Nothing put = no-request
+callOf (MasterHostCall.Requests q) put = requests (asks (q .preamble) (q .long) (q .address) (q .command)) put
 
 -- a master with its lent buffers
 abbrev pub sideOf : Master → List ℕ → List ℕ → MasterSide
 sideOf m frame bytes = record { master = m; frame = frame; bytes = bytes }
 
 abbrev pub stepOf : MasterTicked → List ℕ → List ℕ → MasterStep
-stepOf r frame bytes = record { side = sideOf (r .master) frame bytes; sent = r .sent; told = r .told; answer = answerOf (r .answer) }
+stepOf r frame bytes = record { side = sideOf (r .master) frame bytes; sent = r .sent; told = r .told; result = resultOf (r .result) }
 
-abbrev pub uncalled : Master → CallTaken
-uncalled m = record { master = m; answer = CallAnswer.Nothing }
+abbrev pub uncalled : Master → MasterCallTaken
+uncalled m = record { master = m; result = CallStatus.Nothing }
 
 -- a call, whatever the tick told before it and whatever data it heard: `after` is the frame buffer behind the call
-pub record CallIs (m : Master) (call : HostCall) (put frame : List ℕ) (r : CallTaken) (after : List ℕ) : Type 0 where
+pub record MasterCalledIs (m : Master) (call : MasterHostCall) (put frame : List ℕ) (r : MasterCallTaken) (after : List ℕ) : Type 0 where
   pub goes : (told : MasterTold) (event : Event) (bytes : List ℕ)
-      → masterCalls 255 (tells m told event) (callOf call put) frame bytes ≡ masterSent (masterSends (r .master) after) after bytes told (answerOf (r .answer))
+      → masterCalls mostData (tells m told event) (callOf call put) frame bytes ≡ masterSent (masterSends (r .master) after) after bytes told (resultOf (r .result))
 
 -- a tick: what is sent, told and answered, the state and both lent buffers behind it; and each frame that its reader found
-pub record TickIs (m : Master) (heard : Heard) (call : HostCall) (put frame bytes : List ℕ) (r : MasterTicked) (frame-after bytes-after : List ℕ) : Type 0 where
-  pub step : stepOf r frame-after bytes-after ≡ masterTick 255 (sideOf m frame bytes) heard (callOf call put)
+pub record MasterTickIs (m : Master) (heard : Heard) (call : MasterHostCall) (put frame bytes : List ℕ) (r : MasterTicked) (frame-after bytes-after : List ℕ) : Type 0 where
+  pub step : stepOf r frame-after bytes-after ≡ masterTick mostData (sideOf m frame bytes) heard (callOf call put)
   pub found : r .event ≡ masterTakes m heard bytes-after .event

@@ -6,7 +6,7 @@ use line::Event;
 use line::Heard;
 use line::Profile;
 use line::Receiver;
-use party::CallAnswer;
+use party::CallStatus;
 use turns::Master;
 use turns::MasterSent;
 use turns::MasterTold;
@@ -19,11 +19,12 @@ ghost use mathlib.Core.Path.{_≡_};
 ghost use mathlib.Core.Bool.{true, false};
 ghost use lib.ListN.{length};
 ghost use Rattle.base.specs.Choice.{if_then_else_, _=?_};
+ghost use Rattle.frame.specs.Limits.{reservedCommand};
 ghost use Rattle.frame.proofs.Taken.{Fits};
 ghost use Rattle.turns.specs.Master.{hasMessage, sends, sendsAt, oneMore, sendsBy, masterSends, noMessage, freshMaster, masterStarts};
 ghost use Rattle.master.specs.Answers.{started, asks, RequestIs};
-ghost use Rattle.master.specs.Parts.{withMessage, PutIs, sendsNothing, sendsCharacter};
-ghost use Rattle.master.specs.Tick.{uncalled, CallIs, TickIs};
+ghost use Rattle.master.specs.Parts.{withMessage, FramePutIs, sendsNothing, sendsCharacter};
+ghost use Rattle.master.specs.Tick.{uncalled, MasterCalledIs, MasterTickIs};
 
 // What a start answers.
 pub enum MasterStarted {
@@ -38,7 +39,7 @@ pub enum MasterRequested {
 }
 
 // A host's request, its data aside.
-pub struct Wanted {
+pub struct RequestFields {
     pub preamble: usize,
     pub address: u64,
     pub long: bool,
@@ -46,15 +47,15 @@ pub struct Wanted {
 }
 
 // A host's call in a tick.
-pub enum HostCall {
+pub enum MasterHostCall {
     Nothing,
-    Requests(Wanted),
+    Requests(RequestFields),
 }
 
 // A master behind its host's call.
-pub struct CallTaken {
+pub struct MasterCallTaken {
     pub master: Master,
-    pub answer: CallAnswer,
+    pub result: CallStatus,
 }
 
 // A master behind a tick, what it sends, and what it tells its host.
@@ -63,12 +64,12 @@ pub struct MasterTicked {
     pub sent: Sent,
     pub told: MasterTold,
     pub event: Event,
-    pub answer: CallAnswer,
+    pub result: CallStatus,
 }
 
 // Refusal 5: command 254, or a short address with a command but 0.
 fn command_refused(long: bool, command: u8) -> bool
-    ensures { λ r. ⌜ r ≡ (if command =? 254 then true else if long then false else (if command =? 0 then false else true)) ⌝ }
+    ensures { λ r. ⌜ r ≡ (if command =? reservedCommand then true else if long then false else (if command =? 0 then false else true)) ⌝ }
 {
     if command == 254 {
         return true;
@@ -112,7 +113,7 @@ fn with_message(m: Master, h: Header, length: u16) -> Master
 // Puts an STX that can be written into the lent frame buffer; how many characters it has.
 fn put_stx(preamble: usize, h: Header, bytes: &[u8], frame: &mut [u8; 284]) -> u16
     requires { ⌜ Fits preamble h (length (now bytes)) ⌝ }
-    ensures { λ r. ⌜ PutIs preamble h (now (bytes .entry)) (now (frame .entry)) r (now (frame .exit)) ⌝ }
+    ensures { λ r. ⌜ FramePutIs preamble h (now (bytes .entry)) (now (frame .entry)) r (now (frame .exit)) ⌝ }
 {
     let written = frame_write::write(preamble, h, bytes, frame, 0);
     match written {
@@ -329,37 +330,37 @@ pub fn start(profile: Profile, primary: bool, retries: u8) -> MasterStarted
     MasterStarted::Started(fresh_master(profile, primary, retries))
 }
 
-fn request_by(m: Master, q: Wanted, put: &[u8], frame: &mut [u8; 284]) -> CallTaken
-    ensures { λ r. ⌜ CallIs m (HostCall.Requests q) (now (put .entry)) (now (frame .entry)) r (now (frame .exit)) ⌝ }
+fn request_by(m: Master, q: RequestFields, put: &[u8], frame: &mut [u8; 284]) -> MasterCallTaken
+    ensures { λ r. ⌜ MasterCalledIs m (MasterHostCall.Requests q) (now (put .entry)) (now (frame .entry)) r (now (frame .exit)) ⌝ }
 {
     let r = request(m, q.preamble, q.long, q.address, q.command, put, frame);
     match r {
-        MasterRequested::Accepted(n) => CallTaken {
+        MasterRequested::Accepted(n) => MasterCallTaken {
             master: n,
-            answer: CallAnswer::Taken,
+            result: CallStatus::Taken,
         },
-        MasterRequested::Refused(why) => CallTaken {
+        MasterRequested::Refused(why) => MasterCallTaken {
             master: m,
-            answer: CallAnswer::Refused(why),
+            result: CallStatus::Refused(why),
         },
     }
 }
 
-fn no_call(m: Master) -> CallTaken
+fn no_call(m: Master) -> MasterCallTaken
     ensures { λ r. ⌜ r ≡ uncalled m ⌝ }
 {
-    CallTaken {
+    MasterCallTaken {
         master: m,
-        answer: CallAnswer::Nothing,
+        result: CallStatus::Nothing,
     }
 }
 
-fn take_call(m: Master, call: HostCall, put: &[u8], frame: &mut [u8; 284]) -> CallTaken
-    ensures { λ r. ⌜ CallIs m call (now (put .entry)) (now (frame .entry)) r (now (frame .exit)) ⌝ }
+fn take_call(m: Master, call: MasterHostCall, put: &[u8], frame: &mut [u8; 284]) -> MasterCallTaken
+    ensures { λ r. ⌜ MasterCalledIs m call (now (put .entry)) (now (frame .entry)) r (now (frame .exit)) ⌝ }
 {
     match call {
-        HostCall::Nothing => no_call(m),
-        HostCall::Requests(q) => request_by(m, q, put, frame),
+        MasterHostCall::Nothing => no_call(m),
+        MasterHostCall::Requests(q) => request_by(m, q, put, frame),
     }
 }
 
@@ -415,12 +416,12 @@ fn same_master(m: Master) -> Master
 pub fn tick(
     m: Master,
     heard: Heard,
-    call: HostCall,
+    call: MasterHostCall,
     put: &[u8],
     frame: &mut [u8; 284],
     bytes: &mut [u8; 255],
 ) -> MasterTicked
-    ensures { λ r. ⌜ TickIs m heard call (now (put .entry)) (now (frame .entry)) (now (bytes .entry)) r (now (frame .exit)) (now (bytes .exit)) ⌝ }
+    ensures { λ r. ⌜ MasterTickIs m heard call (now (put .entry)) (now (frame .entry)) (now (bytes .entry)) r (now (frame .exit)) (now (bytes .exit)) ⌝ }
 {
     let own = same_master(m);
     let t = master_heard::take(own, heard, bytes);
@@ -429,7 +430,7 @@ pub fn tick(
     let event = t.event;
     let c = take_call(taken, call, put, frame);
     let called = c.master;
-    let answer = c.answer;
+    let result = c.result;
     let s = send(called, frame);
     let next = s.master;
     let sent = s.sent;
@@ -438,6 +439,6 @@ pub fn tick(
         sent: sent,
         told: told,
         event: event,
-        answer: answer,
+        result: result,
     }
 }

@@ -11,8 +11,10 @@ use turns::Stage;
 use turns::Timer;
 ghost use mathlib.Core.Path.{_≡_};
 ghost use Prim.Native.Nat.{_-_};
-ghost use Rattle.turns.specs.Master.{tells, afterFrame, afterBreak, onCharacter, waited, rt1Ends, unlessEnded, counts};
-ghost use Rattle.master_heard.specs.Takes.{frameGoesOn, countedMessage, countedTimer, withReader, timerTicked, silentOutside, passedOver, secondSilent, hearsSilence, TakeIs};
+ghost use Rattle.line.specs.Reader.{idle, gapped, taken};
+ghost use Rattle.line.specs.declared.Heard.the-variants.{Silence};
+ghost use Rattle.turns.specs.Master.{tells, afterFrame, afterBreak, frameGoesOn, onCharacter, waited, rt1Ends, unlessEnded, counts, countsTwice, withReader, onSilence};
+ghost use Rattle.master_heard.specs.Takes.{countedMessage, countedTimer, timerTicked, MasterTakeIs};
 
 // Behind a whole frame: BURST, then the timer, and the message.
 fn after_frame(m: Master, r: Receiver, w: Whole, bytes: &[u8; 255]) -> MasterTaken
@@ -198,7 +200,7 @@ fn with_reader(m: Master, r: Receiver) -> Master
 
 // A silent tick outside a frame is counted.
 fn silent_outside(m: Master) -> MasterTaken
-    ensures { λ t. ⌜ t ≡ silentOutside m ⌝ }
+    ensures { λ t. ⌜ t ≡ counts (withReader m idle) MasterTold.Nothing Event.Nothing ⌝ }
 {
     let r = tick_reader::idle_reader();
     count(with_reader(m, r), MasterTold::Nothing, Event::Nothing)
@@ -206,7 +208,7 @@ fn silent_outside(m: Master) -> MasterTaken
 
 // A silent tick inside a frame that is passed over.
 fn passed_over(m: Master) -> MasterTaken
-    ensures { λ t. ⌜ t ≡ passedOver m ⌝ }
+    ensures { λ t. ⌜ t ≡ tells (withReader m (gapped (m .receiver))) MasterTold.Nothing Event.Nothing ⌝ }
 {
     let reader = m.receiver;
     let r = tick_reader::gapped_reader(reader);
@@ -232,7 +234,7 @@ fn timer_ticked(m: Master) -> Master
 
 // The second silent tick in a row breaks the frame, and both count.
 fn second_silent(m: Master) -> MasterTaken
-    ensures { λ t. ⌜ t ≡ secondSilent m ⌝ }
+    ensures { λ t. ⌜ t ≡ countsTwice (afterBreak m idle Event.Broken .master) (afterBreak m idle Event.Broken .told) Event.Broken ⌝ }
 {
     let r = tick_reader::idle_reader();
     let b = after_break(m, r, Event::Broken);
@@ -259,7 +261,7 @@ fn hears_nothing(m: Master) -> MasterTaken
 
 // Hears silence.
 fn hears_silence(m: Master) -> MasterTaken
-    ensures { λ t. ⌜ t ≡ hearsSilence m ⌝ }
+    ensures { λ t. ⌜ t ≡ onSilence m (taken (m .receiver) Silence .receiver) ⌝ }
 {
     let reader = m.receiver;
     let place = reader.place;
@@ -274,7 +276,7 @@ fn hears_silence(m: Master) -> MasterTaken
 
 // Takes what was heard. The data of the frame being heard are kept in the lent bytes.
 pub fn take(m: Master, heard: Heard, bytes: &mut [u8; 255]) -> MasterTaken
-    ensures { λ t. ⌜ TakeIs m heard (now (bytes .entry)) t (now (bytes .exit)) ⌝ }
+    ensures { λ t. ⌜ MasterTakeIs m heard (now (bytes .entry)) t (now (bytes .exit)) ⌝ }
 {
     if m.deaf {
         return hears_nothing(m);

@@ -1,3 +1,4 @@
+-- Inner contracts: nothing that is to be believed rests on them.
 -- Names for parts of the definitions in crates/turns/specs/Master.antt.
 use mathlib.Core.Bool.{Bool, false}
 use Rattle.base.specs.Choice.{if_then_else_, _=?_}

@@ -11,12 +11,12 @@ use turns::Noted;
 use turns::Stage;
 use turns::Timer;
 ghost use mathlib.Core.Path.{_≡_};
-ghost use Rattle.turns.specs.Master.{freshMaster, ownRt1, quietTime, behind, staged, timer, burstTimer, opened, countClear, countBurst, timerCounted, burstCounted, namesDevice, addressOf, isNoted, burstAfter, notedAfter, toItself, clearTimer, setTimer, timerAfter, brokenTimer, ends, fails, sameBit, isAnswer, atBreak, answersMessage, atFrame, ifAwaiting};
+ghost use Rattle.turns.specs.Master.{ownRt1, quietTime, masterWith, messageAt, timer, burstTimer, opened, countClear, countBurst, timerCounted, burstCounted, namesDevice, addressOf, isNoted, burstAfter, notedAfter, toItself, broken, endedBy, timerAfter, ends, fails, sameBit, isAnswer, atBreak, answersMessage, atFrame, ifAwaiting};
 ghost use Rattle.master_rules.specs.Parts.{sameRequest, unended};
 
-// The own RT1 of a master with this master bit, fresh or not.
+// The own RT1 of a master with this master bit.
 pub fn rt1_of(p: Profile, primary: bool) -> u16
-    ensures { λ r. ⌜ r ≡ ownRt1 (freshMaster p primary 0) ⌝ }
+    ensures { λ r. ⌜ r ≡ ownRt1 p primary ⌝ }
 {
     if primary {
         return p.rt1p;
@@ -26,14 +26,14 @@ pub fn rt1_of(p: Profile, primary: bool) -> u16
 
 // Its own RT1.
 pub fn own_rt1(m: Master) -> u16
-    ensures { λ r. ⌜ r ≡ ownRt1 m ⌝ }
+    ensures { λ r. ⌜ r ≡ ownRt1 (m .profile) (m .primary) ⌝ }
 {
     let p = m.profile;
     rt1_of(p, m.primary)
 }
 
 fn quiet_time(m: Master) -> u32
-    ensures { λ r. ⌜ r ≡ quietTime m ⌝ }
+    ensures { λ r. ⌜ r ≡ quietTime (m .profile) (m .primary) ⌝ }
 {
     let p = m.profile;
     let twice = 2 * (p.rt1p as u32);
@@ -45,7 +45,7 @@ fn quiet_time(m: Master) -> u32
 
 // The same master with other parts.
 pub fn with_parts(m: Master, r: Receiver, burst: bool, noted: Noted, t: Timer, g: Message) -> Master
-    ensures { λ n. ⌜ n ≡ behind m r burst noted t g ⌝ }
+    ensures { λ n. ⌜ n ≡ masterWith m r burst noted t g ⌝ }
 {
     let profile = m.profile;
     Master {
@@ -63,7 +63,7 @@ pub fn with_parts(m: Master, r: Receiver, burst: bool, noted: Noted, t: Timer, g
 
 // The same message at another stage.
 pub fn at_stage(g: Message, stage: Stage) -> Message
-    ensures { λ r. ⌜ r ≡ staged g stage ⌝ }
+    ensures { λ r. ⌜ r ≡ messageAt g stage ⌝ }
 {
     let header = g.header;
     Message {
@@ -74,7 +74,7 @@ pub fn at_stage(g: Message, stage: Stage) -> Message
     }
 }
 
-// A timer n, with no window and no quiet time.
+// A timer n, or none where n is 0, with no window and no quiet time.
 pub fn timer_of(n: u32) -> Timer
     ensures { λ t. ⌜ t ≡ timer n ⌝ }
 {
@@ -87,7 +87,7 @@ pub fn timer_of(n: u32) -> Timer
 
 // A timer n, or none where n is 0, and the quiet time.
 fn burst_timer(m: Master, n: u32) -> Timer
-    ensures { λ t. ⌜ t ≡ burstTimer m n ⌝ }
+    ensures { λ t. ⌜ t ≡ burstTimer (m .profile) (m .primary) n ⌝ }
 {
     let quiet = quiet_time(m);
     Timer {
@@ -112,12 +112,13 @@ fn open_window(p: Profile) -> Timer
 pub fn count_clear(p: Profile, t: Timer) -> Timer
     ensures { λ r. ⌜ r ≡ countClear p t ⌝ }
 {
-    if t.next <= 1 {
+    if t.next == 1 {
         return open_window(p);
     }
+    let next = party::one_less(t.next);
     let window = party::one_less(t.window);
     Timer {
-        next: t.next - 1,
+        next: next,
         window: window,
         quiet: 0,
     }
@@ -151,7 +152,7 @@ pub fn timer_counted(m: Master) -> Timer
     let p = m.profile;
     let t = m.timer;
     if m.burst {
-        if t.quiet <= 1 {
+        if t.quiet == 1 {
             return open_window(p);
         }
         return count_burst(p, t);
@@ -165,7 +166,7 @@ pub fn burst_counted(m: Master) -> bool
 {
     let t = m.timer;
     if m.burst {
-        if t.quiet <= 1 {
+        if t.quiet == 1 {
             return false;
         }
         return true;
@@ -256,11 +257,20 @@ fn to_itself(m: Master, h: Header) -> bool
     true
 }
 
-// The timer behind a frame that leaves BURST clear.
-fn clear_timer(m: Master, h: Header) -> Timer
-    ensures { λ t. ⌜ t ≡ clearTimer m h ⌝ }
+// The timer behind a whole frame, with BURST as it is by then.
+pub fn timer_after(m: Master, burst: bool, h: Header) -> Timer
+    ensures { λ t. ⌜ t ≡ timerAfter (m .profile) (m .primary) (endedBy m h) burst ⌝ }
 {
     let p = m.profile;
+    if h.frame == frame::BACK {
+        if to_itself(m, h) {
+            return burst_timer(m, 0);
+        }
+        return burst_timer(m, 1);
+    }
+    if burst {
+        return burst_timer(m, 0);
+    }
     if h.frame == frame::ACK {
         if to_itself(m, h) {
             return timer_of(p.rt2 as u32);
@@ -270,31 +280,9 @@ fn clear_timer(m: Master, h: Header) -> Timer
     timer_of(own_rt1(m) as u32)
 }
 
-// The timer behind a frame that leaves BURST set.
-fn set_timer(m: Master, h: Header) -> Timer
-    ensures { λ t. ⌜ t ≡ setTimer m h ⌝ }
-{
-    if h.frame == frame::BACK {
-        if to_itself(m, h) {
-            return burst_timer(m, 0);
-        }
-        return burst_timer(m, 1);
-    }
-    burst_timer(m, 0)
-}
-
-pub fn timer_after(m: Master, burst: bool, h: Header) -> Timer
-    ensures { λ t. ⌜ t ≡ timerAfter m burst h ⌝ }
-{
-    if burst {
-        return set_timer(m, h);
-    }
-    clear_timer(m, h)
-}
-
 // The timer behind a broken or damaged frame, and behind its own STX.
 pub fn broken_timer(m: Master) -> Timer
-    ensures { λ t. ⌜ t ≡ brokenTimer m ⌝ }
+    ensures { λ t. ⌜ t ≡ timerAfter (m .profile) (m .primary) broken (m .burst) ⌝ }
 {
     if m.burst {
         return burst_timer(m, 0);

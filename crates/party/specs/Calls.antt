@@ -1,8 +1,10 @@
+-- How the code stands for what is to be believed.
 -- What became of a host's call in a tick: there was none, it was taken, or it was refused with its number in document 01's table.
-use Rattle.turns.specs.Link.{Answer, none, was-taken, was-refused}
-use Rattle.party.specs.declared.CallAnswer.{CallAnswer}
+use Rattle.base.specs.Refusal.{number}
+use Rattle.turns.specs.Party.{CallResult, none, was-taken, was-refused}
+use Rattle.party.specs.declared.CallStatus.{CallStatus}
 
-abbrev pub answerOf : CallAnswer → Answer
-answerOf CallAnswer.Nothing = none
-answerOf CallAnswer.Taken = was-taken
-answerOf (CallAnswer.Refused why) = was-refused why
+abbrev pub resultOf : CallStatus → CallResult
+resultOf CallStatus.Nothing = none
+resultOf CallStatus.Taken = was-taken
+resultOf (CallStatus.Refused why) = was-refused (number why)

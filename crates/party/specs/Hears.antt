@@ -1,3 +1,4 @@
+-- Inner contracts: nothing that is to be believed rests on them.
 -- What is heard in a tick, silence or a character.
 use mathlib.Core.Bool.{Bool, true, false}
 use Rattle.line.specs.declared.Heard.{Heard}

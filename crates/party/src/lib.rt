@@ -6,11 +6,11 @@ use line::Profile;
 ghost use mathlib.Core.Path.{_≡_};
 ghost use Prim.Native.Nat.{_-_};
 ghost use Rattle.frame.specs.Address.{byteAt};
-ghost use Rattle.turns.specs.Master.{isBroadcast, seeksTag};
+ghost use Rattle.turns.specs.Party.{isBroadcast, seeksTag};
 ghost use Rattle.party.specs.Hears.{isSilence};
 
 // What became of a host's call in a tick.
-pub enum CallAnswer {
+pub enum CallStatus {
     // there was none
     Nothing,
     Taken,

@@ -3,31 +3,31 @@ use Prim.Native.Nat.{ℕ, _+_, _-_, _≤_, _<_, _/_, _%_}
 use mathlib.Core.Path.{_≡_, refl, sym, ap, subst, _∙_}
 use mathlib.Core.List.{List, [], _∷_}
 use lib.ListN.{length, getD, set, replicate}
+use Rattle.base.specs.Refusal.{Called}
 use Rattle.base.specs.declared.Refusal.{Refusal}
 use Rattle.line.specs.Profile.{fskProfile}
 use Rattle.line.specs.declared.Heard.{Heard}
 use Rattle.line.specs.declared.Profile.{Profile}
 use Rattle.line_c.specs.Recording.{heardOf, trace, RunIs}
 use Rattle.line_c.proofs.Runs.{Running, begun, goes-on, run-ended, run-full, run-none}
-use Rattle.turns.specs.Master.{Called}
 use Rattle.turns.specs.Device.{deviceStarts}
-use Rattle.turns.specs.Link.{DeviceStep}
+use Rattle.turns.specs.Link.{DeviceStep, deviceTick}
 use Rattle.turns.specs.declared.Device.{Device}
 use Rattle.device.specs.Calls.{startedAs}
 use Rattle.device.specs.declared.DeviceStarted.{DeviceStarted}
-use Rattle.device_tick.specs.Tick.{sideOf, writtenTick, TickIs}
-use Rattle.device_tick.specs.declared.HostCall.{HostCall}
+use Rattle.device_tick.specs.Tick.{callOf, sideOf, DeviceTickIs}
+use Rattle.device_tick.specs.declared.DeviceHostCall.{DeviceHostCall}
 use Rattle.device_tick.specs.declared.DeviceTicked.{DeviceTicked}
-use Rattle.party_c.specs.Device.{answerAt, deviceNumber, step, ticked, StepIs, numbersBy, deviceNumbers}
+use Rattle.party_c.specs.Device.{answerAt, deviceNumber, step, ticked, DeviceStepIs, numbersBy, deviceNumbers}
 
 -- a tick of what was heard and called
-pub step-is : (d : Device) (frame bytes contents frame-after bytes-after contents-after : List ℕ) (first c : ℕ) (h : Heard) (call : HostCall) (t : DeviceTicked)
-    → h ≡ heardOf (first / 32) c → call ≡ answerAt (first % 32) → TickIs d h call (0 ∷ 0 ∷ []) frame bytes contents t frame-after bytes-after contents-after
-    → StepIs d frame bytes contents first c t frame-after bytes-after contents-after
+pub step-is : (d : Device) (frame bytes contents frame-after bytes-after contents-after : List ℕ) (first c : ℕ) (h : Heard) (call : DeviceHostCall) (t : DeviceTicked)
+    → h ≡ heardOf (first / 32) c → call ≡ answerAt (first % 32) → DeviceTickIs d h call (0 ∷ 0 ∷ []) frame bytes contents t frame-after bytes-after contents-after
+    → DeviceStepIs d frame bytes contents first c t frame-after bytes-after contents-after
 step-is d frame bytes contents frame-after bytes-after contents-after first c h call t p q e = record {
   steps = e .step
-      ∙ ap (λ (x : Heard). writtenTick (sideOf d frame bytes contents) x call (0 ∷ 0 ∷ [])) p
-      ∙ ap (λ (x : HostCall). writtenTick (sideOf d frame bytes contents) (heardOf (first / 32) c) x (0 ∷ 0 ∷ [])) q;
+      ∙ ap (λ (x : Heard). deviceTick 255 (sideOf d frame bytes contents) x (callOf call (0 ∷ 0 ∷ []))) p
+      ∙ ap (λ (x : DeviceHostCall). deviceTick 255 (sideOf d frame bytes contents) (heardOf (first / 32) c) (callOf x (0 ∷ 0 ∷ []))) q;
 }
 
 pub run-start : (recording before : List ℕ) (d : Device) (frame bytes contents : List ℕ)
@@ -36,7 +36,7 @@ run-start recording before d frame bytes contents = begun ticked recording befor
 
 pub run-tick : (numbers recording before : List ℕ) (d : Device) (frame bytes contents events : List ℕ) (at i : ℕ) (t : DeviceTicked) (frame-after bytes-after contents-after : List ℕ) (number : ℕ)
     → Running ticked numbers recording before (sideOf d frame bytes contents) events at i → i < length events → 2 ≤ length recording - at
-    → StepIs d frame bytes contents (getD recording at 0) (getD recording (at + 1) 0) t frame-after bytes-after contents-after → number ≡ deviceNumber (t .sent) (t .told)
+    → DeviceStepIs d frame bytes contents (getD recording at 0) (getD recording (at + 1) 0) t frame-after bytes-after contents-after → number ≡ deviceNumber (t .sent) (t .told)
     → Running ticked numbers recording before (sideOf (t .device) frame-after bytes-after contents-after) (set events i number) (at + 2) (i + 1)
 run-tick numbers recording before d frame bytes contents events at i t frame-after bytes-after contents-after number v h k e f =
     goes-on ticked numbers recording before (sideOf d frame bytes contents) events at i (record { number = number; behind = sideOf (t .device) frame-after bytes-after contents-after }) v h k

@@ -4,6 +4,7 @@ use mathlib.Core.Bool.{true}
 use mathlib.Core.Path.{_≡_, refl, sym, ap, subst, _∙_}
 use mathlib.Core.List.{List, [], _∷_}
 use lib.ListN.{length, getD, set, replicate}
+use Rattle.base.specs.Refusal.{Called}
 use Rattle.base.specs.declared.Refusal.{Refusal}
 use Rattle.base.proofs.Choices.{if-equal, if-unequal}
 use Rattle.line.specs.Profile.{fskProfile}
@@ -11,37 +12,37 @@ use Rattle.line.specs.declared.Heard.{Heard}
 use Rattle.line.specs.declared.Profile.{Profile}
 use Rattle.line_c.specs.Recording.{heardOf, trace, RunIs}
 use Rattle.line_c.proofs.Runs.{Running, begun, goes-on, run-ended, run-full, run-none}
-use Rattle.turns.specs.Master.{Called, masterStarts}
+use Rattle.turns.specs.Master.{masterStarts}
 use Rattle.turns.specs.Link.{MasterStep, masterTick}
 use Rattle.turns.specs.declared.Master.{Master}
 use Rattle.master.specs.Answers.{started}
 use Rattle.master.specs.declared.MasterStarted.{MasterStarted}
-use Rattle.master.specs.Tick.{callOf, sideOf, TickIs}
-use Rattle.master.specs.declared.HostCall.{HostCall}
+use Rattle.master.specs.Tick.{callOf, sideOf, MasterTickIs}
+use Rattle.master.specs.declared.MasterHostCall.{MasterHostCall}
 use Rattle.master.specs.declared.MasterTicked.{MasterTicked}
-use Rattle.party_c.specs.Master.{requestAt, tagAt, masterNumber, step, ticked, StepIs, numbersBy, masterNumbers}
+use Rattle.party_c.specs.Master.{requestAt, tagAt, masterNumber, step, ticked, MasterStepIs, numbersBy, masterNumbers}
 
 -- a tick of what was heard and called
-step-is : (m : Master) (frame bytes frame-after bytes-after : List ℕ) (first c : ℕ) (h : Heard) (call : HostCall) (put : List ℕ) (t : MasterTicked)
-    → h ≡ heardOf (first / 32) c → call ≡ requestAt (first % 32) → put ≡ tagAt (first % 32) → TickIs m h call put frame bytes t frame-after bytes-after
-    → StepIs m frame bytes first c t frame-after bytes-after
+step-is : (m : Master) (frame bytes frame-after bytes-after : List ℕ) (first c : ℕ) (h : Heard) (call : MasterHostCall) (put : List ℕ) (t : MasterTicked)
+    → h ≡ heardOf (first / 32) c → call ≡ requestAt (first % 32) → put ≡ tagAt (first % 32) → MasterTickIs m h call put frame bytes t frame-after bytes-after
+    → MasterStepIs m frame bytes first c t frame-after bytes-after
 step-is m frame bytes frame-after bytes-after first c h call put t p q r e = record {
   steps = e .step
       ∙ ap (λ (x : Heard). masterTick 255 (sideOf m frame bytes) x (callOf call put)) p
-      ∙ ap (λ (x : HostCall). masterTick 255 (sideOf m frame bytes) (heardOf (first / 32) c) (callOf x put)) q
+      ∙ ap (λ (x : MasterHostCall). masterTick 255 (sideOf m frame bytes) (heardOf (first / 32) c) (callOf x put)) q
       ∙ ap (λ (x : List ℕ). masterTick 255 (sideOf m frame bytes) (heardOf (first / 32) c) (callOf (requestAt (first % 32)) x)) r;
 }
 
 -- with command 11's tag, and without data
-pub step-tag : (m : Master) (frame bytes frame-after bytes-after : List ℕ) (first c : ℕ) (h : Heard) (call : HostCall) (t : MasterTicked)
-    → first % 32 ≡ 2 → h ≡ heardOf (first / 32) c → call ≡ requestAt (first % 32) → TickIs m h call (0 ∷ 0 ∷ 0 ∷ 0 ∷ 0 ∷ 0 ∷ []) frame bytes t frame-after bytes-after
-    → StepIs m frame bytes first c t frame-after bytes-after
+pub step-tag : (m : Master) (frame bytes frame-after bytes-after : List ℕ) (first c : ℕ) (h : Heard) (call : MasterHostCall) (t : MasterTicked)
+    → first % 32 ≡ 2 → h ≡ heardOf (first / 32) c → call ≡ requestAt (first % 32) → MasterTickIs m h call (0 ∷ 0 ∷ 0 ∷ 0 ∷ 0 ∷ 0 ∷ []) frame bytes t frame-after bytes-after
+    → MasterStepIs m frame bytes first c t frame-after bytes-after
 step-tag m frame bytes frame-after bytes-after first c h call t n p q e =
     step-is m frame bytes frame-after bytes-after first c h call (0 ∷ 0 ∷ 0 ∷ 0 ∷ 0 ∷ 0 ∷ []) t p q (if-equal (first % 32) 2 (0 ∷ 0 ∷ 0 ∷ 0 ∷ 0 ∷ 0 ∷ []) (replicate 6 0) [] n refl) e
 
-pub step-plain : (m : Master) (frame bytes frame-after bytes-after : List ℕ) (first c : ℕ) (h : Heard) (call : HostCall) (t : MasterTicked)
-    → (first % 32 ≡ 2 → ⊥) → h ≡ heardOf (first / 32) c → call ≡ requestAt (first % 32) → TickIs m h call [] frame bytes t frame-after bytes-after
-    → StepIs m frame bytes first c t frame-after bytes-after
+pub step-plain : (m : Master) (frame bytes frame-after bytes-after : List ℕ) (first c : ℕ) (h : Heard) (call : MasterHostCall) (t : MasterTicked)
+    → (first % 32 ≡ 2 → ⊥) → h ≡ heardOf (first / 32) c → call ≡ requestAt (first % 32) → MasterTickIs m h call [] frame bytes t frame-after bytes-after
+    → MasterStepIs m frame bytes first c t frame-after bytes-after
 step-plain m frame bytes frame-after bytes-after first c h call t n p q e =
     step-is m frame bytes frame-after bytes-after first c h call [] t p q (if-unequal (first % 32) 2 [] (replicate 6 0) [] n refl) e
 
@@ -50,7 +51,7 @@ run-start recording before m frame bytes = begun ticked recording before (sideOf
 
 pub run-tick : (numbers recording before : List ℕ) (m : Master) (frame bytes events : List ℕ) (at i : ℕ) (t : MasterTicked) (frame-after bytes-after : List ℕ) (number : ℕ)
     → Running ticked numbers recording before (sideOf m frame bytes) events at i → i < length events → 2 ≤ length recording - at
-    → StepIs m frame bytes (getD recording at 0) (getD recording (at + 1) 0) t frame-after bytes-after → number ≡ masterNumber (t .sent) (t .told)
+    → MasterStepIs m frame bytes (getD recording at 0) (getD recording (at + 1) 0) t frame-after bytes-after → number ≡ masterNumber (t .sent) (t .told)
     → Running ticked numbers recording before (sideOf (t .master) frame-after bytes-after) (set events i number) (at + 2) (i + 1)
 run-tick numbers recording before m frame bytes events at i t frame-after bytes-after number v h k e f =
     goes-on ticked numbers recording before (sideOf m frame bytes) events at i (record { number = number; behind = sideOf (t .master) frame-after bytes-after }) v h k

@@ -1,52 +1,53 @@
+-- How the code stands for what is to be believed.
 -- A primary of the FSK profile with 3 retries over a recording.
 use Prim.Native.Nat.{ℕ, _/_, _%_}
 use mathlib.Core.Bool.{true}
 use mathlib.Core.Path.{_≡_}
 use mathlib.Core.List.{List, []}
 use lib.ListN.{replicate}
+use Rattle.base.specs.Refusal.{Called, accepted, refused}
 use Rattle.base.specs.Choice.{if_then_else_, _=?_}
+use Rattle.frame.specs.Limits.{mostData, longestFrame}
 use Rattle.line.specs.Profile.{fskProfile}
 use Rattle.line_c.specs.Recording.{heardOf, Ticked, trace}
-use Rattle.turns.specs.Master.{Called, accepted, refused, masterStarts}
+use Rattle.turns.specs.Master.{masterStarts}
+use Rattle.turns.specs.Told.{masterTells}
 use Rattle.turns.specs.Link.{MasterSide, MasterStep, masterTick}
 use Rattle.turns.specs.declared.Master.{Master}
 use Rattle.turns.specs.declared.MasterTold.{MasterTold}
 use Rattle.turns.specs.declared.Sent.{Sent}
 use Rattle.master.specs.Tick.{callOf, sideOf, stepOf}
-use Rattle.master.specs.declared.HostCall.{HostCall}
+use Rattle.master.specs.declared.MasterHostCall.{MasterHostCall}
 use Rattle.master.specs.declared.MasterTicked.{MasterTicked}
 
 -- 1 asks command 3 of unique address 2, 2 command 11 by broadcast, anything else nothing
-abbrev pub requestAt : ℕ → HostCall
+abbrev pub requestAt : ℕ → MasterHostCall
 requestAt low =
-    if low =? 1 then HostCall.Requests (record { preamble = 5; long = true; address = 2; command = 3 })
-    else (if low =? 2 then HostCall.Requests (record { preamble = 5; long = true; address = 0; command = 11 }) else HostCall.Nothing)
+    if low =? 1 then MasterHostCall.Requests (record { preamble = 5; long = true; address = 2; command = 3 })
+    else (if low =? 2 then MasterHostCall.Requests (record { preamble = 5; long = true; address = 0; command = 11 }) else MasterHostCall.Nothing)
 
 -- the request's data: with command 11 a tag of six zero bytes
 abbrev pub tagAt : ℕ → List ℕ
 tagAt low = if low =? 2 then replicate 6 0 else []
 
--- 4 for a character that is sent; else what is told: 1 answered, 2 given up, 3 broadcast sent
+-- 4 for a character that is sent, else the number of what is told
 abbrev pub masterNumber : Sent → MasterTold → ℕ
-masterNumber Sent.Silent MasterTold.Nothing = 0
-masterNumber Sent.Silent (MasterTold.Answered w) = 1
-masterNumber Sent.Silent (MasterTold.GivenUp n) = 2
-masterNumber Sent.Silent MasterTold.BroadcastSent = 3
+masterNumber Sent.Silent told = masterTells told .number
 masterNumber (Sent.Character c) told = 4
 
 -- a tick, by the two bytes
 abbrev pub step : MasterSide → ℕ → ℕ → MasterStep
-step s first c = masterTick 255 s (heardOf (first / 32) c) (callOf (requestAt (first % 32)) (tagAt (first % 32)))
+step s first c = masterTick mostData s (heardOf (first / 32) c) (callOf (requestAt (first % 32)) (tagAt (first % 32)))
 
 abbrev pub ticked : MasterSide → ℕ → ℕ → Ticked MasterSide
 ticked s first c = record { number = masterNumber (step s first c .sent) (step s first c .told); behind = step s first c .side }
 
-pub record StepIs (m : Master) (frame bytes : List ℕ) (first c : ℕ) (t : MasterTicked) (frame-after bytes-after : List ℕ) : Type 0 where
+pub record MasterStepIs (m : Master) (frame bytes : List ℕ) (first c : ℕ) (t : MasterTicked) (frame-after bytes-after : List ℕ) : Type 0 where
   pub steps : stepOf t frame-after bytes-after ≡ step (sideOf m frame bytes) first c
 
 -- from its start on
 abbrev pub numbersBy : Called Master → List ℕ → List ℕ
-numbersBy (accepted m) recording = trace ticked (sideOf m (replicate 284 0) (replicate 255 0)) recording
+numbersBy (accepted m) recording = trace ticked (sideOf m (replicate (longestFrame mostData) 0) (replicate mostData 0)) recording
 numbersBy (refused why) recording = []
 
 abbrev pub masterNumbers : List ℕ → List ℕ

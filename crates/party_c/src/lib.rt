@@ -4,7 +4,7 @@ use device_tick::DeviceTicked;
 use line::Profile;
 use master::MasterStarted;
 use master::MasterTicked;
-use master::Wanted;
+use master::RequestFields;
 use turns::Device;
 use turns::DeviceTold;
 use turns::Master;
@@ -21,11 +21,11 @@ ghost use Rattle.party_c.specs.Device.{answerAt, deviceNumber, deviceNum
 ghost use Rattle.party_c.specs.Device as SD;
 
 // The host's request in a tick: 1 asks command 3 of unique address 2, 2 command 11 by broadcast.
-fn request_at(low: u8) -> master::HostCall
+fn request_at(low: u8) -> master::MasterHostCall
     ensures { λ r. ⌜ r ≡ requestAt low ⌝ }
 {
     if low == 1 {
-        return master::HostCall::Requests(Wanted {
+        return master::MasterHostCall::Requests(RequestFields {
             preamble: 5,
             long: true,
             address: 2,
@@ -33,14 +33,14 @@ fn request_at(low: u8) -> master::HostCall
         });
     }
     if low == 2 {
-        return master::HostCall::Requests(Wanted {
+        return master::MasterHostCall::Requests(RequestFields {
             preamble: 5,
             long: true,
             address: 0,
             command: 11,
         });
     }
-    master::HostCall::Nothing
+    master::MasterHostCall::Nothing
 }
 
 fn master_told(told: MasterTold) -> u8
@@ -72,7 +72,7 @@ fn master_stepped(
     frame: &mut [u8; 284],
     bytes: &mut [u8; 255],
 ) -> MasterTicked
-    ensures { λ t. ⌜ SM.StepIs m (now (frame .entry)) (now (bytes .entry)) first c t (now (frame .exit)) (now (bytes .exit)) ⌝ }
+    ensures { λ t. ⌜ SM.MasterStepIs m (now (frame .entry)) (now (bytes .entry)) first c t (now (frame .exit)) (now (bytes .exit)) ⌝ }
 {
     let heard = line_c::heard_of(first / 32, c);
     let call = request_at(first % 32);
@@ -128,22 +128,22 @@ pub extern "C" fn nengapiko_master(recording: &[u8], events: &mut [u8]) -> usize
 }
 
 // The host's call in a tick: 1 answers, 2 with burst on, 3 with burst off; 4 gives burst content.
-fn answer_at(low: u8) -> device_tick::HostCall
+fn answer_at(low: u8) -> device_tick::DeviceHostCall
     ensures { λ r. ⌜ r ≡ answerAt low ⌝ }
 {
     if low == 1 {
-        return device_tick::HostCall::Answers(Wish::Same);
+        return device_tick::DeviceHostCall::Answers(Wish::Same);
     }
     if low == 2 {
-        return device_tick::HostCall::Answers(Wish::On);
+        return device_tick::DeviceHostCall::Answers(Wish::On);
     }
     if low == 3 {
-        return device_tick::HostCall::Answers(Wish::Off);
+        return device_tick::DeviceHostCall::Answers(Wish::Off);
     }
     if low == 4 {
-        return device_tick::HostCall::Content(3);
+        return device_tick::DeviceHostCall::Content(3);
     }
-    device_tick::HostCall::Nothing
+    device_tick::DeviceHostCall::Nothing
 }
 
 fn device_told(told: DeviceTold) -> u8
@@ -175,7 +175,7 @@ fn device_stepped(
     frame: &mut [u8; 284],
     bytes: &mut [u8; 255],
 ) -> DeviceTicked
-    ensures { λ t. ⌜ SD.StepIs d (now (frame .entry)) (now (bytes .entry)) (now (contents .entry)) first c t (now (frame .exit)) (now (bytes .exit)) (now (contents .exit)) ⌝ }
+    ensures { λ t. ⌜ SD.DeviceStepIs d (now (frame .entry)) (now (bytes .entry)) (now (contents .entry)) first c t (now (frame .exit)) (now (bytes .exit)) (now (contents .exit)) ⌝ }
 {
     let heard = line_c::heard_of(first / 32, c);
     let call = answer_at(first % 32);

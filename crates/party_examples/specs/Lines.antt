@@ -1,3 +1,4 @@
+-- Inner contracts: nothing that is to be believed rests on them.
 -- Which ticks of a party have a line: those in which it hears what the script changed, finds a frame or a broken one, tells its host something or refuses its call. What a line says is printed, and no promise speaks of what is printed.
 use Prim.Native.Nat.{ℕ}
 use mathlib.Core.Bool.{Bool, true, false}
@@ -6,7 +7,7 @@ use Rattle.base.specs.Refusal.{number}
 use Rattle.line.specs.declared.Event.{Event}
 use Rattle.line.specs.declared.Event.the-variants.{Nothing, PassedOver, Broken, Frame, Damaged}
 use Rattle.turns.specs.declared.MasterTold.{MasterTold}
-use Rattle.party.specs.declared.CallAnswer.{CallAnswer}
+use Rattle.party.specs.declared.CallStatus.{CallStatus}
 
 -- a character that is passed over has no line
 abbrev pub eventShows : Event → Bool
@@ -23,10 +24,10 @@ tellsHost (MasterTold.GivenUp n) = true
 tellsHost MasterTold.BroadcastSent = true
 
 -- the number of a refusal in document 01's table, 0 if nothing was refused
-abbrev pub refusedBy : CallAnswer → ℕ
-refusedBy CallAnswer.Nothing = 0
-refusedBy CallAnswer.Taken = 0
-refusedBy (CallAnswer.Refused why) = number why
+abbrev pub refusedBy : CallStatus → ℕ
+refusedBy CallStatus.Nothing = 0
+refusedBy CallStatus.Taken = 0
+refusedBy (CallStatus.Refused why) = number why
 
 -- a device tells its host only of a frame that it found, so this is all for a device
 abbrev pub hasLine : Bool → Event → ℕ → Bool

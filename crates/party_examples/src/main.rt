@@ -18,8 +18,8 @@ use line::Heard;
 use line::Profile;
 use master::MasterStarted;
 use master::MasterTicked;
-use master::Wanted;
-use party::CallAnswer;
+use master::RequestFields;
+use party::CallStatus;
 use show::Ear;
 use turns::Device;
 use turns::DeviceTold;
@@ -153,8 +153,8 @@ fn front<'a>(bytes: &'a [u8], count: usize) -> &'a [u8] {
     bytes
 }
 
-fn wanted(long: bool, address: u8, command: u8) -> master::HostCall {
-    master::HostCall::Requests(Wanted {
+fn wanted(long: bool, address: u8, command: u8) -> master::MasterHostCall {
+    master::MasterHostCall::Requests(RequestFields {
         preamble: 5,
         long: long,
         address: address as u64,
@@ -162,13 +162,13 @@ fn wanted(long: bool, address: u8, command: u8) -> master::HostCall {
     })
 }
 
-fn master_call(o: Order) -> master::HostCall {
+fn master_call(o: Order) -> master::MasterHostCall {
     let what = o.what;
     match what {
         b'r' => wanted(false, o.number, 0),
         b'u' => wanted(true, o.number, 3),
         b't' => wanted(true, o.number, 11),
-        _ => master::HostCall::Nothing,
+        _ => master::MasterHostCall::Nothing,
     }
 }
 
@@ -199,14 +199,14 @@ fn master_ticks(side: MasterSide, ear: Ear, script: &[u8], tick: u16) -> MasterS
     }
 }
 
-fn device_call(o: Order) -> device_tick::HostCall {
+fn device_call(o: Order) -> device_tick::DeviceHostCall {
     let what = o.what;
     match what {
-        b'a' => device_tick::HostCall::Answers(Wish::Same),
-        b'n' => device_tick::HostCall::Answers(Wish::On),
-        b'f' => device_tick::HostCall::Answers(Wish::Off),
-        b'c' => device_tick::HostCall::Content(3),
-        _ => device_tick::HostCall::Nothing,
+        b'a' => device_tick::DeviceHostCall::Answers(Wish::Same),
+        b'n' => device_tick::DeviceHostCall::Answers(Wish::On),
+        b'f' => device_tick::DeviceHostCall::Answers(Wish::Off),
+        b'c' => device_tick::DeviceHostCall::Content(3),
+        _ => device_tick::DeviceHostCall::Nothing,
     }
 }
 
@@ -312,7 +312,7 @@ fn master_side(m: Master) -> MasterSide {
             sent: Sent::Silent,
             told: MasterTold::Nothing,
             event: Event::Nothing,
-            answer: CallAnswer::Nothing,
+            result: CallStatus::Nothing,
         },
         frame: [0; 284],
         bytes: [0; 255],
@@ -326,7 +326,7 @@ fn device_side(d: Device) -> DeviceSide {
             sent: Sent::Silent,
             told: DeviceTold::Nothing,
             event: Event::Nothing,
-            answer: CallAnswer::Nothing,
+            result: CallStatus::Nothing,
         },
         contents: [0; 255],
         frame: [0; 284],

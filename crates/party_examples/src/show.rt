@@ -6,7 +6,7 @@ use line::Event;
 use line::Heard;
 use line::Whole;
 use master::MasterTicked;
-use party::CallAnswer;
+use party::CallStatus;
 use turns::DeviceTold;
 use turns::MasterTold;
 ghost use mathlib.Core.Path.{_≡_};
@@ -161,13 +161,13 @@ fn show_device_told(told: DeviceTold, bytes: &[u8; 255]) {
 }
 
 // The number of a refusal, 0 if nothing was refused.
-fn refused_by(answer: CallAnswer) -> u32
-    ensures { λ r. ⌜ r ≡ refusedBy answer ⌝ }
+fn refused_by(result: CallStatus) -> u32
+    ensures { λ r. ⌜ r ≡ refusedBy result ⌝ }
 {
-    match answer {
-        CallAnswer::Nothing => 0,
-        CallAnswer::Taken => 0,
-        CallAnswer::Refused(why) => why.number(),
+    match result {
+        CallStatus::Nothing => 0,
+        CallStatus::Taken => 0,
+        CallStatus::Refused(why) => why.number(),
     }
 }
 
@@ -238,8 +238,8 @@ fn master_line(
 fn show_master(tick: u16, ear: Ear, t: MasterTicked, bytes: &[u8; 255]) {
     let told = t.told;
     let event = t.event;
-    let answer = t.answer;
-    let refused = refused_by(answer);
+    let result = t.result;
+    let refused = refused_by(result);
     if has_line(ear, event, refused) {
         master_line(tick, ear, event, told, refused, bytes);
     } else if tells(told) {
@@ -250,8 +250,8 @@ fn show_master(tick: u16, ear: Ear, t: MasterTicked, bytes: &[u8; 255]) {
 fn show_device(tick: u16, ear: Ear, t: DeviceTicked, bytes: &[u8; 255]) {
     let told = t.told;
     let event = t.event;
-    let answer = t.answer;
-    let refused = refused_by(answer);
+    let result = t.result;
+    let refused = refused_by(result);
     if has_line(ear, event, refused) {
         show_begin(tick, b" device", ear, event);
         show_device_told(told, bytes);

@@ -5,9 +5,9 @@ use native.Mathlib.Omega.{arith}
 use mathlib.Core.Bool.{Bool, true, false}
 use mathlib.Core.Path.{_≡_, refl, sym, ap, subst, _∙_}
 use mathlib.Core.List.{List, [], _∷_, _++_}
-use lib.ListN.{length, getD, set, replicate, length-set}
+use lib.ListN.{length, getD, replicate, length-set}
 use lib.Seq.{getD-set-same}
-use borrow.Author.Tests.{ne-eqb, lt-ltb, ltb-true}
+use borrow.Author.Tests.{ne-eqb}
 use Rattle.base.specs.Choice.{if_then_else_, _<?_, _=?_}
 use Rattle.base.proofs.Choices.{if-is-true, if-is-false, true-false}
 use Rattle.base.proofs.Tables.{chain-second}
@@ -15,7 +15,7 @@ use Rattle.frame.specs.Address.{byteAt}
 use Rattle.line.specs.Reader.{taken, atIdle}
 use Rattle.line.specs.declared.Heard.{Heard}
 use Rattle.line.specs.declared.Receiver.{Receiver}
-use Rattle.turns.specs.Link.{MasterCall, DeviceCall, no-call, DeviceSide, Calls, LinkStep, deviceTicks, linkTick, linkAfter, run}
+use Rattle.turns.specs.Link.{no-call, DeviceSide, Calls, LinkStep, deviceTicks, linkTick, linkAfter, run}
 use Rattle.turns.specs.Link as L
 use Rattle.turns.specs.declared.Sent.{Sent}
 use Rattle.turns.specs.declared.Sent.the-variants.{Silent}
@@ -25,15 +25,14 @@ use Rattle.script.specs.Reads.{Reads}
 use Rattle.script.specs.Walk.{freeTicks}
 use Rattle.script.specs.declared.Entry.{Entry}
 use Rattle.script.specs.declared.ScriptTick.{ScriptTick}
-use Rattle.script.specs.declared.Wanted.{Wanted}
-use Rattle.script.specs.declared.Wanted.the-variants.{Nothing}
+use Rattle.script.specs.declared.ScriptCall.the-variants.{Nothing}
 use Rattle.script.proofs.Free.{Free, free-is}
 use Rattle.script.proofs.Ticks.{reads-tick, reads-next}
-use Rattle.listing.specs.Lines.{quietEar, listens, senders, tickLines, linesFrom}
-use Rattle.listing.specs.Promises.{PartyIs, TickIs}
+use Rattle.listing.specs.Lines.{quietMonitor, listens, senders, tickLines, linesFrom}
+use Rattle.listing.specs.Promises.{PartyIs, TickLinesAre}
 use Rattle.listing.specs.Put.{outOf, put}
 use Rattle.listing.specs.Text.{linesText}
-use Rattle.listing.specs.declared.Ear.{Ear}
+use Rattle.listing.specs.declared.Monitor.{Monitor}
 use Rattle.listing.proofs.Listens.{AloneIn, speaks-here, speaks-behind, tick-silent, tick-alone, tick-goes-on}
 use Rattle.listing.proofs.Puts.{put-length}
 use Rattle.slots.specs.Slot.{Lent, slotSides}
@@ -42,20 +41,20 @@ use Rattle.slots.specs.declared.Slot.{Slot}
 use Rattle.slots.specs.declared.Slot.the-variants.{Absent, Present}
 use Rattle.link.specs.Link.{MasterLent, masterLends, DevicesLent, devicesLend}
 use Rattle.link.specs.Sents.{sentOf, sentIn}
-use Rattle.link.specs.Stands.{devicesOf, linkOf, LinkReady}
+use Rattle.link.specs.Stands.{devicesOf, linkOf}
 use Rattle.link.specs.declared.Link.{Link}
 use Rattle.link_rests.specs.Uncalled.{uncalledTick, afterTicks}
-use Rattle.link_rests.specs.Rests.{linkRests, mastersRest, devicesRest, linkRested, slotRested, devicesRested}
-use Rattle.link_rests.proofs.RestingLink.{silents, rested-agrees, rested-sent, rested-ready}
+use Rattle.link_rests.specs.Rests.{linkRests, mastersRest, devicesRest, linkRested, slotRested}
+use Rattle.link_rests.proofs.RestingLink.{silents, rested-agrees, rested-sent}
 use Rattle.link_speaks.specs.Speaks.{speakerOf, readerAt, goesOn, ticksFrom, slotSpoken, sayAlone, frameOf, DataHeard, spokenLink, spokenBy}
 use Rattle.link_speaks.specs.declared.Speaker.{Speaker}
 use Rattle.link_speaks.specs.declared.Speaker.the-variants.{Nobody, Party}
 use Rattle.link_speaks.specs.declared.Spoken.{Spoken}
 use Rattle.link_speaks.proofs.Behind.{ticks-go-on, ticks-most}
-use Rattle.link_speaks.proofs.SpeakingLink.{GoesOn, goes-on, speaker-few, spoken-agrees, spoken-sent, spoken-ready}
-use Rattle.player_tick.specs.Step.{There, AllThere, callsBy, stepAt, StepIs}
+use Rattle.link_speaks.proofs.SpeakingLink.{GoesOn, goes-on, speaker-few, spoken-agrees, spoken-sent}
+use Rattle.player_tick.specs.Step.{There, AllThere, callsBy, stepAt, PlayStepIs}
 use Rattle.player_tick.specs.declared.Playing.{Playing}
-use Rattle.player.specs.Ahead.{GoneIs, OneGone, Follows, begun, more, hasMore, earsBut, restedPlaying, SpokeOn}
+use Rattle.player.specs.Ahead.{GoneIs, OneGone, Follows, begun, more, hasMore, monitorsBut, restedPlaying, SpokeOn}
 use Rattle.player.specs.Ticks.{textFrom, Stands}
 use Rattle.player.specs.declared.Gone.{Gone}
 
@@ -82,43 +81,42 @@ module _ (tick : ℕ) (es : List Entry) (later : 0 < tick) (wants-none : (party 
       ∙ (λ i. record { for-primary = L.masterTick 255 (l .primary) (l .line) L.no-request; for-secondary = L.masterTick 255 (l .secondary) (l .line) L.no-request; for-devices = unnamed (l .line) (l .devices) 6 i })
 
 -- one tick: what is left prints what was left before it
-module _ (tick stop : ℕ) (es : List Entry) (ears ears-after : List Ear) (l : L.Link) (s : LinkStep) (out out-after : List ℕ) (at at-after : ℕ) where
-  pub left-on : tick < stop → linkTick 255 l (callsAt tick es) ≡ s → TickIs (tickLines tick ears (sentOf s)) out at ears-after at-after out-after
-      → put (outOf out-after at-after) (textFrom (tick + 1) (stop - (tick + 1)) ears-after (linkAfter s) es) ≡ put (outOf out at) (textFrom tick (stop - tick) ears l es)
+module _ (tick stop : ℕ) (es : List Entry) (monitors monitors-after : List Monitor) (l : L.Link) (s : LinkStep) (out out-after : List ℕ) (at at-after : ℕ) where
+  pub left-on : tick < stop → linkTick 255 l (callsAt tick es) ≡ s → TickLinesAre (tickLines tick monitors (sentOf s)) out at monitors-after at-after out-after
+      → put (outOf out-after at-after) (textFrom (tick + 1) (stop - (tick + 1)) monitors-after (linkAfter s) es) ≡ put (outOf out at) (textFrom tick (stop - tick) monitors l es)
   unfolding sentIn run callsFrom
   left-on h e lines =
       let rest : List Calls = callsFrom (tick + 1) (stop - (tick + 1)) es in
       let one-less : suc (stop - (tick + 1)) ≡ stop - tick = omega arith in
-      sym (tick-goes-on tick ears ears-after (sentOf s) (sentIn (run 255 (linkAfter s) rest)) out out-after at at-after lines)
-      ∙ ap (λ (z : LinkStep). put (outOf out at) (linesText (linesFrom tick ears (sentOf z ∷ sentIn (run 255 (linkAfter z) rest))))) (sym e)
-      ∙ ap (λ (n : ℕ). put (outOf out at) (textFrom tick n ears l es)) one-less
+      sym (tick-goes-on tick monitors monitors-after (sentOf s) (sentIn (run 255 (linkAfter s) rest)) out out-after at at-after lines)
+      ∙ ap (λ (z : LinkStep). put (outOf out at) (linesText (linesFrom tick monitors (sentOf z ∷ sentIn (run 255 (linkAfter z) rest))))) (sym e)
+      ∙ ap (λ (n : ℕ). put (outOf out at) (textFrom tick n monitors l es)) one-less
 
 -- ---- a tick of its own
 
 step-gone : (script : List ℕ) (tick stop : ℕ) (p : Playing) (x y : MasterLent) (d : DevicesLent) (out : List ℕ) (r : Playing) (x-after y-after : MasterLent) (d-after : DevicesLent) (out-after : List ℕ)
-    → Stands script tick p d → tick < stop → StepIs p tick script out x y d r out-after x-after y-after d-after
+    → Stands script tick p → tick < stop → PlayStepIs p tick script out x y d r out-after x-after y-after d-after
     → GoneIs script tick stop p x y d out (record { playing = r; ticks = 1 }) x-after y-after d-after out-after
 step-gone script tick stop p x y d out r x-after y-after d-after out-after k h is =
-    let t = is .within (k .ready) (k .there) in
+    let t = is .within (k .there) in
     record {
       some = omega arith;
       within = omega arith;
       same-length = put-length _ _ _ _ _ (t .lines-are .text);
       stands = record {
         reads = subst (λ (n : ℕ). Reads script n (tick + 1)) (sym (t .next-is)) (reads-next script (p .next) tick (tickAt script (p .next) tick) (k .reads) refl);
-        ready = t .ready;
         there = t .there;
       };
       left =
-          ap (λ (l : L.Link). put (outOf out-after (r .at)) (textFrom (tick + 1) (stop - (tick + 1)) (r .ears) l (recordsOf script))) (t .link-is)
-          ∙ left-on tick stop (recordsOf script) (p .ears) (r .ears) (linkOf (p .link) x y d) (stepAt p tick script x y d) out out-after (p .at) (r .at) h here (t .lines-are);
+          ap (λ (l : L.Link). put (outOf out-after (r .at)) (textFrom (tick + 1) (stop - (tick + 1)) (r .monitors) l (recordsOf script))) (t .link-is)
+          ∙ left-on tick stop (recordsOf script) (p .monitors) (r .monitors) (linkOf (p .link) x y d) (stepAt p tick script x y d) out out-after (p .at) (r .at) h here (t .lines-are);
     }
   where
     here : linkTick 255 (linkOf (p .link) x y d) (callsAt tick (recordsOf script)) ≡ stepAt p tick script x y d
     here = sym (ap (λ (w : ScriptTick). linkTick 255 (linkOf (p .link) x y d) (callsBy tick w)) (reads-tick script (p .next) tick (tickAt script (p .next) tick) (k .reads) refl))
 
 pub one-gone : (script : List ℕ) (tick stop : ℕ) (p : Playing) (x y : MasterLent) (d : DevicesLent) (out : List ℕ) (r : Gone) (x-after y-after : MasterLent) (d-after : DevicesLent) (out-after : List ℕ)
-    → Stands script tick p d → tick < stop → OneGone p tick script out x y d r out-after x-after y-after d-after → GoneIs script tick stop p x y d out r x-after y-after d-after out-after
+    → Stands script tick p → tick < stop → OneGone p tick script out x y d r out-after x-after y-after d-after → GoneIs script tick stop p x y d out r x-after y-after d-after out-after
 one-gone script tick stop p x y d out r x-after y-after d-after out-after k h o =
     let same : record { playing = r .playing; ticks = 1 } ≡ r = λ i. record { playing = r .playing; ticks = sym (o .one) i } in
     subst (λ (z : Gone). GoneIs script tick stop p x y d out z x-after y-after d-after out-after) same (step-gone script tick stop p x y d out (r .playing) x-after y-after d-after out-after k h (o .is))
@@ -149,39 +147,39 @@ there-rested n (Present d) t e = let no : _≡_ {A = ℕ} 1 0 = ap present e in 
     present Absent = 0
     present (Present d) = 1
 
-earsFor : ℕ → List Ear → List Ear
-earsFor zero ears = ears
-earsFor (suc n) ears = replicate 8 quietEar
+monitorsFor : ℕ → List Monitor → List Monitor
+monitorsFor zero monitors = monitors
+monitorsFor (suc n) monitors = replicate 8 quietMonitor
 
-ears-eight : (n : ℕ) (ears : List Ear) → length ears ≡ 8 → length (earsFor n ears) ≡ 8
-unfolding earsFor
-ears-eight zero ears e = e
-ears-eight (suc n) ears e = refl
+monitors-eight : (n : ℕ) (monitors : List Monitor) → length monitors ≡ 8 → length (monitorsFor n monitors) ≡ 8
+unfolding monitorsFor
+monitors-eight zero monitors e = e
+monitors-eight (suc n) monitors e = refl
 
-module _ (script : List ℕ) (tick stop ticks : ℕ) (p : Playing) (x y : MasterLent) (d : DevicesLent) (out : List ℕ) (k : Stands script tick p d) (free : Free script (p .next) tick stop ticks) (rests : linkRests (p .link) ≡ true) (eight : length (p .ears) ≡ 8) where
+module _ (script : List ℕ) (tick stop ticks : ℕ) (p : Playing) (x y : MasterLent) (d : DevicesLent) (out : List ℕ) (k : Stands script tick p) (free : Free script (p .next) tick stop ticks) (rests : linkRests (p .link) ≡ true) (eight : length (p .monitors) ≡ 8) where
   abbrev start : L.Link
   start = linkOf (p .link) x y d
 
-  silent-tick : (n : ℕ) (es : List Ear) → length es ≡ 8 → TickIs (tickLines (tick + n) es (sentOf (uncalledTick (afterTicks n start)))) out (p .at) (replicate 8 quietEar) (p .at) out
+  silent-tick : (n : ℕ) (es : List Monitor) → length es ≡ 8 → TickLinesAre (tickLines (tick + n) es (sentOf (uncalledTick (afterTicks n start)))) out (p .at) (replicate 8 quietMonitor) (p .at) out
   unfolding senders
   silent-tick n es h =
       let sent : sentOf (uncalledTick (afterTicks n start)) ≡ replicate 8 Silent = rested-sent (p .link) x y d n rests ∙ six-silent (p .link .devices) d (k .there) in
-      subst (λ (ss : List Sent). TickIs (tickLines (tick + n) es ss) out (p .at) (replicate 8 quietEar) (p .at) out) (sym sent) (tick-silent (tick + n) 0 es (replicate 8 quietEar) (replicate 8 Silent) out (p .at) refl refl h refl refl)
+      subst (λ (ss : List Sent). TickLinesAre (tickLines (tick + n) es ss) out (p .at) (replicate 8 quietMonitor) (p .at) out) (sym sent) (tick-silent (tick + n) 0 es (replicate 8 quietMonitor) (replicate 8 Silent) out (p .at) refl refl h refl refl)
 
-  rest-left : (n : ℕ) → n ≤ ticks → put (outOf out (p .at)) (textFrom (tick + n) (stop - (tick + n)) (earsFor n (p .ears)) (afterTicks n start) (recordsOf script)) ≡ put (outOf out (p .at)) (textFrom tick (stop - tick) (p .ears) start (recordsOf script))
-  unfolding earsFor afterTicks
-  rest-left zero h = let same : tick + 0 ≡ tick = omega arith in ap (λ (m : ℕ). put (outOf out (p .at)) (textFrom m (stop - m) (p .ears) start (recordsOf script))) same
+  rest-left : (n : ℕ) → n ≤ ticks → put (outOf out (p .at)) (textFrom (tick + n) (stop - (tick + n)) (monitorsFor n (p .monitors)) (afterTicks n start) (recordsOf script)) ≡ put (outOf out (p .at)) (textFrom tick (stop - tick) (p .monitors) start (recordsOf script))
+  unfolding monitorsFor afterTicks
+  rest-left zero h = let same : tick + 0 ≡ tick = omega arith in ap (λ (m : ℕ). put (outOf out (p .at)) (textFrom m (stop - m) (p .monitors) start (recordsOf script))) same
   rest-left (suc n) h =
       let next : tick + suc n ≡ tick + n + 1 = omega arith in
       let before = free .before-it (omega arith) in
-      ap (λ (m : ℕ). put (outOf out (p .at)) (textFrom m (stop - m) (replicate 8 quietEar) (afterTicks (suc n) start) (recordsOf script))) next
-      ∙ left-on (tick + n) stop (recordsOf script) (earsFor n (p .ears)) (replicate 8 quietEar) (afterTicks n start) (uncalledTick (afterTicks n start)) out out (p .at) (p .at) (omega (arith, before))
+      ap (λ (m : ℕ). put (outOf out (p .at)) (textFrom m (stop - m) (replicate 8 quietMonitor) (afterTicks (suc n) start) (recordsOf script))) next
+      ∙ left-on (tick + n) stop (recordsOf script) (monitorsFor n (p .monitors)) (replicate 8 quietMonitor) (afterTicks n start) (uncalledTick (afterTicks n start)) out out (p .at) (p .at) (omega (arith, before))
       (none-called (tick + n) (recordsOf script) (omega (arith, free .some-tick (omega arith))) (λ party. free .wants-none n party (omega arith)) (afterTicks n start))
-      (silent-tick n (earsFor n (p .ears)) (ears-eight n (p .ears) eight))
+      (silent-tick n (monitorsFor n (p .monitors)) (monitors-eight n (p .monitors) eight))
       ∙ rest-left n (omega arith)
 
   rest-gone-by : (m : ℕ) → ticks ≡ suc m → GoneIs script tick stop p x y d out (restedPlaying ticks p) x y d out
-  unfolding earsFor
+  unfolding monitorsFor
   rest-gone-by m e =
       let s = p .link .devices in
       let t = k .there in
@@ -193,7 +191,6 @@ module _ (script : List ℕ) (tick stop ticks : ℕ) (p : Playing) (x y : Master
         same-length = refl;
         stands = record {
           reads = free .reads-on ticks (omega arith);
-          ready = subst (λ (n : ℕ). LinkReady (devicesRested n s) d) (sym e) (rested-ready m s d resting (k .ready));
           there = record {
             first = there-rested ticks (s .low .left) (t .first);
             second = there-rested ticks (s .low .right) (t .second);
@@ -203,12 +200,12 @@ module _ (script : List ℕ) (tick stop ticks : ℕ) (p : Playing) (x y : Master
             sixth = there-rested ticks (s .high .right) (t .sixth);
           };
         };
-        left = subst (λ (n : ℕ). put (outOf out (p .at)) (textFrom (tick + n) (stop - (tick + n)) (replicate 8 quietEar) (linkOf (linkRested n (p .link)) x y d) (recordsOf script)) ≡ put (outOf out (p .at)) (textFrom tick (stop - tick) (p .ears) start (recordsOf script))) (sym e)
-            (ap (λ (l : L.Link). put (outOf out (p .at)) (textFrom (tick + suc m) (stop - (tick + suc m)) (replicate 8 quietEar) l (recordsOf script))) (rested-agrees (p .link) x y d m rests) ∙ rest-left (suc m) (omega (arith, e)));
+        left = subst (λ (n : ℕ). put (outOf out (p .at)) (textFrom (tick + n) (stop - (tick + n)) (replicate 8 quietMonitor) (linkOf (linkRested n (p .link)) x y d) (recordsOf script)) ≡ put (outOf out (p .at)) (textFrom tick (stop - tick) (p .monitors) start (recordsOf script))) (sym e)
+            (ap (λ (l : L.Link). put (outOf out (p .at)) (textFrom (tick + suc m) (stop - (tick + suc m)) (replicate 8 quietMonitor) l (recordsOf script))) (rested-agrees (p .link) x y d m rests) ∙ rest-left (suc m) (omega (arith, e)));
       }
 
-pub rest-gone : (script : List ℕ) (tick stop ticks : ℕ) (p : Playing) (x y : MasterLent) (d : DevicesLent) (out : List ℕ) (b : Bool) (r : Gone) → Stands script tick p d → ticks ≡ freeTicks script (p .next) tick stop → 0 < ticks
-    → b ≡ linkRests (p .link) → b ≡ true → length (p .ears) ≡ 8 → r ≡ restedPlaying ticks p → GoneIs script tick stop p x y d out r x y d out
+pub rest-gone : (script : List ℕ) (tick stop ticks : ℕ) (p : Playing) (x y : MasterLent) (d : DevicesLent) (out : List ℕ) (b : Bool) (r : Gone) → Stands script tick p → ticks ≡ freeTicks script (p .next) tick stop → 0 < ticks
+    → b ≡ linkRests (p .link) → b ≡ true → length (p .monitors) ≡ 8 → r ≡ restedPlaying ticks p → GoneIs script tick stop p x y d out r x y d out
 rest-gone script tick stop ticks p x y d out b r k f h q e l g =
     let free = free-is script (p .next) tick stop ticks (k .reads) f in
     let before : ticks ≡ suc (ticks - 1) = omega arith in
@@ -228,16 +225,16 @@ alone-in (suc (suc (suc (suc (suc (suc zero)))))) c h = speaks-behind (speaks-be
 alone-in (suc (suc (suc (suc (suc (suc (suc zero))))))) c h = speaks-behind (speaks-behind (speaks-behind (speaks-behind (speaks-behind (speaks-behind (speaks-behind (speaks-here refl)))))))
 alone-in (suc (suc (suc (suc (suc (suc (suc (suc k)))))))) c h = absurd (omega arith)
 
--- the ear of the party with this number, among eight
-ear-set : (k : ℕ) (e : Ear) → k < 8 → getD (earsBut k e) k quietEar ≡ e
-ear-set k e h = getD-set-same (replicate 8 quietEar) k e quietEar (omega arith)
+-- the monitor of the party with this number, among eight
+monitor-set : (k : ℕ) (e : Monitor) → k < 8 → getD (monitorsBut k e) k quietMonitor ≡ e
+monitor-set k e h = getD-set-same (replicate 8 quietMonitor) k e quietMonitor (omega arith)
 
-earsAt : ℕ → ℕ → List Ear → Ear → List Ear
-earsAt k zero ears e = ears
-earsAt k (suc n) ears e = earsBut k e
+monitorsAt : ℕ → ℕ → List Monitor → Monitor → List Monitor
+monitorsAt k zero monitors e = monitors
+monitorsAt k (suc n) monitors e = monitorsBut k e
 
 -- the frame goes on from tick to tick: nothing of it is found before its end, so what is left prints what was left before
-module _ (script : List ℕ) (tick stop ticks : ℕ) (p : Playing) (x y : MasterLent) (d : DevicesLent) (k from len : ℕ) (free : Free script (p .next) tick stop ticks) (eight : length (p .ears) ≡ 8)
+module _ (script : List ℕ) (tick stop ticks : ℕ) (p : Playing) (x y : MasterLent) (d : DevicesLent) (k from len : ℕ) (free : Free script (p .next) tick stop ticks) (eight : length (p .monitors) ≡ 8)
     (who : speakerOf (p .link) ≡ Party k from len) where
   abbrev begins : L.Link
   begins = linkOf (p .link) x y d
@@ -248,34 +245,34 @@ module _ (script : List ℕ) (tick stop ticks : ℕ) (p : Playing) (x y : Master
   few : k < 8
   few = speaker-few (p .link) (speakerOf (p .link)) k from len refl who
 
-  ear-now : (n : ℕ) (e : Ear) → (n ≡ 0 → e ≡ getD (p .ears) k quietEar) → getD (earsAt k n (p .ears) e) k quietEar ≡ e
-  unfolding earsAt
-  ear-now zero e h = sym (h refl)
-  ear-now (suc n) e h = ear-set k e few
+  monitor-now : (n : ℕ) (e : Monitor) → (n ≡ 0 → e ≡ getD (p .monitors) k quietMonitor) → getD (monitorsAt k n (p .monitors) e) k quietMonitor ≡ e
+  unfolding monitorsAt
+  monitor-now zero e h = sym (h refl)
+  monitor-now (suc n) e h = monitor-set k e few
 
-  now-eight : (n : ℕ) (e : Ear) → length (earsAt k n (p .ears) e) ≡ 8
-  unfolding earsAt
+  now-eight : (n : ℕ) (e : Monitor) → length (monitorsAt k n (p .monitors) e) ≡ 8
+  unfolding monitorsAt
   now-eight zero e = eight
-  now-eight (suc n) e = length-set (replicate 8 quietEar) k e
+  now-eight (suc n) e = length-set (replicate 8 quietMonitor) k e
 
-  record SpeakLeft (out : List ℕ) (n : ℕ) (e : Ear) (a : ℕ) (now : List ℕ) : Type 0 where
-    left : put (outOf now a) (textFrom (tick + n) (stop - (tick + n)) (earsAt k n (p .ears) e) (afterTicks n begins) (recordsOf script)) ≡ put (outOf out (p .at)) (textFrom tick (stop - tick) (p .ears) begins (recordsOf script))
+  record SpeakLeft (out : List ℕ) (n : ℕ) (e : Monitor) (a : ℕ) (now : List ℕ) : Type 0 where
+    left : put (outOf now a) (textFrom (tick + n) (stop - (tick + n)) (monitorsAt k n (p .monitors) e) (afterTicks n begins) (recordsOf script)) ≡ put (outOf out (p .at)) (textFrom tick (stop - tick) (p .monitors) begins (recordsOf script))
     same-length : length now ≡ length out
-    first : n ≡ 0 → e ≡ getD (p .ears) k quietEar
+    first : n ≡ 0 → e ≡ getD (p .monitors) k quietMonitor
 
-  speaks-tick : (i : ℕ) → ((j : ℕ) → j < suc i → GoesOn frame from len j) → (e e-next : Ear) (a a-next : ℕ) (o o-next : List ℕ) → (i ≡ 0 → e ≡ getD (p .ears) k quietEar)
+  speaks-tick : (i : ℕ) → ((j : ℕ) → j < suc i → GoesOn frame from len j) → (e e-next : Monitor) (a a-next : ℕ) (o o-next : List ℕ) → (i ≡ 0 → e ≡ getD (p .monitors) k quietMonitor)
       → PartyIs (listens (tick + i) k true e (Sent.Character (byteAt frame (from + i)))) o a e-next a-next o-next
-      → TickIs (tickLines (tick + i) (earsAt k i (p .ears) e) (sentOf (uncalledTick (afterTicks i begins)))) o a (earsBut k e-next) a-next o-next
+      → TickLinesAre (tickLines (tick + i) (monitorsAt k i (p .monitors) e) (sentOf (uncalledTick (afterTicks i begins)))) o a (monitorsBut k e-next) a-next o-next
   speaks-tick i g e e-next a a-next o o-next h v =
       let c = byteAt frame (from + i) in
-      subst (λ (ss : List Sent). TickIs (tickLines (tick + i) (earsAt k i (p .ears) e) ss) o a (earsBut k e-next) a-next o-next) (sym (spoken-sent (p .link) k from len x y d who i g))
-      (tick-alone (tick + i) c k (earsAt k i (p .ears) e) (sayAlone k c) o o-next a a-next quietEar e-next (alone-in k c few) (now-eight i e) refl
-      (subst (λ (z : Ear). PartyIs (listens (tick + i) k true z (Sent.Character c)) o a e-next a-next o-next) (sym (ear-now i e h)) v))
+      subst (λ (ss : List Sent). TickLinesAre (tickLines (tick + i) (monitorsAt k i (p .monitors) e) ss) o a (monitorsBut k e-next) a-next o-next) (sym (spoken-sent (p .link) k from len x y d who i g))
+      (tick-alone (tick + i) c k (monitorsAt k i (p .monitors) e) (sayAlone k c) o o-next a a-next quietMonitor e-next (alone-in k c few) (now-eight i e) refl
+      (subst (λ (z : Monitor). PartyIs (listens (tick + i) k true z (Sent.Character c)) o a e-next a-next o-next) (sym (monitor-now i e h)) v))
 
-  speak-left : (out : List ℕ) {n : ℕ} {e : Ear} {a : ℕ} {now : List ℕ} → Follows tick k frame from (getD (p .ears) k quietEar) (p .at) out n e a now → n ≤ ticks → ((i : ℕ) → i < n → GoesOn frame from len i) → SpeakLeft out n e a now
-  unfolding earsAt afterTicks
+  speak-left : (out : List ℕ) {n : ℕ} {e : Monitor} {a : ℕ} {now : List ℕ} → Follows tick k frame from (getD (p .monitors) k quietMonitor) (p .at) out n e a now → n ≤ ticks → ((i : ℕ) → i < n → GoesOn frame from len i) → SpeakLeft out n e a now
+  unfolding monitorsAt afterTicks
   speak-left out begun h g = record {
-    left = let same : tick + 0 ≡ tick = omega arith in ap (λ (m : ℕ). put (outOf out (p .at)) (textFrom m (stop - m) (p .ears) begins (recordsOf script))) same;
+    left = let same : tick + 0 ≡ tick = omega arith in ap (λ (m : ℕ). put (outOf out (p .at)) (textFrom m (stop - m) (p .monitors) begins (recordsOf script))) same;
     same-length = refl;
     first = λ q. refl;
   }
@@ -284,11 +281,11 @@ module _ (script : List ℕ) (tick stop ticks : ℕ) (p : Playing) (x y : Master
       let goes : (j : ℕ) → j < suc i → GoesOn frame from len j = λ j q. g j (omega arith) in
       let before = free .before-it (omega arith) in
       let next : tick + suc i ≡ tick + i + 1 = omega arith in
-      let one = left-on (tick + i) stop (recordsOf script) (earsAt k i (p .ears) e) (earsBut k e-next) (afterTicks i begins) (uncalledTick (afterTicks i begins)) o o-next a a-next (omega (arith, before))
+      let one = left-on (tick + i) stop (recordsOf script) (monitorsAt k i (p .monitors) e) (monitorsBut k e-next) (afterTicks i begins) (uncalledTick (afterTicks i begins)) o o-next a a-next (omega (arith, before))
       (none-called (tick + i) (recordsOf script) (omega (arith, free .some-tick (omega arith))) (λ party. free .wants-none i party (omega arith)) (afterTicks i begins))
       (speaks-tick i goes e e-next a a-next o o-next (r .first) v) in
       subst (λ (n : ℕ). SpeakLeft out n e-next a-next o-next) (sym (add-one i)) (record {
-        left = ap (λ (m : ℕ). put (outOf o-next a-next) (textFrom m (stop - m) (earsBut k e-next) (afterTicks (suc i) begins) (recordsOf script))) next ∙ one ∙ r .left;
+        left = ap (λ (m : ℕ). put (outOf o-next a-next) (textFrom m (stop - m) (monitorsBut k e-next) (afterTicks (suc i) begins) (recordsOf script))) next ∙ one ∙ r .left;
         same-length = put-length _ _ _ _ _ (v .text) ∙ r .same-length;
         first = λ q. absurd (omega (arith, q));
       })
@@ -323,19 +320,19 @@ there-spoken speaks r n (Present d) t e = let no : _≡_ {A = ℕ} 1 0 = ap pres
     present (Present d) = 1
 
 module _ (script : List ℕ) (tick stop most : ℕ) (p : Playing) (stx own stxs owns : List ℕ) (frames bytes contents : List (List ℕ)) (out : List ℕ) (own-after owns-after : List ℕ) (bytes-after : List (List ℕ)) (out-after : List ℕ)
-    (k from len : ℕ) (stands : Stands script tick p (devicesLend frames bytes contents)) (free : Free script (p .next) tick stop most) (eight : length (p .ears) ≡ 8) (who : speakerOf (p .link) ≡ Party k from len) (below : (from + 1 <? len) ≡ true) (some : 0 < most) where
+    (k from len : ℕ) (stands : Stands script tick p) (free : Free script (p .next) tick stop most) (eight : length (p .monitors) ≡ 8) (who : speakerOf (p .link) ≡ Party k from len) (below : (from + 1 <? len) ≡ true) (some : 0 < most) where
   abbrev w : List ℕ
   w = frameOf k stx stxs frames
 
   abbrev Gone-as : Gone → Type 0
   Gone-as r = GoneIs script tick stop p (masterLends stx own) (masterLends stxs owns) (devicesLend frames bytes contents) out r (masterLends stx own-after) (masterLends stxs owns-after) (devicesLend frames bytes-after contents) out-after
 
-  abbrev goneWith : ℕ → Ear → ℕ → Gone
-  goneWith n e a = record { playing = record { link = spokenLink k w from n (p .link); ears = earsBut k e; next = p .next; at = a }; ticks = n }
+  abbrev goneWith : ℕ → Monitor → ℕ → Gone
+  goneWith n e a = record { playing = record { link = spokenLink k w from n (p .link); monitors = monitorsBut k e; next = p .next; at = a }; ticks = n }
 
-  by-count : (n : ℕ) → n ≤ most → ((i : ℕ) → i < n → GoesOn w from len i) → 1 ≤ n → (e : Ear) (a : ℕ) → DataHeard k w from n own owns bytes own-after owns-after bytes-after
-      → Follows tick k w from (getD (p .ears) k quietEar) (p .at) out n e a out-after → Gone-as (goneWith n e a)
-  unfolding earsAt
+  by-count : (n : ℕ) → n ≤ most → ((i : ℕ) → i < n → GoesOn w from len i) → 1 ≤ n → (e : Monitor) (a : ℕ) → DataHeard k w from n own owns bytes own-after owns-after bytes-after
+      → Follows tick k w from (getD (p .monitors) k quietMonitor) (p .at) out n e a out-after → Gone-as (goneWith n e a)
+  unfolding monitorsAt
   by-count zero h g l e a q f = absurd (omega arith)
   by-count (suc m) h g l e a q f =
       let r = speak-left script tick stop most p (masterLends stx own) (masterLends stxs owns) (devicesLend frames bytes contents) k from len free eight who out f h g in
@@ -348,7 +345,6 @@ module _ (script : List ℕ) (tick stop most : ℕ) (p : Playing) (stx own stxs 
         same-length = r .same-length;
         stands = record {
           reads = free .reads-on (suc m) h;
-          ready = spoken-ready (p .link) k from len (masterLends stx own) (masterLends stxs owns) (devicesLend frames bytes contents) (devicesLend frames bytes-after contents) who refl refl m g (stands .ready);
           there = record {
             first = there-spoken (k =? 2) (readerAt w from (suc m)) (from + suc m) (s .low .left) (t .first);
             second = there-spoken (k =? 3) (readerAt w from (suc m)) (from + suc m) (s .low .right) (t .second);
@@ -358,24 +354,24 @@ module _ (script : List ℕ) (tick stop most : ℕ) (p : Playing) (stx own stxs 
             sixth = there-spoken (k =? 7) (readerAt w from (suc m)) (from + suc m) (s .high .right) (t .sixth);
           };
         };
-        left = ap (λ (z : L.Link). put (outOf out-after a) (textFrom (tick + suc m) (stop - (tick + suc m)) (earsBut k e) z (recordsOf script))) same ∙ r .left;
+        left = ap (λ (z : L.Link). put (outOf out-after a) (textFrom (tick + suc m) (stop - (tick + suc m)) (monitorsBut k e) z (recordsOf script))) same ∙ r .left;
       }
 
   party-gone : (r : Gone) → SpokeOn p tick most stx stxs frames own owns bytes out r own-after owns-after bytes-after out-after → Gone-as r
   party-gone r v =
       let n = ticksFrom w from len most 0 in
-      let e = v .last .ear in
+      let e = v .last .monitor in
       let a = v .last .at in
       let is : v .spoken ≡ spokenBy (Party k from len) most stx stxs frames (p .link) = v .is .spoken ∙ ap (λ (z : Speaker). spokenBy z most stx stxs frames (p .link)) who in
       let heard = subst (λ (z : Spoken). DataHeard (z .party) (frameOf (z .party) stx stxs frames) (z .from) (z .ticks) own owns bytes own-after owns-after bytes-after) is (v .is .data-are) in
-      let follows = subst (λ (z : Spoken). Follows tick (z .party) (frameOf (z .party) stx stxs frames) (z .from) (getD (p .ears) (z .party) quietEar) (p .at) out (z .ticks) e a out-after) is (v .follows) in
+      let follows = subst (λ (z : Spoken). Follows tick (z .party) (frameOf (z .party) stx stxs frames) (z .from) (getD (p .monitors) (z .party) quietMonitor) (p .at) out (z .ticks) e a out-after) is (v .follows) in
       let goes : (i : ℕ) → i < n → GoesOn w from len i = λ i h. goes-on w from len i (ticks-go-on w from len most 0 i (omega arith) h) in
-      let gone : r ≡ goneWith n e a = v .gone ∙ ap (λ (z : Spoken). record { playing = record { link = z .link; ears = earsBut (z .party) e; next = p .next; at = a }; ticks = z .ticks }) is in
+      let gone : r ≡ goneWith n e a = v .gone ∙ ap (λ (z : Spoken). record { playing = record { link = z .link; monitors = monitorsBut (z .party) e; next = p .next; at = a }; ticks = z .ticks }) is in
       let fits : n ≤ most = omega (arith, ticks-most w from len most 0) in
       subst Gone-as (sym gone) (by-count n fits goes (some-ticks w from len most below some) e a heard follows)
 
 pub speak-gone : (script : List ℕ) (tick stop most : ℕ) (p : Playing) (stx own stxs owns : List ℕ) (frames bytes contents : List (List ℕ)) (out : List ℕ) (own-after owns-after : List ℕ) (bytes-after : List (List ℕ)) (out-after : List ℕ) (b : Bool) (r : Gone) (z : Speaker)
-    → Stands script tick p (devicesLend frames bytes contents) → most ≡ freeTicks script (p .next) tick stop → 0 < most → z ≡ speakerOf (p .link) → b ≡ hasMore z → b ≡ true
+    → Stands script tick p → most ≡ freeTicks script (p .next) tick stop → 0 < most → z ≡ speakerOf (p .link) → b ≡ hasMore z → b ≡ true
     → SpokeOn p tick most stx stxs frames own owns bytes out r own-after owns-after bytes-after out-after
     → GoneIs script tick stop p (masterLends stx own) (masterLends stxs owns) (devicesLend frames bytes contents) out r (masterLends stx own-after) (masterLends stxs owns-after) (devicesLend frames bytes-after contents) out-after
 speak-gone script tick stop most p stx own stxs owns frames bytes contents out own-after owns-after bytes-after out-after b r z k f h q c e v = go z (sym q) (sym c ∙ e)

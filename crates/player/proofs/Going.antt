@@ -1,24 +1,18 @@
 -- The loop over the ticks: what is left to play gives what the whole gives.
-use Prim.Native.Nat.{ℕ, suc, _+_, _-_, _≤_, _<_}
+use Prim.Native.Nat.{ℕ, _+_, _-_, _≤_, _<_}
 use native.Mathlib.Omega.{arith}
-use mathlib.Core.Path.{_≡_, refl, sym, ap, subst, _∙_}
-use mathlib.Core.List.{List, _∷_}
+use mathlib.Core.Path.{_≡_, refl, ap, _∙_}
+use mathlib.Core.List.{List}
 use lib.ListN.{length}
-use Rattle.turns.specs.Link.{Calls, LinkStep, linkTick, linkAfter, run}
+use Rattle.turns.specs.Link.{run}
 use Rattle.turns.specs.Link as L
-use Rattle.script.specs.Script.{recordsOf, callsAt, callsFrom, tickAt}
-use Rattle.script.specs.declared.ScriptTick.{ScriptTick}
-use Rattle.script.specs.Reads.{Reads}
-use Rattle.script.proofs.Ticks.{reads-tick, reads-next}
+use Rattle.script.specs.Script.{recordsOf, callsFrom}
 use Rattle.listing.specs.Lines.{linesFrom}
 use Rattle.listing.specs.Put.{outOf, put, PutIs}
 use Rattle.listing.specs.Text.{linesText}
-use Rattle.listing.proofs.Listens.{tick-goes-on}
-use Rattle.listing.proofs.Puts.{put-length}
 use Rattle.link.specs.Link.{MasterLent, DevicesLent}
 use Rattle.link.specs.Stands.{linkOf}
-use Rattle.link.specs.Sents.{sentOf, sentIn}
-use Rattle.player_tick.specs.Step.{callsBy, stepAt, StepIs}
+use Rattle.link.specs.Sents.{sentIn}
 use Rattle.player_tick.specs.declared.Playing.{Playing}
 use Rattle.player.specs.Ahead.{GoneIs}
 use Rattle.player.specs.Ticks.{textFrom, Stands}
@@ -27,16 +21,16 @@ use Rattle.player.specs.declared.Gone.{Gone}
 pub record Going (script : List ℕ) (stop : ℕ) (text before : List ℕ) (from : ℕ) (p : Playing) (x y : MasterLent) (d : DevicesLent) (out : List ℕ) (tick : ℕ) : Type 0 where
   pub within : tick ≤ stop
   pub same-length : length out ≡ length before
-  pub stands : Stands script tick p d
-  pub left : put (outOf out (p .at)) (textFrom tick (stop - tick) (p .ears) (linkOf (p .link) x y d) (recordsOf script)) ≡ put (outOf before from) text
+  pub stands : Stands script tick p
+  pub left : put (outOf out (p .at)) (textFrom tick (stop - tick) (p .monitors) (linkOf (p .link) x y d) (recordsOf script)) ≡ put (outOf before from) text
 
-pub going-begun : (script : List ℕ) (stop : ℕ) (before : List ℕ) (p : Playing) (x y : MasterLent) (d : DevicesLent) → Stands script 0 p d
-    → Going script stop (textFrom 0 stop (p .ears) (linkOf (p .link) x y d) (recordsOf script)) before (p .at) p x y d before 0
+pub going-begun : (script : List ℕ) (stop : ℕ) (before : List ℕ) (p : Playing) (x y : MasterLent) (d : DevicesLent) → Stands script 0 p
+    → Going script stop (textFrom 0 stop (p .monitors) (linkOf (p .link) x y d) (recordsOf script)) before (p .at) p x y d before 0
 going-begun script stop before p x y d k = record {
   within = omega arith;
   same-length = refl;
   stands = k;
-  left = let all : stop - 0 ≡ stop = omega arith in ap (λ (n : ℕ). put (outOf before (p .at)) (textFrom 0 n (p .ears) (linkOf (p .link) x y d) (recordsOf script))) all;
+  left = let all : stop - 0 ≡ stop = omega arith in ap (λ (n : ℕ). put (outOf before (p .at)) (textFrom 0 n (p .monitors) (linkOf (p .link) x y d) (recordsOf script))) all;
 }
 
 module _ (script : List ℕ) (stop : ℕ) (text before : List ℕ) (from : ℕ) (p : Playing) (x y : MasterLent) (d : DevicesLent) (out : List ℕ) (tick : ℕ) (g : Going script stop text before from p x y d out tick) where
@@ -53,7 +47,7 @@ module _ (script : List ℕ) (stop : ℕ) (text before : List ℕ) (from : ℕ) 
   unfolding sentIn run callsFrom linesFrom linesText put
   going-ended h =
       let none : 0 ≡ stop - tick = omega arith in
-      record { out = ap (λ (n : ℕ). put (outOf out (p .at)) (textFrom tick n (p .ears) (linkOf (p .link) x y d) (recordsOf script))) none ∙ g .left }
+      record { out = ap (λ (n : ℕ). put (outOf out (p .at)) (textFrom tick n (p .monitors) (linkOf (p .link) x y d) (recordsOf script))) none ∙ g .left }
 
 -- what the loop's numbers need
 pub gone-room : (script : List ℕ) (tick stop : ℕ) (p : Playing) (x y : MasterLent) (d : DevicesLent) (out : List ℕ) (r : Gone) (x-after y-after : MasterLent) (d-after : DevicesLent) (out-after : List ℕ)

@@ -1,37 +1,32 @@
 -- The link that stands ready: its start is accepted, its devices are such as ticks reach, and it is the definition's.
-use Prim.Native.Nat.{ℕ, _+_, _-_}
-use native.Mathlib.Omega.{arith}
+use Prim.Native.Nat.{ℕ, _+_}
 use mathlib.Core.Path.{_≡_, refl, sym, ap, subst, _∙_}
 use mathlib.Core.List.{List, _++_}
 use lib.ListN.{replicate}
 use Rattle.base.specs.Choice.{if_then_else_}
+use Rattle.base.specs.Refusal.{number, Called, accepted, refused}
 use Rattle.base.specs.declared.Refusal.{Refusal}
 use Rattle.line.specs.Profile.{fskProfile}
 use Rattle.line.specs.declared.Profile.{Profile}
-use Rattle.turns.specs.Master.{Called, accepted, refused}
 use Rattle.turns.specs.Link as L
-use Rattle.turns.specs.declared.Device.{Device}
 use Rattle.script.specs.Script.{recordsOf}
 use Rattle.script.specs.Reads.{Reads}
-use Rattle.listing.specs.Lines.{quietEar}
+use Rattle.listing.specs.Lines.{quietMonitor}
 use Rattle.listing.specs.Put.{PutIs}
 use Rattle.listing.specs.Text.{headLine}
-use Rattle.listing.specs.declared.Ear.{Ear}
+use Rattle.listing.specs.declared.Monitor.{Monitor}
 use Rattle.listing.proofs.Puts.{put-then}
-use Rattle.slots.specs.declared.Slot.{Slot}
-use Rattle.slots.specs.declared.Slot.the-variants.{Absent, Present}
-use Rattle.link.specs.Stands.{LinkReady}
 use Rattle.link.specs.declared.Link.{Link}
-use Rattle.link_start.specs.Fresh.{devicesFresh, lentFresh}
+use Rattle.link_start.specs.Fresh.{lentFresh}
 use Rattle.link_start.specs.Start.{linkStarts, linkAs}
 use Rattle.link_start.specs.declared.DevicesSettings.{DevicesSettings}
 use Rattle.link_start.specs.declared.LinkStarted.{LinkStarted}
 use Rattle.link_start.specs.declared.PairSettings.{PairSettings}
 use Rattle.link_start.specs.declared.SlotSetting.{SlotSetting}
-use Rattle.link_start.proofs.Started.{unlike, not-both, started-ready}
+use Rattle.link_start.proofs.Started.{unlike, not-both}
 use Rattle.player.specs.Play.{readyLink}
 use Rattle.player.specs.Ready.{settingOf, pairSettings, settings, readyStart}
-use Rattle.player_tick.specs.Step.{There, AllThere}
+use Rattle.player_tick.specs.Step.{AllThere}
 use Rattle.player.specs.Ticks.{textFrom, Stands}
 
 -- ---- the start
@@ -57,23 +52,19 @@ started-is started l e f = ap link-in (sym (ap linkAs f) ∙ e)
     link-in (refused why) = l
 
 never-refused : (started : LinkStarted) (why : Refusal) → linkAs started ≡ accepted readyStart → started ≡ LinkStarted.Refused why → ⊥
-never-refused started why e f = unlike why readyStart (sym (ap linkAs f) ∙ e)
+never-refused started why e f = unlike (number why) readyStart (sym (ap linkAs f) ∙ e)
 
 pub refused-none : (started : LinkStarted) (why : Refusal) (text before : List ℕ) (at r : ℕ) → linkAs started ≡ accepted readyStart → started ≡ LinkStarted.Refused why → PutIs text before at r before
 refused-none started why text before at r e f = absurd (never-refused started why e f)
 
 -- ---- its devices
 
-all-ready : LinkReady (readyStart .devices) devicesFresh
-all-ready = started-ready fskProfile 3 settings readyStart all-accepted
-
 all-there : AllThere (readyStart .devices)
 all-there = record { first = not-both _; second = not-both _; third = not-both _; fourth = not-both _; fifth = not-both _; sixth = not-both _ }
 
-pub ready-stands : (script : List ℕ) (l : Link) (ears : List Ear) (at : ℕ) → l ≡ readyStart → Reads script 0 0 → Stands script 0 (record { link = l; ears = ears; next = 0; at = at }) devicesFresh
-ready-stands script l ears at e k = record {
+pub ready-stands : (script : List ℕ) (l : Link) (monitors : List Monitor) (at : ℕ) → l ≡ readyStart → Reads script 0 0 → Stands script 0 (record { link = l; monitors = monitors; next = 0; at = at })
+ready-stands script l monitors at e k = record {
   reads = k;
-  ready = subst (λ (m : Link). LinkReady (m .devices) devicesFresh) (sym e) all-ready;
   there = subst (λ (m : Link). AllThere (m .devices)) (sym e) all-there;
 }
 
@@ -83,15 +74,15 @@ ready-is : lentFresh readyStart ≡ readyLink
 unfolding readyLink
 ready-is = refl
 
-pub ready-plays : (script : List ℕ) (stop : ℕ) (l : Link) (ears : List Ear) (before between after : List ℕ) (at r : ℕ)
-    → PutIs headLine before 0 at between → PutIs (textFrom 0 stop ears (lentFresh l) (recordsOf script)) between at r after → ears ≡ replicate 8 quietEar → l ≡ readyStart
-    → PutIs (headLine ++ textFrom 0 stop (replicate 8 quietEar) readyLink (recordsOf script)) before 0 r after
-ready-plays script stop l ears before between after at r p q e f =
+pub ready-plays : (script : List ℕ) (stop : ℕ) (l : Link) (monitors : List Monitor) (before between after : List ℕ) (at r : ℕ)
+    → PutIs headLine before 0 at between → PutIs (textFrom 0 stop monitors (lentFresh l) (recordsOf script)) between at r after → monitors ≡ replicate 8 quietMonitor → l ≡ readyStart
+    → PutIs (headLine ++ textFrom 0 stop (replicate 8 quietMonitor) readyLink (recordsOf script)) before 0 r after
+ready-plays script stop l monitors before between after at r p q e f =
     put-then headLine _ before between after 0 at r p
     (subst (λ (text : List ℕ). PutIs text between at r after)
-    (ap (λ (es : List Ear). textFrom 0 stop es (lentFresh l) (recordsOf script)) e
-    ∙ ap (λ (m : Link). textFrom 0 stop (replicate 8 quietEar) (lentFresh m) (recordsOf script)) f
-    ∙ ap (λ (k : L.Link). textFrom 0 stop (replicate 8 quietEar) k (recordsOf script)) ready-is)
+    (ap (λ (es : List Monitor). textFrom 0 stop es (lentFresh l) (recordsOf script)) e
+    ∙ ap (λ (m : Link). textFrom 0 stop (replicate 8 quietMonitor) (lentFresh m) (recordsOf script)) f
+    ∙ ap (λ (k : L.Link). textFrom 0 stop (replicate 8 quietMonitor) k (recordsOf script)) ready-is)
     q)
 
 pub ruleset started = (pair-is, settings-are, start-is, started-is, refused-none, ready-stands, ready-plays)

@@ -5,6 +5,8 @@ use mathlib.Core.Bool.{Bool, true, false}
 use mathlib.Core.Path.{_≡_, refl, sym, ap, subst, _∙_}
 use mathlib.Core.List.{List, [], _∷_, _++_}
 use lib.ListN.{length, getD, replicate}
+use Rattle.base.specs.Choice.{if_then_else_}
+use Rattle.base.specs.Refusal.{Called, accepted, refused}
 use Rattle.base.specs.Store.{stored}
 use Rattle.base.proofs.Stores.{length-stored}
 use Rattle.base.proofs.Choices.{if-is-true, if-is-false}
@@ -13,12 +15,12 @@ use Rattle.turns.specs.Link as L
 use Rattle.turns.proofs.Bursting.{if-both}
 use Rattle.script.specs.Script.{recordsOf, goodScript, stopOf, callsAt, callsFrom}
 use Rattle.script.specs.declared.Entry.{Entry}
-use Rattle.listing.specs.Lines.{quietEar}
+use Rattle.listing.specs.Lines.{quietMonitor}
 use Rattle.listing.specs.Put.{Out, outOf, PutIs}
-use Rattle.listing.specs.Text.{headLine}
+use Rattle.listing.specs.Text.{decimalOf, headLine}
 use Rattle.listing.proofs.Lengths.{listing-most}
 use Rattle.listing.proofs.Puts.{put-front}
-use Rattle.player.specs.Play.{readyLink, listing, badScript, play, PlayIs}
+use Rattle.player.specs.Play.{readyLink, listing, outputOf, play, PlayIs}
 use Rattle.player.specs.Ticks.{textFrom}
 use Rattle.link.specs.Sents.{sentIn}
 
@@ -48,7 +50,7 @@ ticks-count tick (suc n) l es = ap suc (ticks-count (tick + 1) n (linkAfter (lin
 
 listing-fits : (script : List ℕ) → ((i : ℕ) → getD script i 0 < 256) → length (listing (recordsOf script)) ≤ 1638405
 listing-fits script h =
-    omega (arith, stop-16 script h, ticks-count 0 (stopOf (recordsOf script)) readyLink (recordsOf script), listing-most 0 (replicate 8 quietEar) (sentIn (run 255 readyLink (callsFrom 0 (stopOf (recordsOf script)) (recordsOf script)))))
+    omega (arith, stop-16 script h, ticks-count 0 (stopOf (recordsOf script)) readyLink (recordsOf script), listing-most 0 (replicate 8 quietMonitor) (sentIn (run 255 readyLink (callsFrom 0 (stopOf (recordsOf script)) (recordsOf script)))))
 
 -- ---- the play
 
@@ -57,21 +59,28 @@ pub answer-is : (r t x : Bool) → r ≡ t → r ≡ x → t ≡ x
 answer-is r t x e f = sym e ∙ f
 
 -- up to the stop's tick
-pub good-listing : (script before : List ℕ) (stop r : ℕ) (after : List ℕ) → stop ≡ stopOf (recordsOf script) → PutIs (headLine ++ textFrom 0 stop (replicate 8 quietEar) readyLink (recordsOf script)) before 0 r after
+pub good-listing : (script before : List ℕ) (stop r : ℕ) (after : List ℕ) → stop ≡ stopOf (recordsOf script) → PutIs (headLine ++ textFrom 0 stop (replicate 8 quietMonitor) readyLink (recordsOf script)) before 0 r after
     → PutIs (listing (recordsOf script)) before 0 r after
-good-listing script before stop r after e p = subst (λ (n : ℕ). PutIs (headLine ++ textFrom 0 n (replicate 8 quietEar) readyLink (recordsOf script)) before 0 r after) e p
+good-listing script before stop r after e p = subst (λ (n : ℕ). PutIs (headLine ++ textFrom 0 n (replicate 8 quietMonitor) readyLink (recordsOf script)) before 0 r after) e p
 
 pub plays-good : (script before : List ℕ) (r : ℕ) (after : List ℕ) → goodScript script ≡ true → PutIs (listing (recordsOf script)) before 0 r after → PutIs (play script) before 0 r after
 unfolding play
-plays-good script before r after g p = subst (λ (text : List ℕ). PutIs text before 0 r after) (sym (if-is-true (goodScript script) (listing (recordsOf script)) badScript g)) p
+plays-good script before r after g p = subst (λ (text : List ℕ). PutIs text before 0 r after) (sym (ap outputOf (if-is-true (goodScript script) (accepted (recordsOf script)) (refused 16) g))) p
 
-pub plays-bad : (script before : List ℕ) (r : ℕ) (after : List ℕ) → goodScript script ≡ false → PutIs badScript before 0 r after → PutIs (play script) before 0 r after
+-- "16", and a newline
+bad-output : 49 ∷ 54 ∷ 10 ∷ [] ≡ outputOf (refused 16)
+unfolding decimalOf if_then_else_
+bad-output = refl
+
+pub plays-bad : (script before : List ℕ) (r : ℕ) (after : List ℕ) → goodScript script ≡ false → PutIs (49 ∷ 54 ∷ 10 ∷ []) before 0 r after → PutIs (play script) before 0 r after
 unfolding play
-plays-bad script before r after g p = subst (λ (text : List ℕ). PutIs text before 0 r after) (sym (if-is-false (goodScript script) (listing (recordsOf script)) badScript g)) p
+plays-bad script before r after g p = subst (λ (text : List ℕ). PutIs text before 0 r after) (bad-output ∙ sym (ap outputOf (if-is-false (goodScript script) (accepted (recordsOf script)) (refused 16) g))) p
 
 play-fits : (script : List ℕ) → ((i : ℕ) → getD script i 0 < 256) → length (play script) ≤ 1638405
 unfolding play
-play-fits script h = if-both (λ (text : List ℕ). length text ≤ 1638405) (goodScript script) (listing (recordsOf script)) badScript (listing-fits script h) (omega arith)
+play-fits script h =
+    if-both (λ (c : Called (List Entry)). length (outputOf c) ≤ 1638405) (goodScript script) (accepted (recordsOf script)) (refused 16)
+    (listing-fits script h) (omega (arith, ap length bad-output))
 
 -- what fits stands whole at the front
 pub plays : (script before : List ℕ) (r : ℕ) (after : List ℕ) → ((i : ℕ) → getD script i 0 < 256) → length before ≡ 1638405 → PutIs (play script) before 0 r after → PlayIs script before r after

@@ -1,3 +1,4 @@
+-- To be believed: what the engine must do, or what is claimed of it.
 -- Document 01, "The player": the link that stands ready, and the listing.
 use Prim.Native.Nat.{ℕ, _-_, _≤_}
 use mathlib.Core.Bool.{true, false}
@@ -5,7 +6,9 @@ use mathlib.Core.List.{List, [], _∷_, _++_}
 use mathlib.Core.Path.{_≡_}
 use lib.ListN.{length, replicate}
 use Rattle.base.specs.Choice.{if_then_else_}
+use Rattle.base.specs.Refusal.{Called, accepted, refused}
 use Rattle.base.specs.Store.{stored}
+use Rattle.frame.specs.Limits.{mostData, longestFrame}
 use Rattle.line.specs.Profile.{fskProfile}
 use Rattle.line.specs.declared.Heard.the-variants.{Silence}
 use Rattle.turns.specs.Master.{freshMaster}
@@ -13,18 +16,18 @@ use Rattle.turns.specs.Device.{freshDevice}
 use Rattle.turns.specs.Link.{DeviceSide, Link, run}
 use Rattle.script.specs.Script.{recordsOf, goodScript, stopOf, callsFrom}
 use Rattle.script.specs.declared.Entry.{Entry}
-use Rattle.listing.specs.Lines.{quietEar, linesFrom}
-use Rattle.listing.specs.Text.{headLine, linesText}
+use Rattle.listing.specs.Lines.{quietMonitor, linesFrom}
+use Rattle.listing.specs.Text.{decimal, headLine, linesText}
 use Rattle.link.specs.Sents.{sentIn}
 
 -- "2 to 7 devices with polling address party − 2 and unique address equal to the party"; "FSK, R 3, preamble 5"
 abbrev pub ready : ℕ → DeviceSide
-ready party = record { device = freshDevice fskProfile 5 (party - 2) party; frame = replicate 284 0; bytes = replicate 255 0; contents = replicate 255 0 }
+ready party = record { device = freshDevice fskProfile 5 (party - 2) party; frame = replicate (longestFrame mostData) 0; bytes = replicate mostData 0; contents = replicate mostData 0 }
 
 unfoldable pub readyLink : Link
 readyLink = record {
-  primary = record { master = freshMaster fskProfile true 3; frame = replicate 284 0; bytes = replicate 255 0 };
-  secondary = record { master = freshMaster fskProfile false 3; frame = replicate 284 0; bytes = replicate 255 0 };
+  primary = record { master = freshMaster fskProfile true 3; frame = replicate (longestFrame mostData) 0; bytes = replicate mostData 0 };
+  secondary = record { master = freshMaster fskProfile false 3; frame = replicate (longestFrame mostData) 0; bytes = replicate mostData 0 };
   devices = ready 2 ∷ ready 3 ∷ ready 4 ∷ ready 5 ∷ ready 6 ∷ ready 7 ∷ [];
   line = Silence;
 }
@@ -32,14 +35,19 @@ readyLink = record {
 -- ---- the player
 
 abbrev pub listing : List Entry → List ℕ
-listing es = headLine ++ linesText (linesFrom 0 (replicate 8 quietEar) (sentIn (run 255 readyLink (callsFrom 0 (stopOf es) es))))
+listing es = headLine ++ linesText (linesFrom 0 (replicate 8 quietMonitor) (sentIn (run mostData readyLink (callsFrom 0 (stopOf es) es))))
 
--- "is 16, and the output is then that number alone"
-abbrev pub badScript : List ℕ
-badScript = 49 ∷ 54 ∷ 10 ∷ []
+-- "16: bad script"
+abbrev pub scriptTaken : List ℕ → Called (List Entry)
+scriptTaken script = if goodScript script then accepted (recordsOf script) else refused 16
+
+-- the listing; or the number of the refusal, a line of its own: "the output is then that number alone"
+abbrev pub outputOf : Called (List Entry) → List ℕ
+outputOf (accepted es) = listing es
+outputOf (refused why) = decimal why ++ (10 ∷ [])
 
 unfoldable pub play : List ℕ → List ℕ
-play script = if goodScript script then listing (recordsOf script) else badScript
+play script = outputOf (scriptTaken script)
 
 -- what the player promises: the output at the front of the lent bytes, and its length, which is within theirs
 pub record PlayIs (script before : List ℕ) (r : ℕ) (after : List ℕ) : Type 0 where

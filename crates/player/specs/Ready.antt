@@ -1,3 +1,4 @@
+-- Inner contracts: nothing that is to be believed rests on them.
 -- The code's link that stands ready, and the settings that start it.
 use Prim.Native.Nat.{ℕ, _+_, _-_}
 use mathlib.Core.Bool.{true, false}

@@ -8,19 +8,19 @@ use link_start::LinkStarted;
 use link_start::PairSettings;
 use link_start::Setting;
 use link_start::SlotSetting;
-use listing::Ear;
-use listing::Ears;
+use listing::Monitor;
+use listing::Monitors;
 use player_tick::Playing;
 ghost use mathlib.Core.Path.{_≡_};
 ghost use mathlib.Core.Bool.{true};
 ghost use mathlib.Core.List.{_++_};
 ghost use Prim.Native.Nat.{_+_, _≤_, _<_};
 ghost use lib.ListN.{length, getD, replicate};
-ghost use Rattle.turns.specs.Master.{accepted};
+ghost use Rattle.base.specs.Refusal.{accepted};
 ghost use Rattle.script.specs.Script.{recordsOf, goodScript};
 ghost use Rattle.script.specs.Reads.{Reads};
 ghost use Rattle.script.specs.Walk.{freeTicks};
-ghost use Rattle.listing.specs.Lines.{quietEar};
+ghost use Rattle.listing.specs.Lines.{quietMonitor};
 ghost use Rattle.listing.specs.Text.{headLine};
 ghost use Rattle.listing.specs.Put.{PutIs};
 ghost use Rattle.link.specs.Stands.{linkOf};
@@ -30,7 +30,7 @@ ghost use Rattle.player.specs.Play.{readyLink, listing, play, PlayIs};
 ghost use Rattle.player.specs.Ready.{settingOf, pairSettings, settings, readyStart};
 ghost use Rattle.player.specs.Ticks.{textFrom, Stands};
 ghost use Rattle.link_speaks.specs.Speaks.{frameOf};
-ghost use Rattle.player.specs.Ahead.{GoneIs, OneGone, Follows, hasMore, earsBut, restedPlaying, goneBy, SpokeOn};
+ghost use Rattle.player.specs.Ahead.{GoneIs, OneGone, Follows, hasMore, monitorsBut, restedPlaying, goneBy, SpokeOn};
 
 // A play behind one tick or more, and how many they were.
 struct Gone {
@@ -38,9 +38,9 @@ struct Gone {
     ticks: u16,
 }
 
-// The ear of a party behind some ticks, and the place behind their lines in the output.
+// The monitor of a party behind some ticks, and the place behind their lines in the output.
 struct Followed {
-    ear: Ear,
+    monitor: Monitor,
     at: usize,
 }
 
@@ -48,7 +48,7 @@ struct Followed {
 fn follow_frame(
     tick: u16,
     party: u16,
-    start: Ear,
+    start: Monitor,
     frame: &[u8; 284],
     from: u16,
     ticks: u16,
@@ -56,17 +56,20 @@ fn follow_frame(
     at: usize,
 ) -> Followed
     requires { ⌜ (tick + ticks < 65536) × (from + ticks < 65536) ⌝ }
-    ensures { λ r. ⌜ Follows tick party (now (frame .entry)) from start at (now (out .entry)) ticks (r .ear) (r .at) (now (out .exit)) ⌝ }
+    ensures { λ r. ⌜ Follows tick party (now (frame .entry)) from start at (now (out .entry)) ticks (r .monitor) (r .at) (now (out .exit)) ⌝ }
 {
-    let mut f = Followed { ear: start, at: at };
+    let mut f = Followed {
+        monitor: start,
+        at: at,
+    };
     let mut i: u16 = 0;
     while i < ticks {
-        let e = f.ear;
+        let e = f.monitor;
         let c = party::character_at(frame, from + i);
         let h = listing::hear(tick + i, party, true, e, c, out, f.at);
-        let next = h.ear;
+        let next = h.monitor;
         f = Followed {
-            ear: next,
+            monitor: next,
             at: h.at,
         };
         i += 1;
@@ -78,7 +81,7 @@ fn follow_frame(
 fn follow(
     tick: u16,
     speaker: usize,
-    start: Ear,
+    start: Monitor,
     from: u16,
     ticks: u16,
     stx: &[u8; 284],
@@ -88,7 +91,7 @@ fn follow(
     at: usize,
 ) -> Followed
     requires { ⌜ (speaker < 8) × ((tick + ticks < 65536) × (from + ticks < 65536)) ⌝ }
-    ensures { λ r. ⌜ Follows tick speaker (frameOf speaker (now (stx .entry)) (now (stxs .entry)) (now (frames .entry))) from start at (now (out .entry)) ticks (r .ear) (r .at) (now (out .exit)) ⌝ }
+    ensures { λ r. ⌜ Follows tick speaker (frameOf speaker (now (stx .entry)) (now (stxs .entry)) (now (frames .entry))) from start at (now (out .entry)) ticks (r .monitor) (r .at) (now (out .exit)) ⌝ }
 {
     if speaker == 0 {
         return follow_frame(tick, 0, start, stx, from, ticks, out, at);
@@ -109,35 +112,35 @@ fn follow(
     )
 }
 
-// Ears that have heard nothing of a frame, but for one.
-fn ears_but(party: usize, ear: Ear) -> Ears
+// Monitors that have heard nothing of a frame, but for one.
+fn monitors_but(party: usize, monitor: Monitor) -> Monitors
     requires { ⌜ party < 8 ⌝ }
-    ensures { λ r. ⌜ r ≡ earsBut party ear ⌝ }
+    ensures { λ r. ⌜ r ≡ monitorsBut party monitor ⌝ }
 {
-    let mut ears = listing::quiet_ears();
-    ears[party] = ear;
-    ears
+    let mut monitors = listing::quiet_monitors();
+    monitors[party] = monitor;
+    monitors
 }
 
-// There is an ear for each party: what the array's type says, in words that the promises below need.
-fn ear_of(ears: Ears, party: usize) -> Ear
+// There is a monitor for each party: what the array's type says, in words that the promises below need.
+fn monitor_of(monitors: Monitors, party: usize) -> Monitor
     requires { ⌜ party < 8 ⌝ }
-    ensures { λ r. ⌜ (r ≡ getD ears party quietEar) × (length ears ≡ 8) ⌝ }
+    ensures { λ r. ⌜ (r ≡ getD monitors party quietMonitor) × (length monitors ≡ 8) ⌝ }
 {
-    ears[party]
+    monitors[party]
 }
 
-// The play behind what a party spoke, and how its ear heard it.
+// The play behind what a party spoke, and how its monitor heard it.
 fn gone_by(p: Playing, s: Spoken, f: Followed) -> Gone
     requires { ⌜ s .party < 8 ⌝ }
     ensures { λ r. ⌜ r ≡ goneBy p s f ⌝ }
 {
     let link = s.link;
-    let last = f.ear;
-    let ears = ears_but(s.party, last);
+    let last = f.monitor;
+    let monitors = monitors_but(s.party, last);
     let playing = Playing {
         link: link,
-        ears: ears,
+        monitors: monitors,
         next: p.next,
         at: f.at,
     };
@@ -164,13 +167,13 @@ fn speak_on(
     ensures { λ r. ⌜ SpokeOn p tick most (now (stx .entry)) (now (stxs .entry)) (now (frames .entry)) (now (own .entry)) (now (owns .entry)) (now (bytes .entry)) (now (out .entry)) r (now (own .exit)) (now (owns .exit)) (now (bytes .exit)) (now (out .exit)) ⌝ }
 {
     let l = p.link;
-    let ears = p.ears;
+    let monitors = p.monitors;
     let s = link_speaks::speak(l, most, stx, own, stxs, owns, frames, bytes);
-    let ear = ear_of(ears, s.party);
+    let monitor = monitor_of(monitors, s.party);
     let f = follow(
         tick,
         s.party,
-        ear,
+        monitor,
         s.from,
         s.ticks,
         stx,
@@ -184,16 +187,16 @@ fn speak_on(
 
 // So many ticks of a link that rests.
 fn rest_on(p: Playing, ticks: u16) -> Gone
-    ensures { λ r. ⌜ (r ≡ restedPlaying ticks p) × (length (p .ears) ≡ 8) ⌝ }
+    ensures { λ r. ⌜ (r ≡ restedPlaying ticks p) × (length (p .monitors) ≡ 8) ⌝ }
 {
     let l = p.link;
-    let heard = p.ears;
-    ear_of(heard, 0);
+    let heard = p.monitors;
+    monitor_of(heard, 0);
     let link = link_rests::link_rested(l, ticks);
-    let ears = listing::quiet_ears();
+    let monitors = listing::quiet_monitors();
     let playing = Playing {
         link: link,
-        ears: ears,
+        monitors: monitors,
         next: p.next,
         at: p.at,
     };
@@ -251,7 +254,7 @@ fn uncalled(
     backs: &mut [[u8; 255]; 6],
     out: &mut [u8],
 ) -> Gone
-    requires { ⌜ Stands (now script) t p (devicesLend (now acks) (now bytes) (now backs)) × ((t < stop) × ((free ≡ freeTicks (now script) (p .next) t stop) × (0 < free))) ⌝ }
+    requires { ⌜ Stands (now script) t p × ((t < stop) × ((free ≡ freeTicks (now script) (p .next) t stop) × (0 < free))) ⌝ }
     ensures { λ r. ⌜ GoneIs (now (script .entry)) t stop p (masterLends (now (stx .entry)) (now (own .entry))) (masterLends (now (stxs .entry)) (now (owns .entry))) (devicesLend (now (acks .entry)) (now (bytes .entry)) (now (backs .entry))) (now (out .entry)) r (masterLends (now (stx .exit)) (now (own .exit))) (masterLends (now (stxs .exit)) (now (owns .exit))) (devicesLend (now (acks .exit)) (now (bytes .exit)) (now (backs .exit))) (now (out .exit)) ⌝ }
 {
     let l = p.link;
@@ -279,7 +282,7 @@ fn onward(
     backs: &mut [[u8; 255]; 6],
     out: &mut [u8],
 ) -> Gone
-    requires { ⌜ Stands (now script) t p (devicesLend (now acks) (now bytes) (now backs)) × (t < stop) ⌝ }
+    requires { ⌜ Stands (now script) t p × (t < stop) ⌝ }
     ensures { λ r. ⌜ GoneIs (now (script .entry)) t stop p (masterLends (now (stx .entry)) (now (own .entry))) (masterLends (now (stxs .entry)) (now (owns .entry))) (devicesLend (now (acks .entry)) (now (bytes .entry)) (now (backs .entry))) (now (out .entry)) r (masterLends (now (stx .exit)) (now (own .exit))) (masterLends (now (stxs .exit)) (now (owns .exit))) (devicesLend (now (acks .exit)) (now (bytes .exit)) (now (backs .exit))) (now (out .exit)) ⌝ }
 {
     let free = script::free_ticks(script, p.next, t, stop);
@@ -317,8 +320,8 @@ fn play_from(
     contents: &mut [[u8; 255]; 6],
     out: &mut [u8],
 ) -> usize
-    requires { ⌜ Stands (now script) 0 start (devicesLend (now frames) (now bytes) (now contents)) ⌝ }
-    ensures { λ r. ⌜ PutIs (textFrom 0 stop (start .ears) (linkOf (start .link) (masterLends (now (stx .entry)) (now (own .entry))) (masterLends (now (stxs .entry)) (now (owns .entry))) (devicesLend (now (frames .entry)) (now (bytes .entry)) (now (contents .entry)))) (recordsOf (now (script .entry)))) (now (out .entry)) (start .at) r (now (out .exit)) ⌝ }
+    requires { ⌜ Stands (now script) 0 start ⌝ }
+    ensures { λ r. ⌜ PutIs (textFrom 0 stop (start .monitors) (linkOf (start .link) (masterLends (now (stx .entry)) (now (own .entry))) (masterLends (now (stxs .entry)) (now (owns .entry))) (devicesLend (now (frames .entry)) (now (bytes .entry)) (now (contents .entry)))) (recordsOf (now (script .entry)))) (now (out .entry)) (start .at) r (now (out .exit)) ⌝ }
 {
     let mut p = start;
     let mut tick: u16 = 0;
@@ -388,7 +391,7 @@ fn start() -> LinkStarted
 // The header line, and the lines of a play from the ready link on.
 fn play_ready(l: Link, stop: u16, script: &[u8], out: &mut [u8]) -> usize
     requires { ⌜ (l ≡ readyStart) × Reads (now script) 0 0 ⌝ }
-    ensures { λ r. ⌜ PutIs (headLine ++ textFrom 0 stop (replicate 8 quietEar) readyLink (recordsOf (now (script .entry)))) (now (out .entry)) 0 r (now (out .exit)) ⌝ }
+    ensures { λ r. ⌜ PutIs (headLine ++ textFrom 0 stop (replicate 8 quietMonitor) readyLink (recordsOf (now (script .entry)))) (now (out .entry)) 0 r (now (out .exit)) ⌝ }
 {
     let mut stx = [0u8; 284];
     let mut own = [0u8; 255];
@@ -397,11 +400,11 @@ fn play_ready(l: Link, stop: u16, script: &[u8], out: &mut [u8]) -> usize
     let mut frames = [[0u8; 284]; 6];
     let mut bytes = [[0u8; 255]; 6];
     let mut contents = [[0u8; 255]; 6];
-    let ears = listing::quiet_ears();
+    let monitors = listing::quiet_monitors();
     let at = listing::put_head(out, 0);
     let p = Playing {
         link: l,
-        ears: ears,
+        monitors: monitors,
         next: 0,
         at: at,
     };

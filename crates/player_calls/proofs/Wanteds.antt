@@ -7,7 +7,7 @@ use lib.ListN.{take, replicate}
 use Rattle.turns.specs.Link as L
 use Rattle.turns.specs.declared.Wish.{Wish}
 use Rattle.script.specs.Script.{masterCall, deviceCall}
-use Rattle.script.specs.declared.Wanted.{Wanted}
+use Rattle.script.specs.declared.ScriptCall.{ScriptCall}
 use Rattle.player_calls.specs.Calls.{zeroBytes}
 
 -- so many zero bytes, in front of as many or more
@@ -27,10 +27,10 @@ pub content-with : (command : ℕ) (x y : List ℕ) → x ≡ y → L.gives-cont
 content-with command x y e = ap (L.gives-content command) e
 
 -- by the case that a `match` has told
-pub master-by : (x : L.MasterCall) (w v : Wanted) → w ≡ v → x ≡ masterCall v → x ≡ masterCall w
+pub master-by : (x : L.MasterCall) (w v : ScriptCall) → w ≡ v → x ≡ masterCall v → x ≡ masterCall w
 master-by x w v e p = p ∙ ap masterCall (sym e)
 
-pub device-by : (x : L.DeviceCall) (w v : Wanted) → w ≡ v → x ≡ deviceCall v → x ≡ deviceCall w
+pub device-by : (x : L.DeviceCall) (w v : ScriptCall) → w ≡ v → x ≡ deviceCall v → x ≡ deviceCall w
 device-by x w v e p = p ∙ ap deviceCall (sym e)
 
 pub ruleset wanteds = (refl, zeros-are, answer-with, content-with, master-by, device-by)

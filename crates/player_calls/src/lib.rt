@@ -1,10 +1,10 @@
 // The calls of a tick that a script wants, for the link.
-use device_tick::HostCall;
+use device_tick::DeviceHostCall;
 use link::LinkCalls;
 use link::MasterCall;
 use link::MastersCalls;
+use script::ScriptCall;
 use script::ScriptTick;
-use script::Wanted;
 use slots::DevicesCalls;
 use slots::PairCalls;
 use slots::Part;
@@ -29,95 +29,95 @@ fn zeros(n: u8) -> Part
 
 // A master's action.
 fn request_for(action: u8, argument: u8) -> MasterCall
-    ensures { λ r. ⌜ masterCallOf r zeroBytes ≡ masterCall (Wanted.Call action argument) ⌝ }
+    ensures { λ r. ⌜ masterCallOf r zeroBytes ≡ masterCall (ScriptCall.Call action argument) ⌝ }
 {
     let none = Part { from: 0, count: 0 };
     if action == 1 {
-        let q = master::Wanted {
+        let q = master::RequestFields {
             preamble: 5,
             long: false,
             address: argument as u64,
             command: 0,
         };
         return MasterCall {
-            call: master::HostCall::Requests(q),
+            call: master::MasterHostCall::Requests(q),
             part: none,
         };
     }
-    let q = master::Wanted {
+    let q = master::RequestFields {
         preamble: 5,
         long: true,
         address: argument as u64,
         command: 3,
     };
     MasterCall {
-        call: master::HostCall::Requests(q),
+        call: master::MasterHostCall::Requests(q),
         part: none,
     }
 }
 
-fn master_call(w: Wanted) -> MasterCall
+fn master_call(w: ScriptCall) -> MasterCall
     ensures { λ r. ⌜ masterCallOf r zeroBytes ≡ masterCall w ⌝ }
 {
     match w {
-        Wanted::Nothing => MasterCall {
-            call: master::HostCall::Nothing,
+        ScriptCall::Nothing => MasterCall {
+            call: master::MasterHostCall::Nothing,
             part: Part { from: 0, count: 0 },
         },
-        Wanted::Call(action, argument) => request_for(action, argument),
+        ScriptCall::Call(action, argument) => request_for(action, argument),
     }
 }
 
 // A device's action.
 fn answer_for(action: u8, argument: u8) -> SlotCall
-    ensures { λ r. ⌜ slotCallOf r ≡ deviceCall (Wanted.Call action argument) ⌝ }
+    ensures { λ r. ⌜ slotCallOf r ≡ deviceCall (ScriptCall.Call action argument) ⌝ }
 {
     let part = zeros(argument);
     if action == 2 {
         return SlotCall {
-            call: HostCall::Answers(Wish::Same),
+            call: DeviceHostCall::Answers(Wish::Same),
             part: part,
         };
     }
     if action == 4 {
         return SlotCall {
-            call: HostCall::Answers(Wish::On),
+            call: DeviceHostCall::Answers(Wish::On),
             part: part,
         };
     }
     SlotCall {
-        call: HostCall::Answers(Wish::Off),
+        call: DeviceHostCall::Answers(Wish::Off),
         part: part,
     }
 }
 
-fn device_call(w: Wanted) -> SlotCall
+fn device_call(w: ScriptCall) -> SlotCall
     ensures { λ r. ⌜ slotCallOf r ≡ deviceCall w ⌝ }
 {
     match w {
-        Wanted::Nothing => SlotCall {
-            call: HostCall::Nothing,
+        ScriptCall::Nothing => SlotCall {
+            call: DeviceHostCall::Nothing,
             part: Part { from: 0, count: 0 },
         },
-        Wanted::Call(action, argument) => answer_for(action, argument),
+        ScriptCall::Call(action, argument) => answer_for(action, argument),
     }
 }
 
 // A device's burst content in tick 0, and its action in every other tick.
-fn slot_call(tick: usize, w: Wanted) -> SlotCall
+fn slot_call(tick: usize, w: ScriptCall) -> SlotCall
     ensures { λ r. ⌜ slotCallOf r ≡ wantedCall tick w ⌝ }
 {
     if tick == 0 {
         let part = zeros(2);
         return SlotCall {
-            call: HostCall::Content(3),
+            call: DeviceHostCall::Content(3),
             part: part,
         };
     }
     device_call(w)
 }
 
-fn pair_calls(tick: usize, a: Wanted, b: Wanted) -> PairCalls
+fn pair_calls(tick: usize, a: ScriptCall, b: ScriptCall) -> PairCalls
     ensures { λ r. ⌜ PairCallsAre tick a b r ⌝ }
 {
     PairCalls {
@@ -126,7 +126,7 @@ fn pair_calls(tick: usize, a: Wanted, b: Wanted) -> PairCalls
     }
 }
 
-fn masters_calls(a: Wanted, b: Wanted) -> MastersCalls
+fn masters_calls(a: ScriptCall, b: ScriptCall) -> MastersCalls
     ensures { λ r. ⌜ MastersCallsAre a b r ⌝ }
 {
     MastersCalls {

@@ -9,9 +9,9 @@ use Rattle.turns.specs.declared.Sent.{Sent}
 use Rattle.script.specs.Script.{tickAt}
 use Rattle.script.specs.declared.ScriptTick.{ScriptTick}
 use Rattle.listing.specs.Lines.{tickLines}
-use Rattle.listing.specs.Promises.{TickIs}
-use Rattle.listing.specs.declared.Ear.{Ear}
-use Rattle.device_tick.specs.declared.HostCall.{HostCall}
+use Rattle.listing.specs.Promises.{TickLinesAre}
+use Rattle.listing.specs.declared.Monitor.{Monitor}
+use Rattle.device_tick.specs.declared.DeviceHostCall.{DeviceHostCall}
 use Rattle.slots.specs.Slot.{Lent, slotSteps, SlotIs}
 use Rattle.slots.specs.Slots.{devicesAfter}
 use Rattle.slots.specs.declared.Slot.{Slot}
@@ -20,14 +20,14 @@ use Rattle.slots.specs.declared.SlotCall.{SlotCall}
 use Rattle.slots.specs.declared.SlotTicked.{SlotTicked}
 use Rattle.link.specs.Link.{MasterLent, DevicesLent, LinkIs, after}
 use Rattle.link.specs.Stands as S
-use Rattle.link.specs.Stands.{six, callsOf, linkOf, linkStepOf, LinkReady}
+use Rattle.link.specs.Stands.{six, callsOf, linkOf, linkStepOf}
 use Rattle.link.specs.declared.Link.{Link}
 use Rattle.link.specs.declared.LinkCalls.{LinkCalls}
 use Rattle.link.specs.declared.LinkTicked.{LinkTicked}
-use Rattle.link.proofs.Agrees.{none-goes, step-agrees, after-agrees, ready-again}
+use Rattle.link.proofs.Agrees.{none-goes, step-agrees, after-agrees}
 use Rattle.player_calls.specs.Calls.{zeroBytes, slotCallOf, CallsAre}
 use Rattle.link.specs.Sents.{devicesSent, sentOf}
-use Rattle.player_tick.specs.Step.{There, AllThere, sentsOf, callsBy, stepAt, StepIs}
+use Rattle.player_tick.specs.Step.{There, AllThere, sentsOf, callsBy, stepAt, PlayStepIs}
 use Rattle.player_tick.specs.declared.Playing.{Playing}
 
 -- ---- a slot that has its device
@@ -41,7 +41,7 @@ unfolding devicesSent
 sent-onto Absent r x steps sents k e = absurd (k refl)
 sent-onto (Present d) r x steps sents k e = ap (λ (l : List Sent). r .sent ∷ l) e
 
-still-there : (s : Slot) (heard : Heard) (call : HostCall) (put : List ℕ) (x : Lent) (r : SlotTicked) (behind : Lent) → SlotIs s heard call put x r behind → There s → There (r .slot)
+still-there : (s : Slot) (heard : Heard) (call : DeviceHostCall) (put : List ℕ) (x : Lent) (r : SlotTicked) (behind : Lent) → SlotIs s heard call put x r behind → There s → There (r .slot)
 still-there s heard call put x r behind is k e = by s refl
   where
     by : (t : Slot) → s ≡ t → ⊥
@@ -82,25 +82,24 @@ module _ (p : Playing) (tick : ℕ) (script out : List ℕ) (x y : MasterLent) (
       (sent-onto (t .devices .high .left .slot) _ _ _ _ (k .fifth)
       (sent-onto (t .devices .high .right .slot) _ _ _ _ (k .sixth) refl))))))
 
-  pub step-is : (link : Link) (sents : List Sent) (ears : List Ear) (at : ℕ) → link ≡ after t → sents ≡ sentsOf t → TickIs (tickLines tick (p .ears) sents) out (p .at) ears at out-after
-      → StepIs p tick script out x y d (record { link = link; ears = ears; next = w .next; at = at }) out-after x-after y-after d-after
-  step-is link sents ears at e f lines = record {
+  pub step-is : (link : Link) (sents : List Sent) (monitors : List Monitor) (at : ℕ) → link ≡ after t → sents ≡ sentsOf t → TickLinesAre (tickLines tick (p .monitors) sents) out (p .at) monitors at out-after
+      → PlayStepIs p tick script out x y d (record { link = link; monitors = monitors; next = w .next; at = at }) out-after x-after y-after d-after
+  step-is link sents monitors at e f lines = record {
     calls = c;
     ticked = t;
     calls-are = subst (λ (v : ScriptTick). CallsAre tick v c) wanted a;
     ticked-is = is;
     behind-is = e;
-    lines-are = subst (λ (ss : List Sent). TickIs (tickLines tick (p .ears) ss) out (p .at) ears at out-after) f lines;
+    lines-are = subst (λ (ss : List Sent). TickLinesAre (tickLines tick (p .monitors) ss) out (p .at) monitors at out-after) f lines;
     next-is = ap (λ (v : ScriptTick). v .next) wanted;
-    within = λ k there.
+    within = λ there.
         let step : linkStepOf t x-after y-after d-after ≡ stepAt p tick script x y d =
-        step-agrees (p .link) c zeroBytes x y d t x-after y-after d-after is k
+        step-agrees (p .link) c zeroBytes x y d t x-after y-after d-after is
         ∙ ap (linkTick 255 (linkOf (p .link) x y d)) (calls-are (p .link) tick w c a there ∙ ap (callsBy tick) wanted) in
         record {
           link-is = ap (λ (l : Link). linkOf l x-after y-after d-after) e ∙ after-agrees (p .link) c zeroBytes x y d t x-after y-after d-after is ∙ ap linkAfter step;
-          ready = subst (λ (l : Link). LinkReady (l .devices) d-after) (sym e) (ready-again (p .link) c zeroBytes x y d t x-after y-after d-after is k);
           there = subst (λ (l : Link). AllThere (l .devices)) (sym e) (all-there there);
-          lines-are = subst (λ (ss : List Sent). TickIs (tickLines tick (p .ears) ss) out (p .at) ears at out-after) (f ∙ sym (sents-are (all-there there)) ∙ ap sentOf step) lines;
+          lines-are = subst (λ (ss : List Sent). TickLinesAre (tickLines tick (p .monitors) ss) out (p .at) monitors at out-after) (f ∙ sym (sents-are (all-there there)) ∙ ap sentOf step) lines;
           next-is = ap (λ (z : ScriptTick). z .next) wanted;
         };
   }

@@ -1,16 +1,16 @@
 // One tick of a play: its calls, the link's tick, and the lines of the frames that ended in it.
 use link::Link;
 use link::LinkTicked;
-use listing::Ears;
+use listing::Monitors;
 use listing::Sents;
 ghost use mathlib.Core.Path.{_≡_};
 ghost use Rattle.link.specs.Link.{masterLends, devicesLend};
-ghost use Rattle.player_tick.specs.Step.{sentsOf, StepIs};
+ghost use Rattle.player_tick.specs.Step.{sentsOf, PlayStepIs};
 
-// The link and the ears between two ticks, and the places of the next record in the script and of the next byte in the output.
+// The link and the monitors between two ticks, and the places of the next record in the script and of the next byte in the output.
 pub struct Playing {
     pub link: Link,
-    pub ears: Ears,
+    pub monitors: Monitors,
     pub next: usize,
     pub at: usize,
 }
@@ -57,21 +57,21 @@ pub fn step(
     contents: &mut [[u8; 255]; 6],
     out: &mut [u8],
 ) -> Playing
-    ensures { λ r. ⌜ StepIs p tick (now (script .entry)) (now (out .entry)) (masterLends (now (stx .entry)) (now (own .entry))) (masterLends (now (stxs .entry)) (now (owns .entry))) (devicesLend (now (frames .entry)) (now (bytes .entry)) (now (contents .entry))) r (now (out .exit)) (masterLends (now (stx .exit)) (now (own .exit))) (masterLends (now (stxs .exit)) (now (owns .exit))) (devicesLend (now (frames .exit)) (now (bytes .exit)) (now (contents .exit))) ⌝ }
+    ensures { λ r. ⌜ PlayStepIs p tick (now (script .entry)) (now (out .entry)) (masterLends (now (stx .entry)) (now (own .entry))) (masterLends (now (stxs .entry)) (now (owns .entry))) (devicesLend (now (frames .entry)) (now (bytes .entry)) (now (contents .entry))) r (now (out .exit)) (masterLends (now (stx .exit)) (now (own .exit))) (masterLends (now (stxs .exit)) (now (owns .exit))) (devicesLend (now (frames .exit)) (now (bytes .exit)) (now (contents .exit))) ⌝ }
 {
     let put = [0u8; 255];
     let l = p.link;
-    let ears = p.ears;
+    let monitors = p.monitors;
     let wanted = script::calls_at(script, p.next, tick as usize);
     let list = player_calls::calls_of(tick as usize, wanted);
     let t = link::tick(l, list, &put, stx, own, stxs, owns, frames, bytes, contents);
     let behind = link::behind(t);
     let sents = sents_of(t);
-    let h = listing::tick_lines(tick, ears, sents, out, p.at);
-    let after = h.ears;
+    let h = listing::tick_lines(tick, monitors, sents, out, p.at);
+    let after = h.monitors;
     Playing {
         link: behind,
-        ears: after,
+        monitors: after,
         next: wanted.next,
         at: h.at,
     }

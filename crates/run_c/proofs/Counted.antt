@@ -4,10 +4,10 @@ use mathlib.Core.Path.{_≡_, refl, sym, ap, subst, _∙_}
 use mathlib.Core.List.{List}
 use lib.ListN.{length, take}
 use lib.Seq.{take-nil}
+use Rattle.base.specs.Refusal.{number, Called, accepted, refused}
 use Rattle.base.specs.declared.Refusal.{Refusal}
 use Rattle.line.specs.declared.Profile.{Profile}
 use Rattle.line_c.specs.Recording.{RunIs}
-use Rattle.turns.specs.Master.{Called, accepted, refused}
 use Rattle.link.specs.declared.Link.{Link}
 use Rattle.link_start.specs.Start.{linkStarts}
 use Rattle.link_start.specs.declared.DevicesSettings.{DevicesSettings}
@@ -25,7 +25,7 @@ module _ (p : Profile) (retries : ℕ) (s : DevicesSettings) (a b : ℕ) (ticks 
   abbrev counted : Called Link → ℕ
   counted c = length (take (length before) (numbersOf (lateStepsBy a b c ticks)))
 
-  none-given : (c : Called Link) (why : Refusal) → ranBy c (counted c) ≡ refused why → counted c ≡ 0
+  none-given : (c : Called Link) (why : ℕ) → ranBy c (counted c) ≡ refused why → counted c ≡ 0
   unfolding numbersOf
   none-given (accepted l) why e = absurd (unlike why (counted (accepted l)) (sym e))
   none-given (refused w) why e = ap length (take-nil (length before))
@@ -40,7 +40,7 @@ module _ (p : Profile) (retries : ℕ) (s : DevicesSettings) (a b : ℕ) (ticks 
 
   ran-none : (why : Refusal) → r ≡ RunEnded.Refused why → RunIs (numbersOf (lateSteps p retries s a b ticks)) before 0 after
   unfolding lateSteps
-  ran-none why e = record { events = k .events; returned = sym (none-given (linkStarts p retries s) why (sym (k .answered) ∙ ap ranAs e)) }
+  ran-none why e = record { events = k .events; returned = sym (none-given (linkStarts p retries s) (number why) (sym (k .answered) ∙ ap ranAs e)) }
 
 -- with the settings as the code has them
 module _ (p : Profile) (retries : ℕ) (s made : DevicesSettings) (a b : ℕ) (ticks before : List ℕ) (r : RunEnded) (after : List ℕ) (e : made ≡ s) (k : LateKeeps p retries made a b ticks before r after) where

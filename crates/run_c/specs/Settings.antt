@@ -1,3 +1,4 @@
+-- How the code stands for what is to be believed.
 -- What a run is started with, as numbers: a profile, and for each of the six slots a preamble, a polling address and a unique address.
 use Prim.Native.Nat.{ℕ, _+_}
 use mathlib.Core.List.{List}

@@ -12,20 +12,20 @@ use Rattle.script.specs.Script.{recordsOf, wantedAt, leading, tickOf, ti
 use Rattle.script.specs.Walk.{entryAt, wantedBy, kept, withRecord, noCalls}
 use Rattle.script.specs.declared.Entry.{Entry}
 use Rattle.script.specs.declared.ScriptTick.{ScriptTick}
-use Rattle.script.specs.declared.Wanted.{Wanted}
-use Rattle.script.specs.declared.Wanted.the-variants.{Nothing, Call}
+use Rattle.script.specs.declared.ScriptCall.{ScriptCall}
+use Rattle.script.specs.declared.ScriptCall.the-variants.{Nothing, Call}
 use Rattle.script.proofs.Records.{records-more, records-none}
 
 -- ---- one record
 
-pub kept-own : (before : Wanted) (own : Bool) (w : Wanted) → before ≡ Nothing → own ≡ true → w ≡ kept before own w
-kept-own before own w e t = if-true own w w Nothing t refl ∙ ap (λ (b : Wanted). kept b own w) (sym e)
+pub kept-own : (before : ScriptCall) (own : Bool) (w : ScriptCall) → before ≡ Nothing → own ≡ true → w ≡ kept before own w
+kept-own before own w e t = if-true own w w Nothing t refl ∙ ap (λ (b : ScriptCall). kept b own w) (sym e)
 
-pub kept-none : (before : Wanted) (own : Bool) (w : Wanted) → before ≡ Nothing → own ≡ false → Nothing ≡ kept before own w
-kept-none before own w e f = if-false own Nothing w Nothing f refl ∙ ap (λ (b : Wanted). kept b own w) (sym e)
+pub kept-none : (before : ScriptCall) (own : Bool) (w : ScriptCall) → before ≡ Nothing → own ≡ false → Nothing ≡ kept before own w
+kept-none before own w e f = if-false own Nothing w Nothing f refl ∙ ap (λ (b : ScriptCall). kept b own w) (sym e)
 
 -- the code makes the eight one by one, from what the record wants
-pub with-record : (t : ScriptTick) (e : Entry) (w a0 a1 a2 a3 a4 a5 a6 a7 : Wanted) → w ≡ wantedBy e
+pub with-record : (t : ScriptTick) (e : Entry) (w a0 a1 a2 a3 a4 a5 a6 a7 : ScriptCall) → w ≡ wantedBy e
     → a0 ≡ kept (t .primary) (e .party =? 0) w
     → a1 ≡ kept (t .secondary) (e .party =? 1) w
     → a2 ≡ kept (t .device2) (e .party =? 2) w
@@ -47,16 +47,16 @@ walked tick [] t = t
 walked tick (e ∷ es) t = if e .tick =? tick then walked tick es (withRecord t e) else t
 
 -- a party's call, and where it has none the later one
-abbrev first : Wanted → Wanted → Wanted
+abbrev first : ScriptCall → ScriptCall → ScriptCall
 first before later = kept before true later
 
-first-none : (w : Wanted) → first w Nothing ≡ w
+first-none : (w : ScriptCall) → first w Nothing ≡ w
 unfolding if_then_else_
 first-none Nothing = refl
 first-none (Call a b) = refl
 
 -- the record's call comes before the later ones
-kept-first : (before : Wanted) (own stop : Bool) (a b : ℕ) (later : Wanted)
+kept-first : (before : ScriptCall) (own stop : Bool) (a b : ℕ) (later : ScriptCall)
     → first (kept before own (if stop then Nothing else Call a b)) later ≡ first before (if (if true then (if stop then false else own) else false) then Call a b else later)
 unfolding if_then_else_
 kept-first (Call x y) own stop a b later = refl
@@ -65,7 +65,7 @@ kept-first Nothing true false a b later = refl
 kept-first Nothing false true a b later = refl
 kept-first Nothing false false a b later = refl
 
-module _ (f : ScriptTick → Wanted) (party : ℕ) (one : (t : ScriptTick) (e : Entry) → f (withRecord t e) ≡ kept (f t) (e .party =? party) (wantedBy e)) where
+module _ (f : ScriptTick → ScriptCall) (party : ℕ) (one : (t : ScriptTick) (e : Entry) → f (withRecord t e) ≡ kept (f t) (e .party =? party) (wantedBy e)) where
   walked-party : (tick : ℕ) (es : List Entry) (t : ScriptTick) → f (walked tick es t) ≡ first (f t) (wantedAt tick party (leading tick es))
   unfolding walked leading wantedAt if_then_else_
   walked-party tick [] t = sym (first-none (f t))
@@ -76,7 +76,7 @@ module _ (f : ScriptTick → Wanted) (party : ℕ) (one : (t : ScriptTick) (e : 
       go false q rest = sym (first-none (f t))
       go true q rest =
           rest
-          ∙ ap (λ (w : Wanted). first w (wantedAt tick party (leading tick es))) (one t e)
+          ∙ ap (λ (w : ScriptCall). first w (wantedAt tick party (leading tick es))) (one t e)
           ∙ kept-first (f t) (e .party =? party) (e .action =? 0) (e .action) (e .argument) (wantedAt tick party (leading tick es))
           ∙ ap (λ (b : Bool). first (f t) (if (if b then (if e .action =? 0 then false else e .party =? party) else false) then Call (e .action) (e .argument) else (wantedAt tick party (leading tick es)))) (sym q)
 

@@ -13,8 +13,8 @@ use Rattle.script.specs.Script.{recordsOf, wantedAt}
 use Rattle.script.specs.Reads.{Rising, none, more, Reads}
 use Rattle.script.specs.Walk.{entryAt, freeBefore, freeTicks}
 use Rattle.script.specs.declared.Entry.{Entry}
-use Rattle.script.specs.declared.Wanted.{Wanted}
-use Rattle.script.specs.declared.Wanted.the-variants.{Nothing}
+use Rattle.script.specs.declared.ScriptCall.{ScriptCall}
+use Rattle.script.specs.declared.ScriptCall.the-variants.{Nothing}
 use Rattle.script.proofs.Records.{records-more, records-none}
 use Rattle.script.proofs.Ticks.{later-none}
 

@@ -15,8 +15,8 @@ use Rattle.script.specs.Script.{entryOf, recordsOf, calledBefore, isGood
 use Rattle.script.specs.Reads.{Rising, none, more, Reads}
 use Rattle.script.specs.declared.Entry.{Entry}
 use Rattle.script.specs.declared.ScriptTick.{ScriptTick}
-use Rattle.script.specs.declared.Wanted.{Wanted}
-use Rattle.script.specs.declared.Wanted.the-variants.{Nothing, Call}
+use Rattle.script.specs.declared.ScriptCall.{ScriptCall}
+use Rattle.script.specs.declared.ScriptCall.the-variants.{Nothing, Call}
 use Rattle.script.proofs.Good.{good-end, good-call}
 
 -- ---- from the start
@@ -80,7 +80,7 @@ leading-all tick party (e ∷ es) (more l r) = go (e .tick =? tick) refl (λ q. 
   where
     go : (t : Bool) → (e .tick =? tick) ≡ t → ((e .tick =? tick) ≡ true → wantedAt tick party (leading tick es) ≡ wantedAt tick party es)
         → wantedAt tick party (if t then e ∷ leading tick es else []) ≡ wantedAt tick party (e ∷ es)
-    go true q rest = ap (λ (w : Wanted). if isOf tick party e then Call (e .action) (e .argument) else w) (rest q)
+    go true q rest = ap (λ (w : ScriptCall). if isOf tick party e then Call (e .action) (e .argument) else w) (rest q)
     go false q rest = sym (other-tick tick party e es (eqb-false (e .tick) tick q) ∙ later-none (e .tick) tick party es r (above e tick l q))
 
 -- the leading records want nothing in later ticks

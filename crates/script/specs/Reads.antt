@@ -1,3 +1,4 @@
+-- Inner contracts: nothing that is to be believed rests on them.
 -- Reading a script tick by tick, from a place that moves on.
 use Prim.Native.Nat.{ℕ, _≤_}
 use mathlib.Core.List.{List, [], _∷_}

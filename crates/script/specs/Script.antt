@@ -1,3 +1,4 @@
+-- To be believed: what the engine must do, or what is claimed of it.
 -- Document 01, "The player", the script: its records, what makes it good, and the calls of each tick.
 use Prim.Native.Nat.{ℕ, zero, suc, _+_, _*_, _/_, _%_}
 use mathlib.Core.Bool.{Bool, true, false}
@@ -8,8 +9,8 @@ use Rattle.turns.specs.Link.{MasterCall, no-request, requests, DeviceCall, no-c
 use Rattle.turns.specs.declared.Wish.the-variants.{Same, On, Off}
 use Rattle.script.specs.declared.Entry.{Entry}
 use Rattle.script.specs.declared.ScriptTick.{ScriptTick}
-use Rattle.script.specs.declared.Wanted.{Wanted}
-use Rattle.script.specs.declared.Wanted.the-variants.{Nothing, Call}
+use Rattle.script.specs.declared.ScriptCall.{ScriptCall}
+use Rattle.script.specs.declared.ScriptCall.the-variants.{Nothing, Call}
 
 -- "Script records are 4 bytes, most significant first: tick 16 bits, party 4, action 4, argument 8."
 abbrev pub entryOf : ℕ → ℕ → ℕ → ℕ → Entry
@@ -68,19 +69,19 @@ abbrev pub isOf : ℕ → ℕ → Entry → Bool
 isOf tick party e = if e .tick =? tick then (if e .action =? 0 then false else e .party =? party) else false
 
 -- what a script wants of a party in a tick
-unfoldable pub wantedAt : ℕ → ℕ → List Entry → Wanted
+unfoldable pub wantedAt : ℕ → ℕ → List Entry → ScriptCall
 wantedAt tick party [] = Nothing
 wantedAt tick party (e ∷ es) = if isOf tick party e then Call (e .action) (e .argument) else wantedAt tick party es
 
 -- "FSK, R 3, preamble 5"
-abbrev pub masterCall : Wanted → MasterCall
+abbrev pub masterCall : ScriptCall → MasterCall
 masterCall Nothing = no-request
 masterCall (Call action argument) =
     if action =? 1 then requests (record { preamble = 5; long = false; address = argument; command = 0 }) []
     else requests (record { preamble = 5; long = true; address = argument; command = 3 }) []
 
 -- "2 device answers with that many zero bytes"
-abbrev pub deviceCall : Wanted → DeviceCall
+abbrev pub deviceCall : ScriptCall → DeviceCall
 deviceCall Nothing = no-call
 deviceCall (Call action argument) =
     if action =? 2 then gives-answer Same (replicate argument 0) else

@@ -1,3 +1,4 @@
+-- Inner contracts: nothing that is to be believed rests on them.
 -- One record more in a walk over a tick's records: what the code's steps are; and how many ticks have none.
 use Prim.Native.Nat.{ℕ, _+_, _-_}
 use mathlib.Core.Bool.{Bool}
@@ -7,19 +8,19 @@ use Rattle.base.specs.Choice.{if_then_else_, _<?_, _=?_}
 use Rattle.script.specs.Script.{entryOf, recordsOf}
 use Rattle.script.specs.declared.Entry.{Entry}
 use Rattle.script.specs.declared.ScriptTick.{ScriptTick}
-use Rattle.script.specs.declared.Wanted.{Wanted}
-use Rattle.script.specs.declared.Wanted.the-variants.{Nothing, Call}
+use Rattle.script.specs.declared.ScriptCall.{ScriptCall}
+use Rattle.script.specs.declared.ScriptCall.the-variants.{Nothing, Call}
 
 -- the record at a place
 abbrev pub entryAt : List ℕ → ℕ → Entry
 entryAt script at = entryOf (getD script at 0) (getD script (at + 1) 0) (getD script (at + 2) 0) (getD script (at + 3) 0)
 
 -- what a record wants: the stop is no call
-abbrev pub wantedBy : Entry → Wanted
+abbrev pub wantedBy : Entry → ScriptCall
 wantedBy e = if e .action =? 0 then Nothing else Call (e .action) (e .argument)
 
 -- a party's call stays; a party that has none takes its own
-abbrev pub kept : Wanted → Bool → Wanted → Wanted
+abbrev pub kept : ScriptCall → Bool → ScriptCall → ScriptCall
 kept Nothing own w = if own then w else Nothing
 kept (Call action argument) own w = Call action argument
 

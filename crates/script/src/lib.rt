@@ -16,7 +16,7 @@ pub struct Entry {
 }
 
 // What a script wants of a party in a tick.
-pub enum Wanted {
+pub enum ScriptCall {
     Nothing,
     // an action and its argument
     Call(u8, u8),
@@ -24,14 +24,14 @@ pub enum Wanted {
 
 // What a script wants of each party in a tick, and the place behind that tick's records.
 pub struct ScriptTick {
-    pub primary: Wanted,
-    pub secondary: Wanted,
-    pub device2: Wanted,
-    pub device3: Wanted,
-    pub device4: Wanted,
-    pub device5: Wanted,
-    pub device6: Wanted,
-    pub device7: Wanted,
+    pub primary: ScriptCall,
+    pub secondary: ScriptCall,
+    pub device2: ScriptCall,
+    pub device3: ScriptCall,
+    pub device4: ScriptCall,
+    pub device5: ScriptCall,
+    pub device6: ScriptCall,
+    pub device7: ScriptCall,
     pub next: usize,
 }
 
@@ -164,26 +164,26 @@ pub fn stop_tick(script: &[u8]) -> usize
     e.tick
 }
 
-fn wanted_by(e: Entry) -> Wanted
+fn wanted_by(e: Entry) -> ScriptCall
     ensures { λ r. ⌜ r ≡ wantedBy e ⌝ }
 {
     if e.action == 0 {
-        return Wanted::Nothing;
+        return ScriptCall::Nothing;
     }
-    Wanted::Call(e.action, e.argument)
+    ScriptCall::Call(e.action, e.argument)
 }
 
 // A party's call stays; a party that has none takes w, if it is its own.
-fn kept(before: Wanted, own: bool, w: Wanted) -> Wanted
+fn kept(before: ScriptCall, own: bool, w: ScriptCall) -> ScriptCall
     ensures { λ r. ⌜ r ≡ kept before own w ⌝ }
 {
     match before {
-        Wanted::Call(_, _) => before,
-        Wanted::Nothing => {
+        ScriptCall::Call(_, _) => before,
+        ScriptCall::Nothing => {
             if own {
                 return w;
             }
-            Wanted::Nothing
+            ScriptCall::Nothing
         }
     }
 }
@@ -221,14 +221,14 @@ fn no_calls(at: usize) -> ScriptTick
     ensures { λ r. ⌜ r ≡ noCalls at ⌝ }
 {
     ScriptTick {
-        primary: Wanted::Nothing,
-        secondary: Wanted::Nothing,
-        device2: Wanted::Nothing,
-        device3: Wanted::Nothing,
-        device4: Wanted::Nothing,
-        device5: Wanted::Nothing,
-        device6: Wanted::Nothing,
-        device7: Wanted::Nothing,
+        primary: ScriptCall::Nothing,
+        secondary: ScriptCall::Nothing,
+        device2: ScriptCall::Nothing,
+        device3: ScriptCall::Nothing,
+        device4: ScriptCall::Nothing,
+        device5: ScriptCall::Nothing,
+        device6: ScriptCall::Nothing,
+        device7: ScriptCall::Nothing,
         next: at,
     }
 }

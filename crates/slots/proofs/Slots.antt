@@ -7,9 +7,9 @@ use lib.ListN.{length, take, drop, set, getD}
 use Rattle.line.specs.declared.Heard.{Heard}
 use Rattle.turns.specs.Link.{DeviceStep}
 use Rattle.turns.specs.declared.Device.{Device}
-use Rattle.device_tick.specs.Tick.{TickIs}
+use Rattle.device_tick.specs.Tick.{DeviceTickIs}
 use Rattle.device_tick.specs.declared.DeviceTicked.{DeviceTicked}
-use Rattle.device_tick.specs.declared.HostCall.{HostCall}
+use Rattle.device_tick.specs.declared.DeviceHostCall.{DeviceHostCall}
 use Rattle.slots.specs.Part.{dataOf, PartIs}
 use Rattle.slots.specs.Slot.{inSlot, absentTick, Lent, lends, slotSteps, slotTicks, IsAbsent, SlotIs}
 use Rattle.slots.specs.Slots.{lentAt, AtIs}
@@ -27,7 +27,7 @@ pub present-absent : (d : Device) → Present d ≡ Absent → ⊥
 unfolding isPresent
 present-absent d e = let k : _≡_ {A = ℕ} 1 0 = ap isPresent e in omega arith
 
-module _ (s : Slot) (heard : Heard) (call : HostCall) (put frame bytes contents : List ℕ) (r : SlotTicked) where
+module _ (s : Slot) (heard : Heard) (call : DeviceHostCall) (put frame bytes contents : List ℕ) (r : SlotTicked) where
   pub slot-absent : s ≡ Absent → r ≡ absentTick → SlotIs s heard call put (lends frame bytes contents) r (lends frame bytes contents)
   slot-absent e p = record {
     steps =
@@ -37,7 +37,7 @@ module _ (s : Slot) (heard : Heard) (call : HostCall) (put frame bytes contents 
   }
 
   pub slot-present : (d : Device) (t : DeviceTicked) (frame-after bytes-after contents-after : List ℕ) → s ≡ Present d → r ≡ inSlot t
-      → TickIs d heard call put frame bytes contents t frame-after bytes-after contents-after → SlotIs s heard call put (lends frame bytes contents) r (lends frame-after bytes-after contents-after)
+      → DeviceTickIs d heard call put frame bytes contents t frame-after bytes-after contents-after → SlotIs s heard call put (lends frame bytes contents) r (lends frame-after bytes-after contents-after)
   slot-present d t frame-after bytes-after contents-after e p f = record {
     steps =
         ap (λ (x : SlotTicked). slotSteps x (x .slot) (lends frame-after bytes-after contents-after)) p

@@ -1,3 +1,4 @@
+-- How the code stands for what is to be believed.
 -- The data of a call: so many of the lent bytes, from a place on, as far as there are.
 use Prim.Native.Nat.{ℕ, _+_, _-_, _≤_}
 use mathlib.Core.Path.{_≡_}

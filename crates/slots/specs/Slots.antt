@@ -1,3 +1,4 @@
+-- How the code stands for what is to be believed.
 -- Six slots, and their lent buffers: an array of six for each kind, a slot's own at its number.
 use Prim.Native.Nat.{ℕ, _+_}
 use mathlib.Core.List.{List, []}

@@ -1,8 +1,8 @@
 // Six slots for devices on one line, each present or absent, and their tick.
+use device_tick::DeviceHostCall;
 use device_tick::DeviceTicked;
-use device_tick::HostCall;
 use line::Heard;
-use party::CallAnswer;
+use party::CallStatus;
 use turns::Device;
 use turns::DeviceTold;
 use turns::Sent;
@@ -59,7 +59,7 @@ pub fn bounds_of(part: Part, room: usize) -> Bounds
 
 // A host's call to a device in a tick, with the data of an answer or of a burst content.
 pub struct SlotCall {
-    pub call: HostCall,
+    pub call: DeviceHostCall,
     pub part: Part,
 }
 
@@ -74,7 +74,7 @@ pub struct SlotTicked {
     pub slot: Slot,
     pub sent: Sent,
     pub told: DeviceTold,
-    pub answer: CallAnswer,
+    pub result: CallStatus,
 }
 
 fn absent() -> SlotTicked
@@ -84,7 +84,7 @@ fn absent() -> SlotTicked
         slot: Slot::Absent,
         sent: Sent::Silent,
         told: DeviceTold::Nothing,
-        answer: CallAnswer::Nothing,
+        result: CallStatus::Nothing,
     }
 }
 
@@ -94,12 +94,12 @@ fn in_slot(t: DeviceTicked) -> SlotTicked
     let device = t.device;
     let sent = t.sent;
     let told = t.told;
-    let answer = t.answer;
+    let result = t.result;
     SlotTicked {
         slot: Slot::Present(device),
         sent: sent,
         told: told,
-        answer: answer,
+        result: result,
     }
 }
 
@@ -107,7 +107,7 @@ fn in_slot(t: DeviceTicked) -> SlotTicked
 pub fn slot_tick(
     slot: Slot,
     heard: Heard,
-    call: HostCall,
+    call: DeviceHostCall,
     put: &[u8],
     frame: &mut [u8; 284],
     bytes: &mut [u8; 255],

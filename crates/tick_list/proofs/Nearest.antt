@@ -1,22 +1,23 @@
 -- Every call is refused with the number with which its nearest codable call is; so a run over any list of ticks is one over what some byte string decodes to.
-use Prim.Native.Nat.{ℕ, zero, suc, _+_, _-_, _^_, _≤_, _<_, min}
+use Prim.Native.Nat.{ℕ, suc, _-_, _^_, _≤_, _<_, min}
 use native.Mathlib.Omega.{arith}
 use mathlib.Core.Path.{_≡_, refl, sym, ap, subst, _∙_}
 use mathlib.Core.Bool.{Bool, true, false}
 use mathlib.Core.List.{List, [], _∷_, map}
 use lib.ListN.{length, take, length-take, length-map}
 use lib.Seq.{take-all}
-use borrow.Author.Tests.{ltb-true, ltb-false, eqb-true, eqb-false, lt-ltb, le-ltb, eq-eqb, ne-eqb}
+use borrow.Author.Tests.{ltb-true, ltb-false, le-ltb, ne-eqb}
+use Rattle.base.specs.Refusal.{Called, accepted, refused}
 use Rattle.base.specs.Choice.{if_then_else_, _<?_, _=?_, _outside_to_}
-use Rattle.base.specs.declared.Refusal.{Refusal}
-use Rattle.base.proofs.Choices.{true-false, if-is-true, if-is-false, inside-high}
+use Rattle.base.proofs.Choices.{if-is-true, if-is-false, inside-high}
 use Rattle.frame.specs.Address.{largestAddress, addressTooLarge}
 use Rattle.frame.specs.Frame.{frameLength, frameBytes}
 use Rattle.line.specs.declared.Heard.{Heard}
-use Rattle.turns.specs.Master.{Called, accepted, refused, Request, requested, requestHeader, commandRefused, hasMessage, behind, masterTakes}
-use Rattle.turns.specs.Device.{answeredBy, answered, answerFrame, deviceTakes, answersAt, answerHeader, wished, contentGiven, withContent, wishRefused}
+use Rattle.turns.specs.Party.{Request, CallResult, was-refused}
+use Rattle.turns.specs.Master.{requested, requestHeader, commandRefused, hasMessage, masterWith, masterTakes}
+use Rattle.turns.specs.Device.{answeredBy, answered, answerFrame, deviceTakes, answersAt, answerHeader, wished, contentGiven, deviceWithContent, wishRefused}
 use Rattle.turns.specs.Device as D
-use Rattle.turns.specs.Link.{MasterCall, no-request, requests, DeviceCall, no-call, gives-answer, gives-content, Calls, Answer, was-refused, MasterSide, masterData, masterCalled, masterCalls, masterTick, DeviceSide, DeviceStep, deviceData, heardFrame, answerCalled, contentCalled, deviceCalls, deviceTick, Link, LinkStep, deviceTicks, sides, linkTick, linkAfter, run}
+use Rattle.turns.specs.Link.{MasterCall, no-request, requests, DeviceCall, no-call, gives-answer, gives-content, Calls, MasterSide, masterData, masterCalled, masterCalls, masterTick, DeviceSide, DeviceStep, deviceData, heardFrame, answerCalled, contentCalled, deviceCalls, deviceTick, Link, LinkStep, deviceTicks, sides, linkTick, linkAfter, run}
 use Rattle.turns.specs.declared.Master.{Master}
 use Rattle.turns.specs.declared.Stage.the-variants.{Waiting}
 use Rattle.turns.specs.declared.Device.{Device}
@@ -25,11 +26,10 @@ use Rattle.turns.specs.declared.MasterTaken.{MasterTaken}
 use Rattle.turns.specs.declared.DeviceTold.{DeviceTold}
 use Rattle.turns.specs.declared.DeviceTaken.{DeviceTaken}
 use Rattle.turns.specs.declared.Turn.{Turn}
-use Rattle.turns.specs.declared.Turn.the-variants.{Listens, Asked, Accepted, Begins, Answers, Follows, Bursts}
+use Rattle.turns.specs.declared.Turn.the-variants.{Listens, Asked, AnswerWaits, Begins, Answers, Follows, Bursts}
 use Rattle.turns.specs.declared.Wish.{Wish}
-use Rattle.base.specs.declared.Refusal.the-variants.{PreambleLength, Address, Command, DataLong, MessageInHand, DataLength, NoRequest, BurstWish}
 use Rattle.tick_list.specs.Ticks.{Here, ticksOf}
-use Rattle.tick_list.specs.Encode.{slotsOf, ticksBytes, Bytes, no-byte, byte-and, DataCodable, RequestCodable, MasterCodable, DeviceCodable, SlotsCodable, no-slot, absent-and, present-and, TickCodable, TicksCodable}
+use Rattle.tick_list.specs.Encode.{slotsOf, ticksBytes, Bytes, no-byte, byte-and, DataCodable, RequestCodable, MasterCodable, DeviceCodable, SlotsCodable, no-slot, absent-and, present-and, TicksCodable}
 use Rattle.tick_list.specs.Nearest.{atMost, nearestData, nearestRequest, nearestMaster, nearestDevice, present, nearestDevices, nearestTick, nearestTicks, outcome, IsRefused, is-refused, MasterGives, DeviceGives, DevicesGive, no-device, device-and, TickGives, TicksGive}
 use Rattle.tick_list.proofs.Encode.{every-list}
 
@@ -115,11 +115,11 @@ data-codable put = record { at-most = go (nearest-length put); are-bytes = all-b
 
 tests : {A : Type 0} → Bool → Bool → Bool → Bool → Bool → Called A → Called A
 tests a b c d e x =
-    if a then refused PreambleLength else
-    if b then refused Address else
-    if c then refused Command else
-    if d then refused DataLong else
-    if e then refused MessageInHand else x
+    if a then refused 3 else
+    if b then refused 4 else
+    if c then refused 5 else
+    if d then refused 6 else
+    if e then refused 7 else x
 
 tests-outcome : {A : Type 0} (a b c d e : Bool) (x y : Called A) → outcome x ≡ outcome y → outcome (tests a b c d e x) ≡ outcome (tests a b c d e y)
 unfolding tests if_then_else_
@@ -131,14 +131,14 @@ tests-outcome false false false false true x y h = refl
 tests-outcome false false false false false x y h = h
 
 data Refused {A : Type 0} (x : Called A) : Type 0 where
-  with-number : (why : Refusal) → x ≡ refused why → Refused x
+  with-number : (why : ℕ) → x ≡ refused why → Refused x
 
 tests-refused : {A : Type 0} (a b c d e : Bool) (x : Called A) → (a ≡ false → b ≡ false → d ≡ false → ⊥) → Refused (tests a b c d e x)
 unfolding tests if_then_else_
-tests-refused true b c d e x h = with-number PreambleLength refl
-tests-refused false true c d e x h = with-number Address refl
-tests-refused false false true d e x h = with-number Command refl
-tests-refused false false false true e x h = with-number DataLong refl
+tests-refused true b c d e x h = with-number 3 refl
+tests-refused false true c d e x h = with-number 4 refl
+tests-refused false false true d e x h = with-number 5 refl
+tests-refused false false false true e x h = with-number 6 refl
 tests-refused false false false false e x h = absurd (h refl refl refl)
 
 module _ (limit : ℕ) (small : limit < 256) (m : Master) (q : Request) (put : List ℕ) where
@@ -164,7 +164,7 @@ module _ (limit : ℕ) (small : limit < 256) (m : Master) (q : Request) (put : L
   -- the master behind a request that was taken
   waits : Request → ℕ → Master
   waits r count =
-      behind m (m .receiver) (m .burst) (m .noted) (m .timer)
+      masterWith m (m .receiver) (m .burst) (m .noted) (m .timer)
       (record { stage = Waiting; header = requestHeader m r; length = frameLength (r .preamble) (requestHeader m r) count; attempts = 0 })
 
   pub request-outcome : outcome (requested limit m (nearestRequest q) (length (nearestData put))) ≡ outcome (requested limit m q (length put))
@@ -184,16 +184,16 @@ module _ (limit : ℕ) (small : limit < 256) (m : Master) (q : Request) (put : L
 
 -- ---- a device's answer and its burst content
 
-two : {A : Type 0} → Refusal → Refusal → Bool → Bool → Called A → Called A
+two : {A : Type 0} → ℕ → ℕ → Bool → Bool → Called A → Called A
 two v w a b x = if a then refused v else if b then refused w else x
 
-two-outcome : {A : Type 0} (v w : Refusal) (a b : Bool) (x y : Called A) → outcome x ≡ outcome y → outcome (two v w a b x) ≡ outcome (two v w a b y)
+two-outcome : {A : Type 0} (v w : ℕ) (a b : Bool) (x y : Called A) → outcome x ≡ outcome y → outcome (two v w a b x) ≡ outcome (two v w a b y)
 unfolding two if_then_else_
 two-outcome v w true b x y h = refl
 two-outcome v w false true x y h = refl
 two-outcome v w false false x y h = h
 
-two-refused : {A : Type 0} (v w : Refusal) (a b : Bool) (x : Called A) → (a ≡ false → b ≡ false → ⊥) → Refused (two v w a b x)
+two-refused : {A : Type 0} (v w : ℕ) (a b : Bool) (x : Called A) → (a ≡ false → b ≡ false → ⊥) → Refused (two v w a b x)
 unfolding two if_then_else_
 two-refused v w true b x h = with-number v refl
 two-refused v w false true x h = with-number w refl
@@ -208,15 +208,15 @@ module _ (limit : ℕ) (small : limit < 256) (d : Device) (put : List ℕ) where
 
   module _ (wish : Wish) where
     begins : ℕ → ℕ → Device
-    begins left count = D.behind d (d .receiver) (answersAt d left) (d .request) wish (frameLength (d .preamble) (answerHeader (d .request) (wished (d .burst) wish)) count) (d .due)
+    begins left count = D.deviceWith d (d .receiver) (answersAt d left) (d .request) wish (frameLength (d .preamble) (answerHeader (d .request) (wished (d .burst) wish)) count) (d .due)
 
     by-turn : (t : Turn) → outcome (answeredBy limit d wish (length (nearestData put)) t) ≡ outcome (answeredBy limit d wish (length put) t)
     unfolding two begins
     by-turn Listens = refl
     by-turn (Asked left) =
-        (λ i. outcome {A = Device} (two DataLength BurstWish (count-same i) (wishRefused d wish) (accepted (begins left (length (nearestData put))))))
-        ∙ two-outcome DataLength BurstWish (length put outside 2 to limit) (wishRefused d wish) (accepted (begins left (length (nearestData put)))) (accepted (begins left (length put))) refl
-    by-turn Accepted = refl
+        (λ i. outcome {A = Device} (two 9 10 (count-same i) (wishRefused d wish) (accepted (begins left (length (nearestData put))))))
+        ∙ two-outcome 9 10 (length put outside 2 to limit) (wishRefused d wish) (accepted (begins left (length (nearestData put)))) (accepted (begins left (length put))) refl
+    by-turn AnswerWaits = refl
     by-turn Begins = refl
     by-turn (Answers n) = refl
     by-turn Follows = refl
@@ -228,13 +228,13 @@ module _ (limit : ℕ) (small : limit < 256) (d : Device) (put : List ℕ) where
 
     turn-refused : (length put ≤ 256 → ⊥) → (t : Turn) → Refused (answeredBy limit d wish (length put) t)
     unfolding two begins
-    turn-refused h Listens = with-number NoRequest refl
-    turn-refused h (Asked left) = two-refused DataLength BurstWish (length put outside 2 to limit) (wishRefused d wish) (accepted (begins left (length put))) (λ a b. count-above h a)
-    turn-refused h Accepted = with-number NoRequest refl
-    turn-refused h Begins = with-number NoRequest refl
-    turn-refused h (Answers n) = with-number NoRequest refl
-    turn-refused h Follows = with-number NoRequest refl
-    turn-refused h (Bursts n) = with-number NoRequest refl
+    turn-refused h Listens = with-number 8 refl
+    turn-refused h (Asked left) = two-refused 9 10 (length put outside 2 to limit) (wishRefused d wish) (accepted (begins left (length put))) (λ a b. count-above h a)
+    turn-refused h AnswerWaits = with-number 8 refl
+    turn-refused h Begins = with-number 8 refl
+    turn-refused h (Answers n) = with-number 8 refl
+    turn-refused h Follows = with-number 8 refl
+    turn-refused h (Bursts n) = with-number 8 refl
 
     answer-refused : (length put ≤ 256 → ⊥) → Refused (answered limit d wish (length put))
     unfolding answered
@@ -242,17 +242,17 @@ module _ (limit : ℕ) (small : limit < 256) (d : Device) (put : List ℕ) where
 
   module _ (command : ℕ) where
     holds : ℕ → ℕ → Device
-    holds c count = withContent d (record { given = true; command = c; count = count })
+    holds c count = deviceWithContent d (record { given = true; command = c; count = count })
 
     pub content-outcome : outcome (contentGiven limit d (atMost 255 command) (length (nearestData put))) ≡ outcome (contentGiven limit d command (length put))
     unfolding contentGiven two holds
     content-outcome =
-        (λ i. outcome {A = Device} (two Command DataLength (cut-equal 254 255 command _ (omega arith) (at-most 255 command) i) (count-same i) (accepted (holds (atMost 255 command) (length (nearestData put))))))
-        ∙ two-outcome Command DataLength (command =? 254) (length put outside 2 to limit) (accepted (holds (atMost 255 command) (length (nearestData put)))) (accepted (holds command (length put))) refl
+        (λ i. outcome {A = Device} (two 5 9 (cut-equal 254 255 command _ (omega arith) (at-most 255 command) i) (count-same i) (accepted (holds (atMost 255 command) (length (nearestData put))))))
+        ∙ two-outcome 5 9 (command =? 254) (length put outside 2 to limit) (accepted (holds (atMost 255 command) (length (nearestData put)))) (accepted (holds command (length put))) refl
 
     content-refused : (length put ≤ 256 → ⊥) → Refused (contentGiven limit d command (length put))
     unfolding contentGiven two holds
-    content-refused h = two-refused Command DataLength (command =? 254) (length put outside 2 to limit) (accepted (holds command (length put))) (λ a b. count-above h b)
+    content-refused h = two-refused 5 9 (command =? 254) (length put outside 2 to limit) (accepted (holds command (length put))) (λ a b. count-above h b)
 
 -- ---- the nearest list is codable
 
@@ -288,7 +288,7 @@ nearest-codable here (c ∷ cs) =
 
 -- ---- a tick goes as with the nearest calls
 
-was-refused-is : {A : Type 0} (x : Called A) (why : Refusal) → outcome x ≡ was-refused why → x ≡ refused why
+was-refused-is : {A : Type 0} (x : Called A) (why : ℕ) → outcome x ≡ was-refused why → x ≡ refused why
 was-refused-is (accepted a) why e = absurd (let k : _≡_ {A = ℕ} 0 1 = cc in omega arith)
 was-refused-is (refused w) why e = ap refused cc
 
@@ -343,7 +343,7 @@ module _ (limit : ℕ) (small : limit < 256) where
       go (kept j n) = ap (λ (l : List ℕ). deviceCalls limit t (gives-answer wish l) frame bytes contents) (data-same put j k)
       go (cut h n) =
           answer-called (answered limit (t .device) wish (length put)) (answered limit (t .device) wish (length (nearestData put))) (t .device)
-          (answerFrame (t .device) wish put) (answerFrame (t .device) wish (nearestData put)) frame bytes contents (t .told)
+          (answerFrame (t .device) wish put frame) (answerFrame (t .device) wish (nearestData put) frame) frame bytes contents (t .told)
           (answer-refused limit small (t .device) put wish (λ x. absurd (omega arith))) (answer-outcome limit small (t .device) put wish)
   device-calls t (gives-content command put) frame bytes contents (DeviceGives.gives-burst b k) = go (nearest-length put)
     where
@@ -362,19 +362,19 @@ module _ (limit : ℕ) (small : limit < 256) where
 
   -- ---- what became of a call, whatever it holds, is what becomes of its nearest codable one
 
-  master-outcome : (x : Called Master) (before : Master) (put frame bytes : List ℕ) (told : MasterTold) → masterCalled x before put frame bytes told .answer ≡ outcome x
+  master-outcome : (x : Called Master) (before : Master) (put frame bytes : List ℕ) (told : MasterTold) → masterCalled x before put frame bytes told .result ≡ outcome x
   master-outcome (accepted m) before put frame bytes told = refl
   master-outcome (refused why) before put frame bytes told = refl
 
-  answer-was : (x : Called Device) (before : Device) (put frame bytes contents : List ℕ) (told : DeviceTold) → answerCalled x before put frame bytes contents told .answer ≡ outcome x
+  answer-was : (x : Called Device) (before : Device) (put frame bytes contents : List ℕ) (told : DeviceTold) → answerCalled x before put frame bytes contents told .result ≡ outcome x
   answer-was (accepted d) before put frame bytes contents told = refl
   answer-was (refused why) before put frame bytes contents told = refl
 
-  content-was : (x : Called Device) (before : Device) (put frame bytes contents : List ℕ) (told : DeviceTold) → contentCalled x before put frame bytes contents told .answer ≡ outcome x
+  content-was : (x : Called Device) (before : Device) (put frame bytes contents : List ℕ) (told : DeviceTold) → contentCalled x before put frame bytes contents told .result ≡ outcome x
   content-was (accepted d) before put frame bytes contents told = refl
   content-was (refused why) before put frame bytes contents told = refl
 
-  pub master-as-nearest : (x : MasterSide) (heard : Heard) (c : MasterCall) → masterTick limit x heard c .answer ≡ masterTick limit x heard (nearestMaster c) .answer
+  pub master-as-nearest : (x : MasterSide) (heard : Heard) (c : MasterCall) → masterTick limit x heard c .result ≡ masterTick limit x heard (nearestMaster c) .result
   unfolding masterTick
   master-as-nearest x heard no-request = refl
   master-as-nearest x heard (requests q put) =
@@ -383,14 +383,14 @@ module _ (limit : ℕ) (small : limit < 256) where
       ∙ sym (request-outcome limit small (t .master) q put)
       ∙ sym (master-outcome (requested limit (t .master) (nearestRequest q) (length (nearestData put))) (t .master) _ (x .frame) (masterData x heard) (t .told))
 
-  pub device-as-nearest : (x : DeviceSide) (heard : Heard) (c : DeviceCall) → deviceTick limit x heard c .answer ≡ deviceTick limit x heard (nearestDevice c) .answer
+  pub device-as-nearest : (x : DeviceSide) (heard : Heard) (c : DeviceCall) → deviceTick limit x heard c .result ≡ deviceTick limit x heard (nearestDevice c) .result
   unfolding deviceTick
   device-as-nearest x heard no-call = refl
   device-as-nearest x heard (gives-answer wish put) =
       let t = deviceTakes (x .device) heard in
-      answer-was (answered limit (t .device) wish (length put)) (t .device) (answerFrame (t .device) wish put) (heardFrame x heard) (deviceData x heard) (x .contents) (t .told)
+      answer-was (answered limit (t .device) wish (length put)) (t .device) (answerFrame (t .device) wish put (heardFrame x heard)) (heardFrame x heard) (deviceData x heard) (x .contents) (t .told)
       ∙ sym (answer-outcome limit small (t .device) put wish)
-      ∙ sym (answer-was (answered limit (t .device) wish (length (nearestData put))) (t .device) (answerFrame (t .device) wish (nearestData put)) (heardFrame x heard) (deviceData x heard) (x .contents) (t .told))
+      ∙ sym (answer-was (answered limit (t .device) wish (length (nearestData put))) (t .device) (answerFrame (t .device) wish (nearestData put) (heardFrame x heard)) (heardFrame x heard) (deviceData x heard) (x .contents) (t .told))
   device-as-nearest x heard (gives-content command put) =
       let t = deviceTakes (x .device) heard in
       content-was (contentGiven limit (t .device) command (length put)) (t .device) put (heardFrame x heard) (deviceData x heard) (x .contents) (t .told)
@@ -398,10 +398,10 @@ module _ (limit : ℕ) (small : limit < 256) where
       ∙ sym (content-was (contentGiven limit (t .device) (atMost 255 command) (length (nearestData put))) (t .device) (nearestData put) (heardFrame x heard) (deviceData x heard) (x .contents) (t .told))
 
   -- a call that is not codable, of bytes, is refused
-  outcome-refused : {A : Type 0} (x : Called A) (a : Answer) → a ≡ outcome x → Refused x → IsRefused a
+  outcome-refused : {A : Type 0} (x : Called A) (a : CallResult) → a ≡ outcome x → Refused x → IsRefused a
   outcome-refused x a e (with-number why p) = subst IsRefused (sym (e ∙ ap outcome p)) (is-refused why)
 
-  pub master-not-codable : (x : MasterSide) (heard : Heard) (c : MasterCall) → MasterGives c → (MasterCodable c → ⊥) → IsRefused (masterTick limit x heard c .answer)
+  pub master-not-codable : (x : MasterSide) (heard : Heard) (c : MasterCall) → MasterGives c → (MasterCodable c → ⊥) → IsRefused (masterTick limit x heard c .result)
   unfolding masterTick
   master-not-codable x heard no-request g h = absurd (h MasterCodable.codable-none)
   master-not-codable x heard (requests q put) (MasterGives.gives-request b k) h =
@@ -410,13 +410,13 @@ module _ (limit : ℕ) (small : limit < 256) where
       (request-refused limit small (t .master) q put
       (λ p a n. h (MasterCodable.codable-request (record { preamble-byte = p; address-small = a; command-byte = b }) (record { at-most = n; are-bytes = k }))))
 
-  pub device-not-codable : (x : DeviceSide) (heard : Heard) (c : DeviceCall) → DeviceGives c → (DeviceCodable c → ⊥) → IsRefused (deviceTick limit x heard c .answer)
+  pub device-not-codable : (x : DeviceSide) (heard : Heard) (c : DeviceCall) → DeviceGives c → (DeviceCodable c → ⊥) → IsRefused (deviceTick limit x heard c .result)
   unfolding deviceTick
   device-not-codable x heard no-call g h = absurd (h DeviceCodable.codable-none)
   device-not-codable x heard (gives-answer wish put) (DeviceGives.gives-wished k) h =
       let t = deviceTakes (x .device) heard in
       outcome-refused (answered limit (t .device) wish (length put)) _
-      (answer-was (answered limit (t .device) wish (length put)) (t .device) (answerFrame (t .device) wish put) (heardFrame x heard) (deviceData x heard) (x .contents) (t .told))
+      (answer-was (answered limit (t .device) wish (length put)) (t .device) (answerFrame (t .device) wish put (heardFrame x heard)) (heardFrame x heard) (deviceData x heard) (x .contents) (t .told))
       (answer-refused limit small (t .device) put wish (λ n. h (DeviceCodable.codable-answer (record { at-most = n; are-bytes = k }))))
   device-not-codable x heard (gives-content command put) (DeviceGives.gives-burst b k) h =
       let t = deviceTakes (x .device) heard in

@@ -11,8 +11,8 @@ use Rattle.base.proofs.Choices.{if-equal, if-unequal}
 use Rattle.frame.specs.Address.{byteAt}
 use Rattle.slots.specs.Part.{dataOf}
 use Rattle.slots.proofs.Parts.{past-end}
-use Rattle.master.specs.declared.HostCall.{HostCall}
-use Rattle.device_tick.specs.declared.HostCall as DeviceHost
+use Rattle.master.specs.declared.MasterHostCall.{MasterHostCall}
+use Rattle.device_tick.specs.declared.DeviceHostCall as DeviceHost
 use Rattle.tick_list.specs.Ticks.{kindIn, addressIn, lengthIn, dataIn, requestOf, requestBy, requestIn, answerBy, answerIn, behindCall}
 use Rattle.tick_list.specs.Coded.{ForwardIs, NextIs}
 
@@ -45,13 +45,13 @@ address-is rest a b c d e n p q r s t f = f ∙ (λ i. p i * 2 ^ 32 + q i * 2 ^ 
 
 -- calls
 pub wanted-is : (rest : List ℕ) (long : Bool) (preamble command address : ℕ) → preamble ≡ byteAt rest 1 → command ≡ byteAt rest 2 → address ≡ addressIn rest
-    → HostCall.Requests (record { preamble = preamble; long = long; address = address; command = command }) ≡ requestOf long rest
-wanted-is rest long preamble command address p q r = λ i. HostCall.Requests (record { preamble = p i; long = long; address = r i; command = q i })
+    → MasterHostCall.Requests (record { preamble = preamble; long = long; address = address; command = command }) ≡ requestOf long rest
+wanted-is rest long preamble command address p q r = λ i. MasterHostCall.Requests (record { preamble = p i; long = long; address = r i; command = q i })
 
-pub request-is : (rest : List ℕ) (kind : ℕ) (r : HostCall) → kind ≡ byteAt rest 0 → r ≡ requestBy kind rest → r ≡ requestIn rest
+pub request-is : (rest : List ℕ) (kind : ℕ) (r : MasterHostCall) → kind ≡ byteAt rest 0 → r ≡ requestBy kind rest → r ≡ requestIn rest
 request-is rest kind r p q = q ∙ ap (λ (k : ℕ). requestBy k rest) p
 
-pub answer-is : (rest : List ℕ) (kind command : ℕ) (r : DeviceHost.HostCall) → kind ≡ byteAt rest 0 → command ≡ byteAt rest 2 → r ≡ answerBy kind command → r ≡ answerIn rest
+pub answer-is : (rest : List ℕ) (kind command : ℕ) (r : DeviceHost.DeviceHostCall) → kind ≡ byteAt rest 0 → command ≡ byteAt rest 2 → r ≡ answerBy kind command → r ≡ answerIn rest
 answer-is rest kind command r p q e = e ∙ (λ i. answerBy (p i) (q i))
 
 pub ruleset calls = (refl, length-is, length-same, length-small, address-is, wanted-is, request-is, answer-is)

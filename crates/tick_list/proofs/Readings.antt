@@ -11,22 +11,22 @@ use Rattle.slots.specs.declared.PairCalls.{PairCalls}
 use Rattle.slots.specs.declared.Part.{Part}
 use Rattle.slots.specs.declared.SlotCall.{SlotCall}
 use Rattle.slots.proofs.Parts.{past-end}
-use Rattle.device_tick.specs.declared.HostCall as DeviceHost
-use Rattle.master.specs.declared.HostCall as MasterHost
+use Rattle.device_tick.specs.declared.DeviceHostCall as DeviceHost
+use Rattle.master.specs.declared.MasterHostCall as MasterHost
 use Rattle.tick_list.specs.Ticks.{dataIn, requestIn, answerIn, behindCall, behind}
-use Rattle.tick_list.specs.Coded.{NextIs, MasterCallIs, SlotCallIs, MasterIs, SlotIs, BehindIs, MastersAre, PairIs, TickIs}
+use Rattle.tick_list.specs.Coded.{NextIs, MasterCallIs, SlotCallIs, MasterIs, SlotReadIs, BehindIs, MastersReadAre, PairReadIs, TickReadIs}
 use Rattle.tick_list.specs.declared.MasterRead.{MasterRead}
 use Rattle.tick_list.specs.declared.MastersRead.{MastersRead}
 use Rattle.tick_list.specs.declared.PairRead.{PairRead}
 use Rattle.tick_list.specs.declared.SlotRead.{SlotRead}
 use Rattle.tick_list.specs.declared.TickRead.{TickRead}
 
-pub master-is : (ticks : List ℕ) (at next : ℕ) (call : MasterHost.HostCall) (part : Part) → call ≡ requestIn (drop at ticks) → dataOf part ticks ≡ dataIn (drop at ticks) → NextIs ticks at next
+pub master-is : (ticks : List ℕ) (at next : ℕ) (call : MasterHost.MasterHostCall) (part : Part) → call ≡ requestIn (drop at ticks) → dataOf part ticks ≡ dataIn (drop at ticks) → NextIs ticks at next
     → MasterIs ticks at (record { call = record { call = call; part = part }; next = next })
 master-is ticks at next call part p q n = record { call = record { call-is = p; data-is = q }; next = n }
 
-pub slot-is : (ticks : List ℕ) (at next : ℕ) (call : DeviceHost.HostCall) (part : Part) → call ≡ answerIn (drop at ticks) → dataOf part ticks ≡ dataIn (drop at ticks) → NextIs ticks at next
-    → SlotIs ticks at (record { call = record { call = call; part = part }; next = next })
+pub slot-is : (ticks : List ℕ) (at next : ℕ) (call : DeviceHost.DeviceHostCall) (part : Part) → call ≡ answerIn (drop at ticks) → dataOf part ticks ≡ dataIn (drop at ticks) → NextIs ticks at next
+    → SlotReadIs ticks at (record { call = record { call = call; part = part }; next = next })
 slot-is ticks at next call part p q n = record { call = record { call-is = p; data-is = q }; next = n }
 
 -- so many calls, and so many more
@@ -56,7 +56,7 @@ module _ (ticks : List ℕ) (at m middle : ℕ) (f : BehindIs ticks at m middle)
   }
 
 pub masters-are : (ticks : List ℕ) (at : ℕ) (p s : MasterRead) → MasterIs ticks at p → MasterIs ticks (p .next) s
-    → MastersAre ticks at (record { calls = record { primary = p .call; secondary = s .call }; next = s .next })
+    → MastersReadAre ticks at (record { calls = record { primary = p .call; secondary = s .call }; next = s .next })
 masters-are ticks at p s x y =
     let f = one-call ticks at (p .next) (x .next) in
     record {
@@ -65,8 +65,8 @@ masters-are ticks at p s x y =
       next = calls-on ticks at 1 (p .next) f 1 (s .next) (one-call ticks (p .next) (s .next) (y .next));
     }
 
-pub pair-is : (ticks : List ℕ) (at : ℕ) (a b : SlotRead) → SlotIs ticks at a → SlotIs ticks (a .next) b
-    → PairIs ticks at (record { calls = record { left = a .call; right = b .call }; next = b .next })
+pub pair-is : (ticks : List ℕ) (at : ℕ) (a b : SlotRead) → SlotReadIs ticks at a → SlotReadIs ticks (a .next) b
+    → PairReadIs ticks at (record { calls = record { left = a .call; right = b .call }; next = b .next })
 pair-is ticks at a b x y =
     let f = one-call ticks at (a .next) (x .next) in
     record {
@@ -76,8 +76,8 @@ pair-is ticks at a b x y =
     }
 
 -- a tick: both masters, then three pairs of slots
-pub tick-is : (ticks : List ℕ) (at : ℕ) (m : MastersRead) (a b c : PairRead) → MastersAre ticks at m → PairIs ticks (m .next) a → PairIs ticks (a .next) b → PairIs ticks (b .next) c
-    → TickIs ticks at (record { calls = record { masters = m .calls; devices = record { low = a .calls; middle = b .calls; high = c .calls } }; next = c .next })
+pub tick-is : (ticks : List ℕ) (at : ℕ) (m : MastersRead) (a b c : PairRead) → MastersReadAre ticks at m → PairReadIs ticks (m .next) a → PairReadIs ticks (a .next) b → PairReadIs ticks (b .next) c
+    → TickReadIs ticks at (record { calls = record { masters = m .calls; devices = record { low = a .calls; middle = b .calls; high = c .calls } }; next = c .next })
 tick-is ticks at m a b c w x y z =
     let f = w .next in
     let g = calls-on ticks at 2 (m .next) f 2 (a .next) (x .next) in
@@ -95,7 +95,7 @@ tick-is ticks at m a b c w x y z =
     }
 
 -- behind the end there is nothing, as at the end
-pub at-end : (ticks : List ℕ) (at : ℕ) (r : TickRead) → length ticks ≤ at → TickIs ticks (length ticks) r → TickIs ticks at r
+pub at-end : (ticks : List ℕ) (at : ℕ) (r : TickRead) → length ticks ≤ at → TickReadIs ticks (length ticks) r → TickReadIs ticks at r
 at-end ticks at r h t =
     let same : drop (length ticks) ticks ≡ drop at ticks = past-end ticks (length ticks) (omega arith) ∙ sym (past-end ticks at h) in
     let on = t .next in

@@ -1,3 +1,4 @@
+-- Inner contracts: nothing that is to be believed rests on them.
 -- What reading a list of ticks promises: the calls in front of the rest from a place on, and the place behind them. A call's data are fixed, and not the part that names them: where there are none, any empty part will do.
 use Prim.Native.Nat.{ℕ, _≤_, _<_}
 use mathlib.Core.Path.{_≡_}
@@ -40,7 +41,7 @@ pub record MasterIs (ticks : List ℕ) (at : ℕ) (r : MasterRead) : Type 0 wher
   pub call : MasterCallIs ticks (drop at ticks) (r .call)
   pub next : NextIs ticks at (r .next)
 
-pub record SlotIs (ticks : List ℕ) (at : ℕ) (r : SlotRead) : Type 0 where
+pub record SlotReadIs (ticks : List ℕ) (at : ℕ) (r : SlotRead) : Type 0 where
   pub call : SlotCallIs ticks (drop at ticks) (r .call)
   pub next : NextIs ticks at (r .next)
 
@@ -51,17 +52,17 @@ pub record BehindIs (ticks : List ℕ) (at n r : ℕ) : Type 0 where
   pub goes-on : at < length ticks → at < r
   pub rest : drop r ticks ≡ behind n (drop at ticks)
 
-pub record MastersAre (ticks : List ℕ) (at : ℕ) (r : MastersRead) : Type 0 where
+pub record MastersReadAre (ticks : List ℕ) (at : ℕ) (r : MastersRead) : Type 0 where
   pub primary : MasterCallIs ticks (drop at ticks) (r .calls .primary)
   pub secondary : MasterCallIs ticks (behind 1 (drop at ticks)) (r .calls .secondary)
   pub next : BehindIs ticks at 2 (r .next)
 
-pub record PairIs (ticks : List ℕ) (at : ℕ) (r : PairRead) : Type 0 where
+pub record PairReadIs (ticks : List ℕ) (at : ℕ) (r : PairRead) : Type 0 where
   pub left : SlotCallIs ticks (drop at ticks) (r .calls .left)
   pub right : SlotCallIs ticks (behind 1 (drop at ticks)) (r .calls .right)
   pub next : BehindIs ticks at 2 (r .next)
 
-pub record TickIs (ticks : List ℕ) (at : ℕ) (r : TickRead) : Type 0 where
+pub record TickReadIs (ticks : List ℕ) (at : ℕ) (r : TickRead) : Type 0 where
   pub primary : MasterCallIs ticks (drop at ticks) (r .calls .masters .primary)
   pub secondary : MasterCallIs ticks (behind 1 (drop at ticks)) (r .calls .masters .secondary)
   pub first : SlotCallIs ticks (behind 2 (drop at ticks)) (r .calls .devices .low .left)

@@ -1,3 +1,4 @@
+-- How the code stands for what is to be believed.
 -- The bytes of a list of ticks: the encoder to the decoder of Ticks.antt, and which lists it encodes. That every such list is decoded from its bytes is proved in proofs/Encode.antt.
 use Prim.Native.Nat.{ℕ, _+_, _/_, _%_, _^_, _≤_, _<_}
 use mathlib.Core.Bool.{Bool, true, false}
@@ -5,7 +6,7 @@ use mathlib.Core.Path.{_≡_}
 use mathlib.Core.List.{List, [], _∷_, _++_}
 use lib.ListN.{length}
 use Rattle.base.specs.Choice.{if_then_else_}
-use Rattle.turns.specs.Master.{Request}
+use Rattle.turns.specs.Party.{Request}
 use Rattle.turns.specs.Link.{MasterCall, no-request, requests, DeviceCall, no-call, gives-answer, gives-content, Calls}
 use Rattle.turns.specs.declared.Wish.{Wish}
 use Rattle.turns.specs.declared.Wish.the-variants.{Same, On, Off}

@@ -1,12 +1,13 @@
+-- How the code stands for what is to be believed.
 -- The codable call that is nearest to a call, and the calls of which a run is that of their nearest. That each call is refused with the number with which its nearest is, and that a run over any list of ticks is one over some byte string, is proved in proofs/Nearest.antt.
 use Prim.Native.Nat.{ℕ, zero, suc, _-_, _^_, _<_}
 use mathlib.Core.Bool.{Bool, true, false}
 use mathlib.Core.List.{List, [], _∷_, map}
 use lib.ListN.{take}
+use Rattle.base.specs.Refusal.{Called, accepted, refused}
 use Rattle.base.specs.Choice.{if_then_else_, _<?_}
-use Rattle.base.specs.declared.Refusal.{Refusal}
-use Rattle.turns.specs.Master.{Called, accepted, refused, Request}
-use Rattle.turns.specs.Link.{MasterCall, no-request, requests, DeviceCall, no-call, gives-answer, gives-content, Calls, Answer, was-taken, was-refused}
+use Rattle.turns.specs.Party.{Request, CallResult, was-taken, was-refused}
+use Rattle.turns.specs.Link.{MasterCall, no-request, requests, DeviceCall, no-call, gives-answer, gives-content, Calls}
 use Rattle.turns.specs.declared.Wish.{Wish}
 use Rattle.tick_list.specs.Ticks.{Here}
 use Rattle.tick_list.specs.Encode.{slotsOf, Bytes}
@@ -19,10 +20,10 @@ atMost most n = if most <? n then most else n
 
 -- at most 256 data bytes
 abbrev pub nearestData : List ℕ → List ℕ
-nearestData put = map (atMost 255) (take 256 put)
+nearestData put = map (atMost 0xFF) (take 256 put)
 
 abbrev pub nearestRequest : Request → Request
-nearestRequest q = record { preamble = atMost 255 (q .preamble); long = q .long; address = atMost (2 ^ 40 - 1) (q .address); command = atMost 255 (q .command) }
+nearestRequest q = record { preamble = atMost 0xFF (q .preamble); long = q .long; address = atMost (2 ^ 40 - 1) (q .address); command = atMost 0xFF (q .command) }
 
 abbrev pub nearestMaster : MasterCall → MasterCall
 nearestMaster no-request = no-request
@@ -31,7 +32,7 @@ nearestMaster (requests q put) = requests (nearestRequest q) (nearestData put)
 abbrev pub nearestDevice : DeviceCall → DeviceCall
 nearestDevice no-call = no-call
 nearestDevice (gives-answer wish put) = gives-answer wish (nearestData put)
-nearestDevice (gives-content command put) = gives-content (atMost 255 command) (nearestData put)
+nearestDevice (gives-content command put) = gives-content (atMost 0xFF command) (nearestData put)
 
 -- how many slots have a device
 abbrev pub present : List Bool → ℕ
@@ -57,13 +58,13 @@ nearestTicks here [] = []
 nearestTicks here (c ∷ cs) = nearestTick here c ∷ nearestTicks here cs
 
 -- what became of a call: taken, or refused with a number
-abbrev pub outcome : {A : Type 0} → Called A → Answer
+abbrev pub outcome : {A : Type 0} → Called A → CallResult
 outcome (accepted a) = was-taken
 outcome (refused why) = was-refused why
 
 -- it was refused
-pub data IsRefused : Answer → Type 0 where
-  is-refused : (why : Refusal) → IsRefused (was-refused why)
+pub data IsRefused : CallResult → Type 0 where
+  is-refused : (why : ℕ) → IsRefused (was-refused why)
 
 -- ---- calls whose command and data are bytes, whatever else they hold
 

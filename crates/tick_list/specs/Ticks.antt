@@ -1,3 +1,4 @@
+-- How the code stands for what is to be believed.
 -- A list of ticks as bytes, so that a run can be lent "a list of ticks from tick 0" (document 01, "Runs of the link"). Every byte string is some list of ticks. A tick is eight calls, one behind the other: to the primary, to the secondary, and to the devices of the six slots.
 -- A call is one byte 0, no call; or a kind that is not 0, the preamble, the command, the address in five bytes, the length of the data in two, each most significant first, and the data. The length counts modulo 257, so that a call can have 0 to 256 data bytes. Behind the end every byte is 0, and data are as many as there are.
 use Prim.Native.Nat.{ℕ, zero, suc, _+_, _*_, _%_, _^_}
@@ -9,9 +10,9 @@ use Rattle.frame.specs.Address.{byteAt}
 use Rattle.turns.specs.Link.{DeviceCall, Calls}
 use Rattle.turns.specs.declared.Wish.the-variants.{Same, On, Off}
 use Rattle.master.specs.Tick as M
-use Rattle.master.specs.declared.HostCall as MasterHost
+use Rattle.master.specs.declared.MasterHostCall as MasterHost
 use Rattle.device_tick.specs.Tick as D
-use Rattle.device_tick.specs.declared.HostCall as DeviceHost
+use Rattle.device_tick.specs.declared.DeviceHostCall as DeviceHost
 use Rattle.link.specs.Stands.{six}
 
 -- ---- a call, in front of the rest of the list
@@ -29,24 +30,24 @@ abbrev pub dataIn : List ℕ → List ℕ
 dataIn rest = take (lengthIn rest) (drop 10 rest)
 
 -- a master's call: kind 1 is a request with a short address, 2 one with a long address, any other is none
-abbrev pub requestOf : Bool → List ℕ → MasterHost.HostCall
-requestOf long rest = MasterHost.HostCall.Requests (record { preamble = byteAt rest 1; long = long; address = addressIn rest; command = byteAt rest 2 })
+abbrev pub requestOf : Bool → List ℕ → MasterHost.MasterHostCall
+requestOf long rest = MasterHost.MasterHostCall.Requests (record { preamble = byteAt rest 1; long = long; address = addressIn rest; command = byteAt rest 2 })
 
-abbrev pub requestBy : ℕ → List ℕ → MasterHost.HostCall
-requestBy kind rest = if kind =? 1 then requestOf false rest else (if kind =? 2 then requestOf true rest else MasterHost.HostCall.Nothing)
+abbrev pub requestBy : ℕ → List ℕ → MasterHost.MasterHostCall
+requestBy kind rest = if kind =? 1 then requestOf false rest else (if kind =? 2 then requestOf true rest else MasterHost.MasterHostCall.Nothing)
 
-abbrev pub requestIn : List ℕ → MasterHost.HostCall
+abbrev pub requestIn : List ℕ → MasterHost.MasterHostCall
 requestIn rest = requestBy (kindIn rest) rest
 
 -- a device's call: kind 1 is an answer, 2 one that turns burst on, 3 one that turns it off, 4 is burst content, any other is none
-abbrev pub answerBy : ℕ → ℕ → DeviceHost.HostCall
+abbrev pub answerBy : ℕ → ℕ → DeviceHost.DeviceHostCall
 answerBy kind command =
-    if kind =? 1 then DeviceHost.HostCall.Answers Same else
-    if kind =? 2 then DeviceHost.HostCall.Answers On else
-    if kind =? 3 then DeviceHost.HostCall.Answers Off else
-    if kind =? 4 then DeviceHost.HostCall.Content command else DeviceHost.HostCall.Nothing
+    if kind =? 1 then DeviceHost.DeviceHostCall.Answers Same else
+    if kind =? 2 then DeviceHost.DeviceHostCall.Answers On else
+    if kind =? 3 then DeviceHost.DeviceHostCall.Answers Off else
+    if kind =? 4 then DeviceHost.DeviceHostCall.Content command else DeviceHost.DeviceHostCall.Nothing
 
-abbrev pub answerIn : List ℕ → DeviceHost.HostCall
+abbrev pub answerIn : List ℕ → DeviceHost.DeviceHostCall
 answerIn rest = answerBy (kindIn rest) (byteAt rest 2)
 
 -- the rest of the list behind a call

@@ -2,7 +2,7 @@
 use link::LinkCalls;
 use link::MasterCall;
 use link::MastersCalls;
-use master::Wanted;
+use master::RequestFields;
 use slots::DevicesCalls;
 use slots::PairCalls;
 use slots::Part;
@@ -14,7 +14,7 @@ ghost use lib.ListN.{length, drop};
 ghost use Rattle.frame.specs.Address.{byteAt};
 ghost use Rattle.slots.specs.Part.{dataOf};
 ghost use Rattle.tick_list.specs.Ticks.{lengthIn, dataIn, addressIn, requestOf, requestBy, requestIn, answerBy, answerIn};
-ghost use Rattle.tick_list.specs.Coded.{ForwardIs, NextIs, MasterIs, SlotIs, MastersAre, PairIs, TickIs};
+ghost use Rattle.tick_list.specs.Coded.{ForwardIs, NextIs, MasterIs, SlotReadIs, MastersReadAre, PairReadIs, TickReadIs};
 
 fn wide(x: u8) -> u64
     ensures { λ r. ⌜ r ≡ x ⌝ }
@@ -108,24 +108,24 @@ fn next_in(ticks: &[u8], at: usize) -> usize
 }
 
 // A master's request.
-fn wanted_in(ticks: &[u8], at: usize, long: bool) -> master::HostCall
+fn wanted_in(ticks: &[u8], at: usize, long: bool) -> master::MasterHostCall
     requires { ⌜ at ≤ length (now ticks) ⌝ }
     ensures { λ r. ⌜ r ≡ requestOf long (drop at (now (ticks .entry))) ⌝ }
 {
     let preamble = byte_in(ticks, at, 1);
     let command = byte_in(ticks, at, 2);
     let address = address_in(ticks, at);
-    let q = Wanted {
+    let q = RequestFields {
         preamble: preamble as usize,
         long: long,
         address: address,
         command: command,
     };
-    master::HostCall::Requests(q)
+    master::MasterHostCall::Requests(q)
 }
 
 // A master's call, by its kind.
-fn request_by(kind: u8, ticks: &[u8], at: usize) -> master::HostCall
+fn request_by(kind: u8, ticks: &[u8], at: usize) -> master::MasterHostCall
     requires { ⌜ at ≤ length (now ticks) ⌝ }
     ensures { λ r. ⌜ r ≡ requestBy kind (drop at (now (ticks .entry))) ⌝ }
 {
@@ -135,10 +135,10 @@ fn request_by(kind: u8, ticks: &[u8], at: usize) -> master::HostCall
     if kind == 2 {
         return wanted_in(ticks, at, true);
     }
-    master::HostCall::Nothing
+    master::MasterHostCall::Nothing
 }
 
-fn request_in(ticks: &[u8], at: usize) -> master::HostCall
+fn request_in(ticks: &[u8], at: usize) -> master::MasterHostCall
     requires { ⌜ at ≤ length (now ticks) ⌝ }
     ensures { λ r. ⌜ r ≡ requestIn (drop at (now (ticks .entry))) ⌝ }
 {
@@ -146,25 +146,25 @@ fn request_in(ticks: &[u8], at: usize) -> master::HostCall
 }
 
 // A device's call, by its kind.
-fn answer_by(kind: u8, command: u8) -> device_tick::HostCall
+fn answer_by(kind: u8, command: u8) -> device_tick::DeviceHostCall
     ensures { λ r. ⌜ r ≡ answerBy kind command ⌝ }
 {
     if kind == 1 {
-        return device_tick::HostCall::Answers(Wish::Same);
+        return device_tick::DeviceHostCall::Answers(Wish::Same);
     }
     if kind == 2 {
-        return device_tick::HostCall::Answers(Wish::On);
+        return device_tick::DeviceHostCall::Answers(Wish::On);
     }
     if kind == 3 {
-        return device_tick::HostCall::Answers(Wish::Off);
+        return device_tick::DeviceHostCall::Answers(Wish::Off);
     }
     if kind == 4 {
-        return device_tick::HostCall::Content(command);
+        return device_tick::DeviceHostCall::Content(command);
     }
-    device_tick::HostCall::Nothing
+    device_tick::DeviceHostCall::Nothing
 }
 
-fn answer_in(ticks: &[u8], at: usize) -> device_tick::HostCall
+fn answer_in(ticks: &[u8], at: usize) -> device_tick::DeviceHostCall
     requires { ⌜ at ≤ length (now ticks) ⌝ }
     ensures { λ r. ⌜ r ≡ answerIn (drop at (now (ticks .entry))) ⌝ }
 {
@@ -198,7 +198,7 @@ fn master_read(ticks: &[u8], at: usize) -> MasterRead
 
 fn slot_read(ticks: &[u8], at: usize) -> SlotRead
     requires { ⌜ at ≤ length (now ticks) ⌝ }
-    ensures { λ r. ⌜ SlotIs (now (ticks .entry)) at r ⌝ }
+    ensures { λ r. ⌜ SlotReadIs (now (ticks .entry)) at r ⌝ }
 {
     let call = SlotCall {
         call: answer_in(ticks, at),
@@ -222,7 +222,7 @@ pub struct PairRead {
 
 fn masters_read(ticks: &[u8], at: usize) -> MastersRead
     requires { ⌜ at ≤ length (now ticks) ⌝ }
-    ensures { λ r. ⌜ MastersAre (now (ticks .entry)) at r ⌝ }
+    ensures { λ r. ⌜ MastersReadAre (now (ticks .entry)) at r ⌝ }
 {
     let p = master_read(ticks, at);
     let primary = p.call;
@@ -240,7 +240,7 @@ fn masters_read(ticks: &[u8], at: usize) -> MastersRead
 
 fn pair_read(ticks: &[u8], at: usize) -> PairRead
     requires { ⌜ at ≤ length (now ticks) ⌝ }
-    ensures { λ r. ⌜ PairIs (now (ticks .entry)) at r ⌝ }
+    ensures { λ r. ⌜ PairReadIs (now (ticks .entry)) at r ⌝ }
 {
     let a = slot_read(ticks, at);
     let left = a.call;
@@ -264,7 +264,7 @@ pub struct TickRead {
 
 fn tick_from(ticks: &[u8], at: usize) -> TickRead
     requires { ⌜ at ≤ length (now ticks) ⌝ }
-    ensures { λ r. ⌜ TickIs (now (ticks .entry)) at r ⌝ }
+    ensures { λ r. ⌜ TickReadIs (now (ticks .entry)) at r ⌝ }
 {
     let m = masters_read(ticks, at);
     let masters = m.calls;
@@ -291,7 +291,7 @@ fn tick_from(ticks: &[u8], at: usize) -> TickRead
 
 // The calls of the tick that stands at this place of the list, or at its end, and the place behind it.
 pub fn read(ticks: &[u8], at: usize) -> TickRead
-    ensures { λ r. ⌜ TickIs (now (ticks .entry)) at r ⌝ }
+    ensures { λ r. ⌜ TickReadIs (now (ticks .entry)) at r ⌝ }
 {
     if at < ticks.len() {
         return tick_from(ticks, at);

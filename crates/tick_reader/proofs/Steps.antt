@@ -9,11 +9,11 @@ use Rattle.base.specs.Store.{stored}
 use Rattle.base.proofs.Choices.{if-is-true, if-is-false}
 use Rattle.frame.specs.declared.Delimiter.{Delimiter}
 use Rattle.frame.specs.declared.Header.{Header}
-use Rattle.line.specs.Reader.{noHeader, noHarm, blank, gapped, silentInside, insideFrame, silence, tells, summed, next, begins, idle, ended, wholeOf, withCheck, atFirst, atAddress, atExpansion, atCommand, atData, atCheck, kindHarm, marked, character, damaged, kept, taken, takenData}
+use Rattle.line.specs.Reader.{noHeader, noDamage, blank, gapped, silentInside, insideFrame, silence, tells, summed, next, begins, idle, ended, wholeOf, withCheck, atFirst, atAddress, atExpansion, atCommand, atData, atCheck, kindDamaged, marked, character, damaged, kept, taken, takenData}
 use Rattle.line.specs.declared.Damage.{Damage}
 use Rattle.line.specs.declared.Event.{Event}
 use Rattle.line.specs.declared.Event.the-variants.{Nothing, Broken}
-use Rattle.line.specs.declared.Harm.{Harm}
+use Rattle.line.specs.declared.FrameDamage.{FrameDamage}
 use Rattle.line.specs.declared.Heard.{Heard}
 use Rattle.line.specs.declared.Heard.the-variants.{Silence, Character, Damaged}
 use Rattle.line.specs.declared.Place.{Place}
@@ -33,23 +33,23 @@ pub begins-same : (t : Taken) (c : ℕ) (d g : Delimiter) → d ≡ g → t ≡ 
 begins-same t c d g p e = e ∙ ap (begins c) p
 
 pub check-same : (r : Receiver) (c : ℕ) (s : Receiver) (wrong : Bool) (h : Header) (e : Event) → s ≡ idle → wrong ≡ (if summed r c =? 0 then false else true) → h ≡ r .header
-    → e ≡ ended (record { header = h; expansion = r .expansion; count = r .count }) (withCheck (r .harm) wrong) → _≡_ {A = Taken} (record { receiver = s; event = e }) (atCheck r c)
+    → e ≡ ended (record { header = h; expansion = r .expansion; count = r .count }) (withCheck (r .damage) wrong) → _≡_ {A = Taken} (record { receiver = s; event = e }) (atCheck r c)
 unfolding atCheck
 check-same r c s wrong h e p q g f =
-    λ i. record { receiver = p i; event = (f ∙ (λ j. ended (record { header = g j; expansion = r .expansion; count = r .count }) (withCheck (r .harm) (q j)))) i }
+    λ i. record { receiver = p i; event = (f ∙ (λ j. ended (record { header = g j; expansion = r .expansion; count = r .count }) (withCheck (r .damage) (q j)))) i }
 
-pub header-same : (place : Place) (h g : Header) (expansion count sum : ℕ) (m : Harm) (gap : Bool) → h ≡ g
-    → _≡_ {A = Receiver} (record { place = place; header = h; expansion = expansion; count = count; sum = sum; harm = m; gap = gap })
-    (record { place = place; header = g; expansion = expansion; count = count; sum = sum; harm = m; gap = gap })
-header-same place h g expansion count sum m gap p = λ i. record { place = place; header = p i; expansion = expansion; count = count; sum = sum; harm = m; gap = gap }
+pub header-same : (place : Place) (h g : Header) (expansion count sum : ℕ) (m : FrameDamage) (gap : Bool) → h ≡ g
+    → _≡_ {A = Receiver} (record { place = place; header = h; expansion = expansion; count = count; sum = sum; damage = m; gap = gap })
+    (record { place = place; header = g; expansion = expansion; count = count; sum = sum; damage = m; gap = gap })
+header-same place h g expansion count sum m gap p = λ i. record { place = place; header = p i; expansion = expansion; count = count; sum = sum; damage = m; gap = gap }
 
 -- a receiver is what its fields make of it
 pub receiver-same : (r : Receiver) (h : Header) → h ≡ r .header
-    → _≡_ {A = Receiver} (record { place = r .place; header = h; expansion = r .expansion; count = r .count; sum = r .sum; harm = r .harm; gap = r .gap }) r
-receiver-same r h e = header-same (r .place) h (r .header) (r .expansion) (r .count) (r .sum) (r .harm) (r .gap) e
+    → _≡_ {A = Receiver} (record { place = r .place; header = h; expansion = r .expansion; count = r .count; sum = r .sum; damage = r .damage; gap = r .gap }) r
+receiver-same r h e = header-same (r .place) h (r .header) (r .expansion) (r .count) (r .sum) (r .damage) (r .gap) e
 
-pub blank-same : (place : Place) (m : Harm) → m ≡ noHarm → _≡_ {A = Receiver} (record { place = place; header = noHeader; expansion = 0; count = 0; sum = 0; harm = m; gap = false }) (blank place)
-blank-same place m p = ap (λ (x : Harm). record { place = place; header = noHeader; expansion = 0; count = 0; sum = 0; harm = x; gap = false }) p
+pub blank-same : (place : Place) (m : FrameDamage) → m ≡ noDamage → _≡_ {A = Receiver} (record { place = place; header = noHeader; expansion = 0; count = 0; sum = 0; damage = m; gap = false }) (blank place)
+blank-same place m p = ap (λ (x : FrameDamage). record { place = place; header = noHeader; expansion = 0; count = 0; sum = 0; damage = x; gap = false }) p
 
 -- a silent tick inside a frame
 pub inside-first : (r : Receiver) (t : Taken) → r .gap ≡ false → t ≡ tells (gapped r) Nothing → t ≡ silentInside r
@@ -74,8 +74,8 @@ inside-at p q b e f = f ∙ ap insideFrame (sym e)
 pub begins-at : (c : ℕ) (d g : Delimiter) (t : Taken) → d ≡ g → t ≡ begins c g → t ≡ begins c d
 begins-at c d g t e f = f ∙ ap (begins c) (sym e)
 
-pub kind-at : (k q : Damage) (m x : Harm) → k ≡ q → x ≡ kindHarm q m → x ≡ kindHarm k m
-kind-at k q m x e f = f ∙ ap (λ (d : Damage). kindHarm d m) (sym e)
+pub kind-at : (k q : Damage) (m x : FrameDamage) → k ≡ q → x ≡ kindDamaged q m → x ≡ kindDamaged k m
+kind-at k q m x e f = f ∙ ap (λ (d : Damage). kindDamaged d m) (sym e)
 
 pub kept-at : (p q : Place) (c : ℕ) (bytes after : List ℕ) → p ≡ q → after ≡ kept q c bytes → after ≡ kept p c bytes
 kept-at p q c bytes after e f = f ∙ ap (λ (x : Place). kept x c bytes) (sym e)
@@ -86,7 +86,7 @@ character-at p q r c t e f = f ∙ ap (λ (x : Place). character x r c) (sym e)
 pub damaged-at : (p q : Place) (r : Receiver) (c : ℕ) (k : Damage) (t : Taken) → p ≡ q → t ≡ damaged q r c k → t ≡ damaged p r c k
 damaged-at p q r c k t e f = f ∙ ap (λ (x : Place). damaged x r c k) (sym e)
 
-pub marked-same : (r s : Receiver) (m n : Harm) → m ≡ n → s ≡ marked r m → s ≡ marked r n
+pub marked-same : (r s : Receiver) (m n : FrameDamage) → m ≡ n → s ≡ marked r m → s ≡ marked r n
 marked-same r s m n e f = f ∙ ap (marked r) e
 
 -- a step of a reader that a call answered

@@ -3,7 +3,7 @@ use frame::Delimiter;
 use frame::Header;
 use line::Damage;
 use line::Event;
-use line::Harm;
+use line::FrameDamage;
 use line::Heard;
 use line::Place;
 use line::Receiver;
@@ -12,7 +12,7 @@ use line::Whole;
 ghost use mathlib.Core.Path.{_≡_};
 ghost use mathlib.Core.Bool.{true, false};
 ghost use Rattle.base.specs.Choice.{if_then_else_, _=?_};
-ghost use Rattle.line.specs.Reader.{noHarm, blank, idle, passing, breaks, gapped, silentInside, insideFrame, silence, tells, next, atIdle, begins, atPreamble, behindAddress, firstHeader, atFirst, addressHeader, atAddress, atExpansion, commandHeader, atCommand, counted, atCount, atData, harmed, ended, atCheck, character, addressHarm, kindHarm, marked, damaged, keptByte, kept, TakeIs};
+ghost use Rattle.line.specs.Reader.{noDamage, blank, idle, passing, breaks, gapped, silentInside, insideFrame, silence, tells, next, atIdle, begins, atPreamble, behindAddress, firstHeader, atFirst, addressHeader, atAddress, atExpansion, commandHeader, atCommand, counted, atCount, atData, isDamaged, ended, atCheck, character, addressDamaged, kindDamaged, marked, damaged, keptByte, kept, ReaderTakeIs};
 
 // The next two give what they take, field by field. Copied as a block, with the unused bytes between its fields, a struct stays in memory; made anew, its fields can stay in registers.
 pub fn same_header(h: Header) -> Header
@@ -34,22 +34,22 @@ pub fn same_receiver(r: Receiver) -> Receiver
     let place = r.place;
     let h = r.header;
     let header = same_header(h);
-    let harm = r.harm;
+    let damage = r.damage;
     Receiver {
         place: place,
         header: header,
         expansion: r.expansion,
         count: r.count,
         sum: r.sum,
-        harm: harm,
+        damage: damage,
         gap: r.gap,
     }
 }
 
-fn unharmed() -> Harm
-    ensures { λ r. ⌜ r ≡ noHarm ⌝ }
+fn undamaged() -> FrameDamage
+    ensures { λ r. ⌜ r ≡ noDamage ⌝ }
 {
-    Harm {
+    FrameDamage {
         parity: false,
         overrun: false,
         framing: false,
@@ -70,14 +70,14 @@ fn blank_at(place: Place) -> Receiver
         address: 0,
         command: 0,
     };
-    let harm = unharmed();
+    let damage = undamaged();
     Receiver {
         place: place,
         header: header,
         expansion: 0,
         count: 0,
         sum: 0,
-        harm: harm,
+        damage: damage,
         gap: false,
     }
 }
@@ -124,14 +124,14 @@ pub fn gapped_reader(r: Receiver) -> Receiver
     let place = r.place;
     let h = r.header;
     let header = same_header(h);
-    let harm = r.harm;
+    let damage = r.damage;
     Receiver {
         place: place,
         header: header,
         expansion: r.expansion,
         count: r.count,
         sum: r.sum,
-        harm: harm,
+        damage: damage,
         gap: true,
     }
 }
@@ -191,7 +191,7 @@ fn silent(r: Receiver) -> Taken
 fn to_next(r: Receiver, h: Header, place: Place, c: u8) -> Taken
     ensures { λ t. ⌜ t ≡ next r h place c ⌝ }
 {
-    let harm = r.harm;
+    let damage = r.damage;
     let header = same_header(h);
     let receiver = Receiver {
         place: place,
@@ -199,7 +199,7 @@ fn to_next(r: Receiver, h: Header, place: Place, c: u8) -> Taken
         expansion: r.expansion,
         count: r.count,
         sum: r.sum ^ c,
-        harm: harm,
+        damage: damage,
         gap: false,
     };
     goes_on(receiver)
@@ -218,7 +218,7 @@ fn at_idle(c: u8) -> Taken
 fn begun(c: u8, frame: u8, long: bool, expansion: u8) -> Taken
     ensures { λ t. ⌜ t ≡ begins c (Delimiter.Is frame long expansion) ⌝ }
 {
-    let harm = unharmed();
+    let damage = undamaged();
     let header = Header {
         frame: frame,
         long: long,
@@ -233,7 +233,7 @@ fn begun(c: u8, frame: u8, long: bool, expansion: u8) -> Taken
         expansion: expansion,
         count: 0,
         sum: c,
-        harm: harm,
+        damage: damage,
         gap: false,
     };
     goes_on(receiver)
@@ -353,7 +353,7 @@ fn with_count(r: Receiver, c: u8, place: Place) -> Taken
     ensures { λ t. ⌜ t ≡ counted r c place ⌝ }
 {
     let h = r.header;
-    let harm = r.harm;
+    let damage = r.damage;
     let header = same_header(h);
     let receiver = Receiver {
         place: place,
@@ -361,7 +361,7 @@ fn with_count(r: Receiver, c: u8, place: Place) -> Taken
         expansion: r.expansion,
         count: c,
         sum: r.sum ^ c,
-        harm: harm,
+        damage: damage,
         gap: false,
     };
     goes_on(receiver)
@@ -390,8 +390,8 @@ fn at_data(r: Receiver, n: u8, c: u8) -> Taken
     to_next(r, h, Place::Check, c)
 }
 
-fn is_harmed(m: Harm) -> bool
-    ensures { λ r. ⌜ r ≡ harmed m ⌝ }
+fn is_damaged(m: FrameDamage) -> bool
+    ensures { λ r. ⌜ r ≡ isDamaged m ⌝ }
 {
     if m.parity {
         return true;
@@ -408,10 +408,10 @@ fn is_harmed(m: Harm) -> bool
     m.address
 }
 
-fn ended_as(w: Whole, m: Harm) -> Event
+fn ended_as(w: Whole, m: FrameDamage) -> Event
     ensures { λ e. ⌜ e ≡ ended w m ⌝ }
 {
-    if is_harmed(m) {
+    if is_damaged(m) {
         return Event::Damaged(w, m);
     }
     Event::Frame(w)
@@ -421,8 +421,8 @@ fn at_check(r: Receiver, c: u8) -> Taken
     ensures { λ t. ⌜ t ≡ atCheck r c ⌝ }
 {
     let h = r.header;
-    let m = r.harm;
-    let harm = Harm {
+    let m = r.damage;
+    let damage = FrameDamage {
         parity: m.parity,
         overrun: m.overrun,
         framing: m.framing,
@@ -435,7 +435,7 @@ fn at_check(r: Receiver, c: u8) -> Taken
         expansion: r.expansion,
         count: r.count,
     };
-    let event = ended_as(whole, harm);
+    let event = ended_as(whole, damage);
     let receiver = idle_reader();
     Taken {
         receiver: receiver,
@@ -482,8 +482,8 @@ fn passes_over() -> Taken
     }
 }
 
-fn with_harm(r: Receiver, harm: Harm) -> Receiver
-    ensures { λ s. ⌜ s ≡ marked r harm ⌝ }
+fn with_damage(r: Receiver, damage: FrameDamage) -> Receiver
+    ensures { λ s. ⌜ s ≡ marked r damage ⌝ }
 {
     let place = r.place;
     let h = r.header;
@@ -494,46 +494,46 @@ fn with_harm(r: Receiver, harm: Harm) -> Receiver
         expansion: r.expansion,
         count: r.count,
         sum: r.sum,
-        harm: harm,
+        damage: damage,
         gap: r.gap,
     }
 }
 
 // Damage in address or expansion bytes.
 fn in_address(r: Receiver) -> Receiver
-    ensures { λ s. ⌜ s ≡ marked r (addressHarm (r .harm)) ⌝ }
+    ensures { λ s. ⌜ s ≡ marked r (addressDamaged (r .damage)) ⌝ }
 {
-    let mut harm = r.harm;
-    harm.address = true;
-    with_harm(r, harm)
+    let mut damage = r.damage;
+    damage.address = true;
+    with_damage(r, damage)
 }
 
-fn of_kind(kind: Damage, m: Harm) -> Harm
-    ensures { λ r. ⌜ r ≡ kindHarm kind m ⌝ }
+fn of_kind(kind: Damage, m: FrameDamage) -> FrameDamage
+    ensures { λ r. ⌜ r ≡ kindDamaged kind m ⌝ }
 {
-    let mut harm = m;
+    let mut damage = m;
     match kind {
         Damage::Parity => {
-            harm.parity = true;
-            harm
+            damage.parity = true;
+            damage
         }
         Damage::Overrun => {
-            harm.overrun = true;
-            harm
+            damage.overrun = true;
+            damage
         }
         Damage::Framing => {
-            harm.framing = true;
-            harm
+            damage.framing = true;
+            damage
         }
     }
 }
 
 // Damage in command, data or check byte.
 fn in_contents(r: Receiver, kind: Damage) -> Receiver
-    ensures { λ s. ⌜ s ≡ marked r (kindHarm kind (r .harm)) ⌝ }
+    ensures { λ s. ⌜ s ≡ marked r (kindDamaged kind (r .damage)) ⌝ }
 {
-    let harm = r.harm;
-    with_harm(r, of_kind(kind, harm))
+    let damage = r.damage;
+    with_damage(r, of_kind(kind, damage))
 }
 
 // A damaged character.
@@ -585,7 +585,7 @@ pub fn keep(place: Place, c: u8, bytes: &mut [u8; 255])
 
 // A tick: what was heard, and the buffer that holds the data of the frame being heard.
 pub fn take(r: Receiver, heard: Heard, bytes: &mut [u8; 255]) -> Taken
-    ensures { λ t. ⌜ TakeIs r heard (now (bytes .entry)) t (now (bytes .exit)) ⌝ }
+    ensures { λ t. ⌜ ReaderTakeIs r heard (now (bytes .entry)) t (now (bytes .exit)) ⌝ }
 {
     let place = r.place;
     match heard {

@@ -6,9 +6,9 @@ use mathlib.Core.Bool.{Bool, true, false}
 use mathlib.Core.List.{List, [], _∷_}
 use mathlib.Core.Logic.{_⊎_, inl, inr}
 use lib.ListN.{length, getD, take}
-use borrow.Author.Tests.{eq-eqb, eqb-false}
+use borrow.Author.Tests.{eq-eqb}
 use Rattle.base.specs.Choice.{if_then_else_, _=?_}
-use Rattle.base.proofs.Choices.{true-false, if-is-true, if-is-false}
+use Rattle.base.proofs.Choices.{true-false, if-is-true}
 use Rattle.frame.specs.Delimiter.{stx, ack, back}
 use Rattle.frame.specs.declared.Header.{Header}
 use Rattle.line.specs.Reader.{idle}
@@ -18,7 +18,8 @@ use Rattle.line.specs.declared.Profile.{Profile}
 use Rattle.line.specs.declared.Receiver.{Receiver}
 use Rattle.line.specs.declared.Whole.{Whole}
 use Rattle.line.proofs.Leads.{readerAfter}
-use Rattle.turns.specs.Master.{burstAfter, notedAfter, timerAfter, timer}
+use Rattle.turns.specs.Master.{burstAfter, notedAfter, endedBy, timerAfter, timer}
+use Rattle.turns.specs.Device as DV
 use Rattle.turns.specs.Device.{dueAfter}
 use Rattle.turns.specs.Link.{MasterCall, DeviceCall, no-call, MasterSide, MasterStep, DeviceSide, DeviceStep, masterTick, deviceTick, deviceTicks, sides, carried}
 use Rattle.turns.specs.Run.{All, none, and, Distinct}
@@ -29,7 +30,7 @@ use Rattle.turns.specs.declared.Turn.the-variants.{Listens, Follows}
 use Rattle.turns.specs.declared.Device.{Device}
 use Rattle.turns.proofs.Turns.{asked-listens, accepted-listens}
 use Rattle.turns.proofs.Spoken.{Spoken}
-use Rattle.turns.proofs.Masters.{Holds, left, if-cases}
+use Rattle.turns.proofs.Masters.{Holds, left}
 use Rattle.turns.proofs.Devices as D
 use Rattle.turns.proofs.Devices.{SameDevice, inHand}
 use Rattle.turns.proofs.DeviceSpeaking as DS
@@ -44,6 +45,7 @@ use Rattle.turns.proofs.Sending.{MasterHears, hears-on}
 use Rattle.turns.proofs.Quiet.{NoSlot, ClearLine, SetLine, NobodyAwaits, itself, slotTimer, ack-clear-timer, ack-set-timer, back-timer, behind-ack-set, behind-ack-clear, behind-back}
 use Rattle.turns.proofs.Stx.{device-hears-on, WaitsOn}
 use Rattle.turns.proofs.SilentTick.{FrameIs, is-ack, is-back, OneDeviceSends, nothing-read}
+use Rattle.line.specs.declared.Event.the-variants.{Frame}
 
 -- ---- the device that sends
 
@@ -166,8 +168,8 @@ module _ (limit : ℕ) (low : 2 ≤ limit) (high : limit ≤ 255) (p : Profile) 
 -- ---- the others at the frame's end
 
 -- "after timer 1 behind another's ACK"
-due-ack : (d : Device) (h : Header) → h .frame ≡ ack → dueAfter d h ≡ 1
-due-ack d h e = if-cases (λ (n : ℕ). n ≡ 1) _ _ _ (λ q. refl) (λ q. absurd (eqb-false (h .frame) ack q e))
+due-ack : (p : Profile) (w : Whole) → w .header .frame ≡ ack → dueAfter p (DV.endedBy (Frame w)) ≡ 1
+due-ack p w e = ap (dueAfter p) (if-is-true (w .header .frame =? ack) _ _ (eq-eqb (w .header .frame) ack e))
 
 ack-stx : (h : Header) → h .frame ≡ ack → h .frame ≡ stx → ⊥
 ack-stx h a e = let z : ack ≡ stx = sym a ∙ e in omega (arith, z)
@@ -178,7 +180,7 @@ back-stx h a e = let z : back ≡ stx = sym a ∙ e in omega (arith, z)
 module _ (limit : ℕ) (low : 2 ≤ limit) (high : limit ≤ 255) (p : Profile) (some : 1 ≤ p .sto) (w : List ℕ) (message : Whole) (sp : Spoken w message) (k : ℕ) (last : suc k ≡ length w) (ne : message .expansion ≡ 0) (no-stx : message .header .frame ≡ stx → ⊥) where
   -- a frame that is no STX leaves nothing in hand
   hears-end : (x : DeviceSide) (c : DeviceCall) {u : ℕ} → DeviceHears p (readerAfter idle (take k w)) u x
-      → Quietly (DeviceQuiet p 0 (message .header) (dueAfter (x .device) (message .header))) x (deviceTick limit x (Character (getD w k 0)) c) × (deviceTick limit x (Character (getD w k 0)) c .side .device .receiver ≡ idle)
+      → Quietly (DeviceQuiet p 0 (message .header) (dueAfter p (DV.endedBy (Frame message)))) x (deviceTick limit x (Character (getD w k 0)) c) × (deviceTick limit x (Character (getD w k 0)) c .side .device .receiver ≡ idle)
   hears-end x c h = (
     record {
       silent = e .silent;
@@ -191,7 +193,7 @@ module _ (limit : ℕ) (low : 2 ≤ limit) (high : limit ≤ 255) (p : Profile) 
         in-time = omega (arith, ap inHand (go (e .listens .hand)));
         asked-own = λ z. absurd (z (go (e .listens .hand)));
         asked-for = λ z. absurd (z (go (e .listens .hand)));
-        back-due = λ z. e .due-is ∙ if-is-false (message .header .frame =? stx) (p .rt1p) (dueAfter (x .device) (message .header)) (off (message .header .frame =? stx) refl);
+        back-due = λ z. e .due-is;
       };
     },
     e .receiver-is,
@@ -216,7 +218,7 @@ module _ (limit : ℕ) (low : 2 ≤ limit) (high : limit ≤ 255) (p : Profile) 
   hears-ack : message .header .frame ≡ ack → (u : ℕ) (x : DeviceSide) (c : DeviceCall) → DeviceHears p (readerAfter idle (take k w)) u x → Quietly (DeviceQuiet p 0 (message .header) 1) x (deviceTick limit x (Character (getD w k 0)) c)
   hears-ack a u x c h =
       let q = hears-end x c h in
-      subst (λ (n : ℕ). Quietly (DeviceQuiet p 0 (message .header) n) x (deviceTick limit x (Character (getD w k 0)) c)) (due-ack (x .device) (message .header) a) (q .0)
+      subst (λ (n : ℕ). Quietly (DeviceQuiet p 0 (message .header) n) x (deviceTick limit x (Character (getD w k 0)) c)) (due-ack p message a) (q .0)
 
   -- no other device bursts behind a BACK
   hears-back : (u : ℕ) (noted : Noted) (next : Bool) → noted .address ≡ u → (x : DeviceSide) (c : DeviceCall) → With (DeviceHears p (readerAfter idle (take k w)) u) (BurstIs true noted next) x
@@ -255,7 +257,7 @@ module _ (limit : ℕ) (low : 2 ≤ limit) (high : limit ≤ 255) (p : Profile) 
     pub silent : step .sent ≡ Silent
     pub quiet : MasterQuiet p primary (burstAfter burst noted (message .header)) (notedAfter noted (message .header)) (step .side)
     pub receiver-is : step .side .master .receiver ≡ idle
-    pub timer-is : step .side .master .timer ≡ timerAfter (x .master) (burstAfter burst noted (message .header)) (message .header)
+    pub timer-is : step .side .master .timer ≡ timerAfter (x .master .profile) (x .master .primary) (endedBy (x .master) (message .header)) (burstAfter burst noted (message .header))
     pub gone : left (step .side .master .message .stage) ≡ 0
     pub waits-on : WaitsOn x step
 
@@ -271,7 +273,7 @@ module _ (limit : ℕ) (low : 2 ≤ limit) (high : limit ≤ 255) (p : Profile) 
           noted-is = t .noted-is ∙ (λ i. notedAfter (h .noted-is i) (message .header));
         };
         receiver-is = t .receiver-is;
-        timer-is = t .timer-is ∙ (λ i. timerAfter (x .master) (burstAfter (h .burst-is i) (h .noted-is i) (message .header)) (message .header));
+        timer-is = t .timer-is ∙ (λ i. timerAfter (x .master .profile) (x .master .primary) (endedBy (x .master) (message .header)) (burstAfter (h .burst-is i) (h .noted-is i) (message .header)));
         gone = t .gone;
         waits-on = t .waits-on;
       }
@@ -385,7 +387,7 @@ module _ (limit : ℕ) (low : 2 ≤ limit) (high : limit ≤ 255) (p : Profile) 
 -- ---- the tick
 
 ack-timer : (p : Profile) (primary burst : Bool) (x : MasterSide) (h : Header) → x .master .profile ≡ p → x .master .primary ≡ primary → h .frame ≡ ack
-    → timerAfter (x .master) burst h ≡ (if burst then slotTimer p primary 0 else (if itself primary h then timer (p .rt2) else timer 1))
+    → timerAfter (x .master .profile) (x .master .primary) (endedBy (x .master) h) burst ≡ (if burst then slotTimer p primary 0 else (if itself primary h then timer (p .rt2) else timer 1))
 unfolding if_then_else_
 ack-timer p primary true x h a b e = ack-set-timer p primary (x .master) h a b e
 ack-timer p primary false x h a b e = ack-clear-timer p primary (x .master) h a b e
@@ -561,8 +563,8 @@ module _ (limit : ℕ) (low : 2 ≤ limit) (high : limit ≤ 255) (p : Profile) 
       let eb = master-end limit low high p (v .some-sto) w message sp k last (o .no-expansion) (back-stx h type) false burst noted b cb (o .secondary) in
       let q = one-rests limit heard cs (λ x c s. device-out limit low high p (v .some-sto) a-back k w message u true heard h (p .rt2) last refl (λ z. refl) x c (s .is))
       (hears-back limit low high p (v .some-sto) w message sp k last (o .no-expansion) (back-stx h type) u (notedAfter noted h) next (noted-u .2)) (one-with (o .devices) (ag .each)) in
-      let ta = ea .timer-is ∙ ap (λ (c : Bool). timerAfter (a .master) c h) set ∙ back-timer p true (a .master) h (o .primary .listens .is-it .profile-is) (o .primary .listens .is-it .primary-is) type in
-      let tb = eb .timer-is ∙ ap (λ (c : Bool). timerAfter (b .master) c h) set ∙ back-timer p false (b .master) h (o .secondary .listens .is-it .profile-is) (o .secondary .listens .is-it .primary-is) type in
+      let ta = ea .timer-is ∙ ap (λ (c : Bool). timerAfter (a .master .profile) (a .master .primary) (endedBy (a .master) h) c) set ∙ back-timer p true (a .master) h (o .primary .listens .is-it .profile-is) (o .primary .listens .is-it .primary-is) type in
+      let tb = eb .timer-is ∙ ap (λ (c : Bool). timerAfter (b .master .profile) (b .master .primary) (endedBy (b .master) h) c) set ∙ back-timer p false (b .master) h (o .secondary .listens .is-it .profile-is) (o .secondary .listens .is-it .primary-is) type in
       back-ends last (ea .silent) (eb .silent) (all-carried q)
       (behind-back p v (notedAfter noted h) next h h _ _ _ for
       (subst (λ (c : Bool). MasterQuiet p true c (notedAfter noted h) (masterTick limit a heard ca .side)) set (ea .quiet))

@@ -7,12 +7,13 @@ use mathlib.Core.List.{List, [], _∷_}
 use lib.ListN.{length, getD, drop, drop-of-length-le}
 use lib.Seq.{drop-cons}
 use borrow.Author.Tests.{le-leb, leb-true, leb-false, ltb-true, ltb-false}
+use Rattle.base.specs.Refusal.{Called}
 use Rattle.base.specs.Choice.{_<?_, _≤?_}
 use Rattle.base.specs.Store.{stored}
 use Rattle.base.proofs.Choices.{true-false, if-is-true, if-is-false}
 use Rattle.frame.specs.Frame.{frameBytes}
 use Rattle.frame.specs.declared.Header.{Header}
-use Rattle.line.specs.Reader.{taken}
+use Rattle.line.specs.Reader.{taken, insideFrame}
 use Rattle.line.specs.declared.Event.{Event}
 use Rattle.line.specs.declared.Event.the-variants.{Nothing, PassedOver, Broken, Frame, Damaged}
 use Rattle.line.specs.declared.Heard.{Heard}
@@ -21,8 +22,9 @@ use Rattle.line.specs.declared.Receiver.{Receiver}
 use Rattle.line.specs.declared.Whole.{Whole}
 use Rattle.line.proofs.Hearing.{wholeMessage}
 use Rattle.turns.specs.Master as M
-use Rattle.turns.specs.Master.{Called, Ending, isBroadcast, answersMessage, staged, atBreak, atFrame, ifAwaiting, rt1Ends, waited, afterBreak, masterTakes, requested, requestHeader, oneMore, sendsAt, sendsBy, masterSends}
-use Rattle.turns.specs.Link.{MasterCall, no-request, requests, was-taken, MasterSide, MasterStep, masterTick, masterData, masterCalls, masterCalled}
+use Rattle.turns.specs.Party.{isBroadcast, Request, was-taken}
+use Rattle.turns.specs.Master.{Ending, answersMessage, messageAt, atBreak, atFrame, ifAwaiting, rt1Ends, waited, afterBreak, masterTakes, requested, requestHeader, oneMore, sendsAt, sendsBy, masterSends}
+use Rattle.turns.specs.Link.{MasterCall, no-request, requests, MasterSide, MasterStep, masterTick, masterData, masterCalls, masterCalled}
 use Rattle.turns.specs.Gaps.{MasterInput, IsFrame}
 use Rattle.turns.specs.Attempts as Q
 use Rattle.turns.specs.Attempts.{MessageLog, no-message, in-hand, mostSent, Reports, no-report, is-answered, is-given-up, is-sent-once, behindReport, stxHeader, Asked, asks-nothing, Sends, has-none, rests, begins, goes-on, ends, Counted, no-tick, tick-and, AttemptsAsSaid}
@@ -136,7 +138,7 @@ module _ (retries : ℕ) (frame : List ℕ) where
   ending (Sending n) e = absurd (true-false (sym e))
   ending (Awaiting n) e = (n, refl)
 
-  waited-on : {log : MessageLog} (g : Message) → Phase retries frame g log → Phase retries frame (staged g (waited (g .stage))) log
+  waited-on : {log : MessageLog} (g : Message) → Phase retries frame g log → Phase retries frame (messageAt g (waited (g .stage))) log
   waited-on g (is-free e) = is-free (ap waited e)
   waited-on g (waits e h n) = waits (ap waited e) h n
   waited-on g (awaits k e h some most) = awaits (k - 1) (ap waited e) h some most
@@ -155,14 +157,12 @@ module _ (retries : ℕ) (frame : List ℕ) where
   counted-behind : {log : MessageLog} {m : Master} {t : MasterTaken} (event : Event) → m .retries ≡ retries → Took log m t → Took log m (M.counts (t .master) (t .told) event)
   counted-behind {log} {m} {t} event same a = both a (counted (t .master) (t .told) event (a .same-retries ∙ same) (a .outcome))
 
-  silent : {log : MessageLog} (m : Master) (r : Receiver) (event : Event) → m .retries ≡ retries → Phase retries frame (m .message) log → Took log m (M.onSilence m r event)
-  silent {log} m r Nothing same p =
-      let here : Took log m (M.tells (M.behind m r (m .burst) (m .noted) (m .timer) (m .message)) MasterTold.Nothing Nothing) = record { same-primary = refl; same-retries = refl; outcome = continues p } in
-      if-both (Took log m) (r .gap) _ _ here (counted-behind Nothing same here)
-  silent m r PassedOver same p = counted-behind PassedOver same (after-break m r PassedOver same p)
-  silent m r Broken same p = counted-behind Broken same (counted-behind Broken same (after-break m r Broken same p))
-  silent m r (Frame w) same p = counted-behind (Frame w) same (after-break m r (Frame w) same p)
-  silent m r (Damaged w h) same p = counted-behind (Damaged w h) same (after-break m r (Damaged w h) same p)
+  silent : {log : MessageLog} (m : Master) (r : Receiver) → m .retries ≡ retries → Phase retries frame (m .message) log → Took log m (M.onSilence m r)
+  silent {log} m r same p =
+      let here : Took log m (M.tells (M.withReader m r) MasterTold.Nothing Nothing) = record { same-primary = refl; same-retries = refl; outcome = continues p } in
+      if-both (Took log m) (insideFrame (m .receiver .place)) _ _
+      (if-both (Took log m) (m .receiver .gap) _ _ (counted-behind Broken same (counted-behind Broken same (after-break m r Broken same p))) here)
+      (counted-behind Nothing same here)
 
   character : {log : MessageLog} (m : Master) (r : Receiver) (event : Event) (bytes : List ℕ) → m .retries ≡ retries → Phase retries frame (m .message) log → Took log m (M.onCharacter m r event bytes)
   character m r Nothing bytes same p = record { same-primary = refl; same-retries = refl; outcome = continues p }
@@ -176,7 +176,7 @@ module _ (retries : ℕ) (frame : List ℕ) where
   takes-any {log} m heard bytes same p = if-both (Took log m) (m .deaf) _ _ (record { same-primary = refl; same-retries = refl; outcome = continues p }) (hears heard)
     where
       hears : (h : Heard) → Took log m (M.onHeard m h bytes)
-      hears Silence = silent m _ (taken (m .receiver) Silence .event) same p
+      hears Silence = silent m (taken (m .receiver) Silence .receiver) same p
       hears (Character c) = character m _ (taken (m .receiver) (Character c) .event) bytes same p
       hears (Heard.Damaged c kind) = character m _ (taken (m .receiver) (Heard.Damaged c kind) .event) bytes same p
 
@@ -248,7 +248,7 @@ module _ (retries : ℕ) (frame : List ℕ) where
           after = in-hand w b [] (m .message .attempts);
           sends = subst (λ (c : ℕ). Sends retries (in-hand w b (drop k w) n) (Sent.Character c) (in-hand w b [] (m .message .attempts))) (sym (h .held .same k below))
               (subst (λ (i : ℕ). Sends retries (in-hand w b (drop k w) n) (Sent.Character (getD w k 0)) (in-hand w b [] i)) (sym count) (last-sent w b n k last));
-          phase = awaits (M.ownRt1 m) refl h (omega (arith, count)) (omega (arith, count));
+          phase = awaits (M.ownRt1 (m .profile) (m .primary)) refl h (omega (arith, count)) (omega (arith, count));
           same-primary = refl;
           same-retries = refl;
         })
@@ -272,7 +272,7 @@ module _ (limit : ℕ) (primary : Bool) (retries : ℕ) (small : limit ≤ 255) 
     pub reports : Reports retries log (step .told)
     pub asked : MessageLog
     pub after : MessageLog
-    pub is-asked : Asked primary call (step .answer) (behindReport (step .told) log) asked
+    pub is-asked : Asked primary call (step .result) (behindReport (step .told) log) asked
     pub sends : Sends retries asked (step .sent) after
     pub phase : Phase retries (step .side .frame) (step .side .master .message) after
     pub same-primary : step .side .master .primary ≡ primary
@@ -300,10 +300,10 @@ module _ (limit : ℕ) (primary : Bool) (retries : ℕ) (small : limit ≤ 255) 
       unasked : SentIs retries (x .frame) (t .master) (behindReport (t .told) log) (masterSends (t .master) (x .frame))
       unasked = sends-any retries (x .frame) (t .master) now (told .1)
 
-      by : (q : M.Request) (put : List ℕ) → Called Master → MasterStep
+      by : (q : Request) (put : List ℕ) → Called Master → MasterStep
       by q put c = masterCalled c (t .master) (frameBytes (q .preamble) (requestHeader (t .master) q) put) (x .frame) (masterData x heard) (t .told)
 
-      asked : (q : M.Request) (put : List ℕ) → Asks limit (t .master) q (length put) → Ticks (requests q put) log (by q put (requested limit (t .master) q (length put)))
+      asked : (q : Request) (put : List ℕ) → Asks limit (t .master) q (length put) → Ticks (requests q put) log (by q put (requested limit (t .master) q (length put)))
       asked q put (is-refused why e) =
           subst (λ (c : Called Master). Ticks (requests q put) log (by q put c)) (sym e)
           (record { reports = told .0; asked = behindReport (t .told) log; is-asked = Q.is-refused; after = unasked .after; sends = unasked .sends; phase = unasked .phase; same-primary = unasked .same-primary ∙ own; same-retries = unasked .same-retries ∙ now })

@@ -8,16 +8,15 @@ use mathlib.Core.Logic.{_⊎_, inl, inr}
 use lib.ListN.{length, take, getD}
 use lib.Seq.{length-take-le}
 use Rattle.base.specs.Choice.{if_then_else_}
-use Rattle.base.specs.Store.{stored}
 use Rattle.base.proofs.Choices.{true-false}
-use Rattle.base.proofs.Stores.{length-stored}
 use Rattle.frame.specs.Address.{largestAddress}
 use Rattle.frame.specs.Delimiter.{stx, ack, back, isType}
 use Rattle.frame.specs.Frame.{frameBytes, frameLength}
+use Rattle.frame.specs.Write.{writeBuffer}
 use Rattle.frame.specs.declared.Header.{Header}
 use Rattle.frame.proofs.Taken.{Fits}
 use Rattle.frame.proofs.Lengths.{frame-count}
-use Rattle.line.specs.Reader.{idle, tells, taken, takenData}
+use Rattle.line.specs.Reader.{idle, tells, taken, takenData, insideFrame}
 use Rattle.line.specs.declared.Event.{Event}
 use Rattle.line.specs.declared.Event.the-variants.{Nothing, PassedOver, Broken, Frame, Damaged}
 use Rattle.line.specs.declared.Heard.{Heard}
@@ -43,7 +42,8 @@ use Rattle.turns.proofs.Bursting.{if-both}
 use Rattle.turns.proofs.Fair.{Fair}
 use Rattle.turns.proofs.Tags.{fair-run}
 use Rattle.turns.proofs.Spoken.{Spoken}
-use Rattle.turns.proofs.Masters.{Holds, holds}
+use Rattle.turns.proofs.Masters.{Holds, holds-written}
+use Rattle.turns.proofs.Writing.{length-written}
 use Rattle.turns.proofs.Devices as D
 use Rattle.turns.proofs.Devices.{device-enough}
 use Rattle.turns.proofs.DeviceSpeaking.{an-ack, a-back, device-speaks}
@@ -75,21 +75,24 @@ character-event m r Broken bytes = refl
 character-event m r (Frame w) bytes = refl
 character-event m r (Damaged w h) bytes = refl
 
-silence-event : (m : Master) (r : Receiver) (e : Event) → onSilence m r e .event ≡ e
-silence-event m r Nothing = if-both (λ (k : MasterTaken). k .event ≡ Nothing) (r .gap) _ _ refl (if-both (λ (k : MasterTaken). k .event ≡ Nothing) (rt1Ends (m .message .stage)) _ _ refl refl)
-silence-event m r PassedOver = if-both (λ (k : MasterTaken). k .event ≡ PassedOver) (rt1Ends (afterBreak m r PassedOver .master .message .stage)) _ _ refl refl
-silence-event m r Broken =
-    if-both (λ (k : MasterTaken). k .event ≡ Broken) (rt1Ends (counts (afterBreak m r Broken .master) (afterBreak m r Broken .told) Broken .master .message .stage)) _ _ refl refl
-silence-event m r (Frame w) = if-both (λ (k : MasterTaken). k .event ≡ Frame w) (rt1Ends (afterBreak m r (Frame w) .master .message .stage)) _ _ refl refl
-silence-event m r (Damaged w h) = if-both (λ (k : MasterTaken). k .event ≡ Damaged w h) (rt1Ends (afterBreak m r (Damaged w h) .master .message .stage)) _ _ refl refl
-
-heard-event : (m : Master) (heard : Heard) (bytes : List ℕ) → onHeard m heard bytes .event ≡ taken (m .receiver) heard .event
-heard-event m Silence bytes = silence-event m _ (taken (m .receiver) Silence .event)
-heard-event m (Character c) bytes = character-event m _ (taken (m .receiver) (Character c) .event) bytes
-heard-event m (Heard.Damaged c kind) bytes = character-event m _ (taken (m .receiver) (Heard.Damaged c kind) .event) bytes
-
 nothing-frame : {w : Whole} → Nothing ≡ Frame w → ⊥
 nothing-frame e = let z : _≡_ {A = ℕ} 0 1 = cc in omega arith
+
+broken-frame : {w : Whole} → Broken ≡ Frame w → ⊥
+broken-frame e = let z : _≡_ {A = ℕ} 0 1 = cc in omega arith
+
+silence-event : (m : Master) (r : Receiver) (w : Whole) → onSilence m r .event ≡ Frame w → ⊥
+silence-event m r w =
+    if-both (λ (k : MasterTaken). k .event ≡ Frame w → ⊥) (insideFrame (m .receiver .place)) _ _
+    (if-both (λ (k : MasterTaken). k .event ≡ Frame w → ⊥) (m .receiver .gap) _ _
+    (if-both (λ (k : MasterTaken). k .event ≡ Frame w → ⊥) (rt1Ends (counts (afterBreak m r Broken .master) (afterBreak m r Broken .told) Broken .master .message .stage)) _ _ broken-frame broken-frame)
+    nothing-frame)
+    (if-both (λ (k : MasterTaken). k .event ≡ Frame w → ⊥) (rt1Ends (m .message .stage)) _ _ nothing-frame nothing-frame)
+
+heard-event : (m : Master) (heard : Heard) (bytes : List ℕ) (w : Whole) → onHeard m heard bytes .event ≡ Frame w → taken (m .receiver) heard .event ≡ Frame w
+heard-event m Silence bytes w e = absurd (silence-event m (taken (m .receiver) Silence .receiver) w e)
+heard-event m (Character c) bytes w e = sym (character-event m _ (taken (m .receiver) (Character c) .event) bytes) ∙ e
+heard-event m (Heard.Damaged c kind) bytes w e = sym (character-event m _ (taken (m .receiver) (Heard.Damaged c kind) .event) bytes) ∙ e
 
 -- it hears, and its reader tells the frame
 found-event : (x : MasterSide) (heard : Heard) (w : Whole) → foundBy x heard ≡ Frame w → (x .master .deaf ≡ false) × (taken (x .master .receiver) heard .event ≡ Frame w)
@@ -101,7 +104,7 @@ found-event x heard w e = go (x .master .deaf) refl e
 
     go : (b : Bool) → x .master .deaf ≡ b → by b .event ≡ Frame w → (x .master .deaf ≡ false) × (taken (x .master .receiver) heard .event ≡ Frame w)
     go true q z = absurd (nothing-frame z)
-    go false q z = (q, sym (heard-event (x .master) heard (masterData x heard)) ∙ z)
+    go false q z = (q, heard-event (x .master) heard (masterData x heard) w z)
 
 -- no BACK
 NoBack : MasterSide → Heard → Type 0
@@ -209,11 +212,11 @@ module _ (limit : ℕ) (p : Profile) (heard : Heard) (w : List ℕ) (message : W
             enough = device-enough back (length put) (omega (arith, long, y .sound .content-low given));
             typed = back-typed;
           } in
-          let room : 284 ≤ length (b .before) = omega (arith, y .sound .frame-room, ap length (b .frame-is), length-stored (b .before) 0 (frameBytes (d .preamble) h put)) in
-          let there = holds (d .preamble) h put (b .before) fits room in
+          let room : 284 ≤ length (b .before) = omega (arith, y .sound .frame-room, ap length (b .frame-is), length-written (d .preamble) h put (b .before)) in
+          let there = holds-written (d .preamble) h put (b .before) fits room in
           let held : Holds (s .side .frame) (d .length) (frameBytes (d .preamble) h put) (wholeMessage h put) =
           subst (λ (z : List ℕ). Holds z (d .length) (frameBytes (d .preamble) h put) (wholeMessage h put)) (sym (b .frame-is))
-          (subst (λ (n : ℕ). Holds (stored (b .before) 0 (frameBytes (d .preamble) h put)) n (frameBytes (d .preamble) h put) (wholeMessage h put)) (ap (frameLength (d .preamble) h) long ∙ sym (b .length-is)) there) in
+          (subst (λ (n : ℕ). Holds (writeBuffer (d .preamble) h put (b .before) 0) n (frameBytes (d .preamble) h put) (wholeMessage h put)) (ap (frameLength (d .preamble) h) long ∙ sym (b .length-is)) there) in
           record {
             primary = b .primary;
             command = d .content .command;
@@ -221,8 +224,8 @@ module _ (limit : ℕ) (p : Profile) (heard : Heard) (w : List ℕ) (message : W
             w-is = same-bytes (y .held) held;
             message-is = same-message (y .held) held;
             fits = fits;
-            given-is = ap (λ (t : _). getD (sentBy t (givenBy c (s .answer) (g .last)) (g .sent-with) .sent-with) 0 no-content) (b .sent-is)
-                ∙ sym (last-is (s .sent) (givenBy c (s .answer) (g .last)) (g .sent-with)) ∙ k .known given;
+            given-is = ap (λ (t : _). getD (sentBy t (givenBy c (s .result) (g .last)) (g .sent-with) .sent-with) 0 no-content) (b .sent-is)
+                ∙ sym (last-is (s .sent) (givenBy c (s .result) (g .last)) (g .sent-with)) ∙ k .known given;
           }
 
   begins-out : {gs : List ContentLog} {xs : List DeviceSide} (calls : List DeviceCall) → AllKnown gs xs → All (λ (x : DeviceSide). NotBursts (x .device .turn)) xs → AllKnown (contentLogsAfter calls (deviceTicks limit heard xs calls) gs) (sides (deviceTicks limit heard xs calls))
@@ -254,7 +257,7 @@ module _ (limit : ℕ) (p : Profile) (heard : Heard) (w : List ℕ) (message : W
               message-is = o .message-is ∙ (λ i. wholeMessage (record { frame = back; long = true; primary = o .primary; burst = true; address = uni i; command = o .command }) (o .put));
               fits = subst (λ (n : ℕ). Fits (s .side .device .preamble) (record { frame = back; long = true; primary = o .primary; burst = true; address = n; command = o .command }) (length (o .put))) uni
                   (subst (λ (n : ℕ). Fits n (backOf x (o .primary) (o .command)) (length (o .put))) pre (o .fits));
-              given-is = ap (λ (t : _). getD (sentBy t (givenBy c (s .answer) (g .last)) (g .sent-with) .sent-with) (suc k) no-content) (y .character) ∙ o .given-is;
+              given-is = ap (λ (t : _). getD (sentBy t (givenBy c (s .result) (g .last)) (g .sent-with) .sent-with) (suc k) no-content) (y .character) ∙ o .given-is;
             }
 
     one-after : (some : 1 ≤ p .sto) (low : 2 ≤ limit) → heard ≡ Character (getD w k 0) → Spoken w message → (g : ContentLog) (x : DeviceSide) (c : DeviceCall) → DeviceSpeaks p a-back k w message u true x ⊎ DeviceHears p (readerAfter idle (take k w)) u x

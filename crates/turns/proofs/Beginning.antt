@@ -15,7 +15,8 @@ use Rattle.line.specs.declared.Heard.the-variants.{Silence}
 use Rattle.line.specs.declared.Profile.{Profile}
 use Rattle.line.specs.declared.Receiver.{Receiver}
 use Rattle.line.specs.declared.Whole.{Whole}
-use Rattle.turns.specs.Master.{seeksTag, namesDevice}
+use Rattle.turns.specs.Party.{seeksTag}
+use Rattle.turns.specs.Master.{namesDevice}
 use Rattle.turns.specs.Device.{isOwn, mayAnswer, answerHeader, firstFor}
 use Rattle.turns.specs.Link.{DeviceCall, no-call, DeviceSide, DeviceStep, deviceTick, deviceTicks, sides}
 use Rattle.turns.specs.Run.{All, none, and, Differ, Distinct}

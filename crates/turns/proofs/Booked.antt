@@ -16,7 +16,7 @@ use Rattle.frame.specs.declared.Header.{Header}
 use Rattle.frame.proofs.Taken.{Fits}
 use Rattle.line.specs.Reader.{idle, tells, taken, takenData}
 use Rattle.line.specs.declared.Event.the-variants.{Nothing, Frame, Damaged}
-use Rattle.line.specs.declared.Harm.{Harm}
+use Rattle.line.specs.declared.FrameDamage.{FrameDamage}
 use Rattle.line.specs.declared.Heard.{Heard}
 use Rattle.line.specs.declared.Heard.the-variants.{Silence, Character}
 use Rattle.line.specs.declared.Profile.{Profile}
@@ -36,7 +36,7 @@ use Rattle.turns.specs.declared.Turn.the-variants.{Asked}
 use Rattle.turns.specs.declared.Device.{Device}
 use Rattle.turns.specs.declared.DeviceTaken.{DeviceTaken}
 use Rattle.turns.proofs.Spoken.{Spoken}
-use Rattle.turns.proofs.Masters.{Holds, holds}
+use Rattle.turns.proofs.Masters.{Holds, holds-written}
 use Rattle.turns.proofs.Turns.{listens-asked, asked-follows, asked-begins}
 use Rattle.turns.proofs.Devices as D
 use Rattle.turns.proofs.DeviceTaking as DT
@@ -112,10 +112,10 @@ one-all (further q o) = and (inr q) (one-all o)
 
 -- ---- each device
 
-frame-damaged : {w v : Whole} {m : Harm} → Frame w ≡ Damaged v m → ⊥
+frame-damaged : {w v : Whole} {m : FrameDamage} → Frame w ≡ Damaged v m → ⊥
 frame-damaged e = let z : _≡_ {A = ℕ} 0 1 = cc in omega arith
 
-nothing-damaged : {v : Whole} {m : Harm} → Nothing ≡ Damaged v m → ⊥
+nothing-damaged : {v : Whole} {m : FrameDamage} → Nothing ≡ Damaged v m → ⊥
 nothing-damaged e = let z : _≡_ {A = ℕ} 0 1 = cc in omega arith
 
 -- a request in hand behind what was heard can be answered
@@ -203,7 +203,7 @@ module _ {g : Ledger} {d : Device} {frame : List ℕ} {w : List ℕ} {message : 
   -- the same frame
   held : Holds frame (frameLength (d .preamble) (answerHeader (d .request) (k .flag)) (length (k .put))) (frameBytes (d .preamble) (answerHeader (d .request) (k .flag)) (k .put)) (wholeMessage (answerHeader (d .request) (k .flag)) (k .put))
   held = subst (λ (f : List ℕ). Holds f (frameLength (d .preamble) (answerHeader (d .request) (k .flag)) (length (k .put))) (frameBytes (d .preamble) (answerHeader (d .request) (k .flag)) (k .put)) (wholeMessage (answerHeader (d .request) (k .flag)) (k .put)))
-      (sym (k .frame-is)) (holds (d .preamble) (answerHeader (d .request) (k .flag)) (k .put) (k .before) (k .fits) (k .room))
+      (sym (k .frame-is)) (holds-written (d .preamble) (answerHeader (d .request) (k .flag)) (k .put) (k .before) (k .fits) (k .room))
 
   pub frame-sent : w ≡ frameBytes (d .preamble) (answerHeader (d .request) (k .flag)) (k .put)
   frame-sent =

@@ -4,7 +4,7 @@ use native.Mathlib.Omega.{arith}
 use mathlib.Core.Path.{_≡_, refl, sym, ap, subst, _∙_}
 use mathlib.Core.Bool.{Bool, true, false}
 use mathlib.Core.List.{List}
-use borrow.Author.Tests.{le-leb, lt-leb, ne-eqb}
+use borrow.Author.Tests.{le-leb, ne-eqb}
 use Rattle.base.specs.Choice.{if_then_else_, _=?_, _≤?_}
 use Rattle.base.proofs.Choices.{if-is-true, if-is-false}
 use Rattle.line.specs.Gaps.{IsCharacter, is-sound, is-damaged}
@@ -16,9 +16,10 @@ use Rattle.line.specs.declared.Heard.the-variants.{Silence, Character}
 use Rattle.line.specs.declared.Profile.{Profile}
 use Rattle.line.specs.declared.Receiver.{Receiver}
 use Rattle.line.specs.declared.Taken.{Taken}
-use Rattle.line.proofs.Ticks.{Inside, gap-passed, gap-breaks, gapped-takes}
+use Rattle.line.proofs.Ticks.{Inside, gapped-takes}
 use Rattle.turns.specs.Master as M
-use Rattle.turns.specs.Master.{ownRt1, quietTime, atBreak, ifAwaiting, isBroadcast, rt1Ends, timerCounted, burstCounted, afterBreak, masterTakes}
+use Rattle.turns.specs.Party.{isBroadcast}
+use Rattle.turns.specs.Master.{ownRt1, quietTime, atBreak, ifAwaiting, rt1Ends, timerCounted, burstCounted, afterBreak, masterTakes}
 use Rattle.turns.specs.Device as D
 use Rattle.turns.specs.Device.{backDue, brokenDue, deviceTakes}
 use Rattle.turns.specs.Gaps.{ToSend, message-waits, retry-left, behindBreak}
@@ -32,25 +33,26 @@ use Rattle.turns.specs.declared.MasterTaken.{MasterTaken}
 use Rattle.turns.specs.declared.Device.{Device}
 use Rattle.turns.specs.declared.DeviceTold.{DeviceTold}
 use Rattle.turns.specs.declared.DeviceTaken.{DeviceTaken}
+use Rattle.turns.proofs.Silent.{master-passed, master-second, device-passed, device-second}
 
 -- the same master or device, whose reader has passed over a silent tick
 abbrev pub masterGapped : Master → Master
-masterGapped m = M.behind m (gapped (m .receiver)) (m .burst) (m .noted) (m .timer) (m .message)
+masterGapped m = M.masterWith m (gapped (m .receiver)) (m .burst) (m .noted) (m .timer) (m .message)
 
 abbrev pub deviceGapped : Device → Device
-deviceGapped d = D.behind d (gapped (d .receiver)) (d .turn) (d .request) (d .wish) (d .length) (d .due)
+deviceGapped d = D.deviceWith d (gapped (d .receiver)) (d .turn) (d .request) (d .wish) (d .length) (d .due)
 
 -- ---- one silent tick inside a frame: all but the reader stays, and nothing is told
 
 module _ (m : Master) (bytes : List ℕ) (hears : m .deaf ≡ false) (inside : Inside (m .receiver .place)) where
   pub master-still : m .receiver .gap ≡ false → masterTakes m Silence bytes ≡ M.tells (masterGapped m) MasterTold.Nothing Nothing
-  unfolding masterTakes if_then_else_
-  master-still e = if-is-false (m .deaf) _ _ hears ∙ ap (λ (t : Taken). M.onSilence m (t .receiver) (t .event)) (gap-passed (m .receiver) inside e)
+  unfolding masterTakes
+  master-still e = if-is-false (m .deaf) _ _ hears ∙ master-passed m inside e
 
 module _ (d : Device) (hears : d .deaf ≡ false) (inside : Inside (d .receiver .place)) where
   pub device-still : d .receiver .gap ≡ false → deviceTakes d Silence ≡ D.tells (deviceGapped d) DeviceTold.Nothing Nothing
-  unfolding deviceTakes if_then_else_
-  device-still e = if-is-false (d .deaf) _ _ hears ∙ ap (λ (t : Taken). D.onSilence d (t .receiver) (t .event)) (gap-passed (d .receiver) inside e)
+  unfolding deviceTakes
+  device-still e = if-is-false (d .deaf) _ _ hears ∙ device-passed d inside e
 
 -- what comes behind it is taken as if it had not been
 character-still : (m : Master) (r : Receiver) (event : Event) (bytes : List ℕ)
@@ -121,22 +123,22 @@ counted m told event w =
 -- a silent tick before the timer's end
 pub one-less : (k : ℕ) {m t : Master} → Counted m t → Left (suc (suc k)) m → Left (suc k) t
 one-less k {m} {t} c (clear off n w) =
-    let e = c .timer-is ∙ if-is-false (m .burst) _ _ off ∙ if-is-false (m .timer .next ≤? 1) _ _ (lt-leb (m .timer .next) 1 (omega (arith, n))) in
+    let e = c .timer-is ∙ if-is-false (m .burst) _ _ off ∙ if-is-false (m .timer .next =? 1) _ _ (ne-eqb (m .timer .next) 1 (λ z. omega (arith, z, n))) in
     let next : t .timer .next ≡ m .timer .next - 1 = ap (λ (x : Timer). x .next) e in
     let window : t .timer .window ≡ m .timer .window - 1 = ap (λ (x : Timer). x .window) e in
     clear (c .burst-is ∙ if-is-false (m .burst) _ _ off) (omega (arith, next, n)) (omega (arith, window, w))
 one-less k {m} {t} c (set on q n w) =
-    let late = lt-leb (m .timer .quiet) 1 (omega (arith, q)) in
-    let e = c .timer-is ∙ if-is-true (m .burst) _ _ on ∙ if-is-false (m .timer .quiet ≤? 1) _ _ late ∙ if-is-false (m .timer .next =? 1) _ _ (ap (λ (z : ℕ). z =? 1) n) in
+    let late = ne-eqb (m .timer .quiet) 1 (λ z. omega (arith, z, q)) in
+    let e = c .timer-is ∙ if-is-true (m .burst) _ _ on ∙ if-is-false (m .timer .quiet =? 1) _ _ late ∙ if-is-false (m .timer .next =? 1) _ _ (ap (λ (z : ℕ). z =? 1) n) in
     let next : t .timer .next ≡ m .timer .next - 1 = ap (λ (x : Timer). x .next) e in
     let window : t .timer .window ≡ m .timer .window - 1 = ap (λ (x : Timer). x .window) e in
     let quiet : t .timer .quiet ≡ m .timer .quiet - 1 = ap (λ (x : Timer). x .quiet) e in
-    set (c .burst-is ∙ if-is-true (m .burst) _ _ on ∙ if-is-false (m .timer .quiet ≤? 1) _ _ late) (omega (arith, quiet, q)) (omega (arith, next, n)) (omega (arith, window, w))
+    set (c .burst-is ∙ if-is-true (m .burst) _ _ on ∙ if-is-false (m .timer .quiet =? 1) _ _ late) (omega (arith, quiet, q)) (omega (arith, next, n)) (omega (arith, window, w))
 
 -- at its end a window opens
 pub opens : {m t : Master} → Counted m t → Left 1 m → t .timer .window ≡ m .profile .hold
-opens {m} c (clear off n w) = ap (λ (x : Timer). x .window) (c .timer-is ∙ if-is-false (m .burst) _ _ off ∙ if-is-true (m .timer .next ≤? 1) _ _ (ap (λ (z : ℕ). z ≤? 1) n))
-opens {m} c (set on q n w) = ap (λ (x : Timer). x .window) (c .timer-is ∙ if-is-true (m .burst) _ _ on ∙ if-is-true (m .timer .quiet ≤? 1) _ _ (ap (λ (z : ℕ). z ≤? 1) q))
+opens {m} c (clear off n w) = ap (λ (x : Timer). x .window) (c .timer-is ∙ if-is-false (m .burst) _ _ off ∙ if-is-true (m .timer .next =? 1) _ _ (ap (λ (z : ℕ). z =? 1) n))
+opens {m} c (set on q n w) = ap (λ (x : Timer). x .window) (c .timer-is ∙ if-is-true (m .burst) _ _ on ∙ if-is-true (m .timer .quiet =? 1) _ _ (ap (λ (z : ℕ). z =? 1) q))
 
 -- ---- the second silent tick, of a master
 
@@ -158,7 +160,7 @@ break-left : (m : Master) → Left (behindBreak m) (afterBreak m idle Broken .ma
 unfolding if_then_else_
 break-left m = go (m .burst) refl
   where
-    go : (b : Bool) → m .burst ≡ b → Left (if b then quietTime m else ownRt1 m) (M.behind m idle (m .burst) (m .noted) (if b then M.burstTimer m 0 else M.timer (ownRt1 m)) (ifAwaiting (m .message .stage) (m .message) (atBreak m) .message))
+    go : (b : Bool) → m .burst ≡ b → Left (if b then quietTime (m .profile) (m .primary) else ownRt1 (m .profile) (m .primary)) (M.masterWith m idle (m .burst) (m .noted) (M.timerAfter (m .profile) (m .primary) M.broken b) (ifAwaiting (m .message .stage) (m .message) (atBreak m) .message))
     go true e = set e refl refl refl
     go false e = clear e refl refl
 
@@ -166,7 +168,7 @@ break-left m = go (m .burst) refl
 pub both-count : (k : ℕ) (m : Master) (bytes : List ℕ) → m .deaf ≡ false → Inside (m .receiver .place) → m .receiver .gap ≡ true → ToSend m → 1 ≤ m .profile .hold → behindBreak m ≡ suc (suc (suc k)) → Waits (suc k) (masterTakes m Silence bytes .master)
 unfolding masterTakes
 both-count k m bytes hears inside second due hold e =
-    let takes = if-is-false (m .deaf) _ _ hears ∙ ap (λ (t : Taken). M.onSilence m (t .receiver) (t .event)) (gap-breaks (m .receiver) inside second) in
+    let takes = if-is-false (m .deaf) _ _ hears ∙ master-second m inside second in
     let b : Master = afterBreak m idle Broken .master in
     let told : MasterTold = afterBreak m idle Broken .told in
     let once : MasterTaken = M.counts b told Broken in
@@ -196,10 +198,10 @@ pub record DueIn (k : ℕ) (d : Device) : Type 0 where
 pub counts-due : (k due : ℕ) (d : Device) (event : Event) → d .deaf ≡ false → d .turn ≡ Listens → d .burst ≡ true → due ≡ suc (suc k) → DueIn (suc k) (D.counts d idle due event .device)
 counts-due k due d event hears turn burst e =
     let early : backDue d due ≡ false = if-is-true (d .burst) _ _ burst ∙ ne-eqb due 1 (λ z. omega arith) in
-    subst (λ (t : DeviceTaken). DueIn (suc k) (t .device)) (sym (if-is-false (backDue d due) _ _ early)) (record { hears = hears; idle-is = refl; turn-is = ap D.waited turn; bursts = burst; due-is = omega arith })
+    record { hears = hears; idle-is = refl; turn-is = if-is-false (backDue d due) _ _ early ∙ ap D.waited turn; bursts = burst; due-is = omega arith }
 
 pub both-count-due : (k : ℕ) (d : Device) → d .deaf ≡ false → Inside (d .receiver .place) → d .receiver .gap ≡ true → d .turn ≡ Listens → d .burst ≡ true → d .profile .rt1p ≡ suc (suc (suc k)) → DueIn (suc k) (deviceTakes d Silence .device)
 unfolding deviceTakes
 both-count-due k d hears inside second turn burst e =
-    let takes = if-is-false (d .deaf) _ _ hears ∙ ap (λ (t : Taken). D.onSilence d (t .receiver) (t .event)) (gap-breaks (d .receiver) inside second) in
+    let takes = if-is-false (d .deaf) _ _ hears ∙ device-second d inside second in
     subst (λ (t : DeviceTaken). DueIn (suc k) (t .device)) (sym takes) (counts-due k (brokenDue d) d Broken hears turn burst (omega (arith, e)))

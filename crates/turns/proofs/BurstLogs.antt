@@ -7,23 +7,23 @@ use mathlib.Core.List.{List, [], _∷_}
 use mathlib.Core.Logic.{_⊎_, inl, inr}
 use lib.ListN.{length}
 use borrow.Author.Tests.{leb-false, eqb-true}
+use Rattle.base.specs.Refusal.{Called}
 use Rattle.base.specs.Choice.{if_then_else_, _<?_, _≤?_, _=?_}
 use Rattle.base.specs.Store.{stored}
-use Rattle.base.specs.declared.Refusal.the-variants.{NoRequest}
-use Rattle.frame.specs.Delimiter.{stx}
-use Rattle.line.specs.Reader.{taken}
+use Rattle.frame.specs.Delimiter.{stx, ack}
+use Rattle.line.specs.Reader.{taken, insideFrame}
 use Rattle.line.specs.declared.Event.{Event}
 use Rattle.line.specs.declared.Event.the-variants.{Nothing, PassedOver, Broken, Frame, Damaged}
 use Rattle.line.specs.declared.Heard.{Heard}
 use Rattle.line.specs.declared.Heard.the-variants.{Silence, Character}
 use Rattle.line.specs.declared.Profile.{Profile}
 use Rattle.line.specs.declared.Receiver.{Receiver}
-use Rattle.turns.specs.Master.{Called, isBroadcast}
-use Rattle.turns.specs.Device.{behind, hasError, waited, brokenDue, wished, behindAck, backLength, counts, onSilence, onCharacter, onHeard, deviceTakes, answeredBy, answered, answerFrame, withContent, contentGiven, sendsBy, deviceSends, begunFrame, mayAnswer}
-use Rattle.turns.specs.Link.{DeviceCall, no-call, gives-answer, gives-content, Answer, was-taken, was-refused, DeviceSide, DeviceStep, deviceSent, answerCalled, contentCalled, deviceCalls, deviceTick, deviceData, heardFrame}
+use Rattle.turns.specs.Party.{isBroadcast, CallResult, was-taken, was-refused}
+use Rattle.turns.specs.Device.{deviceWith, hasError, waited, brokenDue, wished, behindAck, backLength, counts, onSilence, onCharacter, onHeard, deviceTakes, answeredBy, answered, answerFrame, deviceWithContent, contentGiven, sendsBy, deviceSends, begunFrame, mayAnswer, changed, dueAfter, endedBy}
+use Rattle.turns.specs.Link.{DeviceCall, no-call, gives-answer, gives-content, DeviceSide, DeviceStep, deviceSent, answerCalled, contentCalled, deviceCalls, deviceTick, deviceData, heardFrame}
 use Rattle.turns.specs.Bursts.{Wished, no-wish, wishes, BurstLog, droppedBy, wishedBy, effective, sentWith, logAfter, DeviceInput, Agrees, no-tick, tick-and, BurstsAsSaid}
 use Rattle.turns.specs.declared.Turn.{Turn}
-use Rattle.turns.specs.declared.Turn.the-variants.{Listens, Asked, Accepted, Begins, Answers, Follows, Bursts}
+use Rattle.turns.specs.declared.Turn.the-variants.{Listens, Asked, AnswerWaits, Begins, Answers, Follows, Bursts}
 use Rattle.turns.specs.declared.Wish.{Wish}
 use Rattle.turns.specs.declared.Wish.the-variants.{Same}
 use Rattle.turns.specs.declared.Device.{Device}
@@ -35,6 +35,10 @@ use Rattle.turns.proofs.Fresh.{valid, device-is}
 use Rattle.turns.proofs.Devices as D
 use Rattle.turns.proofs.Devices.{AnswerView, answer-view, ContentView, content-view}
 use Rattle.turns.proofs.Bursting.{if-both}
+use Rattle.turns.specs.declared.Change.{Change}
+use Rattle.base.proofs.Choices.{if-is-false}
+use Rattle.turns.proofs.Masters.{if-cases}
+use Rattle.line.specs.declared.Whole.{Whole}
 
 -- ---- what a turn says of the wish that is pending
 
@@ -46,7 +50,7 @@ data Waits (pending : Wished) (wish : Wish) : Type 0 where
 Turned : Profile → Wished → Wish → ℕ → Turn → Type 0
 Turned p pending wish due Listens = pending ≡ no-wish
 Turned p pending wish due (Asked n) = (pending ≡ no-wish) × (n ≤ p .sto) × (n ≡ p .sto → due ≡ p .rt1p)
-Turned p pending wish due Accepted = Waits pending wish × (due ≡ p .rt1p)
+Turned p pending wish due AnswerWaits = Waits pending wish × (due ≡ p .rt1p)
 Turned p pending wish due Begins = Waits pending wish
 Turned p pending wish due (Answers n) = pending ≡ no-wish
 Turned p pending wish due Follows = pending ≡ no-wish
@@ -73,7 +77,7 @@ module _ (p : Profile) (v : Valid p) (on : Bool) (pending : Wished) (d : Device)
       go : (b : Bool) → (n ≤? 1) ≡ b → Turned p pending (d .wish) due (if b then Listens else Asked (n - 1))
       go true q = t .0
       go false q = (t .0, omega (arith, t .1), λ z. absurd (omega (arith, t .1, leb-false n 1 q)))
-  waited-turned Accepted e due t = t .0
+  waited-turned AnswerWaits e due t = t .0
   waited-turned Begins e due t = t
   waited-turned (Answers n) e due t = t
   waited-turned Follows e due t = t
@@ -84,8 +88,8 @@ module _ (p : Profile) (v : Valid p) (on : Bool) (pending : Wished) (d : Device)
   unfolding Turned Rests
   due-free Listens e t due f one = t
   due-free (Asked n) e t due f one = t .0
-  due-free Accepted e t due (inl f) one = absurd (omega (arith, f, t .1, v .rt2-short, v .hold-short))
-  due-free Accepted e t due (inr f) one = absurd (omega (arith, f, v .rt2-short, v .hold-short, v .some-hold))
+  due-free AnswerWaits e t due (inl f) one = absurd (omega (arith, f, t .1, v .rt2-short, v .hold-short))
+  due-free AnswerWaits e t due (inr f) one = absurd (omega (arith, f, v .rt2-short, v .hold-short, v .some-hold))
   due-free Begins e t due f one = absurd (r e)
   due-free (Answers n) e t due f one = t
   due-free Follows e t due f one = t
@@ -95,12 +99,10 @@ module _ (p : Profile) (v : Valid p) (on : Bool) (pending : Wished) (d : Device)
   unfolding if_then_else_ Turned
   counts-logged x due event f = go (d .burst) refl (due =? 1) refl
     where
-      by : Bool → Bool → DeviceTaken
-      by b e =
-          if (if b then e else false) then Rattle.turns.specs.Device.tells (behind d x Follows (d .request) (d .wish) (d .length) 0) DeviceTold.Nothing event
-          else Rattle.turns.specs.Device.tells (behind d x (waited (d .turn)) (d .request) (d .wish) (d .length) (due - 1)) DeviceTold.Nothing event
+      by : Bool → Bool → Device
+      by b e = deviceWith d x (if (if b then e else false) then Follows else waited (d .turn)) (d .request) (d .wish) (d .length) (due - 1)
 
-      go : (b : Bool) → d .burst ≡ b → (e : Bool) → (due =? 1) ≡ e → Logged p on pending (by b e .device)
+      go : (b : Bool) → d .burst ≡ b → (e : Bool) → (due =? 1) ≡ e → Logged p on pending (by b e)
       go true q true z = record { profile-is = l .profile-is; on-is = l .on-is; turned = due-free (d .turn) refl (l .turned) due f (eqb-true due 1 z) }
       go true q false z = record { profile-is = l .profile-is; on-is = l .on-is; turned = waited-turned (d .turn) refl (due - 1) (l .turned) }
       go false q e z = record { profile-is = l .profile-is; on-is = l .on-is; turned = waited-turned (d .turn) refl (due - 1) (l .turned) }
@@ -108,17 +110,20 @@ module _ (p : Profile) (v : Valid p) (on : Bool) (pending : Wished) (d : Device)
   rt1p-is : d .profile .rt1p ≡ p .rt1p
   rt1p-is = ap (λ (q : Profile). q .rt1p) (l .profile-is)
 
-  silence-logged : (x : Receiver) (e : Event) → Logged p on pending (onSilence d x e .device)
-  silence-logged x Nothing = if-both (λ (t : DeviceTaken). Logged p on pending (t .device)) (x .gap) _ _ (record { profile-is = l .profile-is; on-is = l .on-is; turned = l .turned }) (counts-logged x (d .due) Nothing (inl refl))
-  silence-logged x PassedOver = counts-logged x (d .profile .rt1p) PassedOver (inr (omega (arith, rt1p-is)))
-  silence-logged x Broken = counts-logged x (brokenDue d) Broken (inr (omega (arith, rt1p-is)))
-  silence-logged x (Frame w) = counts-logged x (d .profile .rt1p) (Frame w) (inr (omega (arith, rt1p-is)))
-  silence-logged x (Damaged w m) = counts-logged x (d .profile .rt1p) (Damaged w m) (inr (omega (arith, rt1p-is)))
+  silence-logged : (x : Receiver) → Logged p on pending (onSilence d x .device)
+  silence-logged x =
+      let P : DeviceTaken → Type 0 = λ t. Logged p on pending (t .device) in
+      if-both P (insideFrame (d .receiver .place)) _ _
+      (if-both P (d .receiver .gap) _ _ (counts-logged x (brokenDue d) Broken (inr (omega (arith, rt1p-is)))) (record { profile-is = l .profile-is; on-is = l .on-is; turned = l .turned }))
+      (counts-logged x (d .due) Nothing (inl refl))
 
   -- a character
-  listens : (x : Receiver) (due n : ℕ) → Logged p on no-wish (behind d x Listens (d .request) Same n due)
+  listens : (x : Receiver) (due n : ℕ) → Logged p on no-wish (deviceWith d x Listens (d .request) Same n due)
   unfolding Turned
   listens x due n = record { profile-is = l .profile-is; on-is = l .on-is; turned = refl }
+
+  stx-due : (w : Whole) → (w .header .frame =? stx) ≡ true → dueAfter (d .profile) (endedBy (Frame w)) ≡ p .rt1p
+  stx-due w q = ap (dueAfter (d .profile)) (if-is-false (w .header .frame =? ack) _ _ (ap (λ (n : ℕ). n =? ack) (eqb-true (w .header .frame) stx q))) ∙ rt1p-is
 
   character-logged : (x : Receiver) (e : Event) → Logged p on no-wish (onCharacter d x e .device)
   unfolding Turned
@@ -126,19 +131,19 @@ module _ (p : Profile) (v : Valid p) (on : Bool) (pending : Wished) (d : Device)
   character-logged x PassedOver = listens x (d .profile .rt1p) (d .length)
   character-logged x Broken = listens x (d .profile .rt1p) (d .length)
   character-logged x (Frame w) =
-      let P : DeviceTaken → Type 0 = λ t. Logged p on no-wish (t .device) in
-      if-both P (w .header .frame =? stx) _ _
-      (if-both P (w .expansion =? 0) _ _
+      let P : Change → Type 0 = λ c. Logged p on no-wish (changed d x (Frame w) c .device) in
+      if-cases P (w .header .frame =? stx) _ _
+      (λ q. if-both P (w .expansion =? 0) _ _
       (if-both P (mayAnswer d (w .header)) _ _
-      (record { profile-is = l .profile-is; on-is = l .on-is; turned = (refl, omega (arith, ap (λ (q : Profile). q .sto) (l .profile-is)), λ z. rt1p-is) })
-      (if-both P (isBroadcast (w .header)) _ _ (listens x (d .profile .rt1p) (d .length)) (listens x (d .profile .rt1p) (d .length))))
-      (listens x (d .profile .rt1p) (d .length)))
-      (listens x _ (d .length))
+      (record { profile-is = l .profile-is; on-is = l .on-is; turned = (refl, omega (arith, ap (λ (q : Profile). q .sto) (l .profile-is)), λ z. stx-due w q) })
+      (if-both P (isBroadcast (w .header)) _ _ (listens x _ (d .length)) (listens x _ (d .length))))
+      (listens x _ (d .length)))
+      (λ q. listens x _ (d .length))
   character-logged x (Damaged w m) =
-      if-both (λ (t : DeviceTaken). Logged p on no-wish (t .device)) (hasError d w m) _ _ (record { profile-is = l .profile-is; on-is = l .on-is; turned = (by-itself refl refl, rt1p-is) }) (listens x (d .profile .rt1p) (d .length))
+      if-both (λ (c : Change). Logged p on no-wish (changed d x (Damaged w m) c .device)) (hasError d w m) _ _ (record { profile-is = l .profile-is; on-is = l .on-is; turned = (by-itself refl refl, rt1p-is) }) (listens x (d .profile .rt1p) (d .length))
 
   heard-logged : (heard : Heard) → Logged p on (droppedBy heard pending) (onHeard d heard .device)
-  heard-logged Silence = silence-logged _ (taken (d .receiver) Silence .event)
+  heard-logged Silence = silence-logged (taken (d .receiver) Silence .receiver)
   heard-logged (Character c) = character-logged _ (taken (d .receiver) (Character c) .event)
   heard-logged (Heard.Damaged c kind) = character-logged _ (taken (d .receiver) (Heard.Damaged c kind) .event)
 
@@ -165,7 +170,7 @@ follows-begins e = let z : _≡_ {A = ℕ} 0 1 = cc in omega arith
 asked-begins : (n : ℕ) → Asked n ≡ Begins → ⊥
 asked-begins n e = let z : _≡_ {A = ℕ} 0 1 = cc in omega arith
 
-accepted-begins : Accepted ≡ Begins → ⊥
+accepted-begins : AnswerWaits ≡ Begins → ⊥
 accepted-begins e = let z : _≡_ {A = ℕ} 0 1 = cc in omega arith
 
 answers-begins : (n : ℕ) → Answers n ≡ Begins → ⊥
@@ -192,7 +197,7 @@ module _ (p : Profile) (on : Bool) (pending : Wished) (d : Device) (l : Logged p
   unfolding Turned Rests
   by-turn frame Listens e t = record { logged = record { profile-is = l .profile-is; on-is = l .on-is; turned = t }; rests = listens-begins }
   by-turn frame (Asked n) e t = record { logged = record { profile-is = l .profile-is; on-is = l .on-is; turned = t }; rests = asked-begins n }
-  by-turn frame Accepted e t = record { logged = record { profile-is = l .profile-is; on-is = l .on-is; turned = t }; rests = accepted-begins }
+  by-turn frame AnswerWaits e t = record { logged = record { profile-is = l .profile-is; on-is = l .on-is; turned = t }; rests = accepted-begins }
   by-turn frame Begins e t =
       let f = effect t in
       if-both (λ (s : DeviceSent). Settled p (sentWith (s .sent) on pending) (s .device)) (0 + 1 <? d .length) _ _
@@ -220,40 +225,40 @@ module _ (p : Profile) (on : Bool) (pending : Wished) (d : Device) (l : Logged p
       (record { logged = record { profile-is = l .profile-is; on-is = l .on-is ∙ sym (f .0); turned = f .1 }; rests = bursts-begins (n + 1) })
       (record { logged = record { profile-is = l .profile-is; on-is = l .on-is ∙ sym (f .0); turned = f .1 }; rests = listens-begins })
 
-  sent-logged : (frame bytes contents : List ℕ) (told : DeviceTold) (answer : Answer) → Settled p (sentWith (deviceSent d frame bytes contents told answer .sent) on pending) (deviceSent d frame bytes contents told answer .side .device)
+  sent-logged : (frame bytes contents : List ℕ) (told : DeviceTold) (result : CallResult) → Settled p (sentWith (deviceSent d frame bytes contents told result .sent) on pending) (deviceSent d frame bytes contents told result .side .device)
   unfolding deviceSends
-  sent-logged frame bytes contents told answer = by-turn (begunFrame d (d .turn) contents frame) (d .turn) refl (l .turned)
+  sent-logged frame bytes contents told result = by-turn (begunFrame d (d .turn) contents frame) (d .turn) refl (l .turned)
 
 -- ---- the host's call
 
 module _ (limit : ℕ) (p : Profile) (on : Bool) (pending : Wished) (d : Device) (l : Logged p on pending d) (frame bytes contents : List ℕ) (told : DeviceTold) where
   Calls : DeviceCall → DeviceStep → Type 0
-  Calls c s = Settled p (sentWith (s .sent) on (wishedBy c (s .answer) pending)) (s .side .device)
+  Calls c s = Settled p (sentWith (s .sent) on (wishedBy c (s .result) pending)) (s .side .device)
 
-  answer-logged : (wish : Wish) (put : List ℕ) (turn : Turn) → d .turn ≡ turn → Calls (gives-answer wish put) (answerCalled (answeredBy limit d wish (length put) turn) d (answerFrame d wish put) frame bytes contents told)
+  answer-logged : (wish : Wish) (put : List ℕ) (turn : Turn) → d .turn ≡ turn → Calls (gives-answer wish put) (answerCalled (answeredBy limit d wish (length put) turn) d (answerFrame d wish put frame) frame bytes contents told)
   unfolding Calls Turned if_then_else_
-  answer-logged wish put Listens e = sent-logged p on pending d l frame bytes contents told (was-refused NoRequest)
+  answer-logged wish put Listens e = sent-logged p on pending d l frame bytes contents told (was-refused 8)
   answer-logged wish put (Asked n) e = go (answer-view limit d wish (length put) n)
     where
       by : Called Device → Type 0
-      by c = Settled p (sentWith (answerCalled c d (answerFrame d wish put) frame bytes contents told .sent) on (wishedBy (gives-answer wish put) (answerCalled c d (answerFrame d wish put) frame bytes contents told .answer) pending)) (answerCalled c d (answerFrame d wish put) frame bytes contents told .side .device)
+      by c = Settled p (sentWith (answerCalled c d (answerFrame d wish put frame) frame bytes contents told .sent) on (wishedBy (gives-answer wish put) (answerCalled c d (answerFrame d wish put frame) frame bytes contents told .result) pending)) (answerCalled c d (answerFrame d wish put frame) frame bytes contents told .side .device)
 
       was : Turned p pending (d .wish) (d .due) (Asked n)
       was = subst (Turned p pending (d .wish) (d .due)) e (l .turned)
 
-      next : (b : Bool) → (n =? d .profile .sto) ≡ b → Turned p (wishes wish) wish (d .due) (if b then Accepted else Begins)
+      next : (b : Bool) → (n =? d .profile .sto) ≡ b → Turned p (wishes wish) wish (d .due) (if b then AnswerWaits else Begins)
       next true q = (by-host refl, was .2 (eqb-true n (d .profile .sto) q ∙ ap (λ (z : Profile). z .sto) (l .profile-is)))
       next false q = by-host refl
 
       go : AnswerView limit d wish (length put) n → by (answeredBy limit d wish (length put) (Asked n))
       go (D.AnswerView.is-refused why q) = subst by (sym q) (sent-logged p on pending d l frame bytes contents told (was-refused why))
       go (D.AnswerView.is-taken least most f q) =
-          subst by (sym q) (sent-logged p on (wishes wish) _ (record { profile-is = l .profile-is; on-is = l .on-is; turned = next (n =? d .profile .sto) refl }) (stored frame 0 (answerFrame d wish put)) bytes contents told was-taken)
-  answer-logged wish put Accepted e = sent-logged p on pending d l frame bytes contents told (was-refused NoRequest)
-  answer-logged wish put Begins e = sent-logged p on pending d l frame bytes contents told (was-refused NoRequest)
-  answer-logged wish put (Answers n) e = sent-logged p on pending d l frame bytes contents told (was-refused NoRequest)
-  answer-logged wish put Follows e = sent-logged p on pending d l frame bytes contents told (was-refused NoRequest)
-  answer-logged wish put (Bursts n) e = sent-logged p on pending d l frame bytes contents told (was-refused NoRequest)
+          subst by (sym q) (sent-logged p on (wishes wish) _ (record { profile-is = l .profile-is; on-is = l .on-is; turned = next (n =? d .profile .sto) refl }) (answerFrame d wish put frame) bytes contents told was-taken)
+  answer-logged wish put AnswerWaits e = sent-logged p on pending d l frame bytes contents told (was-refused 8)
+  answer-logged wish put Begins e = sent-logged p on pending d l frame bytes contents told (was-refused 8)
+  answer-logged wish put (Answers n) e = sent-logged p on pending d l frame bytes contents told (was-refused 8)
+  answer-logged wish put Follows e = sent-logged p on pending d l frame bytes contents told (was-refused 8)
+  answer-logged wish put (Bursts n) e = sent-logged p on pending d l frame bytes contents told (was-refused 8)
 
   content-logged : (command : ℕ) (put : List ℕ) → Calls (gives-content command put) (contentCalled (contentGiven limit d command (length put)) d put frame bytes contents told)
   unfolding Calls
@@ -265,7 +270,7 @@ module _ (limit : ℕ) (p : Profile) (on : Bool) (pending : Wished) (d : Device)
       go : ContentView limit d command (length put) → by (contentGiven limit d command (length put))
       go (D.ContentView.is-refused why q) = subst by (sym q) (sent-logged p on pending d l frame bytes contents told (was-refused why))
       go (D.ContentView.is-taken least most q) =
-          subst by (sym q) (sent-logged p on pending (withContent d (record { given = true; command = command; count = length put })) (record { profile-is = l .profile-is; on-is = l .on-is; turned = l .turned }) frame bytes (stored contents 0 put) told was-taken)
+          subst by (sym q) (sent-logged p on pending (deviceWithContent d (record { given = true; command = command; count = length put })) (record { profile-is = l .profile-is; on-is = l .on-is; turned = l .turned }) frame bytes (stored contents 0 put) told was-taken)
 
 -- ---- the tick, and every list of them
 
@@ -283,8 +288,8 @@ tick-logged limit p v g x heard call s = by call
     l : Logged p (g .on) w (t .device)
     l = takes-logged p v (g .on) (g .pending) (x .device) (s .logged) (s .rests) heard
 
-    by : (c : DeviceCall) → Settled p (sentWith (deviceCalls limit t c (heardFrame x heard) (deviceData x heard) (x .contents) .sent) (g .on) (wishedBy c (deviceCalls limit t c (heardFrame x heard) (deviceData x heard) (x .contents) .answer) w)) (deviceCalls limit t c (heardFrame x heard) (deviceData x heard) (x .contents) .side .device)
-    by no-call = sent-logged p (g .on) w (t .device) l (heardFrame x heard) (deviceData x heard) (x .contents) (t .told) Answer.none
+    by : (c : DeviceCall) → Settled p (sentWith (deviceCalls limit t c (heardFrame x heard) (deviceData x heard) (x .contents) .sent) (g .on) (wishedBy c (deviceCalls limit t c (heardFrame x heard) (deviceData x heard) (x .contents) .result) w)) (deviceCalls limit t c (heardFrame x heard) (deviceData x heard) (x .contents) .side .device)
+    by no-call = sent-logged p (g .on) w (t .device) l (heardFrame x heard) (deviceData x heard) (x .contents) (t .told) CallResult.none
     by (gives-answer wish put) = answer-logged limit p (g .on) w (t .device) l (heardFrame x heard) (deviceData x heard) (x .contents) (t .told) wish put (t .device .turn) refl
     by (gives-content command put) = content-logged limit p (g .on) w (t .device) l (heardFrame x heard) (deviceData x heard) (x .contents) (t .told) command put
 

@@ -4,22 +4,21 @@ use mathlib.Core.Path.{_≡_, refl}
 use mathlib.Core.Bool.{Bool, true, false}
 use mathlib.Core.List.{List}
 use lib.ListN.{length}
-use Rattle.base.specs.Choice.{if_then_else_, _<?_, _=?_, _outside_to_}
+use Rattle.base.specs.Refusal.{Called}
+use Rattle.base.specs.Choice.{if_then_else_, _<?_, _outside_to_}
 use Rattle.base.specs.Store.{stored}
 use Rattle.frame.specs.Address.{byteAt}
-use Rattle.frame.specs.Delimiter.{stx}
-use Rattle.line.specs.Reader.{taken}
-use Rattle.line.specs.declared.Event.{Event}
-use Rattle.line.specs.declared.Event.the-variants.{Nothing, PassedOver, Broken, Frame, Damaged}
+use Rattle.line.specs.Reader.{taken, insideFrame}
+use Rattle.line.specs.declared.Event.the-variants.{Damaged}
 use Rattle.line.specs.declared.Heard.{Heard}
 use Rattle.line.specs.declared.Heard.the-variants.{Silence, Character}
 use Rattle.line.specs.declared.Receiver.{Receiver}
-use Rattle.turns.specs.Master.{Called, isBroadcast}
-use Rattle.turns.specs.Device.{hasError, backDue, brokenDue, onSilence, onCharacter, onHeard, deviceTakes, wishRefused, answeredBy, answered, answerFrame, contentGiven, backLength, sendsBy, deviceSends, begunFrame, mayAnswer}
-use Rattle.turns.specs.Link.{DeviceCall, no-call, gives-answer, gives-content, Answer, none, was-taken, DeviceSide, DeviceStep, deviceSent, answerCalled, contentCalled, deviceTick}
+use Rattle.turns.specs.Party.{CallResult, none, was-taken}
+use Rattle.turns.specs.Device.{onSilence, onHeard, deviceTakes, wishRefused, answeredBy, answered, answerFrame, contentGiven, backLength, sendsBy, deviceSends, begunFrame}
+use Rattle.turns.specs.Link.{DeviceCall, no-call, gives-answer, gives-content, DeviceSide, DeviceStep, deviceSent, answerCalled, contentCalled, deviceTick}
 use Rattle.turns.specs.declared.Sent.{Sent}
 use Rattle.turns.specs.declared.Turn.{Turn}
-use Rattle.turns.specs.declared.Turn.the-variants.{Listens, Asked, Accepted, Begins, Answers, Follows, Bursts}
+use Rattle.turns.specs.declared.Turn.the-variants.{Listens, Asked, AnswerWaits, Begins, Answers, Follows, Bursts}
 use Rattle.turns.specs.declared.Device.{Device}
 use Rattle.turns.specs.declared.DeviceTaken.{DeviceTaken}
 use Rattle.turns.specs.declared.DeviceTold.{DeviceTold}
@@ -36,25 +35,13 @@ if-both P false a b p q = q
 if-taken : {v : Bool} (t : Bool) (a b : DeviceTaken) → a .device .burst ≡ v → b .device .burst ≡ v → (if t then a else b) .device .burst ≡ v
 if-taken {v} t a b p q = if-both (λ (x : DeviceTaken). x .device .burst ≡ v) t a b p q
 
-silence-burst : (d : Device) (r : Receiver) (e : Event) → onSilence d r e .device .burst ≡ d .burst
-silence-burst d r Nothing = if-taken (r .gap) _ _ refl (if-taken (backDue d (d .due)) _ _ refl refl)
-silence-burst d r PassedOver = if-taken (backDue d (d .profile .rt1p)) _ _ refl refl
-silence-burst d r Broken = if-taken (backDue d (brokenDue d)) _ _ refl refl
-silence-burst d r (Frame w) = if-taken (backDue d (d .profile .rt1p)) _ _ refl refl
-silence-burst d r (Damaged w m) = if-taken (backDue d (d .profile .rt1p)) _ _ refl refl
-
-character-burst : (d : Device) (r : Receiver) (e : Event) → onCharacter d r e .device .burst ≡ d .burst
-character-burst d r Nothing = refl
-character-burst d r PassedOver = refl
-character-burst d r Broken = refl
-character-burst d r (Frame w) =
-    if-taken (w .header .frame =? stx) _ _ (if-taken (w .expansion =? 0) _ _ (if-taken (mayAnswer d (w .header)) _ _ refl (if-taken (isBroadcast (w .header)) _ _ refl refl)) refl) refl
-character-burst d r (Damaged w m) = if-taken (hasError d w m) _ _ refl refl
+silence-burst : (d : Device) (r : Receiver) → onSilence d r .device .burst ≡ d .burst
+silence-burst d r = if-taken (insideFrame (d .receiver .place)) _ _ (if-taken (d .receiver .gap) _ _ refl refl) refl
 
 heard-burst : (d : Device) (heard : Heard) → onHeard d heard .device .burst ≡ d .burst
-heard-burst d Silence = silence-burst d _ (taken (d .receiver) Silence .event)
-heard-burst d (Character c) = character-burst d _ (taken (d .receiver) (Character c) .event)
-heard-burst d (Heard.Damaged c kind) = character-burst d _ (taken (d .receiver) (Heard.Damaged c kind) .event)
+heard-burst d Silence = silence-burst d (taken (d .receiver) Silence .receiver)
+heard-burst d (Character c) = refl
+heard-burst d (Heard.Damaged c kind) = refl
 
 pub takes-burst : (d : Device) (heard : Heard) → deviceTakes d heard .device .burst ≡ d .burst
 unfolding deviceTakes
@@ -68,34 +55,34 @@ pub data BurstTick (v : Bool) (step : DeviceStep) : Type 0 where
   -- the first character of the frame in its buffer goes out
   first-character : step .sent ≡ Sent.Character (byteAt (step .side .frame) 0) → BurstTick v step
 
-module _ (v : Bool) (d : Device) (was : d .burst ≡ v) (frame bytes contents : List ℕ) (told : DeviceTold) (answer : Answer) where
+module _ (v : Bool) (d : Device) (was : d .burst ≡ v) (frame bytes contents : List ℕ) (told : DeviceTold) (result : CallResult) where
   step : List ℕ → DeviceSent → DeviceStep
-  step f s = record { side = record { device = s .device; frame = f; bytes = bytes; contents = contents }; sent = s .sent; told = told; answer = answer }
+  step f s = record { side = record { device = s .device; frame = f; bytes = bytes; contents = contents }; sent = s .sent; told = told; result = result }
 
   by-turn : (turn : Turn) → BurstTick v (step (begunFrame d turn contents frame) (sendsBy d (begunFrame d turn contents frame) turn))
   unfolding step
   by-turn Listens = same was
   by-turn (Asked n) = same was
-  by-turn Accepted = same was
+  by-turn AnswerWaits = same was
   by-turn Begins = if-both (λ (s : DeviceSent). BurstTick v (step frame s)) (0 + 1 <? d .length) _ _ (first-character refl) (first-character refl)
   by-turn (Answers n) = if-both (λ (s : DeviceSent). BurstTick v (step frame s)) (n + 1 <? d .length) _ _ (same was) (same was)
   by-turn Follows = if-both (λ (s : DeviceSent). BurstTick v (step (begunFrame d Follows contents frame) s)) (0 + 1 <? backLength d) _ _ (same was) (same was)
   by-turn (Bursts n) = if-both (λ (s : DeviceSent). BurstTick v (step frame s)) (n + 1 <? d .length) _ _ (same was) (same was)
 
-  sent-burst : BurstTick v (deviceSent d frame bytes contents told answer)
+  sent-burst : BurstTick v (deviceSent d frame bytes contents told result)
   unfolding deviceSends step
   sent-burst = by-turn (d .turn)
 
 -- ---- the host's call leaves it
 
 module _ (limit : ℕ) (v : Bool) (d : Device) (was : d .burst ≡ v) (frame bytes contents : List ℕ) (told : DeviceTold) where
-  answer-burst : (wish : Wish) (put : List ℕ) (turn : Turn) → BurstTick v (answerCalled (answeredBy limit d wish (length put) turn) d (answerFrame d wish put) frame bytes contents told)
+  answer-burst : (wish : Wish) (put : List ℕ) (turn : Turn) → BurstTick v (answerCalled (answeredBy limit d wish (length put) turn) d (answerFrame d wish put frame) frame bytes contents told)
   answer-burst wish put Listens = sent-burst v d was frame bytes contents told _
   answer-burst wish put (Asked n) =
-      if-both (λ (c : Called Device). BurstTick v (answerCalled c d (answerFrame d wish put) frame bytes contents told)) (length put outside 2 to limit) _ _ (sent-burst v d was frame bytes contents told _)
-      (if-both (λ (c : Called Device). BurstTick v (answerCalled c d (answerFrame d wish put) frame bytes contents told)) (wishRefused d wish) _ _ (sent-burst v d was frame bytes contents told _)
-      (sent-burst v _ was (stored frame 0 (answerFrame d wish put)) bytes contents told was-taken))
-  answer-burst wish put Accepted = sent-burst v d was frame bytes contents told _
+      if-both (λ (c : Called Device). BurstTick v (answerCalled c d (answerFrame d wish put frame) frame bytes contents told)) (length put outside 2 to limit) _ _ (sent-burst v d was frame bytes contents told _)
+      (if-both (λ (c : Called Device). BurstTick v (answerCalled c d (answerFrame d wish put frame) frame bytes contents told)) (wishRefused d wish) _ _ (sent-burst v d was frame bytes contents told _)
+      (sent-burst v _ was (answerFrame d wish put frame) bytes contents told was-taken))
+  answer-burst wish put AnswerWaits = sent-burst v d was frame bytes contents told _
   answer-burst wish put Begins = sent-burst v d was frame bytes contents told _
   answer-burst wish put (Answers n) = sent-burst v d was frame bytes contents told _
   answer-burst wish put Follows = sent-burst v d was frame bytes contents told _

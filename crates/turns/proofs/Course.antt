@@ -5,11 +5,12 @@ use mathlib.Core.Path.{_≡_, refl, sym, ap, subst}
 use mathlib.Core.Bool.{Bool, true, false}
 use mathlib.Core.List.{List, [], _∷_}
 use lib.ListN.{length, drop}
+use Rattle.frame.specs.Limits.{longestFrame}
 use Rattle.line.specs.declared.Heard.the-variants.{Silence}
 use Rattle.line.specs.declared.Profile.{Profile}
 use Rattle.turns.specs.Link.{DeviceSide, LinkStep, linkAfter, sides}
 use Rattle.turns.specs.Run.{All, count, deviceSenders, senders, EachTick, no-tick, tick-and, NoTwoSend}
-use Rattle.turns.specs.Demand3.{masterIn, AcceptedIn, BeginsWithin, longestFrame, longestWait}
+use Rattle.turns.specs.Demand3.{masterIn, AcceptedIn, BeginsWithin, longestWait}
 use Rattle.turns.specs.Demand3 as D
 use Rattle.turns.specs.Late.{inTick, masterSent, sendersIn, BothSend, Shared}
 use Rattle.turns.specs.declared.Sent.{Sent}

@@ -201,7 +201,7 @@ module _ (limit : ℕ) (low : 2 ≤ limit) (high : limit ≤ 255) (p : Profile) 
           resting (Rattle.turns.proofs.Devices.is-asked m q some own) = Rattle.turns.proofs.CreditDevices.answers-asked 1 m (sym t ∙ q)
           resting (Rattle.turns.proofs.Devices.is-accepted q z) = answers-accepted 1 (sym t ∙ q)
             where
-              answers-accepted : (n : ℕ) → Answers n ≡ Rattle.turns.specs.declared.Turn.the-variants.Accepted → ⊥
+              answers-accepted : (n : ℕ) → Answers n ≡ Rattle.turns.specs.declared.Turn.the-variants.AnswerWaits → ⊥
               answers-accepted n e = let z : _≡_ {A = ℕ} 0 1 = cc in omega arith
       by t (B.does-answer z m) =
           let is : s .side .device .request ≡ h = m .same-request ∙ m .request-is in

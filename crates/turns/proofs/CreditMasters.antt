@@ -5,11 +5,12 @@ use mathlib.Core.Path.{_≡_, refl, sym, ap, _∙_}
 use mathlib.Core.Bool.{Bool, true, false}
 use mathlib.Core.List.{List, [], _∷_, _++_}
 use lib.ListN.{length, take, getD}
+use Rattle.base.specs.Refusal.{Called, accepted, refused}
 use Rattle.base.specs.Choice.{if_then_else_, _<?_, _≤?_, _=?_}
 use Rattle.base.proofs.Choices.{if-is-false}
 use Rattle.base.proofs.Stores.{length-stored}
 use Rattle.frame.specs.Address.{byteAt}
-use Rattle.line.specs.Reader.{taken, takenData, kept}
+use Rattle.line.specs.Reader.{taken, takenData, kept, insideFrame}
 use Rattle.line.specs.declared.Event.{Event}
 use Rattle.line.specs.declared.Event.the-variants.{Nothing, PassedOver, Broken, Frame, Damaged}
 use Rattle.line.specs.declared.Heard.{Heard}
@@ -19,7 +20,8 @@ use Rattle.line.specs.declared.Place.the-variants.{Passing, Idle, Preamble, Fir
 use Rattle.line.specs.declared.Receiver.{Receiver}
 use Rattle.line.specs.declared.Whole.{Whole}
 use Rattle.line.proofs.Leads.{readerAfter, dataAfter}
-use Rattle.turns.specs.Master.{Called, accepted, refused, Ending, requested, requestHeader, isBroadcast, isAnswer, answersMessage, fails, ends, atFrame, atBreak, ifAwaiting, rt1Ends, counts, afterBreak, onSilence, onCharacter, onHeard, masterTakes, behind}
+use Rattle.turns.specs.Party.{isBroadcast}
+use Rattle.turns.specs.Master.{Ending, requested, requestHeader, isAnswer, answersMessage, fails, ends, atFrame, atBreak, ifAwaiting, rt1Ends, counts, afterBreak, onSilence, onCharacter, onHeard, masterTakes, withReader}
 use Rattle.turns.specs.Link.{MasterCall, no-request, requests, MasterSide, masterCalled, masterTick, masterData}
 use Rattle.turns.specs.Credit.{awaitsAck}
 use Rattle.turns.specs.declared.Stage.{Stage}
@@ -74,15 +76,14 @@ after-break-not m r event = awaiting-not (m .message .stage) (m .message) (atBre
 counts-not : (m : Master) (told : MasterTold) (event : Event) → NotAnswered told → NotAnswered (counts m told event .told)
 counts-not m told event q = if-both (λ (t : MasterTaken). NotAnswered (t .told)) (rt1Ends (m .message .stage)) _ _ (break-not m) q
 
-silence-not : (m : Master) (r : Receiver) (event : Event) → NotAnswered (onSilence m r event .told)
-silence-not m r Nothing =
-    if-both (λ (t : MasterTaken). NotAnswered (t .told)) (r .gap) _ _ nothing-not (counts-not (behind m r (m .burst) (m .noted) (m .timer) (m .message)) MasterTold.Nothing Nothing nothing-not)
-silence-not m r PassedOver = counts-not (afterBreak m r PassedOver .master) (afterBreak m r PassedOver .told) PassedOver (after-break-not m r PassedOver)
-silence-not m r Broken =
+silence-not : (m : Master) (r : Receiver) → NotAnswered (onSilence m r .told)
+silence-not m r =
+    let P : MasterTaken → Type 0 = λ t. NotAnswered (t .told) in
     let once : MasterTaken = counts (afterBreak m r Broken .master) (afterBreak m r Broken .told) Broken in
-    counts-not (once .master) (once .told) Broken (counts-not (afterBreak m r Broken .master) (afterBreak m r Broken .told) Broken (after-break-not m r Broken))
-silence-not m r (Frame w) = counts-not (afterBreak m r (Frame w) .master) (afterBreak m r (Frame w) .told) (Frame w) (after-break-not m r (Frame w))
-silence-not m r (Damaged w h) = counts-not (afterBreak m r (Damaged w h) .master) (afterBreak m r (Damaged w h) .told) (Damaged w h) (after-break-not m r (Damaged w h))
+    if-both P (insideFrame (m .receiver .place)) _ _
+    (if-both P (m .receiver .gap) _ _
+    (counts-not (once .master) (once .told) Broken (counts-not (afterBreak m r Broken .master) (afterBreak m r Broken .told) Broken (after-break-not m r Broken))) nothing-not)
+    (counts-not (withReader m r) MasterTold.Nothing Nothing nothing-not)
 
 answered-same : {v w : Whole} → Answered v ≡ Answered w → v ≡ w
 answered-same e = cc
@@ -119,7 +120,7 @@ character-reports m r (Damaged v h) bytes w e = absurd (after-break-not m r (Dam
 
 heard-reports : (m : Master) (heard : Heard) (bytes : List ℕ) (w : Whole) → onHeard m heard bytes .told ≡ Answered w → (taken (m .receiver) heard .event ≡ Frame w) × (isAnswer m (w .header) ≡ true) × (awaitsAck (m .message .stage) ≡ true)
 unfolding NotAnswered
-heard-reports m Silence bytes w e = absurd (silence-not m _ (taken (m .receiver) Silence .event) w e)
+heard-reports m Silence bytes w e = absurd (silence-not m (taken (m .receiver) Silence .receiver) w e)
 heard-reports m (Character c) bytes w e = character-reports m _ (taken (m .receiver) (Character c) .event) bytes w e
 heard-reports m (Heard.Damaged c kind) bytes w e = character-reports m _ (taken (m .receiver) (Heard.Damaged c kind) .event) bytes w e
 

@@ -7,18 +7,18 @@ use mathlib.Core.Bool.{Bool, true, false}
 use mathlib.Core.List.{List}
 use lib.ListN.{length, getD}
 use borrow.Author.Tests.{ltb-true, ltb-false}
+use Rattle.base.specs.Refusal.{Called, refused}
 use Rattle.base.specs.Choice.{_<?_}
 use Rattle.base.specs.Store.{stored}
-use Rattle.base.specs.declared.Refusal.the-variants.{NoRequest}
 use Rattle.base.proofs.Choices.{if-is-true, if-is-false}
 use Rattle.frame.specs.Address.{byteAt}
 use Rattle.line.specs.Reader.{passing}
 use Rattle.line.specs.declared.Event.the-variants.{Nothing}
 use Rattle.line.specs.declared.Heard.{Heard}
 use Rattle.line.specs.declared.Whole.{Whole}
-use Rattle.turns.specs.Master.{Called, refused}
-use Rattle.turns.specs.Device.{behindAck, sends, sendsBy, deviceSends, begunFrame, errorFrame, answered, answeredBy, answerFrame, withContent, contentGiven}
-use Rattle.turns.specs.Link.{DeviceCall, no-call, gives-answer, gives-content, Answer, none, was-taken, was-refused, DeviceSide, DeviceStep, deviceSent, answerCalled, contentCalled, deviceCalls, deviceTick, deviceData}
+use Rattle.turns.specs.Party.{CallResult, none, was-taken, was-refused}
+use Rattle.turns.specs.Device.{behindAck, sends, sendsBy, deviceSends, begunFrame, errorFrame, answered, answeredBy, answerFrame, deviceWithContent, contentGiven}
+use Rattle.turns.specs.Link.{DeviceCall, no-call, gives-answer, gives-content, DeviceSide, DeviceStep, deviceSent, answerCalled, contentCalled, deviceCalls, deviceTick, deviceData}
 use Rattle.turns.specs.declared.Sent.the-variants.{Character}
 use Rattle.turns.specs.declared.Turn.{Turn}
 use Rattle.turns.specs.declared.Turn.the-variants.{Listens, Answers, Bursts}
@@ -68,27 +68,27 @@ pub record SpeaksAt (f : Frames) (x : DeviceSide) (n : ℕ) (w : List ℕ) (step
 
 module _ (f : Frames) (x : DeviceSide) (n : ℕ) (w : List ℕ) (message : Whole) (turn-is : x .device .turn ≡ sending f n) (held : Holds (x .frame) (x .device .length) w message) (below : n < length w) where
   -- behind the host's call: only the content can have changed
-  module _ (c : Content) (bytes contents : List ℕ) (told : DeviceTold) (answer : Answer) (s : Sound (withContent (x .device) c) (x .frame) contents) where
+  module _ (c : Content) (bytes contents : List ℕ) (told : DeviceTold) (result : CallResult) (s : Sound (deviceWithContent (x .device) c) (x .frame) contents) where
     e : Device
-    e = withContent (x .device) c
+    e = deviceWithContent (x .device) c
 
     by : Turn → DeviceStep
     by turn = record {
       side = record { device = sendsBy e (begunFrame e turn contents (x .frame)) turn .device; frame = begunFrame e turn contents (x .frame); bytes = bytes; contents = contents };
       sent = sendsBy e (begunFrame e turn contents (x .frame)) turn .sent;
       told = told;
-      answer = answer;
+      result = result;
     }
 
-    step-is : deviceSent (withContent (x .device) c) (x .frame) bytes contents told answer ≡ by (sending f n)
+    step-is : deviceSent (deviceWithContent (x .device) c) (x .frame) bytes contents told result ≡ by (sending f n)
     unfolding e by deviceSends
     step-is = ap by turn-is
 
     put : DeviceSent → DeviceStep
-    put y = record { side = record { device = y .device; frame = x .frame; bytes = bytes; contents = contents }; sent = y .sent; told = told; answer = answer }
+    put y = record { side = record { device = y .device; frame = x .frame; bytes = bytes; contents = contents }; sent = y .sent; told = told; result = result }
 
-    out : (turn : Turn) (due : ℕ) → Place f (x .device) n w (sends (withContent (x .device) c) true turn (x .device .length) (x .device .burst) (x .device .primary) due passing (Character (byteAt (x .frame) n)) .device)
-        → SpeaksAt f x n w (put (sends (withContent (x .device) c) true turn (x .device .length) (x .device .burst) (x .device .primary) due passing (Character (byteAt (x .frame) n))))
+    out : (turn : Turn) (due : ℕ) → Place f (x .device) n w (sends (deviceWithContent (x .device) c) true turn (x .device .length) (x .device .burst) (x .device .primary) due passing (Character (byteAt (x .frame) n)) .device)
+        → SpeaksAt f x n w (put (sends (deviceWithContent (x .device) c) true turn (x .device .length) (x .device .burst) (x .device .primary) due passing (Character (byteAt (x .frame) n))))
     unfolding put
     out turn due p = record {
       place = p;
@@ -115,7 +115,7 @@ module _ (f : Frames) (x : DeviceSide) (n : ℕ) (w : List ℕ) (message : Whole
       };
     }
 
-    sends-on : SpeaksAt f x n w (deviceSent (withContent (x .device) c) (x .frame) bytes contents told answer)
+    sends-on : SpeaksAt f x n w (deviceSent (deviceWithContent (x .device) c) (x .frame) bytes contents told result)
     unfolding e by put
     sends-on = subst (SpeaksAt f x n w) (sym step-is) (go f refl (n + 1 <? x .device .length) refl)
       where
@@ -154,10 +154,10 @@ module _ (f : Frames) (x : DeviceSide) (n : ℕ) (w : List ℕ) (message : Whole
       t : DeviceTaken
       t = Rattle.turns.specs.Device.tells d DeviceTold.Nothing Nothing
 
-      same-content : (a : Answer) → SpeaksAt f x n w (deviceSent d (x .frame) (deviceData x heard) (x .contents) DeviceTold.Nothing a)
+      same-content : (a : CallResult) → SpeaksAt f x n w (deviceSent d (x .frame) (deviceData x heard) (x .contents) DeviceTold.Nothing a)
       same-content a = sends-on (d .content) (deviceData x heard) (x .contents) DeviceTold.Nothing a s
 
-      no-answer : (g : Frames) → d .turn ≡ sending g n → (wish : _) (count : ℕ) → answeredBy limit d wish count (d .turn) ≡ refused NoRequest
+      no-answer : (g : Frames) → d .turn ≡ sending g n → (wish : _) (count : ℕ) → answeredBy limit d wish count (d .turn) ≡ refused 8
       no-answer an-ack q wish count = ap (answeredBy limit d wish count) q
       no-answer a-back q wish count = ap (answeredBy limit d wish count) q
 
@@ -171,5 +171,5 @@ module _ (f : Frames) (x : DeviceSide) (n : ℕ) (w : List ℕ) (message : Whole
       by-call : (call : DeviceCall) → SpeaksAt f x n w (deviceCalls limit t call (x .frame) (deviceData x heard) (x .contents))
       by-call no-call = same-content none
       by-call (gives-answer wish put) =
-          subst (λ (c : Called Device). SpeaksAt f x n w (answerCalled c d (answerFrame d wish put) (x .frame) (deviceData x heard) (x .contents) DeviceTold.Nothing)) (sym (no-answer f turn-is wish (length put))) (same-content (was-refused NoRequest))
+          subst (λ (c : Called Device). SpeaksAt f x n w (answerCalled c d (answerFrame d wish put (x .frame)) (x .frame) (deviceData x heard) (x .contents) DeviceTold.Nothing)) (sym (no-answer f turn-is wish (length put))) (same-content (was-refused 8))
       by-call (gives-content command put) = by-content command put (content-view limit d command (length put))

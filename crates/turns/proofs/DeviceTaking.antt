@@ -5,7 +5,7 @@ use mathlib.Core.Path.{_≡_, refl, sym, ap, subst, _∙_}
 use mathlib.Core.Bool.{Bool, true, false}
 use mathlib.Core.List.{List}
 use lib.ListN.{length}
-use borrow.Author.Tests.{leb-false, eq-eqb, eqb-true, eqb-false}
+use borrow.Author.Tests.{leb-false, eqb-true, eqb-false}
 use Rattle.base.specs.Choice.{if_then_else_, _≤?_, _=?_}
 use Rattle.base.proofs.Choices.{true-false, if-is-true, if-is-false}
 use Rattle.frame.specs.Delimiter.{stx}
@@ -19,17 +19,20 @@ use Rattle.line.specs.declared.Heard.the-variants.{Silence}
 use Rattle.line.specs.declared.Receiver.{Receiver}
 use Rattle.line.specs.declared.Taken.{Taken}
 use Rattle.line.specs.declared.Whole.{Whole}
-use Rattle.turns.specs.Master.{isBroadcast}
-use Rattle.turns.specs.Device.{behind, mayAnswer, dueAfter, afterRequest, afterFrame, waited, backDue, counts, onSilence, onCharacter, onHeard, deviceTakes}
+use Rattle.turns.specs.Party.{isBroadcast}
+use Rattle.turns.specs.Device.{deviceWith, mayAnswer, dueAfter, afterFrame, waited, backDue, counts, onCharacter, onHeard, deviceTakes, endedBy, changed, listensOn}
 use Rattle.turns.specs.declared.Wish.the-variants.{Same}
 use Rattle.turns.specs.declared.Turn.{Turn}
 use Rattle.turns.specs.declared.Turn.the-variants.{Listens, Asked, Begins, Follows}
 use Rattle.turns.specs.declared.Device.{Device}
 use Rattle.turns.specs.declared.DeviceTold.{DeviceTold}
-use Rattle.turns.specs.declared.DeviceTold.the-variants.{Broadcast}
+use Rattle.turns.specs.declared.DeviceTold.the-variants.{Broadcast, Request}
 use Rattle.turns.specs.declared.DeviceTaken.{DeviceTaken}
 use Rattle.turns.proofs.Turns.{listens-follows, asked-follows, asked-listens, accepted-listens, begins-follows}
 use Rattle.turns.proofs.Devices.{Sound, inHand, Hand, nothing-in-hand, is-asked, is-accepted, Turned, in-hand, begins-now, follows-now, SameDevice}
+use Rattle.turns.specs.declared.Change.{Change}
+use Rattle.turns.proofs.Silent.{ready-outside, device-outside}
+use Rattle.turns.proofs.Masters.{if-cases}
 
 -- ---- what is common to every way of taking
 
@@ -49,8 +52,8 @@ pub record TookMid (frame contents : List ℕ) (d : Device) (t : DeviceTaken) (r
 
 -- a frame's last character: an STX that its host may answer is in hand
 pub data FrameTurn (d : Device) (t : DeviceTaken) (w : Whole) : Type 0 where
-  asked-by : w .header .frame ≡ stx → mayAnswer d (w .header) ≡ true → t .device .turn ≡ Asked (d .profile .sto) → t .device .request ≡ w .header → t .device .due ≡ d .profile .rt1p → FrameTurn d t w
-  listens-on : t .device .turn ≡ Listens → t .device .due ≡ (if w .header .frame =? stx then d .profile .rt1p else dueAfter d (w .header)) → FrameTurn d t w
+  asked-by : w .header .frame ≡ stx → mayAnswer d (w .header) ≡ true → t .device .turn ≡ Asked (d .profile .sto) → t .device .request ≡ w .header → t .device .due ≡ dueAfter (d .profile) (endedBy (Frame w)) → FrameTurn d t w
+  listens-on : t .device .turn ≡ Listens → t .device .due ≡ dueAfter (d .profile) (endedBy (Frame w)) → FrameTurn d t w
 
 pub record TookFrame (frame contents : List ℕ) (d : Device) (t : DeviceTaken) (w : Whole) : Type 0 where
   pub took : Took frame contents d t
@@ -89,7 +92,7 @@ module _ (frame contents : List ℕ) (d : Device) (hears : d .deaf ≡ false) (h
   heard-is heard = if-is-false (d .deaf) _ _ hears
 
   -- the parts that taking never changes
-  keeps-sound : (r : Receiver) (turn : Turn) (request : Header) (wish : _) (n due : ℕ) → Sound (behind d r turn request wish n due) frame contents
+  keeps-sound : (r : Receiver) (turn : Turn) (request : Header) (wish : _) (n due : ℕ) → Sound (deviceWith d r turn request wish n due) frame contents
   keeps-sound r turn request wish n due = record {
     preamble-low = sound .preamble-low;
     preamble-high = sound .preamble-high;
@@ -121,63 +124,46 @@ module _ (frame contents : List ℕ) (d : Device) (hears : d .deaf ≡ false) (h
       })
 
   -- a device that listens on behind a frame
-  listening : (w : Whole) (told : DeviceTold) (due : ℕ) → due ≡ (if w .header .frame =? stx then d .profile .rt1p else dueAfter d (w .header))
-      → TookFrame frame contents d (Rattle.turns.specs.Device.tells (behind d idle Listens (d .request) Same (d .length) due) told (Frame w)) w
-  listening w told due e = record {
+  listening : (w : Whole) (told : DeviceTold) → TookFrame frame contents d (changed d idle (Frame w) (listensOn d told)) w
+  listening w told = record {
     took = record {
       same = record { same-profile = refl; same-preamble = refl; same-polling = refl; same-unique = refl };
       same-burst = refl;
       same-primary = refl;
-      sound = keeps-sound idle Listens (d .request) Same (d .length) due;
+      sound = keeps-sound idle Listens (d .request) Same (d .length) (dueAfter (d .profile) (endedBy (Frame w)));
       turned = in-hand (nothing-in-hand refl);
     };
     event-is = refl;
     receiver-is = refl;
-    turn-is = listens-on refl e;
+    turn-is = listens-on refl refl;
   }
 
   pub takes-frame : (c : ℕ) (w : Whole) → taken (d .receiver) (Heard.Character c) ≡ Rattle.line.specs.Reader.tells idle (Frame w) → w .expansion ≡ 0 → 1 ≤ d .profile .sto → TookFrame frame contents d (deviceTakes d (Heard.Character c)) w
   takes-frame c w e x some-sto =
-      let same : deviceTakes d (Heard.Character c) ≡ afterFrame d idle w = heard-is (Heard.Character c) ∙ ap (λ (t : Taken). onCharacter d (t .receiver) (t .event)) e in
-      subst (λ (t : DeviceTaken). TookFrame frame contents d t w) (sym same) (by-type (w .header .frame =? stx) refl)
+      let same : deviceTakes d (Heard.Character c) ≡ changed d idle (Frame w) (afterFrame d w) = heard-is (Heard.Character c) ∙ ap (λ (t : Taken). onCharacter d (t .receiver) (t .event)) e in
+      subst (λ (t : DeviceTaken). TookFrame frame contents d t w) (sym same)
+      (if-cases After (w .header .frame =? stx) _ _
+      (λ q. if-cases After (w .expansion =? 0) _ _
+      (λ z. if-cases After (mayAnswer d (w .header)) _ _ (own q) (λ o. if-cases After (isBroadcast (w .header)) _ _ (λ b. listening w (Broadcast w)) (λ b. listening w DeviceTold.Nothing)))
+      (λ z. listening w DeviceTold.Nothing))
+      (λ q. listening w DeviceTold.Nothing))
     where
-      S : Bool
-      S = w .header .frame =? stx
+      After : Change → Type 0
+      After k = TookFrame frame contents d (changed d idle (Frame w) k) w
 
-      own : (t : Bool) → mayAnswer d (w .header) ≡ t → S ≡ true → TookFrame frame contents d (afterRequest d idle w) w
-      own true o q =
-          subst (λ (t : DeviceTaken). TookFrame frame contents d t w) (sym (if-is-true (mayAnswer d (w .header)) _ _ o))
-          (record {
-            took = record {
-              same = record { same-profile = refl; same-preamble = refl; same-polling = refl; same-unique = refl };
-              same-burst = refl;
-              same-primary = refl;
-              sound = keeps-sound idle (Asked (d .profile .sto)) (w .header) Same (d .length) (d .profile .rt1p);
-              turned = in-hand (is-asked (d .profile .sto) refl some-sto o);
-            };
-            event-is = refl;
-            receiver-is = refl;
-            turn-is = asked-by (eqb-true (w .header .frame) stx q) o refl refl refl;
-          })
-      own false o q = subst (λ (t : DeviceTaken). TookFrame frame contents d t w) (sym (if-is-false (mayAnswer d (w .header)) _ _ o)) (all (isBroadcast (w .header)) refl)
-        where
-          due-is : d .profile .rt1p ≡ (if w .header .frame =? stx then d .profile .rt1p else dueAfter d (w .header))
-          due-is = sym (if-is-true (w .header .frame =? stx) (d .profile .rt1p) (dueAfter d (w .header)) q)
-
-          listened : DeviceTold → DeviceTaken
-          listened told = Rattle.turns.specs.Device.tells (behind d idle Listens (d .request) Same (d .length) (d .profile .rt1p)) told (Frame w)
-
-          all : (t : Bool) → isBroadcast (w .header) ≡ t → TookFrame frame contents d (if isBroadcast (w .header) then listened (Broadcast w) else listened DeviceTold.Nothing) w
-          all true b = subst (λ (t : DeviceTaken). TookFrame frame contents d t w) (sym (if-is-true (isBroadcast (w .header)) _ _ b)) (listening w (Broadcast w) (d .profile .rt1p) due-is)
-          all false b = subst (λ (t : DeviceTaken). TookFrame frame contents d t w) (sym (if-is-false (isBroadcast (w .header)) _ _ b)) (listening w DeviceTold.Nothing (d .profile .rt1p) due-is)
-
-      by-type : (t : Bool) → S ≡ t → TookFrame frame contents d (afterFrame d idle w) w
-      by-type true q =
-          subst (λ (t : DeviceTaken). TookFrame frame contents d t w) (sym (if-is-true S _ _ q ∙ if-is-true (w .expansion =? 0) _ _ (eq-eqb (w .expansion) 0 x)))
-          (own (mayAnswer d (w .header)) refl q)
-      by-type false q =
-          subst (λ (t : DeviceTaken). TookFrame frame contents d t w) (sym (if-is-false S _ _ q))
-          (listening w DeviceTold.Nothing (dueAfter d (w .header)) (sym (if-is-false S (d .profile .rt1p) (dueAfter d (w .header)) q)))
+      own : (w .header .frame =? stx) ≡ true → mayAnswer d (w .header) ≡ true → TookFrame frame contents d (changed d idle (Frame w) (record { turn = Asked (d .profile .sto); request = w .header; length = d .length; told = Request w })) w
+      own q o = record {
+        took = record {
+          same = record { same-profile = refl; same-preamble = refl; same-polling = refl; same-unique = refl };
+          same-burst = refl;
+          same-primary = refl;
+          sound = keeps-sound idle (Asked (d .profile .sto)) (w .header) Same (d .length) (dueAfter (d .profile) (endedBy (Frame w)));
+          turned = in-hand (is-asked (d .profile .sto) refl some-sto o);
+        };
+        event-is = refl;
+        receiver-is = refl;
+        turn-is = asked-by (eqb-true (w .header .frame) stx q) o refl refl refl;
+      }
 
   -- behind a break, and behind characters that are passed over
   pub takes-noise : (heard : Heard) → Noise (d .receiver) heard → TookNoise frame contents d (deviceTakes d heard)
@@ -188,7 +174,7 @@ module _ (frame contents : List ℕ) (d : Device) (hears : d .deaf ≡ false) (h
       After t = TookNoise frame contents d t
 
       on : Event → DeviceTaken
-      on e = Rattle.turns.specs.Device.tells (behind d passing Listens (d .request) Same (d .length) (d .profile .rt1p)) DeviceTold.Nothing e
+      on e = Rattle.turns.specs.Device.tells (deviceWith d passing Listens (d .request) Same (d .length) (d .profile .rt1p)) DeviceTold.Nothing e
 
       took : (e : Event) → Took frame contents d (on e)
       took e = record {
@@ -212,16 +198,16 @@ module _ (frame contents : List ℕ) (d : Device) (hears : d .deaf ≡ false) (h
 
   pub takes-silence : taken (d .receiver) Silence ≡ Rattle.line.specs.Reader.tells idle Nothing → TookSilence frame contents d (deviceTakes d Silence)
   takes-silence e =
-      let same : deviceTakes d Silence ≡ counts d idle (d .due) Nothing = heard-is Silence ∙ ap (λ (t : Taken). onSilence d (t .receiver) (t .event)) e ∙ if-is-false (idle .gap) _ _ refl in
+      let same : deviceTakes d Silence ≡ counts d idle (d .due) Nothing = heard-is Silence ∙ device-outside d (ready-outside (d .receiver) e) in
       subst (λ (t : DeviceTaken). TookSilence frame contents d t) (sym same) (by-burst (d .burst) refl)
     where
       After : DeviceTaken → Type 0
       After t = TookSilence frame contents d t
 
       on : Turn → ℕ → DeviceTaken
-      on turn due = Rattle.turns.specs.Device.tells (behind d idle turn (d .request) (d .wish) (d .length) due) DeviceTold.Nothing Nothing
+      on turn due = Rattle.turns.specs.Device.tells (deviceWith d idle turn (d .request) (d .wish) (d .length) due) DeviceTold.Nothing Nothing
 
-      silent-took : (turn : Turn) (due : ℕ) → Turned (behind d idle turn (d .request) (d .wish) (d .length) due) frame → Took frame contents d (on turn due)
+      silent-took : (turn : Turn) (due : ℕ) → Turned (deviceWith d idle turn (d .request) (d .wish) (d .length) due) frame → Took frame contents d (on turn due)
       silent-took turn due turned = record {
         same = record { same-profile = refl; same-preamble = refl; same-polling = refl; same-unique = refl };
         same-burst = refl;
@@ -270,21 +256,21 @@ module _ (frame contents : List ℕ) (d : Device) (hears : d .deaf ≡ false) (h
 
       by-due : (t : Bool) → (d .due =? 1) ≡ t → d .burst ≡ true → After (counts d idle (d .due) Nothing)
       by-due true r b =
-          subst After (sym (if-is-true (backDue d (d .due)) _ _ (if-is-true (d .burst) (d .due =? 1) false b ∙ r)))
+          subst (λ (turn : Turn). After (on turn (d .due - 1))) (sym (if-is-true (backDue d (d .due)) _ _ (if-is-true (d .burst) (d .due =? 1) false b ∙ r)))
           (record {
-            took = silent-took Follows 0 (follows-now refl b);
+            took = silent-took Follows (d .due - 1) (follows-now refl b);
             event-is = refl;
             receiver-is = refl;
             turn-is = back-is-due b (eqb-true (d .due) 1 r) refl;
           })
       by-due false r b =
-          subst After (sym (if-is-false (backDue d (d .due)) _ _ (if-is-true (d .burst) (d .due =? 1) false b ∙ r)))
+          subst (λ (turn : Turn). After (on turn (d .due - 1))) (sym (if-is-false (backDue d (d .due)) _ _ (if-is-true (d .burst) (d .due =? 1) false b ∙ r)))
           (counted (λ b′ one. eqb-false (d .due) 1 r one) hand)
 
       by-burst : (t : Bool) → d .burst ≡ t → After (counts d idle (d .due) Nothing)
       by-burst true b = by-due (d .due =? 1) refl b
       by-burst false b =
-          subst After (sym (if-is-false (backDue d (d .due)) _ _ (if-is-false (d .burst) (d .due =? 1) false b)))
+          subst (λ (turn : Turn). After (on turn (d .due - 1))) (sym (if-is-false (backDue d (d .due)) _ _ (if-is-false (d .burst) (d .due =? 1) false b)))
           (counted (λ b′ one. true-false (sym b′ ∙ b)) hand)
 
 -- ---- a device that hears nothing: it is fresh, or sent in the tick before

@@ -7,28 +7,29 @@ use mathlib.Core.List.{List}
 use lib.ListN.{length, getD, take}
 use lib.Seq.{length-take-le}
 use borrow.Author.Tests.{ltb-false, le-ltb, eq-eqb, eqb-true}
+use Rattle.base.specs.Refusal.{Called, accepted, refused}
 use Rattle.base.specs.Choice.{if_then_else_, _<?_, _=?_, _outside_to_}
 use Rattle.base.specs.Store.{stored}
-use Rattle.base.specs.declared.Refusal.{Refusal}
-use Rattle.base.specs.declared.Refusal.the-variants.{Command, NoRequest, DataLength, BurstWish}
 use Rattle.base.proofs.Choices.{true-false, went-then, inside-low, inside-high, if-is-true, if-is-false}
 use Rattle.base.proofs.Stores.{length-stored}
 use Rattle.frame.specs.Delimiter.{ack, back, isType}
 use Rattle.frame.specs.Address.{byteAt, largestAddress}
-use Rattle.frame.specs.Frame.{tooFew, frameLength}
+use Rattle.frame.specs.Frame.{tooFew, frameBytes, frameLength}
+use Rattle.frame.specs.Write.{writeBuffer}
 use Rattle.frame.specs.declared.Header.{Header}
 use Rattle.frame.proofs.Taken.{Fits}
 use Rattle.line.specs.Reader.{passing}
 use Rattle.line.specs.declared.Whole.{Whole}
 use Rattle.line.proofs.Hearing.{wholeMessage}
-use Rattle.turns.specs.Master.{Called, accepted, refused, seeksTag, namesDevice}
-use Rattle.turns.specs.Device.{behind, isOwn, mayAnswer, hasNoWish, answerHeader, wished, wishRefused, answersAt, answeredBy, answered, answerFrame, withContent, contentGiven, backHeader, backFrame, backLength, firstFor, answersFrom, burstsFrom, sends, sendsBy, deviceSends, begunFrame}
-use Rattle.turns.specs.Link.{DeviceCall, no-call, gives-answer, gives-content, Answer, none, was-taken, was-refused, DeviceStep, deviceSent, answerCalled, contentCalled, deviceCalls}
+use Rattle.turns.specs.Party.{seeksTag, CallResult, none, was-taken, was-refused}
+use Rattle.turns.specs.Master.{namesDevice}
+use Rattle.turns.specs.Device.{deviceWith, isOwn, mayAnswer, hasNoWish, answerHeader, wished, wishRefused, answersAt, answeredBy, answered, answerFrame, deviceWithContent, contentGiven, backHeader, backLength, firstFor, answersFrom, burstsFrom, sends, sendsBy, deviceSends, begunFrame}
+use Rattle.turns.specs.Link.{DeviceCall, no-call, gives-answer, gives-content, DeviceStep, deviceSent, answerCalled, contentCalled, deviceCalls}
 use Rattle.turns.specs.declared.Sent.the-variants.{Silent, Character}
 use Rattle.turns.specs.declared.Wish.{Wish}
 use Rattle.turns.specs.declared.Wish.the-variants.{Same, On, Off}
 use Rattle.turns.specs.declared.Turn.{Turn}
-use Rattle.turns.specs.declared.Turn.the-variants.{Listens, Asked, Accepted, Begins, Answers, Follows, Bursts}
+use Rattle.turns.specs.declared.Turn.the-variants.{Listens, Asked, AnswerWaits, Begins, Answers, Follows, Bursts}
 use Rattle.turns.specs.declared.Content.{Content}
 use Rattle.turns.specs.declared.Device.{Device}
 use Rattle.turns.specs.declared.DeviceTold.{DeviceTold}
@@ -36,7 +37,8 @@ use Rattle.turns.specs.declared.DeviceTaken.{DeviceTaken}
 use Rattle.turns.specs.declared.DeviceSent.{DeviceSent}
 use Rattle.turns.proofs.TagSentences.{tag-zero}
 use Rattle.turns.proofs.Turns.{listens-follows, listens-begins, listens-asked, asked-follows, asked-begins, accepted-follows, accepted-begins, begins-follows}
-use Rattle.turns.proofs.Masters.{Holds, holds, if-cases}
+use Rattle.turns.proofs.Writing.{length-written}
+use Rattle.turns.proofs.Masters.{Holds, holds-written, if-cases}
 
 -- ---- what holds of a device at any time
 
@@ -57,7 +59,7 @@ pub record Sound (d : Device) (frame contents : List ℕ) : Type 0 where
 abbrev pub inHand : Turn → ℕ
 inHand Listens = 0
 inHand (Asked n) = n
-inHand Accepted = 1
+inHand AnswerWaits = 1
 inHand Begins = 0
 inHand (Answers n) = 0
 inHand Follows = 0
@@ -78,7 +80,7 @@ pub record Prepared (d : Device) (frame : List ℕ) : Type 0 where
 pub data Hand (d : Device) (frame : List ℕ) : Type 0 where
   nothing-in-hand : d .turn ≡ Listens → Hand d frame
   is-asked : (n : ℕ) → d .turn ≡ Asked n → 1 ≤ n → mayAnswer d (d .request) ≡ true → Hand d frame
-  is-accepted : d .turn ≡ Accepted → Prepared d frame → Hand d frame
+  is-accepted : d .turn ≡ AnswerWaits → Prepared d frame → Hand d frame
 
 -- ---- what comes of a tick behind what was heard
 
@@ -214,9 +216,9 @@ pub own-same : {d e : Device} → SameDevice d e → e .request ≡ d .request �
 own-same {d} {e} same r o =
     (λ i. if seeksTag (sym r i) then true else if sym r i .long then sym (same .same-unique) i =? sym r i .address else (if sym (same .same-polling) i =? sym r i .address then sym r i .command =? 0 else false)) ∙ o
 
-module _ (d e : Device) (frame bytes contents : List ℕ) (told : DeviceTold) (answer : Answer) (after : AfterCall d e) (s : Sound e frame contents) where
+module _ (d e : Device) (frame bytes contents : List ℕ) (told : DeviceTold) (result : CallResult) (after : AfterCall d e) (s : Sound e frame contents) where
   abbrev Step : DeviceStep
-  Step = deviceSent e frame bytes contents told answer
+  Step = deviceSent e frame bytes contents told result
 
   -- the step, for a device in this turn
   by : Turn → DeviceStep
@@ -224,7 +226,7 @@ module _ (d e : Device) (frame bytes contents : List ℕ) (told : DeviceTold) (a
     side = record { device = sendsBy e (begunFrame e turn contents frame) turn .device; frame = begunFrame e turn contents frame; bytes = bytes; contents = contents };
     sent = sendsBy e (begunFrame e turn contents frame) turn .sent;
     told = told;
-    answer = answer;
+    result = result;
   }
 
   step-is : Step ≡ by (e .turn)
@@ -266,9 +268,9 @@ module _ (d e : Device) (frame bytes contents : List ℕ) (told : DeviceTold) (a
   hand-goes (is-accepted q p) =
       let less : 1 ≤ inHand (d .turn) = omega (arith, after .less-in-hand, ap inHand q) in
       subst (Goes d) (sym (step-is ∙ ap by q))
-      (rests (same-still Accepted) refl refl (after .same-receiver) (after .same-burst) (after .same-primary) (after .same-due) (after .same-request) less
+      (rests (same-still AnswerWaits) refl refl (after .same-receiver) (after .same-burst) (after .same-primary) (after .same-due) (after .same-request) less
       (is-accepted refl (record { w = p .w; message = p .message; held = p .held; header-is = p .header-is; no-expansion = p .no-expansion; own = p .own; short-same = p .short-same; on-given = p .on-given }))
-      (still-sound Accepted) (λ z. accepted-follows (sym q ∙ after .follows-kept z)))
+      (still-sound AnswerWaits) (λ z. accepted-follows (sym q ∙ after .follows-kept z)))
 
   -- an answer begins
   begins-goes : e .turn ≡ Begins → Prepared e frame → Goes d Step
@@ -287,8 +289,8 @@ module _ (d e : Device) (frame bytes contents : List ℕ) (told : DeviceTold) (a
       go : (t : Bool) → (0 + 1 <? e .length) ≡ t → Goes d (by Begins)
       go true r =
           let first : answersFrom e frame 0 burst (firstFor e) ≡ sends e true (Answers 1) (e .length) burst (firstFor e) 0 passing (Character (byteAt frame 0)) = if-is-true (0 + 1 <? e .length) _ _ r in
-          let there : by Begins ≡ record { side = record { device = sends e true (Answers 1) (e .length) burst (firstFor e) 0 passing Silent .device; frame = frame; bytes = bytes; contents = contents }; sent = Character (byteAt frame 0); told = told; answer = answer } =
-          ap (λ (x : DeviceSent). record { side = record { device = x .device; frame = frame; bytes = bytes; contents = contents }; sent = x .sent; told = told; answer = answer }) first in
+          let there : by Begins ≡ record { side = record { device = sends e true (Answers 1) (e .length) burst (firstFor e) 0 passing Silent .device; frame = frame; bytes = bytes; contents = contents }; sent = Character (byteAt frame 0); told = told; result = result } =
+          ap (λ (x : DeviceSent). record { side = record { device = x .device; frame = frame; bytes = bytes; contents = contents }; sent = x .sent; told = told; result = result }) first in
           subst (Goes d) (sym there)
           (answers burst (λ i. firstFor (turnOf e (after .same-burst i) (after .same-primary i)))
           (record {
@@ -339,12 +341,15 @@ module _ (d e : Device) (frame bytes contents : List ℕ) (told : DeviceTold) (a
       count-is = length-take-le (e .content .count) contents (omega (arith, s .content-high, s .contents-room))
 
       put : List ℕ
-      put = stored frame 0 (backFrame e contents)
+      put = writeBuffer (e .preamble) (backHeader e) bytes-back frame 0
 
-      there : Holds put (frameLength (e .preamble) (backHeader e) (length bytes-back)) (backFrame e contents) (wholeMessage (backHeader e) bytes-back)
-      there = holds (e .preamble) (backHeader e) bytes-back frame (back-fits e frame contents s given) (s .frame-room)
+      w : List ℕ
+      w = frameBytes (e .preamble) (backHeader e) bytes-back
 
-      held : Holds put (backLength e) (backFrame e contents) (wholeMessage (backHeader e) bytes-back)
+      there : Holds put (frameLength (e .preamble) (backHeader e) (length bytes-back)) w (wholeMessage (backHeader e) bytes-back)
+      there = holds-written (e .preamble) (backHeader e) bytes-back frame (back-fits e frame contents s given) (s .frame-room)
+
+      held : Holds put (backLength e) w (wholeMessage (backHeader e) bytes-back)
       held = record { speaks = there .speaks; sized = there .sized ∙ ap (frameLength (e .preamble) (backHeader e)) count-is; same = there .same }
 
       long : 0 + 1 < backLength e
@@ -356,12 +361,12 @@ module _ (d e : Device) (frame bytes contents : List ℕ) (told : DeviceTold) (a
       go : (t : Bool) → (0 + 1 <? backLength e) ≡ t → Goes d (by Follows)
       go true r =
           let first : burstsFrom e put 0 (backLength e) next-for ≡ sends e true (Bursts 1) (backLength e) (e .burst) next-for 0 passing (Character (byteAt put 0)) = if-is-true (0 + 1 <? backLength e) _ _ r in
-          let become : by Follows ≡ record { side = record { device = sends e true (Bursts 1) (backLength e) (e .burst) next-for 0 passing Silent .device; frame = put; bytes = bytes; contents = contents }; sent = Character (byteAt put 0); told = told; answer = answer } =
-          ap (λ (x : DeviceSent). record { side = record { device = x .device; frame = put; bytes = bytes; contents = contents }; sent = x .sent; told = told; answer = answer }) first in
+          let become : by Follows ≡ record { side = record { device = sends e true (Bursts 1) (backLength e) (e .burst) next-for 0 passing Silent .device; frame = put; bytes = bytes; contents = contents }; sent = Character (byteAt put 0); told = told; result = result } =
+          ap (λ (x : DeviceSent). record { side = record { device = x .device; frame = put; bytes = bytes; contents = contents }; sent = x .sent; told = told; result = result }) first in
           subst (Goes d) (sym become)
           (bursts
           (record {
-            w = backFrame e contents;
+            w = w;
             message = wholeMessage (backHeader e) bytes-back;
             held = held;
             character = ap Character (held .same 0 (omega (arith, held .speaks .long)));
@@ -377,7 +382,7 @@ module _ (d e : Device) (frame bytes contents : List ℕ) (told : DeviceTold) (a
               polling-high = s .polling-high;
               unique-low = s .unique-low;
               unique-high = s .unique-high;
-              frame-room = omega (arith, s .frame-room, length-stored frame 0 (backFrame e contents));
+              frame-room = omega (arith, s .frame-room, length-written (e .preamble) (backHeader e) bytes-back frame);
               contents-room = s .contents-room;
               content-low = s .content-low;
               content-high = s .content-high;
@@ -436,51 +441,51 @@ wish-given d Off frame contents s f on = absurd (true-false (sym on))
 
 -- the device behind an answer that was taken
 abbrev answering : Device → Turn → Wish → ℕ → Device
-answering d turn wish count = behind d (d .receiver) turn (d .request) wish (frameLength (d .preamble) (answerHeader (d .request) (wished (d .burst) wish)) count) (d .due)
+answering d turn wish count = deviceWith d (d .receiver) turn (d .request) wish (frameLength (d .preamble) (answerHeader (d .request) (wished (d .burst) wish)) count) (d .due)
 
 pub data AnswerView (limit : ℕ) (d : Device) (wish : Wish) (count n : ℕ) : Type 0 where
-  is-refused : (why : Refusal) → answeredBy limit d wish count (Asked n) ≡ refused why → AnswerView limit d wish count n
+  is-refused : (why : ℕ) → answeredBy limit d wish count (Asked n) ≡ refused why → AnswerView limit d wish count n
   is-taken : 2 ≤ count → count ≤ limit → wishRefused d wish ≡ false → answeredBy limit d wish count (Asked n) ≡ accepted (answering d (answersAt d n) wish count) → AnswerView limit d wish count n
 
 pub answer-view : (limit : ℕ) (d : Device) (wish : Wish) (count n : ℕ) → AnswerView limit d wish count n
 answer-view limit d wish count n = first (count outside 2 to limit) refl
   where
     second : (t : Bool) → wishRefused d wish ≡ t → (count outside 2 to limit) ≡ false → AnswerView limit d wish count n
-    second true f a = is-refused BurstWish (if-is-false (count outside 2 to limit) _ _ a ∙ if-is-true (wishRefused d wish) _ _ f)
+    second true f a = is-refused 10 (if-is-false (count outside 2 to limit) _ _ a ∙ if-is-true (wishRefused d wish) _ _ f)
     second false f a = is-taken (inside-low count 2 limit _ refl a) (inside-high count 2 limit _ refl a) f (if-is-false (count outside 2 to limit) _ _ a ∙ if-is-false (wishRefused d wish) _ _ f)
 
     first : (t : Bool) → (count outside 2 to limit) ≡ t → AnswerView limit d wish count n
-    first true a = is-refused DataLength (if-is-true (count outside 2 to limit) _ _ a)
+    first true a = is-refused 9 (if-is-true (count outside 2 to limit) _ _ a)
     first false a = second (wishRefused d wish) refl a
 
 -- ---- the content
 
 pub data ContentView (limit : ℕ) (d : Device) (command count : ℕ) : Type 0 where
-  is-refused : (why : Refusal) → contentGiven limit d command count ≡ refused why → ContentView limit d command count
-  is-taken : 2 ≤ count → count ≤ limit → contentGiven limit d command count ≡ accepted (withContent d (record { given = true; command = command; count = count })) → ContentView limit d command count
+  is-refused : (why : ℕ) → contentGiven limit d command count ≡ refused why → ContentView limit d command count
+  is-taken : 2 ≤ count → count ≤ limit → contentGiven limit d command count ≡ accepted (deviceWithContent d (record { given = true; command = command; count = count })) → ContentView limit d command count
 
 pub content-view : (limit : ℕ) (d : Device) (command count : ℕ) → ContentView limit d command count
 unfolding contentGiven
 content-view limit d command count = first (command =? 254) refl
   where
     second : (t : Bool) → (count outside 2 to limit) ≡ t → (command =? 254) ≡ false → ContentView limit d command count
-    second true a f = is-refused DataLength (if-is-false (command =? 254) _ _ f ∙ if-is-true (count outside 2 to limit) _ _ a)
+    second true a f = is-refused 9 (if-is-false (command =? 254) _ _ f ∙ if-is-true (count outside 2 to limit) _ _ a)
     second false a f = is-taken (inside-low count 2 limit _ refl a) (inside-high count 2 limit _ refl a) (if-is-false (command =? 254) _ _ f ∙ if-is-false (count outside 2 to limit) _ _ a)
 
     first : (t : Bool) → (command =? 254) ≡ t → ContentView limit d command count
-    first true f = is-refused Command (if-is-true (command =? 254) _ _ f)
+    first true f = is-refused 5 (if-is-true (command =? 254) _ _ f)
     first false f = second (count outside 2 to limit) refl f
 
 -- ---- the tick behind what was heard, for every call
 
-same-sound : (d : Device) (turn : Turn) (wish : Wish) (count : ℕ) (frame put contents : List ℕ) → Sound d frame contents → Sound (answering d turn wish count) (stored frame 0 put) contents
-same-sound d turn wish count frame put contents s = record {
+same-sound : (d : Device) (turn : Turn) (wish : Wish) (count : ℕ) (frame after contents : List ℕ) → length after ≡ length frame → Sound d frame contents → Sound (answering d turn wish count) after contents
+same-sound d turn wish count frame after contents same s = record {
   preamble-low = s .preamble-low;
   preamble-high = s .preamble-high;
   polling-high = s .polling-high;
   unique-low = s .unique-low;
   unique-high = s .unique-high;
-  frame-room = omega (arith, s .frame-room, length-stored frame 0 put);
+  frame-room = omega (arith, s .frame-room);
   contents-room = s .contents-room;
   content-low = s .content-low;
   content-high = s .content-high;
@@ -488,7 +493,7 @@ same-sound d turn wish count frame put contents s = record {
 }
 
 pub content-sound : (d : Device) (command : ℕ) (frame contents put : List ℕ) → 2 ≤ length put → length put ≤ 255 → Sound d frame contents
-    → Sound (withContent d (record { given = true; command = command; count = length put })) frame (stored contents 0 put)
+    → Sound (deviceWithContent d (record { given = true; command = command; count = length put })) frame (stored contents 0 put)
 content-sound d command frame contents put low high s = record {
   preamble-low = s .preamble-low;
   preamble-high = s .preamble-high;
@@ -502,7 +507,7 @@ content-sound d command frame contents put low high s = record {
   bursts-given = λ q. refl;
 }
 
-content-turned : (d : Device) (c : Content) (frame : List ℕ) → c .given ≡ true → Turned d frame → Turned (withContent d c) frame
+content-turned : (d : Device) (c : Content) (frame : List ℕ) → c .given ≡ true → Turned d frame → Turned (deviceWithContent d c) frame
 content-turned d c frame given (in-hand (nothing-in-hand q)) = in-hand (nothing-in-hand q)
 content-turned d c frame given (in-hand (is-asked n q some o)) = in-hand (is-asked n q some o)
 content-turned d c frame given (in-hand (is-accepted q p)) =
@@ -519,7 +524,7 @@ answers-follows : (d : Device) (n : ℕ) → answersAt d n ≡ Follows → ⊥
 unfolding if_then_else_
 answers-follows d n e = go (n =? d .profile .sto) e
   where
-    go : (t : Bool) → (if t then Accepted else Begins) ≡ Follows → ⊥
+    go : (t : Bool) → (if t then AnswerWaits else Begins) ≡ Follows → ⊥
     go true q = let z : _≡_ {A = ℕ} 0 1 = cc in omega arith
     go false q = let z : _≡_ {A = ℕ} 0 1 = cc in omega arith
 
@@ -529,14 +534,14 @@ module _ (limit : ℕ) (low : 2 ≤ limit) (high : limit ≤ 255) (t : DeviceTak
 
   -- an answer to the request in hand
   answer-goes : (wish : Wish) (put : List ℕ) (n : ℕ) → t .device .turn ≡ Asked n → mayAnswer (t .device) (t .device .request) ≡ true
-      → AnswerView limit (t .device) wish (length put) n → Goes (t .device) (answerCalled (answeredBy limit (t .device) wish (length put) (Asked n)) (t .device) (answerFrame (t .device) wish put) frame bytes contents (t .told))
+      → AnswerView limit (t .device) wish (length put) n → Goes (t .device) (answerCalled (answeredBy limit (t .device) wish (length put) (Asked n)) (t .device) (answerFrame (t .device) wish put frame) frame bytes contents (t .told))
   unfolding d
   answer-goes wish put n q own (is-refused why e) =
-      subst (λ (c : Called Device). Goes d (answerCalled c d (answerFrame d wish put) frame bytes contents (t .told))) (sym e)
+      subst (λ (c : Called Device). Goes d (answerCalled c d (answerFrame d wish put frame) frame bytes contents (t .told))) (sym e)
       (turned-goes d d frame bytes contents (t .told) (was-refused why) (unchanged d) s turned)
   answer-goes wish put n q own (is-taken least most f e) =
-      subst (λ (c : Called Device). Goes d (answerCalled c d (answerFrame d wish put) frame bytes contents (t .told))) (sym e)
-      (turned-goes d (next (answersAt d n)) put-in bytes contents (t .told) was-taken after (same-sound d (answersAt d n) wish (length put) frame (answerFrame d wish put) contents s) (by (n =? d .profile .sto) refl))
+      subst (λ (c : Called Device). Goes d (answerCalled c d (answerFrame d wish put frame) frame bytes contents (t .told))) (sym e)
+      (turned-goes d (next (answersAt d n)) put-in bytes contents (t .told) was-taken after (same-sound d (answersAt d n) wish (length put) frame put-in contents (length-written (d .preamble) (answerHeader (d .request) burst) put frame) s) (by (n =? d .profile .sto) refl))
     where
       burst : Bool
       burst = wished (d .burst) wish
@@ -545,7 +550,7 @@ module _ (limit : ℕ) (low : 2 ≤ limit) (high : limit ≤ 255) (t : DeviceTak
       next turn = answering d turn wish (length put)
 
       put-in : List ℕ
-      put-in = stored frame 0 (answerFrame d wish put)
+      put-in = answerFrame d wish put frame
 
       fits : Fits (d .preamble) (answerHeader (d .request) burst) (length put)
       fits = record {
@@ -559,9 +564,9 @@ module _ (limit : ℕ) (low : 2 ≤ limit) (high : limit ≤ 255) (t : DeviceTak
 
       prepared : (turn : Turn) → Prepared (next turn) put-in
       prepared turn = record {
-        w = answerFrame d wish put;
+        w = frameBytes (d .preamble) (answerHeader (d .request) burst) put;
         message = wholeMessage (answerHeader (d .request) burst) put;
-        held = holds (d .preamble) (answerHeader (d .request) burst) put frame fits (s .frame-room);
+        held = holds-written (d .preamble) (answerHeader (d .request) burst) put frame fits (s .frame-room);
         header-is = refl;
         no-expansion = refl;
         own = own;
@@ -570,8 +575,8 @@ module _ (limit : ℕ) (low : 2 ≤ limit) (high : limit ≤ 255) (t : DeviceTak
       }
 
       hand-is : (b : Bool) → (n =? d .profile .sto) ≡ b → inHand (answersAt d n) ≤ inHand (d .turn)
-      hand-is true r = omega (arith, ap inHand (if-is-true (n =? d .profile .sto) Accepted Begins r), ap inHand q, eqb-true n (d .profile .sto) r)
-      hand-is false r = omega (arith, ap inHand (if-is-false (n =? d .profile .sto) Accepted Begins r))
+      hand-is true r = omega (arith, ap inHand (if-is-true (n =? d .profile .sto) AnswerWaits Begins r), ap inHand q, eqb-true n (d .profile .sto) r)
+      hand-is false r = omega (arith, ap inHand (if-is-false (n =? d .profile .sto) AnswerWaits Begins r))
 
       after : AfterCall d (next (answersAt d n))
       after = record {
@@ -585,19 +590,19 @@ module _ (limit : ℕ) (low : 2 ≤ limit) (high : limit ≤ 255) (t : DeviceTak
         follows-same = λ z. absurd (answers-follows d n z);
         follows-kept = λ z. absurd (asked-follows n (sym q ∙ z));
         listens-same = λ z. absurd (listens-asked n (sym z ∙ q));
-        first-waits = λ a b. accepted-begins (sym (if-is-true (n =? d .profile .sto) Accepted Begins (eq-eqb n (d .profile .sto) (asked-same (sym q ∙ a)))) ∙ b);
+        first-waits = λ a b. accepted-begins (sym (if-is-true (n =? d .profile .sto) AnswerWaits Begins (eq-eqb n (d .profile .sto) (asked-same (sym q ∙ a)))) ∙ b);
       }
 
       by : (b : Bool) → (n =? d .profile .sto) ≡ b → Turned (next (answersAt d n)) put-in
-      by true r = in-hand (is-accepted (if-is-true (n =? d .profile .sto) Accepted Begins r) (prepared (answersAt d n)))
-      by false r = begins-now (if-is-false (n =? d .profile .sto) Accepted Begins r) (prepared (answersAt d n))
+      by true r = in-hand (is-accepted (if-is-true (n =? d .profile .sto) AnswerWaits Begins r) (prepared (answersAt d n)))
+      by false r = begins-now (if-is-false (n =? d .profile .sto) AnswerWaits Begins r) (prepared (answersAt d n))
 
   -- no request in hand
-  none-goes : (wish : Wish) (put : List ℕ) → answered limit (t .device) wish (length put) ≡ refused NoRequest
+  none-goes : (wish : Wish) (put : List ℕ) → answered limit (t .device) wish (length put) ≡ refused 8
       → Goes (t .device) (deviceCalls limit t (gives-answer wish put) frame bytes contents)
   none-goes wish put e =
-      subst (λ (c : Called Device). Goes (t .device) (answerCalled c (t .device) (answerFrame (t .device) wish put) frame bytes contents (t .told))) (sym e)
-      (turned-goes (t .device) (t .device) frame bytes contents (t .told) (was-refused NoRequest) (unchanged (t .device)) s turned)
+      subst (λ (c : Called Device). Goes (t .device) (answerCalled c (t .device) (answerFrame (t .device) wish put frame) frame bytes contents (t .told))) (sym e)
+      (turned-goes (t .device) (t .device) frame bytes contents (t .told) (was-refused 8) (unchanged (t .device)) s turned)
 
   pub device-goes : (call : DeviceCall) → Goes (t .device) (deviceCalls limit t call frame bytes contents)
   unfolding answered
@@ -605,7 +610,7 @@ module _ (limit : ℕ) (low : 2 ≤ limit) (high : limit ≤ 255) (t : DeviceTak
   device-goes (gives-answer wish put) = go turned
     where
       Case : Turn → Type 0
-      Case turn = Goes (t .device) (answerCalled (answeredBy limit (t .device) wish (length put) turn) (t .device) (answerFrame (t .device) wish put) frame bytes contents (t .told))
+      Case turn = Goes (t .device) (answerCalled (answeredBy limit (t .device) wish (length put) turn) (t .device) (answerFrame (t .device) wish put frame) frame bytes contents (t .told))
 
       go : Turned (t .device) frame → Case (t .device .turn)
       go (in-hand (nothing-in-hand q)) = none-goes wish put (ap (answeredBy limit (t .device) wish (length put)) q)
@@ -623,7 +628,7 @@ module _ (limit : ℕ) (low : 2 ≤ limit) (high : limit ≤ 255) (t : DeviceTak
       go (is-taken least most e) =
           let c : Content = record { given = true; command = command; count = length put } in
           subst Case (sym e)
-          (turned-goes (t .device) (withContent (t .device) c) frame bytes (stored contents 0 put) (t .told) was-taken
+          (turned-goes (t .device) (deviceWithContent (t .device) c) frame bytes (stored contents 0 put) (t .told) was-taken
           (record {
             same = record { same-profile = refl; same-preamble = refl; same-polling = refl; same-unique = refl };
             same-receiver = refl;

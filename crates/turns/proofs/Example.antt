@@ -9,6 +9,7 @@ use Rattle.base.specs.Store.{stored}
 use Rattle.frame.specs.Check.{xorFrom}
 use Rattle.frame.specs.Delimiter.{delimiterOf}
 use Rattle.frame.specs.Frame.{frameBytes, preambleBytes, bodyBytes, protectedBytes, headerBytes}
+use Rattle.frame.specs.Write.{writeBuffer, writeAnswer}
 use Rattle.line.specs.Profile.{fskProfile}
 use Rattle.line.specs.Reader.{taken, takenData, atIdle, atPreamble, atFirst, atAddress, atExpansion, atCommand, atCount, atData, atCheck}
 use Rattle.line.specs.declared.Heard.the-variants.{Silence}
@@ -52,5 +53,5 @@ senders [] = []
 senders (s ∷ ss) = (one (s .for-primary .sent) 1 + one (s .for-secondary .sent) 2 + devices-sent (s .for-devices)) ∷ senders ss
 
 pub worked-run : senders (run 255 fresh ticks) ≡ replicate 33 0 ++ (replicate 10 1 ++ (0 ∷ (replicate 12 4 ++ replicate 4 0)))
-unfolding senders devices-sent one ticks replies asks quiet fresh run linkTick deviceTicks sides carried masterTick deviceTick requested masterTakes masterSends deviceTakes deviceSends answered contentGiven taken takenData atIdle atPreamble atFirst atAddress atExpansion atCommand atCount atData atCheck frameBytes preambleBytes bodyBytes protectedBytes headerBytes xorFrom delimiterOf stored if_then_else_
+unfolding senders devices-sent one ticks replies asks quiet fresh run linkTick deviceTicks sides carried masterTick deviceTick requested masterTakes masterSends deviceTakes deviceSends answered contentGiven taken takenData atIdle atPreamble atFirst atAddress atExpansion atCommand atCount atData atCheck writeBuffer writeAnswer frameBytes preambleBytes bodyBytes protectedBytes headerBytes xorFrom delimiterOf stored if_then_else_
 worked-run = refl

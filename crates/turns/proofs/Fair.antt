@@ -2,17 +2,17 @@
 use mathlib.Core.Path.{_≡_}
 use mathlib.Core.Bool.{Bool, true, false}
 use mathlib.Core.List.{List, [], _∷_}
-use Rattle.turns.specs.Master.{seeksTag}
+use Rattle.turns.specs.Party.{seeksTag}
 use Rattle.turns.specs.Link.{DeviceSide, LinkStep, sides}
 use Rattle.turns.specs.Run.{All, Sole}
 use Rattle.turns.specs.declared.Turn.{Turn}
-use Rattle.turns.specs.declared.Turn.the-variants.{Listens, Asked, Accepted, Begins, Answers, Follows, Bursts}
+use Rattle.turns.specs.declared.Turn.the-variants.{Listens, Asked, AnswerWaits, Begins, Answers, Follows, Bursts}
 
 -- an ACK is prepared, begins, or is being sent
 abbrev pub answering : Turn → Bool
 answering Listens = false
 answering (Asked n) = false
-answering Accepted = true
+answering AnswerWaits = true
 answering Begins = true
 answering (Answers n) = true
 answering Follows = false

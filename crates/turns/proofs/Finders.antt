@@ -6,8 +6,8 @@ use mathlib.Core.Bool.{Bool, true}
 use mathlib.Core.List.{List, [], _∷_}
 use Rattle.base.specs.Choice.{if_then_else_}
 use Rattle.frame.specs.declared.Header.{Header}
-use Rattle.turns.specs.Master.{seeksTag}
-use Rattle.turns.specs.Link.{DeviceCall, no-call, gives-answer, gives-content, Answer, was-taken, was-refused, DeviceSide, DeviceStep, LinkStep, Calls}
+use Rattle.turns.specs.Party.{seeksTag, CallResult, was-taken, was-refused}
+use Rattle.turns.specs.Link.{DeviceCall, no-call, gives-answer, gives-content, DeviceSide, DeviceStep, LinkStep, Calls}
 use Rattle.turns.specs.Ledgers.{Ledger, blank, told, toldBy, calledBy, ledgerAfter, ledgersAfter, blanks, finders}
 use Rattle.turns.specs.Credit.{closed, closedBy, closedAfter, bookedBy, Gave, this-one, another}
 use Rattle.turns.specs.declared.DeviceTold.{DeviceTold}
@@ -46,16 +46,16 @@ within-sent (Character c) w = within-closed w
 
 -- a closed entry stays closed, until its host is told another request
 entry-after : (c : DeviceCall) (s : DeviceStep) (f : Ledger) {gs fs : List Ledger} → Within gs fs → Within (ledgerAfter c s blank ∷ gs) (ledgerAfter c s f ∷ fs)
-entry-after c s f {gs} {fs} w = by-told (s .told) c (s .answer)
+entry-after c s f {gs} {fs} w = by-told (s .told) c (s .result)
   where
-    by-call : (c : DeviceCall) (a : Answer) → Within (calledBy c a blank ∷ gs) (calledBy c a f ∷ fs)
+    by-call : (c : DeviceCall) (a : CallResult) → Within (calledBy c a blank ∷ gs) (calledBy c a f ∷ fs)
     by-call no-call a = closed-and w
-    by-call (gives-answer wish put) Answer.none = closed-and w
+    by-call (gives-answer wish put) CallResult.none = closed-and w
     by-call (gives-answer wish put) was-taken = closed-and w
     by-call (gives-answer wish put) (was-refused why) = closed-and w
     by-call (gives-content command put) a = closed-and w
 
-    by-told : (t : DeviceTold) (c : DeviceCall) (a : Answer) → Within (calledBy c a (toldBy t blank) ∷ gs) (calledBy c a (toldBy t f) ∷ fs)
+    by-told : (t : DeviceTold) (c : DeviceCall) (a : CallResult) → Within (calledBy c a (toldBy t blank) ∷ gs) (calledBy c a (toldBy t f) ∷ fs)
     by-told DeviceTold.Nothing c a = by-call c a
     by-told (Request v) c a = same-and w
     by-told (Broadcast v) c a = by-call c a

@@ -9,8 +9,8 @@ use Rattle.frame.specs.Frame.{frameBytes, preambleBytes, bodyBytes}
 use Rattle.frame.proofs.Taken.{taken}
 use Rattle.line.specs.declared.Heard.{Heard}
 use Rattle.line.specs.declared.Profile.{Profile}
-use Rattle.turns.specs.Master.{Request, isBroadcast}
-use Rattle.turns.specs.Link.{MasterCall, requests, Answer, none, was-taken, MasterSide, MasterStep, masterTick, Link, LinkStep, Calls, linkAfter}
+use Rattle.turns.specs.Party.{isBroadcast, Request, CallResult, none, was-taken}
+use Rattle.turns.specs.Link.{MasterCall, requests, MasterSide, MasterStep, masterTick, Link, LinkStep, Calls, linkAfter}
 use Rattle.turns.specs.Run.{MasterStarts}
 use Rattle.turns.specs.Demand3 as D
 use Rattle.turns.specs.Demand3.{masterIn, AcceptedIn}
@@ -49,7 +49,7 @@ inside-stays : {told : MasterTold} {w left : List ℕ} {b : Bool} {n c : ℕ} {r
 inside-stays no-report = refl
 
 -- no request is taken while it is in hand
-asked-stays : {primary : Bool} {call : MasterCall} {answer : Answer} {w left : List ℕ} {b : Bool} {n : ℕ} {asked : MessageLog} → Asked primary call answer (in-hand w b left n) asked → asked ≡ in-hand w b left n
+asked-stays : {primary : Bool} {call : MasterCall} {result : CallResult} {w left : List ℕ} {b : Bool} {n : ℕ} {asked : MessageLog} → Asked primary call result (in-hand w b left n) asked → asked ≡ in-hand w b left n
 asked-stays asks-nothing = refl
 asked-stays Q.is-refused = refl
 
@@ -132,7 +132,7 @@ module _ (limit : ℕ) (small : limit ≤ 255) (retries : ℕ) where
   sends-of : {primary : Bool} {call : MasterCall} {w left : List ℕ} {b : Bool} {n : ℕ} {step : MasterStep} (t : Ticks limit primary retries small call (in-hand w b left n) step) → step .told ≡ MasterTold.Nothing
       → Sends retries (in-hand w b left n) (step .sent) (t .after)
   sends-of {primary} {call} {w} {left} {b} {n} {step} t e =
-      subst (λ (g : MessageLog). Sends retries g (step .sent) (t .after)) (asked-stays (subst (λ (told : MasterTold). Asked primary call (step .answer) (behindReport told (in-hand w b left n)) (t .asked)) e (t .is-asked))) (t .sends)
+      subst (λ (g : MessageLog). Sends retries g (step .sent) (t .after)) (asked-stays (subst (λ (told : MasterTold). Asked primary call (step .result) (behindReport told (in-hand w b left n)) (t .asked)) e (t .is-asked))) (t .sends)
 
   goes-out : (primary : Bool) (i j : ℕ) (l : Link) (ticks : List Calls) (w : List ℕ) (b : Bool) (left : List ℕ) (n : ℕ) → untilIn primary i j ≡ 0 → Stands primary (in-hand w b left n) (sideIn primary l) → GoesOut primary left (lateRun limit i j l ticks)
   unfolding lateRun
@@ -171,12 +171,12 @@ module _ (limit : ℕ) (small : limit ≤ 255) (retries : ℕ) where
   at-tick primary i j l c cs log q put o s e acc =
       let t = ticks-in primary i j l c log o s in
       let step : MasterStep = masterIn primary (lateTick limit i j l c) in
-      let asked = asked-taken (subst (λ (a : Answer). Asked primary (requests q put) a (behindReport (step .told) log) (t .does .asked)) acc (subst (λ (k : MasterCall). Asked primary k (step .answer) (behindReport (step .told) log) (t .does .asked)) e (t .does .is-asked))) in
+      let asked = asked-taken (subst (λ (a : CallResult). Asked primary (requests q put) a (behindReport (step .told) log) (t .does .asked)) acc (subst (λ (k : MasterCall). Asked primary k (step .result) (behindReport (step .told) log) (t .does .asked)) e (t .does .is-asked))) in
       behind-first primary i j l c cs _ (isBroadcast (stxHeader primary q)) o (first-view (subst (λ (g : MessageLog). Sends retries g (step .sent) (t .does .after)) asked (t .does .sends))) refl (t .stands)
       (λ z. first-run primary (i - 1) (j - 1) (linkAfter (lateTick limit i j l c)) cs _ (isBroadcast (stxHeader primary q)) (later-on primary i j o) z)
 
   -- a master that has not started takes no request, and stays as it is
-  off-tick : (primary : Bool) (i j n : ℕ) (l : Link) (c : Calls) → untilIn primary i j ≡ suc n → masterIn primary (lateTick limit i j l c) ≡ record { side = sideIn primary l; sent = Sent.Silent; told = MasterTold.Nothing; answer = none }
+  off-tick : (primary : Bool) (i j n : ℕ) (l : Link) (c : Calls) → untilIn primary i j ≡ suc n → masterIn primary (lateTick limit i j l c) ≡ record { side = sideIn primary l; sent = Sent.Silent; told = MasterTold.Nothing; result = none }
   unfolding lateTick
   off-tick true i j n l c e = ap (λ (m : ℕ). lateMaster limit m (l .primary) (l .line) (c .for-primary)) e
   off-tick false i j n l c e = ap (λ (m : ℕ). lateMaster limit m (l .secondary) (l .line) (c .for-secondary)) e
@@ -187,7 +187,7 @@ module _ (limit : ℕ) (small : limit ≤ 255) (retries : ℕ) where
     where
       go : (n : ℕ) → untilIn primary i j ≡ n → FirstStx primary (frameBytes (q .preamble) (stxHeader primary q) put) (lateTick limit i j l c ∷ lateRun limit (i - 1) (j - 1) (linkAfter (lateTick limit i j l c)) cs)
       go zero o = at-tick primary i j l c cs log q put o s e acc
-      go (suc n) o = absurd (none-taken (ap (λ (m : MasterStep). m .answer) (sym (off-tick primary i j n l c o)) ∙ acc))
+      go (suc n) o = absurd (none-taken (ap (λ (m : MasterStep). m .result) (sym (off-tick primary i j n l c o)) ∙ acc))
 
   record StandsNext (primary : Bool) (i j : ℕ) (l : Link) (c : Calls) : Type 0 where
     log : MessageLog

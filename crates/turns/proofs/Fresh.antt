@@ -5,18 +5,16 @@ use mathlib.Core.Path.{_≡_, refl, sym, ap, subst, _∙_}
 use mathlib.Core.Bool.{Bool, true, false}
 use mathlib.Core.List.{List}
 use borrow.Author.Tests.{leb-false, ltb-false, eqb-true}
+use Rattle.base.specs.Refusal.{Called, accepted, refused}
 use Rattle.base.specs.Choice.{if_then_else_, _<?_, _≤?_, _=?_, _outside_to_}
-use Rattle.base.specs.declared.Refusal.{Refusal}
-use Rattle.base.specs.declared.Refusal.the-variants.{BadProfile, BadRetries, PreambleLength, Address}
 use Rattle.base.proofs.Choices.{true-false, went-then, went-else, inside-low, inside-high}
 use Rattle.frame.specs.Address.{largestAddress}
 use Rattle.line.specs.Profile.{valueRefused, orderRefused, profileMade}
 use Rattle.line.specs.Reader.{noHeader, passing}
 use Rattle.line.specs.declared.Heard.{Heard}
 use Rattle.line.specs.declared.Heard.the-variants.{Silence}
-use Rattle.line.specs.declared.MadeProfile.the-variants.{Made, Refused}
 use Rattle.line.specs.declared.Profile.{Profile}
-use Rattle.turns.specs.Master.{Called, accepted, refused, freshMaster, masterStarts}
+use Rattle.turns.specs.Master.{freshMaster, masterStarts}
 use Rattle.turns.specs.Device.{freshDevice, deviceStarts}
 use Rattle.turns.specs.Link.{MasterCall, DeviceCall, MasterSide, MasterStep, DeviceSide, DeviceStep, masterTick, deviceTick, deviceTicks, sides, carried}
 use Rattle.turns.specs.Run.{All, none, and, Distinct, MasterStarts, DeviceStarts}
@@ -36,10 +34,7 @@ use Rattle.turns.proofs.Quiet.{ClearLine, breakTimer, behind-break-clea
 
 -- ---- what a start that was accepted tells
 
-refused-made : {r : Refusal} {p : Profile} → Refused r ≡ Made p → ⊥
-refused-made e = let z : _≡_ {A = ℕ} 0 1 = cc in omega arith
-
-refused-accepted : {A : Type 0} {r : Refusal} {x : A} → refused r ≡ accepted x → ⊥
+pub refused-accepted : {A : Type 0} {r : ℕ} {x : A} → refused r ≡ accepted x → ⊥
 refused-accepted e = let z : _≡_ {A = ℕ} 0 1 = cc in omega arith
 
 abbrev got : {A : Type 0} → A → Called A → A
@@ -47,10 +42,10 @@ got d (accepted x) = x
 got d (refused r) = d
 
 -- a profile that the check takes
-pub valid : (p : Profile) → profileMade p ≡ Made p → Valid p
+pub valid : (p : Profile) → profileMade p ≡ accepted p → Valid p
 valid p e =
-    let v = went-else (valueRefused p) (Refused BadProfile) (if orderRefused p then Refused BadProfile else Made p) (Made p) e refused-made in
-    let o = went-else (orderRefused p) (Refused BadProfile) (Made p) (Made p) (v .1) refused-made in
+    let v = went-else (valueRefused p) (refused 1) (if orderRefused p then refused 1 else accepted p) (accepted p) e refused-accepted in
+    let o = went-else (orderRefused p) (refused 1) (accepted p) (accepted p) (v .1) refused-accepted in
     let v1 = went-else (p .sto outside 1 to 1000) true _ false (v .0) true-false in
     let v2 = went-else (p .hold outside 1 to 1000) true _ false (v1 .1) true-false in
     let o1 = went-else (p .rt2 ≤? p .hold) true _ false (o .0) true-false in
@@ -67,7 +62,7 @@ valid p e =
 
 -- a master that started is the fresh one
 pub master-is : (p : Profile) (primary : Bool) (retries : ℕ) (m : Master) → masterStarts p primary retries ≡ accepted m → m ≡ freshMaster p primary retries
-master-is p primary retries m e = sym (ap (got m) (went-else (retries outside 3 to 15) (refused BadRetries) (accepted (freshMaster p primary retries)) (accepted m) e refused-accepted .1))
+master-is p primary retries m e = sym (ap (got m) (went-else (retries outside 3 to 15) (refused 2) (accepted (freshMaster p primary retries)) (accepted m) e refused-accepted .1))
 
 -- and a device, with its addresses in range
 pub record FreshDevice (p : Profile) (preamble polling unique : ℕ) (d : Device) : Type 0 where
@@ -80,9 +75,9 @@ pub record FreshDevice (p : Profile) (preamble polling unique : ℕ) (d : Device
 
 pub device-is : (p : Profile) (preamble polling unique : ℕ) (d : Device) → deviceStarts p preamble polling unique ≡ accepted d → FreshDevice p preamble polling unique d
 device-is p preamble polling unique d e =
-    let a = went-else (preamble outside 5 to 20) (refused PreambleLength) _ (accepted d) e refused-accepted in
-    let b = went-else (largestAddress false <? polling) (refused Address) _ (accepted d) (a .1) refused-accepted in
-    let c = went-else (unique outside 1 to largestAddress true) (refused Address) (accepted (freshDevice p preamble polling unique)) (accepted d) (b .1) refused-accepted in
+    let a = went-else (preamble outside 5 to 20) (refused 3) _ (accepted d) e refused-accepted in
+    let b = went-else (largestAddress false <? polling) (refused 4) _ (accepted d) (a .1) refused-accepted in
+    let c = went-else (unique outside 1 to largestAddress true) (refused 4) (accepted (freshDevice p preamble polling unique)) (accepted d) (b .1) refused-accepted in
     record {
       preamble-low = inside-low preamble 5 20 _ refl (a .0);
       preamble-high = inside-high preamble 5 20 _ refl (a .0);

@@ -9,6 +9,7 @@ use Rattle.base.specs.Store.{stored}
 use Rattle.frame.specs.Check.{xorFrom}
 use Rattle.frame.specs.Delimiter.{stx, back, delimiterOf}
 use Rattle.frame.specs.Frame.{frameBytes, preambleBytes, bodyBytes, protectedBytes, headerBytes}
+use Rattle.frame.specs.Write.{writeBuffer, writeAnswer}
 use Rattle.line.specs.Profile.{fskProfile}
 use Rattle.line.specs.Gaps.{is-sound}
 use Rattle.line.specs.Reader.{taken, takenData, silentInside, atIdle, atPreamble, atFirst, atAddress, atExpansion, atCommand, atCount, atData, atCheck}
@@ -85,5 +86,5 @@ aRequest = frameBytes 5 (record { frame = stx; long = true; primary = true; burs
 pub cut-bursting : marks (deviceSents 255 device
     (record { heard = Silence; call = gives-content 3 (0 ∷ 0 ∷ []) } ∷ takes Silence ∷ (eachTaken aRequest ++ (record { heard = Silence; call = gives-answer On (0 ∷ 0 ∷ []) } ∷ (replicate 33 (takes Silence) ++ (takes (Character 0xFF) ∷ replicate 34 (takes Silence)))))))
     ≡ replicate 16 0 ++ (replicate 32 1 ++ (replicate 35 0 ++ (1 ∷ 1 ∷ [])))
-unfolding marks device takes eachTaken aRequest deviceSents deviceTick deviceTakes deviceSends answered contentGiven taken takenData silentInside atIdle atPreamble atFirst atAddress atExpansion atCommand atCount atData atCheck frameBytes preambleBytes bodyBytes protectedBytes headerBytes xorFrom delimiterOf stored if_then_else_
+unfolding marks device takes eachTaken aRequest deviceSents deviceTick deviceTakes deviceSends answered contentGiven taken takenData silentInside atIdle atPreamble atFirst atAddress atExpansion atCommand atCount atData atCheck writeBuffer writeAnswer frameBytes preambleBytes bodyBytes protectedBytes headerBytes xorFrom delimiterOf stored if_then_else_
 cut-bursting = refl

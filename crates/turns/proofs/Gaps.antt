@@ -7,29 +7,28 @@ use mathlib.Core.List.{List, [], _∷_}
 use mathlib.Core.Logic.{_⊎_, inl, inr}
 use lib.ListN.{length}
 use borrow.Author.Tests.{lt-ltb}
+use Rattle.base.specs.Refusal.{Called, accepted, refused}
 use Rattle.base.specs.Choice.{if_then_else_, _<?_, _=?_, _outside_to_}
 use Rattle.base.specs.Store.{stored}
-use Rattle.base.specs.declared.Refusal.{Refusal}
-use Rattle.base.specs.declared.Refusal.the-variants.{NoRequest}
 use Rattle.base.proofs.Choices.{if-is-true, if-is-false}
 use Rattle.frame.specs.Address.{byteAt, addressTooLarge}
 use Rattle.frame.specs.Frame.{frameBytes}
-use Rattle.line.specs.Reader.{character, idle, gapped, taken, takenData}
+use Rattle.line.specs.Reader.{character, idle, gapped, taken, takenData, insideFrame}
 use Rattle.line.specs.declared.Event.{Event}
 use Rattle.line.specs.declared.Event.the-variants.{Nothing, Broken}
 use Rattle.line.specs.declared.Heard.{Heard}
 use Rattle.line.specs.declared.Heard.the-variants.{Silence, Character}
 use Rattle.line.specs.declared.Profile.{Profile}
 use Rattle.line.specs.declared.Receiver.{Receiver}
-use Rattle.line.specs.declared.Taken.{Taken}
 use Rattle.line.specs.Gaps.{IsCharacter, is-sound, is-damaged}
 use Rattle.line.proofs.Gaps.{Within, goes-within}
-use Rattle.line.proofs.Ticks.{Inside, outside-idle}
+use Rattle.line.proofs.Ticks.{Inside}
 use Rattle.turns.specs.Master as M
-use Rattle.turns.specs.Master.{Called, accepted, refused, Request, requested, requestHeader, hasMessage, commandRefused, isBroadcast, masterTakes, sendsBy, masterSends}
+use Rattle.turns.specs.Party.{isBroadcast, Request, CallResult, none, was-taken, was-refused}
+use Rattle.turns.specs.Master.{requested, requestHeader, hasMessage, commandRefused, masterTakes, sendsBy, masterSends}
 use Rattle.turns.specs.Device as D
-use Rattle.turns.specs.Device.{errorFrame, backDue, backLength, begunFrame, withContent, contentGiven, answered, answeredBy, answerFrame, deviceTakes, deviceSends}
-use Rattle.turns.specs.Link.{MasterCall, no-request, requests, DeviceCall, no-call, gives-answer, gives-content, Answer, none, was-taken, was-refused, MasterSide, MasterStep, DeviceSide, DeviceStep, masterSent, masterCalled, masterCalls, masterTick, masterData, deviceSent, answerCalled, contentCalled, deviceCalls, deviceTick, deviceData, heardFrame}
+use Rattle.turns.specs.Device.{errorFrame, backDue, backLength, begunFrame, deviceWithContent, contentGiven, answered, answeredBy, answerFrame, deviceTakes, deviceSends}
+use Rattle.turns.specs.Link.{MasterCall, no-request, requests, DeviceCall, no-call, gives-answer, gives-content, MasterSide, MasterStep, DeviceSide, DeviceStep, masterSent, masterCalled, masterCalls, masterTick, masterData, deviceSent, answerCalled, contentCalled, deviceCalls, deviceTick, deviceData, heardFrame}
 use Rattle.turns.specs.Gaps.{InsideFrame, masterSents, deviceSents, masterSilence, deviceSilence, BeginsAfter, begins, waits, ToSend, message-waits, retry-left, behindBreak, MasterCountsBoth, DeviceCountsBoth, MasterGapPassed, DeviceGapPassed}
 use Rattle.turns.specs.declared.Sent.{Sent}
 use Rattle.turns.specs.declared.Sent.the-variants.{Silent}
@@ -55,11 +54,12 @@ use Rattle.turns.proofs.Breaks.{masterGapped, master-as-if, deviceGappe
 use Rattle.turns.proofs.Devices.{ContentView, is-refused, is-taken, content-view}
 use Rattle.turns.proofs.Fresh.{valid}
 use Rattle.turns.proofs.Windows.{Valid}
+use Rattle.turns.proofs.Silent.{master-outside, device-outside}
 
 -- ---- the tick of a master that has a message: its host's request is refused
 
 data Refuses : Called Master → Type 0 where
-  refuses : (why : Refusal) → Refuses (refused why)
+  refuses : (why : ℕ) → Refuses (refused why)
 
 in-hand : (limit : ℕ) (m : Master) (q : Request) (count : ℕ) → hasMessage (m .message .stage) ≡ true → Refuses (requested limit m q count)
 unfolding requested
@@ -126,11 +126,11 @@ silently limit x heard call t e s =
 
 -- a silent tick
 counted-tick : (m : Master) (bytes : List ℕ) → m .deaf ≡ false → m .receiver ≡ idle → m .message .stage ≡ Waiting → Counted m (masterTakes m Silence bytes .master)
-unfolding masterTakes taken
+unfolding masterTakes
 counted-tick m bytes hears e w =
-    let n : Master = M.behind m idle (m .burst) (m .noted) (m .timer) (m .message) in
+    let n : Master = M.masterWith m idle (m .burst) (m .noted) (m .timer) (m .message) in
     let takes : masterTakes m Silence bytes ≡ M.counts n MasterTold.Nothing Nothing =
-    if-is-false (m .deaf) _ _ hears ∙ ap (λ (r : Receiver). M.onSilence m (taken r Silence .receiver) (taken r Silence .event)) e ∙ ap (λ (t : Taken). M.onSilence m (t .receiver) (t .event)) (outside-idle idle refl) ∙ if-is-false (idle .gap) _ _ refl in
+    if-is-false (m .deaf) _ _ hears ∙ master-outside m (ap (λ (r : Receiver). insideFrame (r .place)) e) in
     let c = counted n MasterTold.Nothing Nothing w in
     subst (λ (t : MasterTaken). Counted m (t .master)) (sym takes)
     (record { timer-is = c .timer-is; burst-is = c .burst-is; stage-is = c .stage-is; same-profile = c .same-profile; same-receiver = c .same-receiver ∙ sym e; same-deaf = c .same-deaf })
@@ -173,7 +173,7 @@ runs limit (suc k) x (c ∷ cs) few w =
 -- ---- the whole of it
 
 -- a character inside a frame stops the timer
-stops : (m : Master) (last : Heard) (bytes : List ℕ) → m .deaf ≡ false → IsCharacter last → taken (m .receiver) last .event ≡ Nothing → masterTakes m last bytes ≡ M.tells (M.behind m (taken (m .receiver) last .receiver) (m .burst) (m .noted) (M.timer 0) (m .message)) MasterTold.Nothing Nothing
+stops : (m : Master) (last : Heard) (bytes : List ℕ) → m .deaf ≡ false → IsCharacter last → taken (m .receiver) last .event ≡ Nothing → masterTakes m last bytes ≡ M.tells (M.masterWith m (taken (m .receiver) last .receiver) (m .burst) (m .noted) (M.timer 0) (m .message)) MasterTold.Nothing Nothing
 unfolding masterTakes
 stops m (Character z) bytes hears is-sound inside = if-is-false (m .deaf) _ _ hears ∙ ap (λ (e : Event). M.onCharacter m (taken (m .receiver) (Character z) .receiver) e bytes) inside
 stops m (Heard.Damaged z kind) bytes hears is-damaged inside = if-is-false (m .deaf) _ _ hears ∙ ap (λ (e : Event). M.onCharacter m (taken (m .receiver) (Heard.Damaged z kind) .receiver) e bytes) inside
@@ -214,7 +214,7 @@ master-counts-both limit x last call calls made cut due long =
 
     -- behind the last character
     t : Master
-    t = M.behind m r (m .burst) (m .noted) (M.timer 0) (m .message)
+    t = M.masterWith m r (m .burst) (m .noted) (M.timer 0) (m .message)
 
     a : Silently t (masterTick limit x last call .sent) (masterTick limit x last call .side .master)
     a = silently limit x last call t (ap (λ (u : MasterTaken). u .master) (stops m last (masterData x last) (cut .hears) (cut .character) (cut .inside))) (to-shut (same-to refl refl due) refl)
@@ -229,7 +229,7 @@ master-counts-both limit x last call calls made cut due long =
       where
         -- behind the tick that is passed over
         u : Master
-        u = M.behind (rests t .master) (gapped r) (m .burst) (m .noted) (M.timer 0) (m .message)
+        u = M.masterWith (rests t .master) (gapped r) (m .burst) (m .noted) (M.timer 0) (m .message)
 
         still : masterTakes (y .master) Silence (masterData y Silence) .master ≡ u
         still = ap (λ (z : Master). masterTakes z Silence (masterData y Silence) .master) (a .after-is) ∙ ap (λ (z : MasterTaken). z .master) (master-still (rests t .master) (masterData y Silence) refl (within .inside) (within .no-gap))
@@ -280,7 +280,7 @@ listens-in r m frame e w z =
 -- a request that is taken leaves reader and timer
 data Leaves (m : Master) : Called Master → Type 0 where
   leaves : {n : Master} → n .receiver ≡ m .receiver → n .timer ≡ m .timer → Leaves m (accepted n)
-  not-taken : {why : Refusal} → Leaves m (refused why)
+  not-taken : {why : ℕ} → Leaves m (refused why)
 
 request-leaves : (limit : ℕ) (m : Master) (q : Request) (n : ℕ) → Leaves m (requested limit m q n)
 unfolding requested
@@ -304,7 +304,7 @@ behind-character limit x last call cut =
     P s = s .sent ≡ Silent → ListensIn r (s .side .master)
 
     u : MasterTaken
-    u = M.tells (M.behind (x .master) r (x .master .burst) (x .master .noted) (M.timer 0) (x .master .message)) MasterTold.Nothing Nothing
+    u = M.tells (M.masterWith (x .master) r (x .master .burst) (x .master .noted) (M.timer 0) (x .master .message)) MasterTold.Nothing Nothing
 
     asked : (q : Request) (put : List ℕ) (c : Called Master) → Leaves (u .master) c → P (masterCalled c (u .master) (frameBytes (q .preamble) (requestHeader (u .master) q) put) (x .frame) (masterData x last) (u .told))
     asked q put (accepted n) (leaves e t) = listens-in r n _ e (ap (λ (z : Timer). z .window) t)
@@ -325,7 +325,7 @@ module _ (limit : ℕ) (y : MasterSide) (within : Within (y .master .receiver)) 
   gap-side = record { master = masterGapped (y .master); frame = y .frame; bytes = y .bytes }
 
   gap-step : MasterStep
-  gap-step = record { side = gap-side; sent = Silent; told = MasterTold.Nothing; answer = none }
+  gap-step = record { side = gap-side; sent = Silent; told = MasterTold.Nothing; result = none }
 
   gap-is : masterTick limit y Silence no-request ≡ gap-step
   unfolding masterTick gap-side gap-step takenData
@@ -338,7 +338,7 @@ module _ (limit : ℕ) (y : MasterSide) (within : Within (y .master .receiver)) 
         side = record { master = M.sends (masterGapped m) (sym (l .hears) i) (m .timer) (m .message) (gapped (m .receiver)) Silent .master; frame = y .frame; bytes = bytes i };
         sent = Silent;
         told = MasterTold.Nothing;
-        answer = none;
+        result = none;
       })
 
   as-if-no-gap : (next : Heard) (call : MasterCall) → IsCharacter next → masterTick limit gap-side next call ≡ masterTick limit y next call
@@ -366,12 +366,12 @@ master-gap-passed limit x last next call after cut silent n =
 
 -- the host's call: no request is in hand, so only the content can have changed
 called : (limit : ℕ) (t : DeviceTaken) (call : DeviceCall) (frame bytes contents : List ℕ) (P : DeviceStep → Type 0) → (t .device .turn ≡ Listens) ⊎ (t .device .turn ≡ Follows)
-    → ((c : Content) (contents : List ℕ) (answer : Answer) → P (deviceSent (withContent (t .device) c) frame bytes contents (t .told) answer)) → P (deviceCalls limit t call frame bytes contents)
+    → ((c : Content) (contents : List ℕ) (result : CallResult) → P (deviceSent (deviceWithContent (t .device) c) frame bytes contents (t .told) result)) → P (deviceCalls limit t call frame bytes contents)
 unfolding answered
 called limit t no-call frame bytes contents P turn p = p (t .device .content) contents none
-called limit t (gives-answer wish put) frame bytes contents P turn p = subst (λ (c : Called Device). P (answerCalled c (t .device) (answerFrame (t .device) wish put) frame bytes contents (t .told))) (sym (no-request-in turn)) (p (t .device .content) contents (was-refused NoRequest))
+called limit t (gives-answer wish put) frame bytes contents P turn p = subst (λ (c : Called Device). P (answerCalled c (t .device) (answerFrame (t .device) wish put frame) frame bytes contents (t .told))) (sym (no-request-in turn)) (p (t .device .content) contents (was-refused 8))
   where
-    no-request-in : (t .device .turn ≡ Listens) ⊎ (t .device .turn ≡ Follows) → answeredBy limit (t .device) wish (length put) (t .device .turn) ≡ refused NoRequest
+    no-request-in : (t .device .turn ≡ Listens) ⊎ (t .device .turn ≡ Follows) → answeredBy limit (t .device) wish (length put) (t .device .turn) ≡ refused 8
     no-request-in (inl e) = ap (answeredBy limit (t .device) wish (length put)) e
     no-request-in (inr e) = ap (answeredBy limit (t .device) wish (length put)) e
 called limit t (gives-content command put) frame bytes contents P turn p = go (content-view limit (t .device) command (length put))
@@ -393,18 +393,18 @@ record Rested (t : Device) (s : DeviceStep) : Type 0 where
   same-due : s .side .device .due ≡ t .due
   same-profile : s .side .device .profile ≡ t .profile
 
-sent-in : (d : Device) (frame bytes contents : List ℕ) (told : DeviceTold) (answer : Answer) (turn : Turn) → d .turn ≡ turn → deviceSent d frame bytes contents told answer ≡ record {
+sent-in : (d : Device) (frame bytes contents : List ℕ) (told : DeviceTold) (result : CallResult) (turn : Turn) → d .turn ≡ turn → deviceSent d frame bytes contents told result ≡ record {
   side = record { device = D.sendsBy d (begunFrame d turn contents frame) turn .device; frame = begunFrame d turn contents frame; bytes = bytes; contents = contents };
   sent = D.sendsBy d (begunFrame d turn contents frame) turn .sent;
   told = told;
-  answer = answer;
+  result = result;
 }
 unfolding deviceSends
-sent-in d frame bytes contents told answer turn e = λ i. record {
+sent-in d frame bytes contents told result turn e = λ i. record {
   side = record { device = D.sendsBy d (begunFrame d (e i) contents frame) (e i) .device; frame = begunFrame d (e i) contents frame; bytes = bytes; contents = contents };
   sent = D.sendsBy d (begunFrame d (e i) contents frame) (e i) .sent;
   told = told;
-  answer = answer;
+  result = result;
 }
 
 rested : (limit : ℕ) (x : DeviceSide) (heard : Heard) (call : DeviceCall) → deviceTakes (x .device) heard .device .turn ≡ Listens → Rested (deviceTakes (x .device) heard .device) (deviceTick limit x heard call)
@@ -412,7 +412,7 @@ unfolding deviceTick
 rested limit x heard call e =
     let t : DeviceTaken = deviceTakes (x .device) heard in
     called limit t call (heardFrame x heard) (deviceData x heard) (x .contents) (Rested (t .device)) (inl e)
-    (λ c contents answer. subst (Rested (t .device)) (sym (sent-in (withContent (t .device) c) (heardFrame x heard) (deviceData x heard) contents (t .told) answer Listens e))
+    (λ c contents result. subst (Rested (t .device)) (sym (sent-in (deviceWithContent (t .device) c) (heardFrame x heard) (deviceData x heard) contents (t .told) result Listens e))
     (record { is-silent = refl; hears = refl; same-receiver = refl; same-turn = refl; same-burst = refl; same-due = refl; same-profile = refl }))
 
 -- a BACK begins
@@ -421,16 +421,16 @@ unfolding deviceTick
 back-begins limit x call ss e =
     let t : DeviceTaken = deviceTakes (x .device) Silence in
     called limit t call (heardFrame x Silence) (deviceData x Silence) (x .contents) (λ s. BeginsAfter 0 (s .sent ∷ ss)) (inr e)
-    (λ c contents answer. subst (λ (s : DeviceStep). BeginsAfter 0 (s .sent ∷ ss)) (sym (sent-in (withContent (t .device) c) (heardFrame x Silence) (deviceData x Silence) contents (t .told) answer Follows e))
-    (if-both (λ (s : DeviceSent). BeginsAfter 0 (s .sent ∷ ss)) (0 + 1 <? backLength (withContent (t .device) c)) _ _ begins begins))
+    (λ c contents result. subst (λ (s : DeviceStep). BeginsAfter 0 (s .sent ∷ ss)) (sym (sent-in (deviceWithContent (t .device) c) (heardFrame x Silence) (deviceData x Silence) contents (t .told) result Follows e))
+    (if-both (λ (s : DeviceSent). BeginsAfter 0 (s .sent ∷ ss)) (0 + 1 <? backLength (deviceWithContent (t .device) c)) _ _ begins begins))
 
 -- and at it
 due-now : (d : Device) (event : Event) → d .burst ≡ true → d .due ≡ 1 → D.counts d idle (d .due) event .device .turn ≡ Follows
-due-now d event burst e = ap (λ (t : DeviceTaken). t .device .turn) (if-is-true (backDue d (d .due)) _ _ (if-is-true (d .burst) _ _ burst ∙ ap (λ (n : ℕ). n =? 1) e))
+due-now d event burst e = if-is-true (backDue d (d .due)) _ _ (if-is-true (d .burst) _ _ burst ∙ ap (λ (n : ℕ). n =? 1) e)
 
 silent-takes : (d : Device) → d .deaf ≡ false → d .receiver ≡ idle → deviceTakes d Silence ≡ D.counts d idle (d .due) Nothing
-unfolding deviceTakes taken
-silent-takes d hears e = if-is-false (d .deaf) _ _ hears ∙ ap (λ (r : Receiver). D.onSilence d (taken r Silence .receiver) (taken r Silence .event)) e ∙ ap (λ (t : Taken). D.onSilence d (t .receiver) (t .event)) (outside-idle idle refl) ∙ if-is-false (idle .gap) _ _ refl
+unfolding deviceTakes
+silent-takes d hears e = if-is-false (d .deaf) _ _ hears ∙ device-outside d (ap (λ (r : Receiver). insideFrame (r .place)) e)
 
 behind-rest : {k : ℕ} {t : Device} {s : DeviceStep} → Rested t s → DueIn k t → DueIn k (s .side .device)
 behind-rest r d = record { hears = r .hears; idle-is = r .same-receiver ∙ d .idle-is; turn-is = r .same-turn; bursts = r .same-burst ∙ d .bursts; due-is = r .same-due ∙ d .due-is }
@@ -447,7 +447,7 @@ runs-back limit (suc k) x (c ∷ cs) few w =
     one-silent (r .is-silent) (runs-back limit k _ cs (omega arith) (behind-rest r now))
 
 -- a character inside a frame: no BACK is due
-drops : (d : Device) (last : Heard) → d .deaf ≡ false → IsCharacter last → taken (d .receiver) last .event ≡ Nothing → deviceTakes d last ≡ D.tells (D.behind d (taken (d .receiver) last .receiver) Listens (d .request) Wish.Same (d .length) 0) DeviceTold.Nothing Nothing
+drops : (d : Device) (last : Heard) → d .deaf ≡ false → IsCharacter last → taken (d .receiver) last .event ≡ Nothing → deviceTakes d last ≡ D.tells (D.deviceWith d (taken (d .receiver) last .receiver) Listens (d .request) Wish.Same (d .length) 0) DeviceTold.Nothing Nothing
 unfolding deviceTakes
 drops d (Character z) hears is-sound inside = if-is-false (d .deaf) _ _ hears ∙ ap (D.onCharacter d (taken (d .receiver) (Character z) .receiver)) inside
 drops d (Heard.Damaged z kind) hears is-damaged inside = if-is-false (d .deaf) _ _ hears ∙ ap (D.onCharacter d (taken (d .receiver) (Heard.Damaged z kind) .receiver)) inside
@@ -472,7 +472,7 @@ device-counts-both limit x last call calls made cut on long =
     y = deviceTick limit x last call .side
 
     -- behind the last character
-    a : Rested (D.behind d r Listens (d .request) Wish.Same (d .length) 0) (deviceTick limit x last call)
+    a : Rested (D.deviceWith d r Listens (d .request) Wish.Same (d .length) 0) (deviceTick limit x last call)
     a = subst (λ (t : DeviceTaken). Rested (t .device) (deviceTick limit x last call)) (drops d last (cut .hears) (cut .character) (cut .inside)) (rested limit x last call (ap (λ (t : DeviceTaken). t .device .turn) (drops d last (cut .hears) (cut .character) (cut .inside))))
 
     inside : Inside (y .device .receiver .place)
@@ -484,10 +484,10 @@ device-counts-both limit x last call calls made cut on long =
     go k e (c ∷ f ∷ fs) few = one-silent (a .is-silent) (one-silent (b .is-silent) (one-silent (s .is-silent) (runs-back limit k _ fs (omega arith) (behind-rest s after))))
       where
         -- behind the tick that is passed over
-        still : deviceTakes (y .device) Silence ≡ D.tells (D.behind (y .device) (gapped (y .device .receiver)) (y .device .turn) (y .device .request) (y .device .wish) (y .device .length) (y .device .due)) DeviceTold.Nothing Nothing
+        still : deviceTakes (y .device) Silence ≡ D.tells (D.deviceWith (y .device) (gapped (y .device .receiver)) (y .device .turn) (y .device .request) (y .device .wish) (y .device .length) (y .device .due)) DeviceTold.Nothing Nothing
         still = device-still (y .device) (a .hears) inside (ap (λ (z : Receiver). z .gap) (a .same-receiver) ∙ within .no-gap)
 
-        b : Rested (D.behind (y .device) (gapped (y .device .receiver)) (y .device .turn) (y .device .request) (y .device .wish) (y .device .length) (y .device .due)) (deviceTick limit y Silence c)
+        b : Rested (D.deviceWith (y .device) (gapped (y .device .receiver)) (y .device .turn) (y .device .request) (y .device .wish) (y .device .length) (y .device .due)) (deviceTick limit y Silence c)
         b = subst (λ (t : DeviceTaken). Rested (t .device) (deviceTick limit y Silence c)) still (rested limit y Silence c (ap (λ (t : DeviceTaken). t .device .turn) still ∙ a .same-turn))
 
         w : DeviceSide
@@ -518,7 +518,7 @@ module _ (limit : ℕ) (y : DeviceSide) (within : Within (y .device .receiver)) 
   gap-device = record { device = deviceGapped (y .device); frame = y .frame; bytes = y .bytes; contents = y .contents }
 
   gap-device-step : DeviceStep
-  gap-device-step = record { side = gap-device; sent = Silent; told = DeviceTold.Nothing; answer = none }
+  gap-device-step = record { side = gap-device; sent = Silent; told = DeviceTold.Nothing; result = none }
 
   device-gap-is : deviceTick limit y Silence no-call ≡ gap-device-step
   unfolding deviceTick gap-device gap-device-step takenData
@@ -531,7 +531,7 @@ module _ (limit : ℕ) (y : DeviceSide) (within : Within (y .device .receiver)) 
         side = record { device = D.sends (deviceGapped d) (sym hears i) (sym listens i) (d .length) (d .burst) (d .primary) (d .due) (gapped (d .receiver)) Silent .device; frame = y .frame; bytes = bytes i; contents = y .contents };
         sent = Silent;
         told = DeviceTold.Nothing;
-        answer = none;
+        result = none;
       })
 
   device-as-if-no-gap : (next : Heard) (call : DeviceCall) → IsCharacter next → deviceTick limit gap-device next call ≡ deviceTick limit y next call

@@ -3,13 +3,13 @@ use Prim.Native.Nat.{ℕ}
 use mathlib.Core.Path.{_≡_, ap, _∙_}
 use mathlib.Core.List.{List}
 use Rattle.base.proofs.Choices.{if-is-false}
-use Rattle.line.specs.Reader.{taken}
+use Rattle.line.specs.Reader.{taken, insideFrame}
 use Rattle.line.specs.declared.Event.{Event}
 use Rattle.line.specs.declared.Event.the-variants.{Nothing, PassedOver, Broken, Frame, Damaged}
 use Rattle.line.specs.declared.Heard.{Heard}
 use Rattle.line.specs.declared.Heard.the-variants.{Silence, Character}
 use Rattle.line.specs.declared.Receiver.{Receiver}
-use Rattle.turns.specs.Master.{Ending, behind, atBreak, atFrame, counts, waited, rt1Ends, ifAwaiting, afterBreak, onSilence, onCharacter, onHeard, masterTakes, sendsBy, masterSends}
+use Rattle.turns.specs.Master.{Ending, atBreak, atFrame, counts, waited, rt1Ends, ifAwaiting, afterBreak, onSilence, onCharacter, onHeard, masterTakes, sendsBy, masterSends, withReader}
 use Rattle.turns.specs.Link.{no-request, MasterSide, MasterStep, masterTick, masterData}
 use Rattle.turns.specs.declared.Sent.the-variants.{Silent}
 use Rattle.turns.specs.declared.Stage.{Stage}
@@ -30,14 +30,14 @@ none-ends g e f = ap (λ (s : Stage). ifAwaiting s g e .message .stage) f ∙ f
 free-counts : (m : Master) (told : MasterTold) (event : Event) → m .message .stage ≡ Free → Without (counts m told event)
 free-counts m told event f = ap (λ (t : MasterTaken). t .master .message .stage) (if-is-false (rt1Ends (m .message .stage)) _ _ (ap rt1Ends f)) ∙ ap waited f
 
-free-silence : (m : Master) (r : Receiver) (e : Event) → m .message .stage ≡ Free → Without (onSilence m r e)
-free-silence m r Nothing f = if-both Without (r .gap) _ _ f (free-counts (behind m r (m .burst) (m .noted) (m .timer) (m .message)) MasterTold.Nothing Nothing f)
-free-silence m r PassedOver f = free-counts (afterBreak m r PassedOver .master) (afterBreak m r PassedOver .told) PassedOver (none-ends (m .message) (atBreak m) f)
-free-silence m r Broken f =
+free-silence : (m : Master) (r : Receiver) → m .message .stage ≡ Free → Without (onSilence m r)
+free-silence m r f =
     let once = counts (afterBreak m r Broken .master) (afterBreak m r Broken .told) Broken in
-    free-counts (once .master) (once .told) Broken (free-counts (afterBreak m r Broken .master) (afterBreak m r Broken .told) Broken (none-ends (m .message) (atBreak m) f))
-free-silence m r (Frame w) f = free-counts (afterBreak m r (Frame w) .master) (afterBreak m r (Frame w) .told) (Frame w) (none-ends (m .message) (atBreak m) f)
-free-silence m r (Damaged w h) f = free-counts (afterBreak m r (Damaged w h) .master) (afterBreak m r (Damaged w h) .told) (Damaged w h) (none-ends (m .message) (atBreak m) f)
+    if-both Without (insideFrame (m .receiver .place)) _ _
+    (if-both Without (m .receiver .gap) _ _
+    (free-counts (once .master) (once .told) Broken (free-counts (afterBreak m r Broken .master) (afterBreak m r Broken .told) Broken (none-ends (m .message) (atBreak m) f)))
+    f)
+    (free-counts (withReader m r) MasterTold.Nothing Nothing f)
 
 free-character : (m : Master) (r : Receiver) (e : Event) (bytes : List ℕ) → m .message .stage ≡ Free → Without (onCharacter m r e bytes)
 free-character m r Nothing bytes f = f
@@ -47,7 +47,7 @@ free-character m r (Frame w) bytes f = none-ends (m .message) (atFrame m w bytes
 free-character m r (Damaged w h) bytes f = none-ends (m .message) (atBreak m) f
 
 free-heard : (m : Master) (heard : Heard) (bytes : List ℕ) → m .message .stage ≡ Free → Without (onHeard m heard bytes)
-free-heard m Silence bytes f = free-silence m (taken (m .receiver) Silence .receiver) (taken (m .receiver) Silence .event) f
+free-heard m Silence bytes f = free-silence m (taken (m .receiver) Silence .receiver) f
 free-heard m (Character c) bytes f = free-character m (taken (m .receiver) (Character c) .receiver) (taken (m .receiver) (Character c) .event) bytes f
 free-heard m (Heard.Damaged c kind) bytes f = free-character m (taken (m .receiver) (Heard.Damaged c kind) .receiver) (taken (m .receiver) (Heard.Damaged c kind) .event) bytes f
 

@@ -6,22 +6,23 @@ use mathlib.Core.Bool.{Bool, true, false}
 use mathlib.Core.List.{List}
 use lib.ListN.{length}
 use borrow.Author.Tests.{ltb-false, lt-ltb}
+use Rattle.base.specs.Refusal.{Called}
 use Rattle.base.specs.Choice.{if_then_else_, _<?_, _≤?_}
 use Rattle.base.specs.Store.{stored}
-use Rattle.base.specs.declared.Refusal.{Refusal}
 use Rattle.base.proofs.Choices.{true-false, if-is-true}
 use Rattle.frame.specs.Frame.{frameBytes, frameLength}
 use Rattle.frame.specs.declared.Header.{Header}
 use Rattle.frame.proofs.Longest.{address-at-most}
-use Rattle.line.specs.Reader.{taken}
+use Rattle.line.specs.Reader.{taken, insideFrame}
 use Rattle.line.specs.declared.Event.{Event}
 use Rattle.line.specs.declared.Event.the-variants.{Nothing, PassedOver, Broken, Frame, Damaged}
 use Rattle.line.specs.declared.Heard.{Heard}
 use Rattle.line.specs.declared.Heard.the-variants.{Silence, Character}
 use Rattle.line.specs.declared.Receiver.{Receiver}
 use Rattle.line.specs.declared.Whole.{Whole}
-use Rattle.turns.specs.Master.{Called, Ending, requested, requestHeader, isBroadcast, answersMessage, fails, atFrame, atBreak, ifAwaiting, rt1Ends, waited, counts, afterBreak, onSilence, onCharacter, onHeard, masterTakes, masterSends, oneMore, sendsBy, sendsAt, behind}
-use Rattle.turns.specs.Link.{MasterCall, no-request, requests, none, was-taken, was-refused, MasterSide, MasterStep, masterSent, masterCalled, masterTick, masterData}
+use Rattle.turns.specs.Party.{isBroadcast, none, was-taken, was-refused}
+use Rattle.turns.specs.Master.{Ending, requested, requestHeader, answersMessage, fails, atFrame, atBreak, ifAwaiting, rt1Ends, waited, counts, afterBreak, onSilence, onCharacter, onHeard, masterTakes, masterSends, oneMore, sendsBy, sendsAt, withReader}
+use Rattle.turns.specs.Link.{MasterCall, no-request, requests, MasterSide, MasterStep, masterSent, masterCalled, masterTick, masterData}
 use Rattle.turns.specs.declared.Sent.{Sent}
 use Rattle.turns.specs.declared.Stage.{Stage}
 use Rattle.turns.specs.declared.Stage.the-variants.{Free, Waiting, Sending, Awaiting}
@@ -113,16 +114,14 @@ both a b = record {
   };
 }
 
-silent : (m : Master) (r : Receiver) (event : Event) → Same m (onSilence m r event .master)
-silent m r Nothing =
-    let still : Same m (behind m r (m .burst) (m .noted) (m .timer) (m .message)) = record { same-retries = refl; same-message = itself (m .message) } in
-    if-both (λ (t : MasterTaken). Same m (t .master)) (r .gap) _ _ still (both still (count (behind m r (m .burst) (m .noted) (m .timer) (m .message)) MasterTold.Nothing Nothing))
-silent m r PassedOver = both (after-break m r PassedOver) (count (afterBreak m r PassedOver .master) (afterBreak m r PassedOver .told) PassedOver)
-silent m r Broken =
+silent : (m : Master) (r : Receiver) → Same m (onSilence m r .master)
+silent m r =
+    let P : MasterTaken → Type 0 = λ t. Same m (t .master) in
+    let still : Same m (withReader m r) = record { same-retries = refl; same-message = itself (m .message) } in
     let once : MasterTaken = counts (afterBreak m r Broken .master) (afterBreak m r Broken .told) Broken in
-    both (after-break m r Broken) (both (count (afterBreak m r Broken .master) (afterBreak m r Broken .told) Broken) (count (once .master) (once .told) Broken))
-silent m r (Frame w) = both (after-break m r (Frame w)) (count (afterBreak m r (Frame w) .master) (afterBreak m r (Frame w) .told) (Frame w))
-silent m r (Damaged w h) = both (after-break m r (Damaged w h)) (count (afterBreak m r (Damaged w h) .master) (afterBreak m r (Damaged w h) .told) (Damaged w h))
+    if-both P (insideFrame (m .receiver .place)) _ _
+    (if-both P (m .receiver .gap) _ _ (both (after-break m r Broken) (both (count (afterBreak m r Broken .master) (afterBreak m r Broken .told) Broken) (count (once .master) (once .told) Broken))) still)
+    (both still (count (withReader m r) MasterTold.Nothing Nothing))
 
 character : (m : Master) (r : Receiver) (event : Event) (bytes : List ℕ) → Same m (onCharacter m r event bytes .master)
 character m r Nothing bytes = record { same-retries = refl; same-message = itself (m .message) }
@@ -132,7 +131,7 @@ character m r (Frame w) bytes = record { same-retries = refl; same-message = awa
 character m r (Damaged w h) bytes = after-break m r (Damaged w h)
 
 heard-same : (m : Master) (heard : Heard) (bytes : List ℕ) → Same m (onHeard m heard bytes .master)
-heard-same m Silence bytes = silent m _ (taken (m .receiver) Silence .event)
+heard-same m Silence bytes = silent m (taken (m .receiver) Silence .receiver)
 heard-same m (Character c) bytes = character m _ (taken (m .receiver) (Character c) .event) bytes
 heard-same m (Heard.Damaged c kind) bytes = character m _ (taken (m .receiver) (Heard.Damaged c kind) .event) bytes
 
@@ -272,13 +271,13 @@ pub data Accepted (step : MasterStep) : Type 0 where
   begins-now : (c : ℕ) → step .sent ≡ Sent.Character c → Accepted step
   waits-now : step .sent ≡ Sent.Silent → step .side .master .message .stage ≡ Waiting → step .side .master .message .attempts ≡ 0 → Accepted step
 
-refused-taken : {why : Refusal} → was-refused why ≡ was-taken → ⊥
+refused-taken : {why : ℕ} → was-refused why ≡ was-taken → ⊥
 refused-taken e = let z : _≡_ {A = ℕ} 0 1 = cc in omega arith
 
 none-taken : none ≡ was-taken → ⊥
 none-taken e = let z : _≡_ {A = ℕ} 0 1 = cc in omega arith
 
-pub accepts : (limit : ℕ) → limit ≤ 255 → (x : MasterSide) (heard : Heard) (call : MasterCall) → masterTick limit x heard call .answer ≡ was-taken → Accepted (masterTick limit x heard call)
+pub accepts : (limit : ℕ) → limit ≤ 255 → (x : MasterSide) (heard : Heard) (call : MasterCall) → masterTick limit x heard call .result ≡ was-taken → Accepted (masterTick limit x heard call)
 unfolding masterTick masterSends
 accepts limit small x heard no-request e = absurd (none-taken e)
 accepts limit small x heard (requests q put) e = go (asks limit t q (length put) small) e
@@ -295,8 +294,8 @@ accepts limit small x heard (requests q put) e = go (asks limit t q (length put)
     step : Called Master → MasterStep
     step c = masterCalled c t put-in (x .frame) (masterData x heard) told
 
-    go : Asks limit t q (length put) → step (requested limit t q (length put)) .answer ≡ was-taken → Accepted (step (requested limit t q (length put)))
-    go (is-refused why a) z = absurd (refused-taken (ap (λ (c : Called Master). step c .answer) (sym a) ∙ z))
+    go : Asks limit t q (length put) → step (requested limit t q (length put)) .result ≡ was-taken → Accepted (step (requested limit t q (length put)))
+    go (is-refused why a) z = absurd (refused-taken (ap (λ (c : Called Master). step c .result) (sym a) ∙ z))
     go (is-taken fits few free a) z =
         subst (λ (c : Called Master). Accepted (step c)) (sym a)
         (if-both (λ (s : MasterSent). Accepted (masterSent s (stored (x .frame) 0 put-in) (masterData x heard) told was-taken)) (0 <? t .timer .window) _ _

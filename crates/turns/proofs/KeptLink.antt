@@ -5,24 +5,24 @@ use mathlib.Core.Path.{_≡_, refl, sym, subst}
 use mathlib.Core.Bool.{Bool}
 use mathlib.Core.List.{List, [], _∷_}
 use lib.ListN.{length}
+use Rattle.base.specs.Refusal.{Called}
 use Rattle.base.specs.Choice.{if_then_else_, _<?_, _=?_}
 use Rattle.base.specs.Store.{stored}
-use Rattle.base.specs.declared.Refusal.the-variants.{NoRequest}
 use Rattle.base.proofs.Choices.{true-false}
 use Rattle.frame.specs.Delimiter.{stx}
-use Rattle.line.specs.Reader.{taken}
+use Rattle.line.specs.Reader.{taken, insideFrame}
 use Rattle.line.specs.declared.Event.{Event}
 use Rattle.line.specs.declared.Event.the-variants.{Nothing, PassedOver, Broken, Frame, Damaged}
 use Rattle.line.specs.declared.Heard.{Heard}
 use Rattle.line.specs.declared.Heard.the-variants.{Silence, Character}
 use Rattle.line.specs.declared.Profile.{Profile}
 use Rattle.line.specs.declared.Receiver.{Receiver}
-use Rattle.turns.specs.Master.{Called, isBroadcast}
-use Rattle.turns.specs.Device.{hasError, backDue, answerHeader, wished, backHeader, backLength, onSilence, onCharacter, onHeard, deviceTakes, answeredBy, answered, answerFrame, contentGiven, sendsBy, deviceSends, begunFrame, brokenDue, mayAnswer}
-use Rattle.turns.specs.Link.{DeviceCall, no-call, gives-answer, gives-content, Answer, was-taken, was-refused, MasterSide, DeviceSide, deviceData, heardFrame, deviceSent, answerCalled, contentCalled, deviceTick, deviceTicks, Link, Calls, sides, linkTick, linkAfter}
+use Rattle.turns.specs.Party.{isBroadcast, CallResult, was-taken, was-refused}
+use Rattle.turns.specs.Device.{hasError, answerHeader, wished, backHeader, backLength, onSilence, onCharacter, onHeard, deviceTakes, answeredBy, answered, answerFrame, contentGiven, sendsBy, deviceSends, begunFrame, mayAnswer, changed}
+use Rattle.turns.specs.Link.{DeviceCall, no-call, gives-answer, gives-content, MasterSide, DeviceSide, deviceData, heardFrame, deviceSent, answerCalled, contentCalled, deviceTick, deviceTicks, Link, Calls, sides, linkTick, linkAfter}
 use Rattle.turns.specs.Run.{All, none, and, MasterStarts, DeviceStarts, Starts}
 use Rattle.turns.specs.declared.Turn.{Turn}
-use Rattle.turns.specs.declared.Turn.the-variants.{Listens, Asked, Accepted, Begins, Answers, Follows, Bursts}
+use Rattle.turns.specs.declared.Turn.the-variants.{Listens, Asked, AnswerWaits, Begins, Answers, Follows, Bursts}
 use Rattle.turns.specs.declared.Wish.{Wish}
 use Rattle.turns.specs.declared.Device.{Device}
 use Rattle.turns.specs.declared.DeviceTaken.{DeviceTaken}
@@ -33,6 +33,7 @@ use Rattle.turns.proofs.Devices as D
 use Rattle.turns.proofs.Bursting.{if-both}
 use Rattle.turns.proofs.Fresh.{master-is, device-is}
 use Rattle.turns.proofs.Kept.{MasterKept, MasterSettled, master-kept, frame-short}
+use Rattle.turns.specs.declared.Change.{Change}
 
 -- ---- devices
 
@@ -49,28 +50,25 @@ module _ (limit : ℕ) (low : 2 ≤ limit) (d : Device) (k : DeviceKept limit d)
   same : {e : Device} → e .preamble ≡ d .preamble → e .length ≡ d .length → e .content .count ≡ d .content .count → DeviceKept limit e
   same p l c = record { preamble-high = omega (arith, p, k .preamble-high); short = omega (arith, l, k .short); content-short = omega (arith, c, k .content-short) }
 
-  silence : (r : Receiver) (e : Event) → DeviceKept limit (onSilence d r e .device)
-  silence r Nothing = if-kept (r .gap) _ _ (same refl refl refl) (if-kept (backDue d (d .due)) _ _ (same refl refl refl) (same refl refl refl))
-  silence r PassedOver = if-kept (backDue d (d .profile .rt1p)) _ _ (same refl refl refl) (same refl refl refl)
-  silence r Broken = if-kept (backDue d (brokenDue d)) _ _ (same refl refl refl) (same refl refl refl)
-  silence r (Frame w) = if-kept (backDue d (d .profile .rt1p)) _ _ (same refl refl refl) (same refl refl refl)
-  silence r (Damaged w m) = if-kept (backDue d (d .profile .rt1p)) _ _ (same refl refl refl) (same refl refl refl)
+  silence : (r : Receiver) → DeviceKept limit (onSilence d r .device)
+  silence r = if-kept (insideFrame (d .receiver .place)) _ _ (if-kept (d .receiver .gap) _ _ (same refl refl refl) (same refl refl refl)) (same refl refl refl)
 
   character : (r : Receiver) (e : Event) → DeviceKept limit (onCharacter d r e .device)
   character r Nothing = same refl refl refl
   character r PassedOver = same refl refl refl
   character r Broken = same refl refl refl
   character r (Frame w) =
-      if-kept (w .header .frame =? stx) _ _
-      (if-kept (w .expansion =? 0) _ _ (if-kept (mayAnswer d (w .header)) _ _ (same refl refl refl) (if-kept (isBroadcast (w .header)) _ _ (same refl refl refl) (same refl refl refl))) (same refl refl refl))
+      let P : Change → Type 0 = λ c. DeviceKept limit (changed d r (Frame w) c .device) in
+      if-both P (w .header .frame =? stx) _ _
+      (if-both P (w .expansion =? 0) _ _ (if-both P (mayAnswer d (w .header)) _ _ (same refl refl refl) (if-both P (isBroadcast (w .header)) _ _ (same refl refl refl) (same refl refl refl))) (same refl refl refl))
       (same refl refl refl)
   character r (Damaged w m) =
-      if-kept (hasError d w m) _ _
+      if-both (λ (c : Change). DeviceKept limit (changed d r (Damaged w m) c .device)) (hasError d w m) _ _
       (record { preamble-high = k .preamble-high; short = frame-short limit (d .preamble) (answerHeader (w .header) (d .burst)) 2 (k .preamble-high) low; content-short = k .content-short })
       (same refl refl refl)
 
   heard-kept : (heard : Heard) → DeviceKept limit (onHeard d heard .device)
-  heard-kept Silence = silence _ (taken (d .receiver) Silence .event)
+  heard-kept Silence = silence (taken (d .receiver) Silence .receiver)
   heard-kept (Character c) = character _ (taken (d .receiver) (Character c) .event)
   heard-kept (Heard.Damaged c kind) = character _ (taken (d .receiver) (Heard.Damaged c kind) .event)
 
@@ -81,7 +79,7 @@ module _ (limit : ℕ) (low : 2 ≤ limit) (d : Device) (k : DeviceKept limit d)
   by-turn : (frame : List ℕ) (turn : Turn) → DeviceKept limit (sendsBy d frame turn .device)
   by-turn frame Listens = same refl refl refl
   by-turn frame (Asked n) = same refl refl refl
-  by-turn frame Accepted = same refl refl refl
+  by-turn frame AnswerWaits = same refl refl refl
   by-turn frame Begins = if-both (λ (s : DeviceSent). DeviceKept limit (s .device)) (0 + 1 <? d .length) _ _ (same refl refl refl) (same refl refl refl)
   by-turn frame (Answers n) = if-both (λ (s : DeviceSent). DeviceKept limit (s .device)) (n + 1 <? d .length) _ _ (same refl refl refl) (same refl refl refl)
   by-turn frame Follows =
@@ -91,17 +89,17 @@ module _ (limit : ℕ) (low : 2 ≤ limit) (d : Device) (k : DeviceKept limit d)
       (record { preamble-high = k .preamble-high; short = short; content-short = k .content-short })
   by-turn frame (Bursts n) = if-both (λ (s : DeviceSent). DeviceKept limit (s .device)) (n + 1 <? d .length) _ _ (same refl refl refl) (same refl refl refl)
 
-  sent-kept : (frame bytes contents : List ℕ) (told : DeviceTold) (answer : Answer) → DeviceKept limit (deviceSent d frame bytes contents told answer .side .device)
+  sent-kept : (frame bytes contents : List ℕ) (told : DeviceTold) (result : CallResult) → DeviceKept limit (deviceSent d frame bytes contents told result .side .device)
   unfolding deviceSends
-  sent-kept frame bytes contents told answer = by-turn (begunFrame d (d .turn) contents frame) (d .turn)
+  sent-kept frame bytes contents told result = by-turn (begunFrame d (d .turn) contents frame) (d .turn)
 
 module _ (limit : ℕ) (low : 2 ≤ limit) (d : Device) (k : DeviceKept limit d) (frame bytes contents : List ℕ) (told : DeviceTold) where
-  answer-kept : (wish : Wish) (put : List ℕ) (turn : Turn) → DeviceKept limit (answerCalled (answeredBy limit d wish (length put) turn) d (answerFrame d wish put) frame bytes contents told .side .device)
-  answer-kept wish put Listens = sent-kept limit low d k frame bytes contents told (was-refused NoRequest)
+  answer-kept : (wish : Wish) (put : List ℕ) (turn : Turn) → DeviceKept limit (answerCalled (answeredBy limit d wish (length put) turn) d (answerFrame d wish put frame) frame bytes contents told .side .device)
+  answer-kept wish put Listens = sent-kept limit low d k frame bytes contents told (was-refused 8)
   answer-kept wish put (Asked n) = go (answer-view limit d wish (length put) n)
     where
       by : Called Device → Type 0
-      by c = DeviceKept limit (answerCalled c d (answerFrame d wish put) frame bytes contents told .side .device)
+      by c = DeviceKept limit (answerCalled c d (answerFrame d wish put frame) frame bytes contents told .side .device)
 
       go : AnswerView limit d wish (length put) n → by (answeredBy limit d wish (length put) (Asked n))
       go (D.AnswerView.is-refused why e) = subst by (sym e) (sent-kept limit low d k frame bytes contents told (was-refused why))
@@ -109,12 +107,12 @@ module _ (limit : ℕ) (low : 2 ≤ limit) (d : Device) (k : DeviceKept limit d)
           subst by (sym e)
           (sent-kept limit low _
           (record { preamble-high = k .preamble-high; short = frame-short limit (d .preamble) (answerHeader (d .request) (wished (d .burst) wish)) (length put) (k .preamble-high) most; content-short = k .content-short })
-          (stored frame 0 (answerFrame d wish put)) bytes contents told was-taken)
-  answer-kept wish put Accepted = sent-kept limit low d k frame bytes contents told (was-refused NoRequest)
-  answer-kept wish put Begins = sent-kept limit low d k frame bytes contents told (was-refused NoRequest)
-  answer-kept wish put (Answers n) = sent-kept limit low d k frame bytes contents told (was-refused NoRequest)
-  answer-kept wish put Follows = sent-kept limit low d k frame bytes contents told (was-refused NoRequest)
-  answer-kept wish put (Bursts n) = sent-kept limit low d k frame bytes contents told (was-refused NoRequest)
+          (answerFrame d wish put frame) bytes contents told was-taken)
+  answer-kept wish put AnswerWaits = sent-kept limit low d k frame bytes contents told (was-refused 8)
+  answer-kept wish put Begins = sent-kept limit low d k frame bytes contents told (was-refused 8)
+  answer-kept wish put (Answers n) = sent-kept limit low d k frame bytes contents told (was-refused 8)
+  answer-kept wish put Follows = sent-kept limit low d k frame bytes contents told (was-refused 8)
+  answer-kept wish put (Bursts n) = sent-kept limit low d k frame bytes contents told (was-refused 8)
 
   content-kept : (command : ℕ) (put : List ℕ) → DeviceKept limit (contentCalled (contentGiven limit d command (length put)) d put frame bytes contents told .side .device)
   content-kept command put = go (content-view limit d command (length put))
@@ -129,7 +127,7 @@ module _ (limit : ℕ) (low : 2 ≤ limit) (d : Device) (k : DeviceKept limit d)
 
 pub device-kept : (limit : ℕ) → 2 ≤ limit → (x : DeviceSide) (heard : Heard) (call : DeviceCall) → DeviceKept limit (x .device) → DeviceKept limit (deviceTick limit x heard call .side .device)
 unfolding deviceTick answered
-device-kept limit low x heard no-call k = sent-kept limit low _ (takes-kept limit low (x .device) k heard) (heardFrame x heard) (deviceData x heard) (x .contents) (deviceTakes (x .device) heard .told) Answer.none
+device-kept limit low x heard no-call k = sent-kept limit low _ (takes-kept limit low (x .device) k heard) (heardFrame x heard) (deviceData x heard) (x .contents) (deviceTakes (x .device) heard .told) CallResult.none
 device-kept limit low x heard (gives-answer wish put) k = answer-kept limit low _ (takes-kept limit low (x .device) k heard) (heardFrame x heard) (deviceData x heard) (x .contents) (deviceTakes (x .device) heard .told) wish put (deviceTakes (x .device) heard .device .turn)
 device-kept limit low x heard (gives-content command put) k = content-kept limit low _ (takes-kept limit low (x .device) k heard) (heardFrame x heard) (deviceData x heard) (x .contents) (deviceTakes (x .device) heard .told) command put
 

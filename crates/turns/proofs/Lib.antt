@@ -59,6 +59,7 @@ pub mod Scenes
 pub mod Sending
 pub mod Settled
 pub mod Silences
+pub mod Silent
 pub mod SilentTick
 pub mod Spoken
 pub mod Stx
@@ -75,4 +76,5 @@ pub mod WaitSides
 pub mod WaitSoon
 pub mod Waits
 pub mod Windows
+pub mod Writing
 pub mod SoundPairs

@@ -10,7 +10,7 @@ use Rattle.line.specs.Profile.{fskProfile}
 use Rattle.line.specs.Reader.{idle}
 use Rattle.turns.specs.Master.{freshMaster, masterStarts, requested}
 use Rattle.turns.specs.Master as M
-use Rattle.turns.specs.Device.{freshDevice, deviceStarts, answered, contentGiven, withContent}
+use Rattle.turns.specs.Device.{freshDevice, deviceStarts, answered, contentGiven, deviceWithContent}
 use Rattle.turns.specs.Device as D
 use Rattle.turns.specs.Settled.{Outcome, taken, refuses, outcome}
 use Rattle.turns.specs.declared.Device.{Device}
@@ -38,7 +38,7 @@ abbrev pub free : Master
 free = freshMaster fskProfile true 3
 
 abbrev pub busy : Master
-busy = M.behind free idle false (free .noted) (free .timer) (M.staged (free .message) Waiting)
+busy = M.masterWith free idle false (free .noted) (free .timer) (M.messageAt (free .message) Waiting)
 
 abbrev pub Requests : Type 0
 Requests =
@@ -79,10 +79,10 @@ fresh = freshDevice fskProfile 5 0 2
 
 -- with a request in hand
 abbrev pub asked : Device → Bool → ℕ → ℕ → Device
-asked d long address command = D.behind d idle (Asked 28) (record { frame = stx; long = long; primary = true; burst = false; address = address; command = command }) Same 0 33
+asked d long address command = D.deviceWith d idle (Asked 28) (record { frame = stx; long = long; primary = true; burst = false; address = address; command = command }) Same 0 33
 
 abbrev pub with-content : Device
-with-content = withContent fresh (record { given = true; command = 3; count = 2 })
+with-content = deviceWithContent fresh (record { given = true; command = 3; count = 2 })
 
 abbrev pub give : Device → Wish → ℕ → Outcome
 give d wish count = outcome (answered 255 d wish count)

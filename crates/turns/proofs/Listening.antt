@@ -6,11 +6,10 @@ use mathlib.Core.Bool.{Bool, true, false}
 use mathlib.Core.List.{List}
 use mathlib.Core.Logic.{_⊎_}
 use lib.ListN.{length, getD, take}
-use Rattle.base.specs.Choice.{if_then_else_, _=?_}
-use Rattle.base.proofs.Choices.{if-is-true}
+use Rattle.base.specs.Refusal.{Called, accepted, refused}
+use Rattle.base.specs.Choice.{if_then_else_}
 use Rattle.base.proofs.Stores.{length-stored}
-use borrow.Author.Tests.{eq-eqb}
-use Rattle.frame.specs.Delimiter.{stx, ack, back}
+use Rattle.frame.specs.Delimiter.{stx}
 use Rattle.frame.specs.Frame.{frameBytes}
 use Rattle.frame.specs.declared.Header.{Header}
 use Rattle.line.specs.Reader.{idle, passing, taken}
@@ -22,7 +21,8 @@ use Rattle.line.specs.declared.Profile.{Profile}
 use Rattle.line.specs.declared.Receiver.{Receiver}
 use Rattle.line.specs.declared.Whole.{Whole}
 use Rattle.line.proofs.Leads.{readerAfter}
-use Rattle.turns.specs.Master.{Called, accepted, refused, burstAfter, notedAfter, timerAfter, timer, timerCounted, burstCounted, masterTakes, toItself, requested, requestHeader, namesDevice}
+use Rattle.turns.specs.Master.{burstAfter, notedAfter, Ended, fresh, inside, broken, any-stx, ack-to-itself, ack-to-other, back-to-itself, back-to-other, endedBy, timerAfter, timer, timerCounted, burstCounted, masterTakes, requested, requestHeader, namesDevice}
+use Rattle.turns.specs.Device as DV
 use Rattle.turns.specs.Device.{mayAnswer, dueAfter, errorFrame, deviceTakes, answerHeader, firstFor}
 use Rattle.turns.specs.Link.{MasterCall, no-request, requests, DeviceCall, MasterSide, MasterStep, masterCalled, masterTick, masterData, DeviceSide, DeviceStep, deviceCalls, deviceTick, deviceData, heardFrame}
 use Rattle.turns.specs.declared.Sent.{Sent}
@@ -157,13 +157,20 @@ master-does limit p primary x heard call small is took = go (master-goes limit t
         })
 
 -- a timer that has just been set has no open window
-if-shut : (t : Bool) (a b : Timer) → a .window ≡ 0 → b .window ≡ 0 → (if t then a else b) .window ≡ 0
-unfolding if_then_else_
-if-shut true a b p q = p
-if-shut false a b p q = q
-
-shut-timer : (m : Master) (burst : Bool) (h : Header) → timerAfter m burst h .window ≡ 0
-shut-timer m burst h = if-shut burst _ _ (if-shut (h .frame =? back) _ _ (if-shut (toItself m h) _ _ refl refl) refl) (if-shut (h .frame =? ack) _ _ (if-shut (toItself m h) _ _ refl refl) refl)
+-- where something ends no window is open
+pub timer-shut : (p : Profile) (primary : Bool) (e : Ended) (burst : Bool) → timerAfter p primary e burst .window ≡ 0
+timer-shut p primary fresh burst = refl
+timer-shut p primary inside burst = refl
+timer-shut p primary broken true = refl
+timer-shut p primary broken false = refl
+timer-shut p primary any-stx true = refl
+timer-shut p primary any-stx false = refl
+timer-shut p primary ack-to-itself true = refl
+timer-shut p primary ack-to-itself false = refl
+timer-shut p primary ack-to-other true = refl
+timer-shut p primary ack-to-other false = refl
+timer-shut p primary back-to-itself burst = refl
+timer-shut p primary back-to-other burst = refl
 
 -- the message is as it was before what was heard
 rested-as : {m t : Master} {g : Message} → t .message ≡ m .message → M.Rested t g → M.Rested m g
@@ -211,7 +218,7 @@ module _ (limit : ℕ) (small : limit ≤ 255) (p : Profile) (primary : Bool) (x
     pub receiver-is : step .side .master .receiver ≡ idle
     pub burst-is : step .side .master .burst ≡ burstAfter (x .master .burst) (x .master .noted) (message .header)
     pub noted-is : step .side .master .noted ≡ notedAfter (x .master .noted) (message .header)
-    pub timer-is : step .side .master .timer ≡ timerAfter (x .master) (burstAfter (x .master .burst) (x .master .noted) (message .header)) (message .header)
+    pub timer-is : step .side .master .timer ≡ timerAfter (x .master .profile) (x .master .primary) (endedBy (x .master) (message .header)) (burstAfter (x .master .burst) (x .master .noted) (message .header))
     pub gone : left (step .side .master .message .stage) ≡ 0
     pub waits-on : x .master .message .stage ≡ Waiting → (step .side .master .message .stage ≡ Waiting) × (step .side .master .message .attempts ≡ x .master .message .attempts)
 
@@ -220,7 +227,7 @@ module _ (limit : ℕ) (small : limit ≤ 255) (p : Profile) (primary : Bool) (x
   master-frame w message k s last r =
       let e = subst (λ (z : Receiver). taken z (Character (getD w k 0)) ≡ Rattle.line.specs.Reader.tells idle (Frame message)) (sym r) (s .end k last) in
       let took = T.takes-frame (x .frame) (masterData x (Character (getD w k 0))) (x .master) (l .hears) (l .still) (l .formed) (getD w k 0) message e in
-      let shut = ap (λ (t : Timer). t .window) (took .timer-is) ∙ shut-timer (x .master) (burstAfter (x .master .burst) (x .master .noted) (message .header)) (message .header) in
+      let shut = ap (λ (t : Timer). t .window) (took .timer-is) ∙ timer-shut (x .master .profile) (x .master .primary) (endedBy (x .master) (message .header)) (burstAfter (x .master .burst) (x .master .noted) (message .header)) in
       let rest = rests-shut shut (master-does limit p primary x (Character (getD w k 0)) call small (l .is-it) (took .took)) in
       record {
         listens = rest .listens;
@@ -437,7 +444,7 @@ module _ (limit : ℕ) (low : 2 ≤ limit) (high : limit ≤ 255) (p : Profile) 
     pub receiver-is : step .side .device .receiver ≡ idle
     pub same-burst : step .side .device .burst ≡ x .device .burst
     pub same-primary : step .side .device .primary ≡ x .device .primary
-    pub due-is : step .side .device .due ≡ (if message .header .frame =? stx then p .rt1p else dueAfter (x .device) (message .header))
+    pub due-is : step .side .device .due ≡ dueAfter p (DV.endedBy (Frame message))
     pub in-time : inHand (step .side .device .turn) ≤ p .sto
     pub asked-own : (step .side .device .turn ≡ Listens → ⊥) → mayAnswer (x .device) (message .header) ≡ true
     pub only-stx : (step .side .device .turn ≡ Listens → ⊥) → message .header .frame ≡ stx
@@ -465,8 +472,8 @@ module _ (limit : ℕ) (low : 2 ≤ limit) (high : limit ≤ 255) (p : Profile) 
       goes : D.Goes t step
       goes = device-does limit x heard call low high some-own (plain-frame (x .device) (x .frame) _ message (took .event-is)) (took .took)
 
-      rt1p-is : x .device .profile .rt1p ≡ p .rt1p
-      rt1p-is = ap (λ (q : Profile). q .rt1p) (l .profile-is)
+      due-same : dueAfter (x .device .profile) (DV.endedBy (Frame message)) ≡ dueAfter p (DV.endedBy (Frame message))
+      due-same = ap (λ (q : Profile). dueAfter q (DV.endedBy (Frame message))) (l .profile-is)
 
       by-turn : DT.FrameTurn (x .device) (deviceTakes (x .device) heard) message → DeviceFrame message step
       by-turn (DT.asked-by type own turn req due) =
@@ -478,7 +485,7 @@ module _ (limit : ℕ) (low : 2 ≤ limit) (high : limit ≤ 255) (p : Profile) 
             receiver-is = rest .same-receiver ∙ took .receiver-is;
             same-burst = rest .same-burst ∙ took .took .same-burst;
             same-primary = rest .same-primary ∙ took .took .same-primary;
-            due-is = rest .same-due ∙ due ∙ rt1p-is ∙ sym (if-is-true (message .header .frame =? stx) (p .rt1p) (dueAfter (x .device) (message .header)) (eq-eqb (message .header .frame) stx type));
+            due-is = rest .same-due ∙ due ∙ due-same;
             in-time = omega (arith, rest .less-in-hand, ap inHand turn, ap (λ (q : Profile). q .sto) (l .profile-is));
             asked-own = λ z. own;
             only-stx = λ z. type;
@@ -494,7 +501,7 @@ module _ (limit : ℕ) (low : 2 ≤ limit) (high : limit ≤ 255) (p : Profile) 
             receiver-is = rest .same-receiver ∙ took .receiver-is;
             same-burst = rest .same-burst ∙ took .took .same-burst;
             same-primary = rest .same-primary ∙ took .took .same-primary;
-            due-is = rest .same-due ∙ due ∙ ap (λ (n : ℕ). if message .header .frame =? stx then n else dueAfter (x .device) (message .header)) rt1p-is;
+            due-is = rest .same-due ∙ due ∙ due-same;
             in-time = omega (arith, rest .less-in-hand, ap inHand turn);
             asked-own = λ z. absurd (z still);
             only-stx = λ z. absurd (z still);

@@ -8,15 +8,15 @@ use mathlib.Core.Logic.{_⊎_, inl, inr}
 use lib.ListN.{length, getD, take}
 use lib.Seq.{getD-take}
 use borrow.Author.Tests.{ltb-true, ltb-false, le-leb, leb-false}
+use Rattle.base.specs.Refusal.{Called, accepted, refused}
 use Rattle.base.specs.Choice.{if_then_else_, _<?_, _≤?_, _outside_to_}
 use Rattle.base.specs.Store.{stored}
-use Rattle.base.specs.declared.Refusal.{Refusal}
-use Rattle.base.specs.declared.Refusal.the-variants.{PreambleLength, Address, Command, DataLong, MessageInHand}
 use Rattle.base.proofs.Choices.{true-false, inside-low, inside-high, if-is-true, if-is-false}
 use Rattle.base.proofs.Stores.{stored-front}
 use Rattle.frame.specs.Delimiter.{stx, isType}
 use Rattle.frame.specs.Address.{byteAt, largestAddress, addressTooLarge}
 use Rattle.frame.specs.Frame.{tooFew, frameBytes, frameLength}
+use Rattle.frame.specs.Write.{writeBuffer}
 use Rattle.frame.specs.declared.Header.{Header}
 use Rattle.frame.proofs.Lengths.{frame-count}
 use Rattle.frame.proofs.Longest.{address-at-most}
@@ -24,8 +24,9 @@ use Rattle.frame.proofs.Taken.{Fits}
 use Rattle.line.specs.Reader.{passing}
 use Rattle.line.specs.declared.Whole.{Whole}
 use Rattle.line.proofs.Hearing.{wholeMessage}
-use Rattle.turns.specs.Master.{Called, accepted, refused, Request, requested, requestHeader, hasMessage, commandRefused, behind, timer, brokenTimer, sendsAt, oneMore, sendsBy, masterSends}
-use Rattle.turns.specs.Link.{MasterCall, no-request, requests, Answer, none, was-taken, was-refused, MasterStep, masterCalls, masterCalled, masterSent}
+use Rattle.turns.specs.Party.{Request, CallResult, none, was-taken, was-refused}
+use Rattle.turns.specs.Master.{requested, requestHeader, hasMessage, commandRefused, masterWith, timer, any-stx, timerAfter, sendsAt, oneMore, sendsBy, masterSends}
+use Rattle.turns.specs.Link.{MasterCall, no-request, requests, MasterStep, masterCalls, masterCalled, masterSent}
 use Rattle.turns.specs.declared.Sent.the-variants.{Silent, Character}
 use Rattle.turns.specs.declared.Stage.{Stage}
 use Rattle.turns.specs.declared.Stage.the-variants.{Free, Waiting, Sending, Awaiting}
@@ -35,6 +36,7 @@ use Rattle.turns.specs.declared.MasterTold.{MasterTold}
 use Rattle.turns.specs.declared.MasterSent.{MasterSent}
 use Rattle.turns.specs.declared.MasterTaken.{MasterTaken}
 use Rattle.turns.proofs.Spoken.{Spoken, spoken}
+use Rattle.turns.proofs.Writing.{written-stored}
 
 -- ---- a frame in a lent buffer
 
@@ -57,6 +59,13 @@ holds preamble h bytes frame fits room =
       sized = sym count;
       same = λ i below. sym (getD-take (length w) (stored frame 0 w) i 0 below) ∙ ap (λ (l : List ℕ). getD l i 0) front;
     }
+
+-- and so where the frame writer put it there
+pub holds-written : (preamble : ℕ) (h : Header) (bytes frame : List ℕ) → Fits preamble h (length bytes) → 284 ≤ length frame
+    → Holds (writeBuffer preamble h bytes frame 0) (frameLength preamble h (length bytes)) (frameBytes preamble h bytes) (wholeMessage h bytes)
+holds-written preamble h bytes frame fits room =
+    subst (λ (l : List ℕ). Holds l (frameLength preamble h (length bytes)) (frameBytes preamble h bytes) (wholeMessage h bytes))
+    (sym (written-stored preamble h bytes frame fits room)) (holds preamble h bytes frame fits room)
 
 -- ---- the message in hand
 
@@ -90,7 +99,7 @@ speaking m g = record { primary = m .primary; profile = m .profile; retries = m 
 
 -- and the last one
 abbrev pub spokenOut : Master → Message → Master
-spokenOut m g = record { primary = m .primary; profile = m .profile; retries = m .retries; receiver = passing; deaf = true; burst = m .burst; noted = m .noted; timer = brokenTimer m; message = g }
+spokenOut m g = record { primary = m .primary; profile = m .profile; retries = m .retries; receiver = passing; deaf = true; burst = m .burst; noted = m .noted; timer = timerAfter (m .profile) (m .primary) any-stx (m .burst); message = g }
 
 -- the message of a master that rests: what is awaited stays, and so does a message that waits
 pub record Rested (m : Master) (g : Message) : Type 0 where
@@ -146,15 +155,15 @@ awaiting-waiting n e = let z : _≡_ {A = ℕ} 0 1 = cc in omega arith
 waiting-free : Waiting ≡ Free → ⊥
 waiting-free e = free-waiting (sym e)
 
-module _ (m : Master) (frame bytes : List ℕ) (told : MasterTold) (answer : Answer) (formed : Formed (m .primary) frame (m .message)) where
+module _ (m : Master) (frame bytes : List ℕ) (told : MasterTold) (result : CallResult) (formed : Formed (m .primary) frame (m .message)) where
   Step : Stage → MasterStep
-  Step stage = masterSent (sendsBy m frame stage) frame bytes told answer
+  Step stage = masterSent (sendsBy m frame stage) frame bytes told result
 
   -- a waiting message begins in an open window
-  begins-open : m .message .stage ≡ Waiting → 0 < m .timer .window → Formed (m .primary) frame (m .message) → Goes m (masterSent (sendsAt m frame 0 (oneMore (m .retries) (m .message .attempts))) frame bytes told answer)
+  begins-open : m .message .stage ≡ Waiting → 0 < m .timer .window → Formed (m .primary) frame (m .message) → Goes m (masterSent (sendsAt m frame 0 (oneMore (m .retries) (m .message .attempts))) frame bytes told result)
   begins-open e z (no-message f) = absurd (waiting-free (sym e ∙ f))
   begins-open e z (stands w message h a x t u) =
-      if-cases (λ (s : MasterSent). Goes m (masterSent s frame bytes told answer)) _ _ _
+      if-cases (λ (s : MasterSent). Goes m (masterSent s frame bytes told result)) _ _ _
       (λ q. begins _ w message refl refl (ap Character (h .same 0 (omega (arith, h .speaks .long)))) (record { speaks = h .speaks; sized = h .sized; same = h .same }) a x t u z
       (record { some = one-more-some (m .retries) (m .message .attempts); again = λ y h. one-more-is (m .retries) (m .message .attempts) h; from = inl e }))
       (λ q. absurd (omega (arith, h .sized, h .speaks .long, ltb-false (0 + 1) (m .message .length) q)))
@@ -162,11 +171,11 @@ module _ (m : Master) (frame bytes : List ℕ) (told : MasterTold) (answer : Ans
   waiting-goes : m .message .stage ≡ Waiting → Goes m (Step Waiting)
   unfolding Step
   waiting-goes e =
-      if-cases (λ (s : MasterSent). Goes m (masterSent s frame bytes told answer)) _ _ _
+      if-cases (λ (s : MasterSent). Goes m (masterSent s frame bytes told result)) _ _ _
       (λ q. begins-open e (ltb-true 0 (m .timer .window) q) formed)
       (λ q. rests (m .message) refl refl (still-at e is-waiting) formed (λ z. omega (arith, ltb-false 0 (m .timer .window) q)) (unmoved m))
 
-  sends-still : Still (m .message .stage) → Goes m (masterSent (masterSends m frame) frame bytes told answer)
+  sends-still : Still (m .message .stage) → Goes m (masterSent (masterSends m frame) frame bytes told result)
   unfolding masterSends Step
   sends-still v = go (m .message .stage) refl v
     where
@@ -182,7 +191,7 @@ abbrev pub newMessage : Master → Request → ℕ → Message
 newMessage m q count = record { stage = Waiting; header = requestHeader m q; length = frameLength (q .preamble) (requestHeader m q) count; attempts = 0 }
 
 abbrev pub withMessage : Master → Message → Master
-withMessage m g = behind m (m .receiver) (m .burst) (m .noted) (m .timer) g
+withMessage m g = masterWith m (m .receiver) (m .burst) (m .noted) (m .timer) g
 
 pub stx-enough : (count : ℕ) → tooFew stx count ≡ false
 unfolding if_then_else_
@@ -194,7 +203,7 @@ stx-typed = refl
 
 -- a request is refused, or it can be written and the master had no message
 pub data Asks (limit : ℕ) (m : Master) (q : Request) (count : ℕ) : Type 0 where
-  is-refused : (why : Refusal) → requested limit m q count ≡ refused why → Asks limit m q count
+  is-refused : (why : ℕ) → requested limit m q count ≡ refused why → Asks limit m q count
   is-taken : Fits (q .preamble) (requestHeader m q) count → count ≤ limit → m .message .stage ≡ Free → requested limit m q count ≡ accepted (withMessage m (newMessage m q count)) → Asks limit m q count
 
 pub asks : (limit : ℕ) (m : Master) (q : Request) (count : ℕ) → limit ≤ 255 → Asks limit m q count
@@ -223,7 +232,7 @@ asks limit m q count small = first (q .preamble outside 5 to 20) refl
     free (Awaiting n) e = absurd (true-false e)
 
     fifth : (t : Bool) → E ≡ t → A ≡ false → B ≡ false → C ≡ false → D ≡ false → Asks limit m q count
-    fifth true e a b c d = is-refused MessageInHand (if-is-false A _ _ a ∙ if-is-false B _ _ b ∙ if-is-false C _ _ c ∙ if-is-false D _ _ d ∙ if-is-true E _ _ e)
+    fifth true e a b c d = is-refused 7 (if-is-false A _ _ a ∙ if-is-false B _ _ b ∙ if-is-false C _ _ c ∙ if-is-false D _ _ d ∙ if-is-true E _ _ e)
     fifth false e a b c d =
         is-taken (record {
           preamble-low = inside-low (q .preamble) 5 20 A refl a;
@@ -235,19 +244,19 @@ asks limit m q count small = first (q .preamble outside 5 to 20) refl
         }) (ltb-false limit count d) (free (m .message .stage) e) (if-is-false A _ _ a ∙ if-is-false B _ _ b ∙ if-is-false C _ _ c ∙ if-is-false D _ _ d ∙ if-is-false E _ _ e)
 
     fourth : (t : Bool) → D ≡ t → A ≡ false → B ≡ false → C ≡ false → Asks limit m q count
-    fourth true d a b c = is-refused DataLong (if-is-false A _ _ a ∙ if-is-false B _ _ b ∙ if-is-false C _ _ c ∙ if-is-true D _ _ d)
+    fourth true d a b c = is-refused 6 (if-is-false A _ _ a ∙ if-is-false B _ _ b ∙ if-is-false C _ _ c ∙ if-is-true D _ _ d)
     fourth false d a b c = fifth E refl a b c d
 
     third : (t : Bool) → C ≡ t → A ≡ false → B ≡ false → Asks limit m q count
-    third true c a b = is-refused Command (if-is-false A _ _ a ∙ if-is-false B _ _ b ∙ if-is-true C _ _ c)
+    third true c a b = is-refused 5 (if-is-false A _ _ a ∙ if-is-false B _ _ b ∙ if-is-true C _ _ c)
     third false c a b = fourth D refl a b c
 
     second : (t : Bool) → B ≡ t → A ≡ false → Asks limit m q count
-    second true b a = is-refused Address (if-is-false A _ _ a ∙ if-is-true B _ _ b)
+    second true b a = is-refused 4 (if-is-false A _ _ a ∙ if-is-true B _ _ b)
     second false b a = third C refl a b
 
     first : (t : Bool) → A ≡ t → Asks limit m q count
-    first true a = is-refused PreambleLength (if-is-true A _ _ a)
+    first true a = is-refused 3 (if-is-true A _ _ a)
     first false a = second B refl a
 
 -- ---- the tick behind what was heard, for every call

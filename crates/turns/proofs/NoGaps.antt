@@ -8,17 +8,16 @@ use lib.ListN.{length, getD, drop, drop-of-length-le}
 use lib.Seq.{drop-cons}
 use borrow.Author.Tests.{leb-false}
 use Rattle.base.specs.Choice.{if_then_else_, _≤?_, _=?_}
-use Rattle.base.specs.Store.{stored}
 use Rattle.base.proofs.Choices.{true-false, if-is-true, if-is-false, went-then, went-else}
-use Rattle.base.proofs.Stores.{length-stored}
 use Rattle.frame.specs.Delimiter.{stx, ack}
 use Rattle.frame.specs.Frame.{frameBytes}
+use Rattle.frame.specs.Write.{writeBuffer}
 use Rattle.frame.specs.declared.Header.{Header}
 use Rattle.frame.proofs.Taken.{Fits}
 use Rattle.line.specs.Reader.{silentInside, insideFrame, taken}
 use Rattle.line.specs.declared.Event.{Event}
 use Rattle.line.specs.declared.Event.the-variants.{Nothing, PassedOver, Broken, Frame, Damaged}
-use Rattle.line.specs.declared.Harm.{Harm}
+use Rattle.line.specs.declared.FrameDamage.{FrameDamage}
 use Rattle.line.specs.declared.Heard.{Heard}
 use Rattle.line.specs.declared.Heard.the-variants.{Silence, Character}
 use Rattle.line.specs.declared.Place.{Place}
@@ -28,7 +27,8 @@ use Rattle.line.specs.declared.Taken.{Taken}
 use Rattle.line.specs.declared.Whole.{Whole}
 use Rattle.line.proofs.Hearing.{wholeMessage}
 use Rattle.turns.specs.Master as M
-use Rattle.turns.specs.Master.{Ending, isBroadcast, seeksTag, answersMessage, staged, fails, ends, atBreak, atFrame, ifAwaiting, rt1Ends, waited, afterBreak, masterTakes}
+use Rattle.turns.specs.Party.{isBroadcast, seeksTag}
+use Rattle.turns.specs.Master.{Ending, answersMessage, messageAt, fails, ends, atBreak, atFrame, ifAwaiting, rt1Ends, waited, afterBreak, masterTakes}
 use Rattle.turns.specs.Device as D
 use Rattle.turns.specs.Device.{isOwn, mayAnswer, hasError, errorData, answerHeader, backDue, brokenDue, errorFrame, deviceTakes}
 use Rattle.turns.specs.Link.{MasterCall, DeviceCall, MasterSide, MasterStep, DeviceSide, DeviceStep, masterTick, masterData, deviceTick, deviceData, heardFrame}
@@ -40,7 +40,7 @@ use Rattle.turns.specs.declared.Sent.the-variants.{Silent}
 use Rattle.turns.specs.declared.Stage.{Stage}
 use Rattle.turns.specs.declared.Stage.the-variants.{Free, Waiting, Sending, Awaiting}
 use Rattle.turns.specs.declared.Turn.{Turn}
-use Rattle.turns.specs.declared.Turn.the-variants.{Listens, Asked, Accepted, Follows}
+use Rattle.turns.specs.declared.Turn.the-variants.{Listens, Asked, AnswerWaits, Follows}
 use Rattle.turns.specs.declared.Wish.{Wish}
 use Rattle.turns.specs.declared.Wish.the-variants.{Same}
 use Rattle.turns.specs.declared.Noted.{Noted}
@@ -52,7 +52,8 @@ use Rattle.turns.specs.declared.Device.{Device}
 use Rattle.turns.specs.declared.DeviceTold.{DeviceTold}
 use Rattle.turns.specs.declared.DeviceTaken.{DeviceTaken}
 use Rattle.turns.proofs.Bursting.{if-both}
-use Rattle.turns.proofs.Masters.{Formed, no-message, stands, Still, is-free, is-waiting, is-awaiting, Holds, holds, if-cases}
+use Rattle.turns.proofs.Masters.{Formed, no-message, stands, Still, is-free, is-waiting, is-awaiting, Holds, if-cases, holds-written}
+use Rattle.turns.proofs.Writing.{length-written}
 use Rattle.turns.proofs.Taking as T
 use Rattle.turns.proofs.Listening.{Does, does-rest, does-start, master-does}
 use Rattle.turns.proofs.Phases.{MasterIs}
@@ -61,6 +62,7 @@ use Rattle.turns.proofs.Devices.{Sound, Prepared, Hand, nothing-in-hand
 use Rattle.turns.proofs.DeviceSpeaking as S
 use Rattle.turns.proofs.DeviceSpeaking.{Frames, an-ack, a-back, sending, turnBehind, device-speaks}
 use Rattle.turns.proofs.Fresh.{valid, master-is, device-is}
+use Rattle.turns.specs.declared.Change.{Change}
 
 -- a tick, where `left` is left of the frame that is being sent, and State says what holds of a party
 data Steps {X : Type 0} (State : List ℕ → X → Type 0) : List ℕ → Sent → X → Type 0 where
@@ -90,7 +92,7 @@ module _ (primary : Bool) (frame : List ℕ) where
     still : Still (g .stage)
     formed : Formed primary frame g
 
-  restaged : (g : Message) (s : Stage) → Still s → (g .stage ≡ Free → s ≡ Free) → Formed primary frame g → Stays (staged g s)
+  restaged : (g : Message) (s : Stage) → Still s → (g .stage ≡ Free → s ≡ Free) → Formed primary frame g → Stays (messageAt g s)
   restaged g s v f (no-message e) = record { still = v; formed = no-message (f e) }
   restaged g s v f (stands w x h a b c u) = record { still = v; formed = stands w x h a b c u }
 
@@ -149,17 +151,13 @@ module _ (primary : Bool) (frame : List ℕ) where
       (λ e. let a = ending (m .message .stage) e in record { same-primary = refl; same-profile = refl; same-retries = refl; stays = broken m (a .0) (a .1) s })
       (λ e. record { same-primary = refl; same-profile = refl; same-retries = refl; stays = restaged (m .message) (waited (m .message .stage)) (waits-still (s .still)) (λ f. ap waited f) (s .formed) })
 
-  silent : (m : Master) (r : Receiver) (event : Event) → Stays (m .message) → Kept m (M.onSilence m r event .master)
-  silent m r Nothing s =
-      let same : Kept m (M.behind m r (m .burst) (m .noted) (m .timer) (m .message)) = record { same-primary = refl; same-profile = refl; same-retries = refl; stays = s } in
-      if-both (λ (t : MasterTaken). Kept m (t .master)) (r .gap) _ _ same (both same (counted _ MasterTold.Nothing Nothing s))
-  silent m r PassedOver s = let a = after-break m r PassedOver s in both a (counted _ _ PassedOver (a .stays))
-  silent m r Broken s =
+  silent : (m : Master) (r : Receiver) → Stays (m .message) → Kept m (M.onSilence m r .master)
+  silent m r s =
+      let P : MasterTaken → Type 0 = λ t. Kept m (t .master) in
+      let same : Kept m (M.withReader m r) = record { same-primary = refl; same-profile = refl; same-retries = refl; stays = s } in
       let a = after-break m r Broken s in
       let b = counted (afterBreak m r Broken .master) (afterBreak m r Broken .told) Broken (a .stays) in
-      both a (both b (counted _ _ Broken (b .stays)))
-  silent m r (Frame w) s = let a = after-break m r (Frame w) s in both a (counted _ _ (Frame w) (a .stays))
-  silent m r (Damaged w h) s = let a = after-break m r (Damaged w h) s in both a (counted _ _ (Damaged w h) (a .stays))
+      if-both P (insideFrame (m .receiver .place)) _ _ (if-both P (m .receiver .gap) _ _ (both a (both b (counted _ _ Broken (b .stays)))) same) (both same (counted _ MasterTold.Nothing Nothing s))
 
   character : (m : Master) (r : Receiver) (event : Event) (bytes : List ℕ) → Stays (m .message) → Kept m (M.onCharacter m r event bytes .master)
   character m r Nothing bytes s = record { same-primary = refl; same-profile = refl; same-retries = refl; stays = s }
@@ -173,7 +171,7 @@ module _ (primary : Bool) (frame : List ℕ) where
   takes-any m heard bytes s = if-both (λ (t : MasterTaken). Kept m (t .master)) (m .deaf) _ _ (record { same-primary = refl; same-profile = refl; same-retries = refl; stays = s }) (hears heard)
     where
       hears : (h : Heard) → Kept m (M.onHeard m h bytes .master)
-      hears Silence = silent m _ (taken (m .receiver) Silence .event) s
+      hears Silence = silent m (taken (m .receiver) Silence .receiver) s
       hears (Character c) = character m _ (taken (m .receiver) (Character c) .event) bytes s
       hears (Heard.Damaged c kind) = character m _ (taken (m .receiver) (Heard.Damaged c kind) .event) bytes s
 
@@ -273,7 +271,7 @@ record Took (frame contents : List ℕ) (d : Device) (t : DeviceTaken) : Type 0 
   turned : Turned (t .device) (errorFrame d (t .event) frame)
 
 module _ (frame contents : List ℕ) (d : Device) (sound : Sound d frame contents) (some-sto : 1 ≤ d .profile .sto) where
-  kept-sound : (after : List ℕ) (r : Receiver) (turn : Turn) (request : Header) (wish : Wish) (n due : ℕ) → length after ≡ length frame → Sound (D.behind d r turn request wish n due) after contents
+  kept-sound : (after : List ℕ) (r : Receiver) (turn : Turn) (request : Header) (wish : Wish) (n due : ℕ) → length after ≡ length frame → Sound (D.deviceWith d r turn request wish n due) after contents
   kept-sound after r turn request wish n due e = record {
     preamble-low = sound .preamble-low;
     preamble-high = sound .preamble-high;
@@ -288,7 +286,7 @@ module _ (frame contents : List ℕ) (d : Device) (sound : Sound d frame content
   }
 
   -- a device that listens behind what it heard
-  listening : (r : Receiver) (due : ℕ) (told : DeviceTold) (event : Event) → errorFrame d event frame ≡ frame → Took frame contents d (D.tells (D.behind d r Listens (d .request) Same (d .length) due) told event)
+  listening : (r : Receiver) (due : ℕ) (told : DeviceTold) (event : Event) → errorFrame d event frame ≡ frame → Took frame contents d (D.tells (D.deviceWith d r Listens (d .request) Same (d .length) due) told event)
   listening r due told event e = record {
     same-profile = refl;
     sound = kept-sound (errorFrame d event frame) r Listens (d .request) Same (d .length) due (ap length e);
@@ -298,19 +296,19 @@ module _ (frame contents : List ℕ) (d : Device) (sound : Sound d frame content
   -- ---- a silent tick
 
   module _ (hand : Hand d frame) where
-    still-prepared : (r : Receiver) (turn : Turn) (due : ℕ) → Prepared d frame → Prepared (D.behind d r turn (d .request) (d .wish) (d .length) due) frame
+    still-prepared : (r : Receiver) (turn : Turn) (due : ℕ) → Prepared d frame → Prepared (D.deviceWith d r turn (d .request) (d .wish) (d .length) due) frame
     still-prepared r turn due p = record { w = p .w; message = p .message; held = p .held; header-is = p .header-is; no-expansion = p .no-expansion; own = p .own; short-same = p .short-same; on-given = p .on-given }
 
-    still-turned : (r : Receiver) (due : ℕ) → Hand d frame → Turned (D.behind d r (d .turn) (d .request) (d .wish) (d .length) due) frame
+    still-turned : (r : Receiver) (due : ℕ) → Hand d frame → Turned (D.deviceWith d r (d .turn) (d .request) (d .wish) (d .length) due) frame
     still-turned r due (nothing-in-hand q) = in-hand (nothing-in-hand q)
     still-turned r due (is-asked n q some o) = in-hand (is-asked n q some o)
     still-turned r due (is-accepted q p) = in-hand (is-accepted q (still-prepared r (d .turn) due p))
 
-    waited-turned : (r : Receiver) (due : ℕ) → Hand d frame → Turned (D.behind d r (D.waited (d .turn)) (d .request) (d .wish) (d .length) due) frame
+    waited-turned : (r : Receiver) (due : ℕ) → Hand d frame → Turned (D.deviceWith d r (D.waited (d .turn)) (d .request) (d .wish) (d .length) due) frame
     waited-turned r due (nothing-in-hand q) = in-hand (nothing-in-hand (ap D.waited q))
     waited-turned r due (is-asked n q some o) = left (n ≤? 1) refl
       where
-        left : (b : Bool) → (n ≤? 1) ≡ b → Turned (D.behind d r (D.waited (d .turn)) (d .request) (d .wish) (d .length) due) frame
+        left : (b : Bool) → (n ≤? 1) ≡ b → Turned (D.deviceWith d r (D.waited (d .turn)) (d .request) (d .wish) (d .length) due) frame
         left true e = in-hand (nothing-in-hand (ap D.waited q ∙ if-is-true (n ≤? 1) _ _ e))
         left false e = in-hand (is-asked (n - 1) (ap D.waited q ∙ if-is-false (n ≤? 1) _ _ e) (omega (arith, leb-false n 1 e)) o)
     waited-turned r due (is-accepted q p) = begins-now (ap D.waited q) (still-prepared r (D.waited (d .turn)) due p)
@@ -320,54 +318,56 @@ module _ (frame contents : List ℕ) (d : Device) (sound : Sound d frame content
 
     counted-took : (r : Receiver) (due : ℕ) (event : Event) → errorFrame d event frame ≡ frame → Took frame contents d (D.counts d r due event)
     counted-took r due event e =
-        if-cases (Took frame contents d) (backDue d due) _ _
-        (λ b. record { same-profile = refl; sound = kept-sound (errorFrame d event frame) r Follows (d .request) (d .wish) (d .length) 0 (ap length e); turned = follows-now refl (burst-due due b) })
+        if-cases (λ (turn : Turn). Took frame contents d (D.tells (D.deviceWith d r turn (d .request) (d .wish) (d .length) (due - 1)) DeviceTold.Nothing event)) (backDue d due) _ _
+        (λ b. record { same-profile = refl; sound = kept-sound (errorFrame d event frame) r Follows (d .request) (d .wish) (d .length) (due - 1) (ap length e); turned = follows-now refl (burst-due due b) })
         (λ b. record {
           same-profile = refl;
           sound = kept-sound (errorFrame d event frame) r (D.waited (d .turn)) (d .request) (d .wish) (d .length) (due - 1) (ap length e);
-          turned = subst (Turned (D.behind d r (D.waited (d .turn)) (d .request) (d .wish) (d .length) (due - 1))) (sym e) (waited-turned r (due - 1) hand);
+          turned = subst (Turned (D.deviceWith d r (D.waited (d .turn)) (d .request) (d .wish) (d .length) (due - 1))) (sym e) (waited-turned r (due - 1) hand);
         })
 
-    silent-took : (r : Receiver) (event : Event) → SilentEvent event → Took frame contents d (D.onSilence d r event)
-    silent-took r Nothing tells-nothing =
-        if-both (Took frame contents d) (r .gap) _ _ (record { same-profile = refl; sound = kept-sound frame r (d .turn) (d .request) (d .wish) (d .length) (d .due) refl; turned = still-turned r (d .due) hand })
+    silent-took : (r : Receiver) → Took frame contents d (D.onSilence d r)
+    silent-took r =
+        if-both (Took frame contents d) (insideFrame (d .receiver .place)) _ _
+        (if-both (Took frame contents d) (d .receiver .gap) _ _ (counted-took r (brokenDue d) Broken refl)
+        (record { same-profile = refl; sound = kept-sound frame r (d .turn) (d .request) (d .wish) (d .length) (d .due) refl; turned = still-turned r (d .due) hand }))
         (counted-took r (d .due) Nothing refl)
-    silent-took r Broken tells-broken = counted-took r (brokenDue d) Broken refl
 
   -- ---- a character
 
-  own-took : (r : Receiver) (w : Whole) → Took frame contents d (D.afterFrame d r w)
+  own-took : (r : Receiver) (w : Whole) → Took frame contents d (D.changed d r (Frame w) (D.afterFrame d w))
   own-took r w =
-      if-both (Took frame contents d) (w .header .frame =? stx) _ _
-      (if-both (Took frame contents d) (w .expansion =? 0) _ _
-      (if-cases (Took frame contents d) (mayAnswer d (w .header)) _ _
+      let P : Change → Type 0 = λ c. Took frame contents d (D.changed d r (Frame w) c) in
+      if-both P (w .header .frame =? stx) _ _
+      (if-both P (w .expansion =? 0) _ _
+      (if-cases P (mayAnswer d (w .header)) _ _
       (λ o. record {
         same-profile = refl;
-        sound = kept-sound frame r (Asked (d .profile .sto)) (w .header) Same (d .length) (d .profile .rt1p) refl;
+        sound = kept-sound frame r (Asked (d .profile .sto)) (w .header) Same (d .length) _ refl;
         turned = in-hand (is-asked (d .profile .sto) refl some-sto o);
       })
-      (λ o. if-both (Took frame contents d) (isBroadcast (w .header)) _ _ (listening r (d .profile .rt1p) _ (Frame w) refl) (listening r (d .profile .rt1p) _ (Frame w) refl)))
-      (listening r (d .profile .rt1p) _ (Frame w) refl))
+      (λ o. if-both P (isBroadcast (w .header)) _ _ (listening r _ _ (Frame w) refl) (listening r _ _ (Frame w) refl)))
+      (listening r _ _ (Frame w) refl))
       (listening r _ _ (Frame w) refl)
 
   -- an error answer is a frame, and it is prepared
-  error-own : (w : Whole) (m : Harm) → hasError d w m ≡ true → mayAnswer d (w .header) ≡ true
+  error-own : (w : Whole) (m : FrameDamage) → hasError d w m ≡ true → mayAnswer d (w .header) ≡ true
   error-own w m e =
       let no : false ≡ true → ⊥ = λ z. true-false (sym z) in
       let a = went-then (w .header .frame =? stx) _ false true e no in
       let b = went-then (w .expansion =? 0) _ false true (a .1) no in
       if-both (λ (o : Bool). o ≡ true) (seeksTag (w .header)) _ _ refl (went-else (m .address) false (isOwn d (w .header)) true (b .1) no .1)
 
-  error-took : (r : Receiver) (w : Whole) (m : Harm) → Took frame contents d (D.afterDamage d r w m)
+  error-took : (r : Receiver) (w : Whole) (m : FrameDamage) → Took frame contents d (D.changed d r (Damaged w m) (D.afterDamage d w m))
   error-took r w m = go (hasError d w m) refl
     where
       h : Header
       h = answerHeader (w .header) (d .burst)
 
       put : List ℕ
-      put = stored frame 0 (frameBytes (d .preamble) h (errorData m))
+      put = writeBuffer (d .preamble) h (errorData m) frame 0
 
-      go : (b : Bool) → hasError d w m ≡ b → Took frame contents d (D.afterDamage d r w m)
+      go : (b : Bool) → hasError d w m ≡ b → Took frame contents d (D.changed d r (Damaged w m) (D.afterDamage d w m))
       go true e =
           let own = error-own w m e in
           let fits : Fits (d .preamble) h 2 = record {
@@ -379,15 +379,15 @@ module _ (frame contents : List ℕ) (d : Device) (sound : Sound d frame content
             typed = ack-typed;
           } in
           let there : errorFrame d (Damaged w m) frame ≡ put = if-is-true (hasError d w m) _ _ e in
-          subst (Took frame contents d) (sym (if-is-true (hasError d w m) _ _ e))
+          subst (λ (c : Change). Took frame contents d (D.changed d r (Damaged w m) c)) (sym (if-is-true (hasError d w m) _ _ e))
           (record {
             same-profile = refl;
-            sound = kept-sound (errorFrame d (Damaged w m) frame) r Accepted (w .header) Same _ (d .profile .rt1p) (ap length there ∙ length-stored frame 0 (frameBytes (d .preamble) h (errorData m)));
-            turned = subst (Turned (D.behind d r Accepted (w .header) Same _ (d .profile .rt1p))) (sym there)
+            sound = kept-sound (errorFrame d (Damaged w m) frame) r AnswerWaits (w .header) Same _ (d .profile .rt1p) (ap length there ∙ length-written (d .preamble) h (errorData m) frame);
+            turned = subst (Turned (D.deviceWith d r AnswerWaits (w .header) Same _ (d .profile .rt1p))) (sym there)
                 (in-hand (is-accepted refl (record {
                   w = frameBytes (d .preamble) h (errorData m);
                   message = wholeMessage h (errorData m);
-                  held = holds (d .preamble) h (errorData m) frame fits (sound .frame-room);
+                  held = holds-written (d .preamble) h (errorData m) frame fits (sound .frame-room);
                   header-is = refl;
                   no-expansion = refl;
                   own = own;
@@ -396,7 +396,7 @@ module _ (frame contents : List ℕ) (d : Device) (sound : Sound d frame content
                 })));
           })
       go false e =
-          subst (Took frame contents d) (sym (if-is-false (hasError d w m) _ _ e))
+          subst (λ (c : Change). Took frame contents d (D.changed d r (Damaged w m) c)) (sym (if-is-false (hasError d w m) _ _ e))
           (listening r (d .profile .rt1p) _ (Damaged w m) (if-is-false (hasError d w m) _ _ e))
 
   character-took : (r : Receiver) (event : Event) → Took frame contents d (D.onCharacter d r event)
@@ -419,7 +419,7 @@ module _ (frame contents : List ℕ) (d : Device) (sound : Sound d frame content
       hand e (follows q on z) = absurd (true-false (sym z ∙ e))
 
       hears : (h : Heard) → Hand d frame → Took frame contents d (D.onHeard d h)
-      hears Silence k = silent-took k _ _ (silent-event (d .receiver))
+      hears Silence k = silent-took k (taken (d .receiver) Silence .receiver)
       hears (Character c) k = character-took _ (taken (d .receiver) (Character c) .event)
       hears (Heard.Damaged c kind) k = character-took _ (taken (d .receiver) (Heard.Damaged c kind) .event)
 

@@ -15,7 +15,7 @@ use Rattle.line.specs.declared.Heard.{Heard}
 use Rattle.line.specs.declared.Heard.the-variants.{Silence, Character, Damaged}
 use Rattle.line.specs.declared.Profile.{Profile}
 use Rattle.line.specs.declared.Whole.{Whole}
-use Rattle.turns.specs.Master.{ownRt1, brokenTimer}
+use Rattle.turns.specs.Master.{ownRt1, any-stx, timerAfter}
 use Rattle.turns.specs.Link.{MasterCall, DeviceCall, MasterSide, MasterStep, DeviceSide, DeviceStep, masterTick, deviceTick, deviceTicks, sides, carried}
 use Rattle.turns.specs.Run.{All, none, and, Distinct}
 use Rattle.turns.specs.declared.Sent.{Sent}
@@ -24,12 +24,12 @@ use Rattle.turns.specs.declared.Timer.{Timer}
 use Rattle.turns.proofs.Masters.{Formed, stands, left, Still}
 use Rattle.turns.proofs.DeviceTaking.{passed-over, crossed-passing, crossed-idle}
 use Rattle.turns.proofs.Windows.{Valid}
-use Rattle.turns.proofs.Listening.{master-finished}
+use Rattle.turns.proofs.Listening.{timer-shut, master-finished}
 use Rattle.turns.proofs.Lists.{Quietly, all-quiet, all-carried, all-sides, all-distinct, agreed-same}
 use Rattle.turns.proofs.Phases.{Agreed, DeviceQuiet}
-use Rattle.turns.proofs.Sending.{MasterPlace, inside, finished, MasterSpeaks, speaks-on, broken-shut}
+use Rattle.turns.proofs.Sending.{MasterPlace, inside, finished, MasterSpeaks, speaks-on}
 use Rattle.turns.proofs.Stx.{StxEnded, WaitsOn, rt1Of, own-is}
-use Rattle.turns.proofs.Quiet.{ClearLine, breakTimer, broken-is, behind-break-clear}
+use Rattle.turns.proofs.Quiet.{ClearLine, breakTimer, sent-is, behind-break-clear}
 use Rattle.turns.proofs.OutOfStep.{nobody, DeviceMisses, BothSpeak}
 use Rattle.turns.proofs.Passing.{MasterPasses, passes-on, passes-quiet, DevicePasses, device-noise, passes-misses, device-ready}
 
@@ -48,18 +48,18 @@ unfolding if_then_else_
 some-rt1 p v true = omega (arith, v .rt2-short)
 some-rt1 p v false = omega (arith, v .rt2-short, v .secondary)
 
-spoke-out : (limit : ℕ) → limit ≤ 255 → (p : Profile) → Valid p → (primary : Bool) (w : List ℕ) (message : Whole) (k : ℕ) (x : MasterSide) (heard : Heard) (call : MasterCall) → x .master .timer ≡ brokenTimer (x .master)
+spoke-out : (limit : ℕ) → limit ≤ 255 → (p : Profile) → Valid p → (primary : Bool) (w : List ℕ) (message : Whole) (k : ℕ) (x : MasterSide) (heard : Heard) (call : MasterCall) → x .master .timer ≡ timerAfter (x .master .profile) (x .master .primary) any-stx (x .master .burst)
     → Still (x .master .message .stage)
-    → left (x .master .message .stage) ≡ ownRt1 (x .master) → MasterSpeaks p primary false nobody k w message x → SpokeOut p primary x (masterTick limit x heard call)
+    → left (x .master .message .stage) ≡ ownRt1 (x .master .profile) (x .master .primary) → MasterSpeaks p primary false nobody k w message x → SpokeOut p primary x (masterTick limit x heard call)
 spoke-out limit small p v primary w message k x heard call t still l s =
     let formed : Formed (x .master .primary) (x .frame) (x .master .message) = stands w message (s .held) (s .header-is) (s .no-expansion) (ap (λ (h : Header). h .frame) (sym (s .header-is)) ∙ s .type-is)
     (ap (λ (h : Header). h .primary) (sym (s .header-is)) ∙ s .bit-is ∙ sym (s .is-it .primary-is)) in
-    let f = master-finished limit p primary x heard call small (s .is-it) (s .deaf-is) still formed (ap (λ (t : Timer). t .window) t ∙ broken-shut (x .master)) in
+    let f = master-finished limit p primary x heard call small (s .is-it) (s .deaf-is) still formed (ap (λ (t : Timer). t .window) t ∙ timer-shut (x .master .profile) (x .master .primary) any-stx (x .master .burst)) in
     let is = f .rested .same-left ∙ l ∙ own-is p primary (x .master) (s .is-it .profile-is) (s .is-it .primary-is) in
     record {
       silent = f .silent;
       passes = record { listens = f .listens; receiver-is = f .same-receiver ∙ s .receiver-is; burst-is = f .same-burst ∙ s .burst-is; noted-is = f .same-noted ∙ s .noted-is };
-      timer-is = f .same-timer ∙ t ∙ broken-is p primary false (x .master) (s .is-it .profile-is) (s .is-it .primary-is) (s .burst-is);
+      timer-is = f .same-timer ∙ t ∙ sent-is p primary false (x .master) (s .is-it .profile-is) (s .is-it .primary-is) (s .burst-is);
       left-is = is;
       attempts-is = f .rested .same-attempts (omega (arith, is, some-rt1 p v primary));
       header-is = f .rested .same-header (omega (arith, is, some-rt1 p v primary));

@@ -19,10 +19,10 @@ use Rattle.turns.proofs.Devices.{inHand}
 use Rattle.turns.proofs.Taking as T
 use Rattle.turns.proofs.DeviceTaking as DT
 use Rattle.turns.proofs.DeviceTaking.{Noise}
-use Rattle.turns.proofs.Listening.{master-does, rests-shut, device-does, rests-from, hand-listens}
+use Rattle.turns.proofs.Listening.{timer-shut, master-does, rests-shut, device-does, rests-from, hand-listens}
 use Rattle.turns.proofs.Lists.{Quietly}
 use Rattle.turns.proofs.Phases.{MasterListens, MasterQuiet, DeviceListens, DeviceQuiet, Ready, passing-ready}
-use Rattle.turns.proofs.Sending.{broken-shut}
+use Rattle.turns.specs.Master.{broken}
 use Rattle.turns.proofs.Stx.{WaitsOn}
 use Rattle.turns.proofs.Quiet.{breakTimer, broken-is}
 use Rattle.turns.proofs.OutOfStep.{DeviceMisses}
@@ -48,7 +48,7 @@ pub passes-on : (limit : ℕ) → limit ≤ 255 → (p : Profile) (primary : Boo
 passes-on limit small p primary noted x c call s =
     let l = s .listens in
     let took = T.takes-passed (x .frame) (masterData x (Character c)) (x .master) (l .hears) (l .still) (l .formed) c (s .receiver-is) in
-    let rest = rests-shut (ap (λ (t : Timer). t .window) (took .timer-is) ∙ broken-shut (x .master)) (master-does limit p primary x (Character c) call small (l .is-it) (took .took)) in
+    let rest = rests-shut (ap (λ (t : Timer). t .window) (took .timer-is) ∙ timer-shut (x .master .profile) (x .master .primary) broken (x .master .burst)) (master-does limit p primary x (Character c) call small (l .is-it) (took .took)) in
     record {
       silent = rest .silent;
       passes = record { listens = rest .listens; receiver-is = rest .same-receiver ∙ took .receiver-is; burst-is = rest .same-burst ∙ took .burst-is ∙ s .burst-is; noted-is = rest .same-noted ∙ took .noted-is ∙ s .noted-is };

@@ -5,13 +5,14 @@ use mathlib.Core.Path.{_≡_, refl, sym, subst}
 use mathlib.Core.Bool.{Bool, true, false}
 use mathlib.Core.List.{List, [], _∷_, _++_}
 use lib.ListN.{length, replicate, drop}
+use Rattle.base.specs.Refusal.{accepted}
 use Rattle.base.specs.Choice.{if_then_else_}
 use Rattle.base.specs.Store.{stored}
 use Rattle.frame.specs.Check.{xorFrom}
 use Rattle.frame.specs.Delimiter.{delimiterOf}
 use Rattle.frame.specs.Frame.{frameBytes, preambleBytes, bodyBytes, protectedBytes, headerBytes}
+use Rattle.frame.specs.Write.{writeBuffer, writeAnswer}
 use Rattle.line.specs.Profile.{fskProfile, profileMade}
-use Rattle.line.specs.declared.MadeProfile.the-variants.{Made}
 use Rattle.line.specs.Reader.{taken, takenData, atIdle, atPreamble, atFirst, atAddress, atExpansion, atCommand, atCount, atData, atCheck}
 use Rattle.line.specs.declared.Heard.{Heard}
 use Rattle.line.specs.declared.Heard.the-variants.{Silence}
@@ -132,7 +133,7 @@ both-ask =
 
 -- the primary sends in ticks 4 to 17, the device its ACK and a BACK from tick 19 to 50, the secondary from tick 52 on
 pub both-go-out : E.senders (run 255 one-device both-ask) ≡ replicate 4 0 ++ (replicate 14 1 ++ (0 ∷ (replicate 32 4 ++ (0 ∷ replicate 14 2))))
-unfolding E.senders E.devices-sent E.one short one-device both-ask turn-on content quiet run linkTick deviceTicks sides carried masterTick deviceTick requested masterTakes masterSends deviceTakes deviceSends answered contentGiven taken takenData atIdle atPreamble atFirst atAddress atExpansion atCommand atCount atData atCheck frameBytes preambleBytes bodyBytes protectedBytes headerBytes xorFrom delimiterOf stored if_then_else_
+unfolding E.senders E.devices-sent E.one short one-device both-ask turn-on content quiet run linkTick deviceTicks sides carried masterTick deviceTick requested masterTakes masterSends deviceTakes deviceSends answered contentGiven taken takenData atIdle atPreamble atFirst atAddress atExpansion atCommand atCount atData atCheck writeBuffer writeAnswer frameBytes preambleBytes bodyBytes protectedBytes headerBytes xorFrom delimiterOf stored if_then_else_
 both-go-out = refl
 
 short-starts : DeviceStarts short (record { device = freshDevice short 5 0 2; frame = replicate 284 0; bytes = replicate 255 0; contents = replicate 255 0 })
@@ -148,7 +149,7 @@ one-device-starts = record {
   distinct = Distinct.and none Distinct.none;
 }
 
-pub short-taken : profileMade short ≡ Made short
+pub short-taken : profileMade short ≡ accepted short
 unfolding short if_then_else_
 short-taken = refl
 
@@ -195,7 +196,7 @@ counts (s ∷ ss) = senders s ∷ counts ss
 
 -- in tick 44 two send
 pub two-answer : counts (run 255 alike (asks ∷ (replicate 43 quiet ++ (both-reply ∷ [])))) ≡ replicate 33 0 ++ (replicate 10 1 ++ (0 ∷ 2 ∷ []))
-unfolding counts deviceSenders alike both-reply asks quiet run linkTick deviceTicks sides carried masterTick deviceTick requested masterTakes masterSends deviceTakes deviceSends answered contentGiven taken takenData atIdle atPreamble atFirst atAddress atExpansion atCommand atCount atData atCheck frameBytes preambleBytes bodyBytes protectedBytes headerBytes xorFrom delimiterOf stored if_then_else_
+unfolding counts deviceSenders alike both-reply asks quiet run linkTick deviceTicks sides carried masterTick deviceTick requested masterTakes masterSends deviceTakes deviceSends answered contentGiven taken takenData atIdle atPreamble atFirst atAddress atExpansion atCommand atCount atData atCheck writeBuffer writeAnswer frameBytes preambleBytes bodyBytes protectedBytes headerBytes xorFrom delimiterOf stored if_then_else_
 two-answer = refl
 
 -- ---- two devices burst: behind an STX that nobody answers both begin a BACK
@@ -225,5 +226,5 @@ both-burst =
 
 -- in tick 154 two send
 pub two-burst : drop 150 (counts (run 255 two-devices both-burst)) ≡ 0 ∷ 0 ∷ 0 ∷ 0 ∷ 2 ∷ []
-unfolding counts deviceSenders short two-devices ask turn-on content both-burst quiet run linkTick deviceTicks sides carried masterTick deviceTick requested masterTakes masterSends deviceTakes deviceSends answered contentGiven taken takenData atIdle atPreamble atFirst atAddress atExpansion atCommand atCount atData atCheck frameBytes preambleBytes bodyBytes protectedBytes headerBytes xorFrom delimiterOf stored if_then_else_
+unfolding counts deviceSenders short two-devices ask turn-on content both-burst quiet run linkTick deviceTicks sides carried masterTick deviceTick requested masterTakes masterSends deviceTakes deviceSends answered contentGiven taken takenData atIdle atPreamble atFirst atAddress atExpansion atCommand atCount atData atCheck writeBuffer writeAnswer frameBytes preambleBytes bodyBytes protectedBytes headerBytes xorFrom delimiterOf stored if_then_else_
 two-burst = refl

@@ -10,7 +10,7 @@ use Rattle.base.proofs.Choices.{true-false, if-is-true, if-is-false}
 use Rattle.frame.specs.Delimiter.{stx, ack, back}
 use Rattle.frame.specs.declared.Header.{Header}
 use Rattle.line.specs.declared.Profile.{Profile}
-use Rattle.turns.specs.Master.{burstAfter, notedAfter, timerAfter, brokenTimer, burstTimer, timer, toItself}
+use Rattle.turns.specs.Master.{burstAfter, notedAfter, broken, any-stx, ack-to-itself, ack-to-other, back-to-itself, back-to-other, endedBy, timerAfter, burstTimer, timer, toItself}
 use Rattle.turns.specs.Link.{MasterSide, DeviceSide}
 use Rattle.turns.specs.Run.{All, none, and, Distinct}
 use Rattle.turns.specs.declared.Timer.{Timer}
@@ -97,14 +97,17 @@ none-due (and b bs) (and q qs) =
 
 -- RT1, or the quiet time
 abbrev pub breakTimer : Profile → Bool → Bool → Timer
-breakTimer p primary burst =
-    if burst then record { next = 0; window = 0; quiet = if primary then 2 * p .rt1p else 2 * p .rt1p + p .rt2 }
-    else timer (if primary then p .rt1p else p .rt1s)
+breakTimer p primary burst = timerAfter p primary broken burst
 
-pub broken-is : (p : Profile) (primary burst : Bool) (m : Master) → m .profile ≡ p → m .primary ≡ primary → m .burst ≡ burst → brokenTimer m ≡ breakTimer p primary burst
-broken-is p primary burst m a b c = λ i.
-    if c i then record { next = 0; window = 0; quiet = if b i then 2 * a i .rt1p else 2 * a i .rt1p + a i .rt2 }
-    else timer (if b i then a i .rt1p else a i .rt1s)
+pub broken-is : (p : Profile) (primary burst : Bool) (m : Master) → m .profile ≡ p → m .primary ≡ primary → m .burst ≡ burst → timerAfter (m .profile) (m .primary) broken (m .burst) ≡ breakTimer p primary burst
+broken-is p primary burst m a b c = λ i. timerAfter (a i) (b i) broken (c i)
+
+stx-is : (p : Profile) (primary burst : Bool) → timerAfter p primary any-stx burst ≡ breakTimer p primary burst
+stx-is p primary true = refl
+stx-is p primary false = refl
+
+pub sent-is : (p : Profile) (primary burst : Bool) (m : Master) → m .profile ≡ p → m .primary ≡ primary → m .burst ≡ burst → timerAfter (m .profile) (m .primary) any-stx (m .burst) ≡ breakTimer p primary burst
+sent-is p primary burst m a b c = (λ i. timerAfter (a i) (b i) any-stx (c i)) ∙ stx-is p primary burst
 
 stx-back : (h : Header) → h .frame ≡ stx → (h .frame =? back) ≡ false
 stx-back h e = ap (λ (n : ℕ). n =? back) e
@@ -119,12 +122,10 @@ stx-burst burst noted h e = if-is-false (h .frame =? back) _ _ (stx-back h e) �
 pub stx-noted : (noted : Noted) (h : Header) → h .frame ≡ stx → notedAfter noted h ≡ noted
 stx-noted noted h e = if-is-false (h .frame =? back) _ _ (stx-back h e) ∙ if-is-false (h .frame =? ack) _ _ (stx-ack h e)
 
-pub stx-timer : (p : Profile) (primary burst : Bool) (m : Master) (h : Header) → m .profile ≡ p → m .primary ≡ primary → h .frame ≡ stx → timerAfter m burst h ≡ breakTimer p primary burst
-unfolding if_then_else_
-stx-timer p primary true m h a b e =
-    if-is-false (h .frame =? back) _ _ (stx-back h e) ∙ (λ i. record { next = 0; window = 0; quiet = if b i then 2 * a i .rt1p else 2 * a i .rt1p + a i .rt2 })
-stx-timer p primary false m h a b e =
-    if-is-false (h .frame =? ack) _ _ (stx-ack h e) ∙ (λ i. timer (if b i then a i .rt1p else a i .rt1s))
+pub stx-timer : (p : Profile) (primary burst : Bool) (m : Master) (h : Header) → m .profile ≡ p → m .primary ≡ primary → h .frame ≡ stx → timerAfter (m .profile) (m .primary) (endedBy m h) burst ≡ breakTimer p primary burst
+stx-timer p primary burst m h a b e =
+    let ended : endedBy m h ≡ any-stx = if-is-false (h .frame =? back) _ _ (stx-back h e) ∙ if-is-false (h .frame =? ack) _ _ (stx-ack h e) in
+    (λ i. timerAfter (a i) (b i) (ended i) burst) ∙ stx-is p primary burst
 
 -- who awaits an ACK behind an STX or at the start: the sender of the STX, for RT1
 pub record Awaits (p : Profile) (e : ℕ) (burst next : Bool) (h : Header) (g : ℕ) (a b : MasterSide) : Type 0 where
@@ -216,25 +217,41 @@ itself-is primary m h e = λ i. if e i then h .primary else (if h .primary then 
 
 -- with BURST set: a timer n, or none, and the quiet time
 abbrev pub slotTimer : Profile → Bool → ℕ → Timer
-slotTimer p primary n = record { next = n; window = 0; quiet = if primary then 2 * p .rt1p else 2 * p .rt1p + p .rt2 }
+slotTimer p primary n = burstTimer p primary n
 
-slot-is : (p : Profile) (primary : Bool) (m : Master) (n : ℕ) → m .profile ≡ p → m .primary ≡ primary → burstTimer m n ≡ slotTimer p primary n
-slot-is p primary m n a b = λ i. record { next = n; window = 0; quiet = if b i then 2 * a i .rt1p else 2 * a i .rt1p + a i .rt2 }
+ack-ended : (primary : Bool) (m : Master) (h : Header) → m .primary ≡ primary → h .frame ≡ ack → endedBy m h ≡ (if itself primary h then ack-to-itself else ack-to-other)
+ack-ended primary m h b e =
+    if-is-false (h .frame =? back) _ _ (ap (λ (n : ℕ). n =? back) e) ∙ if-is-true (h .frame =? ack) _ _ (eq-eqb (h .frame) ack e)
+    ∙ ap (λ (t : Bool). if t then ack-to-itself else ack-to-other) (itself-is primary m h b)
 
-pub ack-clear-timer : (p : Profile) (primary : Bool) (m : Master) (h : Header) → m .profile ≡ p → m .primary ≡ primary → h .frame ≡ ack → timerAfter m false h ≡ (if itself primary h then timer (p .rt2) else timer 1)
+pub ack-clear-timer : (p : Profile) (primary : Bool) (m : Master) (h : Header) → m .profile ≡ p → m .primary ≡ primary → h .frame ≡ ack
+    → timerAfter (m .profile) (m .primary) (endedBy m h) false ≡ (if itself primary h then timer (p .rt2) else timer 1)
 unfolding if_then_else_
-ack-clear-timer p primary m h a b e =
-    if-is-true (h .frame =? ack) _ _ (eq-eqb (h .frame) ack e) ∙ (λ i. if itself-is primary m h b i then timer (a i .rt2) else timer 1)
+ack-clear-timer p primary m h a b e = (λ i. timerAfter (a i) (b i) (ack-ended primary m h b e i) false) ∙ go (itself primary h)
+  where
+    go : (t : Bool) → timerAfter p primary (if t then ack-to-itself else ack-to-other) false ≡ (if t then timer (p .rt2) else timer 1)
+    go true = refl
+    go false = refl
 
-pub ack-set-timer : (p : Profile) (primary : Bool) (m : Master) (h : Header) → m .profile ≡ p → m .primary ≡ primary → h .frame ≡ ack → timerAfter m true h ≡ slotTimer p primary 0
+pub ack-set-timer : (p : Profile) (primary : Bool) (m : Master) (h : Header) → m .profile ≡ p → m .primary ≡ primary → h .frame ≡ ack → timerAfter (m .profile) (m .primary) (endedBy m h) true ≡ slotTimer p primary 0
 unfolding if_then_else_
-ack-set-timer p primary m h a b e = if-is-false (h .frame =? back) _ _ (ap (λ (n : ℕ). n =? back) e) ∙ slot-is p primary m 0 a b
+ack-set-timer p primary m h a b e = (λ i. timerAfter (a i) (b i) (ack-ended primary m h b e i) true) ∙ go (itself primary h)
+  where
+    go : (t : Bool) → timerAfter p primary (if t then ack-to-itself else ack-to-other) true ≡ slotTimer p primary 0
+    go true = refl
+    go false = refl
 
-pub back-timer : (p : Profile) (primary : Bool) (m : Master) (h : Header) → m .profile ≡ p → m .primary ≡ primary → h .frame ≡ back → timerAfter m true h ≡ (if itself primary h then slotTimer p primary 0 else slotTimer p primary 1)
+pub back-timer : (p : Profile) (primary : Bool) (m : Master) (h : Header) → m .profile ≡ p → m .primary ≡ primary → h .frame ≡ back
+    → timerAfter (m .profile) (m .primary) (endedBy m h) true ≡ (if itself primary h then slotTimer p primary 0 else slotTimer p primary 1)
 unfolding if_then_else_
-back-timer p primary m h a b e =
-    if-is-true (h .frame =? back) _ _ (eq-eqb (h .frame) back e)
-    ∙ (λ i. if itself-is primary m h b i then slot-is p primary m 0 a b i else slot-is p primary m 1 a b i)
+back-timer p primary m h a b e = (λ i. timerAfter (a i) (b i) (ended i) true) ∙ go (itself primary h)
+  where
+    ended : endedBy m h ≡ (if itself primary h then back-to-itself else back-to-other)
+    ended = if-is-true (h .frame =? back) _ _ (eq-eqb (h .frame) back e) ∙ ap (λ (t : Bool). if t then back-to-itself else back-to-other) (itself-is primary m h b)
+
+    go : (t : Bool) → timerAfter p primary (if t then back-to-itself else back-to-other) true ≡ (if t then slotTimer p primary 0 else slotTimer p primary 1)
+    go true = refl
+    go false = refl
 
 -- behind a frame that is no STX nobody awaits an ACK
 pub record NobodyAwaits (a b : MasterSide) : Type 0 where

@@ -4,8 +4,8 @@ use native.Mathlib.Omega.{arith}
 use mathlib.Core.Path.{_≡_, refl, ap, subst, _∙_}
 use mathlib.Core.Bool.{Bool, true, false}
 use mathlib.Core.Logic.{_⊎_, inl, inr}
-use borrow.Author.Tests.{leb-true, leb-false, eqb-true, eqb-false}
-use Rattle.base.specs.Choice.{if_then_else_, _≤?_, _=?_}
+use borrow.Author.Tests.{eqb-true, eqb-false}
+use Rattle.base.specs.Choice.{if_then_else_, _=?_}
 use Rattle.line.specs.declared.Profile.{Profile}
 use Rattle.turns.specs.Master.{opened}
 use Rattle.turns.specs.Link.{MasterSide, MasterStep}
@@ -14,7 +14,7 @@ use Rattle.turns.specs.declared.Timer.{Timer}
 use Rattle.turns.specs.declared.Stage.the-variants.{Waiting}
 use Rattle.turns.proofs.Masters.{left}
 use Rattle.turns.proofs.Windows as W
-use Rattle.turns.proofs.Windows.{Valid, Counted, CountedBurst, counted, counted-burst}
+use Rattle.turns.proofs.Windows.{Valid, Counted, CountedBurst, counted, counted-burst, more}
 use Rattle.turns.proofs.Phases.{MasterQuiet, ClearWindows}
 use Rattle.turns.proofs.SilentTick.{MasterRests, MasterTries}
 use Rattle.turns.proofs.Silences.{clear-timer, set-timer, near-other}
@@ -50,17 +50,17 @@ pending-left q = ap left (q .stage-is)
 
 module _ (p : Profile) (v : Valid p) {primary : Bool} {noted : Noted} {x : MasterSide} {s : MasterStep} where
   -- BURST clear: the window of a message that waits on does not open in this tick
-  pub clear-rests : MasterQuiet p primary false noted x → Pending x → MasterRests x s → (2 ≤ x .master .timer .next) × (s .side .master .timer .next ≡ x .master .timer .next - 1)
+  pub clear-rests : MasterQuiet p primary false noted x → 1 ≤ x .master .timer .next → Pending x → MasterRests x s → (2 ≤ x .master .timer .next) × (s .side .master .timer .next ≡ x .master .timer .next - 1)
   unfolding if_then_else_
-  clear-rests q w r =
-      go (x .master .timer .next ≤? 1) refl
+  clear-rests q runs w r =
+      go (x .master .timer .next =? 1) refl
       (r .counts-on (w .stage-is) ∙ clear-timer p x (q .listens .is-it .profile-is) (q .burst-is)) (r .shut (r .waits-on (w .stage-is) .0))
     where
-      go : (t : Bool) → (x .master .timer .next ≤? 1) ≡ t
+      go : (t : Bool) → (x .master .timer .next =? 1) ≡ t
           → s .side .master .timer ≡ (if t then opened p else record { next = x .master .timer .next - 1; window = x .master .timer .window - 1; quiet = 0 }) → s .side .master .timer .window ≡ 0
           → (2 ≤ x .master .timer .next) × (s .side .master .timer .next ≡ x .master .timer .next - 1)
       go true e z shut = absurd (omega (arith, shut, v .some-hold, ap (λ (t : Timer). t .window) z))
-      go false e z shut = (omega (arith, leb-false (x .master .timer .next) 1 e), ap (λ (t : Timer). t .next) z)
+      go false e z shut = (more (x .master .timer .next) (eqb-false (x .master .timer .next) 1 e) runs, ap (λ (t : Timer). t .next) z)
 
   pub other-clear : MasterQuiet p primary false noted x → MasterRests x s → Counted p (x .master .timer) (s .side .master .timer)
   other-clear q r =
@@ -68,14 +68,14 @@ module _ (p : Profile) (v : Valid p) {primary : Bool} {noted : Noted} {x : Maste
       counted p (x .master .timer) (s .side .master .timer) (r .next-is ∙ ap (λ (t : Timer). t .next) e) (subst (λ (t : Timer). s .side .master .timer .window ≤ t .window) e (r .window-is))
 
   -- one that begins has a window in this tick
-  pub begins-clear : MasterQuiet p primary false noted x → MasterTries x s → (x .master .timer .next ≤ 1) ⊎ (2 ≤ x .master .timer .window)
+  pub begins-clear : MasterQuiet p primary false noted x → MasterTries x s → (x .master .timer .next ≡ 1) ⊎ (2 ≤ x .master .timer .window)
   unfolding if_then_else_
   begins-clear q r =
-      go (x .master .timer .next ≤? 1) refl (subst (λ (t : Timer). 0 < t .window) (clear-timer p x (q .listens .is-it .profile-is) (q .burst-is)) (r .in-window))
+      go (x .master .timer .next =? 1) refl (subst (λ (t : Timer). 0 < t .window) (clear-timer p x (q .listens .is-it .profile-is) (q .burst-is)) (r .in-window))
     where
-      go : (t : Bool) → (x .master .timer .next ≤? 1) ≡ t → 0 < (if t then opened p else record { next = x .master .timer .next - 1; window = x .master .timer .window - 1; quiet = 0 }) .window
-          → (x .master .timer .next ≤ 1) ⊎ (2 ≤ x .master .timer .window)
-      go true e z = inl (leb-true (x .master .timer .next) 1 e)
+      go : (t : Bool) → (x .master .timer .next =? 1) ≡ t → 0 < (if t then opened p else record { next = x .master .timer .next - 1; window = x .master .timer .window - 1; quiet = 0 }) .window
+          → (x .master .timer .next ≡ 1) ⊎ (2 ≤ x .master .timer .window)
+      go true e z = inl (eqb-true (x .master .timer .next) 1 e)
       go false e z = inr (omega arith)
 
   -- BURST set
@@ -130,7 +130,7 @@ first-next p x y z w k d a b (W.Counted.goes e g h) r =
     record { soon = omega (arith, r .soon); first = omega (arith, r .first); shut = omega (arith, r .shut); none-awaited = omega (arith, r .none-awaited) }
 
 -- y does not begin where x comes first
-pub first-alone : (x y : Timer) (k d : ℕ) → 2 ≤ x .next → First x y k d → (y .next ≤ 1) ⊎ (2 ≤ y .window) → ⊥
+pub first-alone : (x y : Timer) (k d : ℕ) → 2 ≤ x .next → First x y k d → (y .next ≡ 1) ⊎ (2 ≤ y .window) → ⊥
 first-alone x y k d a r (inl e) = omega (arith, r .first)
 first-alone x y k d a r (inr e) = omega (arith, r .shut)
 
@@ -144,15 +144,15 @@ pub clear-next : (p : Profile) → Valid p → (f retries : ℕ) (x y z w : Time
 clear-next p v f retries x y z w j k attempts tries d a b c win at less same over (may-begin e g) = still (may-begin (omega arith) (omega arith))
 clear-next p v f retries x y z w j k attempts tries d a b c win at less same over (awaits n e g h i) = go (native.Mathlib.Decide.decLe 1 k)
   where
-    opens : Counted p y w → y .next ≤ 1 → w .next ≡ 2 * p .rt2
+    opens : Counted p y w → y .next ≡ 1 → w .next ≡ 2 * p .rt2
     opens (W.Counted.opens q r s) o = r
-    opens (W.Counted.goes q r s) o = absurd (omega arith)
+    opens (W.Counted.goes q r s) o = absurd (q o)
 
     go : Dec (1 ≤ k) → ClearNext p f retries z w k tries (d - 1)
     go (yes q) = still (awaits n (omega (arith, same q)) q (omega arith) (omega arith))
     go (no q) =
-        let one : y .next ≤ 1 = omega (arith, at g) in
-        let far = near-other p v y x win one in
+        let one : y .next ≡ 1 = omega (arith, at g) in
+        let far = near-other p v y x win (omega (arith, one)) in
         now-first (record { soon = omega arith; first = omega (arith, opens c one, far, v .hold-short, v .some-hold); shut = omega (arith, over g (omega arith)); none-awaited = omega arith })
 
 -- ---- BURST set; the next BACK begins in n ticks. `own`: it is for the master that waits

@@ -5,19 +5,21 @@ use mathlib.Core.Path.{_≡_, refl, sym, ap, subst, _∙_}
 use mathlib.Core.Bool.{Bool, true, false}
 use mathlib.Core.List.{List, [], _∷_}
 use lib.ListN.{length}
+use Rattle.base.specs.Refusal.{Called}
 use Rattle.base.specs.Choice.{if_then_else_, _<?_}
 use Rattle.base.specs.Store.{stored}
 use Rattle.base.proofs.Choices.{if-is-true, if-is-false}
 use Rattle.frame.specs.Frame.{frameBytes}
-use Rattle.line.specs.Reader.{passing, tells, taken}
+use Rattle.line.specs.Reader.{passing, tells, taken, insideFrame}
 use Rattle.line.specs.declared.Event.{Event}
 use Rattle.line.specs.declared.Event.the-variants.{Nothing, PassedOver, Broken, Frame, Damaged}
 use Rattle.line.specs.declared.Heard.{Heard}
 use Rattle.line.specs.declared.Heard.the-variants.{Silence, Character}
 use Rattle.line.specs.declared.Receiver.{Receiver}
 use Rattle.line.specs.declared.Taken.{Taken}
-use Rattle.turns.specs.Master.{Called, requested, requestHeader, counts, afterBreak, onSilence, onCharacter, onHeard, masterTakes, masterSends, sendsBy, behind}
-use Rattle.turns.specs.Link.{MasterCall, no-request, requests, Answer, MasterSide, MasterStep, masterSent, masterCalled, masterTick, masterData, Link, LinkStep, Calls, linkAfter}
+use Rattle.turns.specs.Party.{CallResult}
+use Rattle.turns.specs.Master.{requested, requestHeader, counts, afterBreak, onSilence, onCharacter, onHeard, masterTakes, masterSends, sendsBy, withReader}
+use Rattle.turns.specs.Link.{MasterCall, no-request, requests, MasterSide, MasterStep, masterSent, masterCalled, masterTick, masterData, Link, LinkStep, Calls, linkAfter}
 use Rattle.turns.specs.Demand3.{masterIn}
 use Rattle.turns.specs.Late.{lateTick, lateRun, hears, heardIn}
 use Rattle.turns.specs.declared.Sent.{Sent}
@@ -43,14 +45,14 @@ HasReader r t = t .master .receiver ≡ r
 counts-reader : (m : Master) (told : MasterTold) (event : Event) → HasReader (m .receiver) (counts m told event)
 counts-reader m told event = if-both (HasReader (m .receiver)) _ _ _ refl refl
 
-on-silence : (m : Master) (r : Receiver) (e : Event) → HasReader r (onSilence m r e)
-on-silence m r Nothing = if-both (HasReader r) (r .gap) _ _ refl (counts-reader (behind m r (m .burst) (m .noted) (m .timer) (m .message)) MasterTold.Nothing Nothing)
-on-silence m r PassedOver = counts-reader (afterBreak m r PassedOver .master) (afterBreak m r PassedOver .told) PassedOver
-on-silence m r Broken =
+on-silence : (m : Master) (r : Receiver) → HasReader r (onSilence m r)
+on-silence m r =
     let once = counts (afterBreak m r Broken .master) (afterBreak m r Broken .told) Broken in
-    counts-reader (once .master) (once .told) Broken ∙ counts-reader (afterBreak m r Broken .master) (afterBreak m r Broken .told) Broken
-on-silence m r (Frame w) = counts-reader (afterBreak m r (Frame w) .master) (afterBreak m r (Frame w) .told) (Frame w)
-on-silence m r (Damaged w h) = counts-reader (afterBreak m r (Damaged w h) .master) (afterBreak m r (Damaged w h) .told) (Damaged w h)
+    if-both (HasReader r) (insideFrame (m .receiver .place)) _ _
+    (if-both (HasReader r) (m .receiver .gap) _ _
+    (counts-reader (once .master) (once .told) Broken ∙ counts-reader (afterBreak m r Broken .master) (afterBreak m r Broken .told) Broken)
+    refl)
+    (counts-reader (withReader m r) MasterTold.Nothing Nothing)
 
 on-character : (m : Master) (r : Receiver) (e : Event) (bytes : List ℕ) → HasReader r (onCharacter m r e bytes)
 on-character m r Nothing bytes = refl
@@ -60,7 +62,7 @@ on-character m r (Frame w) bytes = refl
 on-character m r (Damaged w h) bytes = refl
 
 on-heard : (m : Master) (heard : Heard) (bytes : List ℕ) → HasReader (taken (m .receiver) heard .receiver) (onHeard m heard bytes)
-on-heard m Silence bytes = on-silence m _ (taken (m .receiver) Silence .event)
+on-heard m Silence bytes = on-silence m (taken (m .receiver) Silence .receiver)
 on-heard m (Character c) bytes = on-character m _ (taken (m .receiver) (Character c) .event) bytes
 on-heard m (Heard.Damaged c kind) bytes = on-character m _ (taken (m .receiver) (Heard.Damaged c kind) .event) bytes
 
@@ -77,16 +79,16 @@ pub data Reads (step : MasterStep) (r : Receiver) : Type 0 where
   spoke : (c : ℕ) → step .sent ≡ Sent.Character c → step .side .master .deaf ≡ true → step .side .master .receiver ≡ passing → Reads step r
   listened : step .sent ≡ Silent → step .side .master .deaf ≡ false → step .side .master .receiver ≡ r → Reads step r
 
-module _ (m : Master) (frame out bytes : List ℕ) (told : MasterTold) (answer : Answer) where
-  by-stage : (s : Stage) → Reads (masterSent (sendsBy m frame s) out bytes told answer) (m .receiver)
+module _ (m : Master) (frame out bytes : List ℕ) (told : MasterTold) (result : CallResult) where
+  by-stage : (s : Stage) → Reads (masterSent (sendsBy m frame s) out bytes told result) (m .receiver)
   by-stage Free = listened refl refl refl
   by-stage Waiting =
-      if-both (λ (s : MasterSent). Reads (masterSent s out bytes told answer) (m .receiver)) (0 <? m .timer .window) _ _
-      (if-both (λ (s : MasterSent). Reads (masterSent s out bytes told answer) (m .receiver)) (0 + 1 <? m .message .length) _ _ (spoke _ refl refl refl) (spoke _ refl refl refl)) (listened refl refl refl)
-  by-stage (Sending n) = if-both (λ (s : MasterSent). Reads (masterSent s out bytes told answer) (m .receiver)) (n + 1 <? m .message .length) _ _ (spoke _ refl refl refl) (spoke _ refl refl refl)
+      if-both (λ (s : MasterSent). Reads (masterSent s out bytes told result) (m .receiver)) (0 <? m .timer .window) _ _
+      (if-both (λ (s : MasterSent). Reads (masterSent s out bytes told result) (m .receiver)) (0 + 1 <? m .message .length) _ _ (spoke _ refl refl refl) (spoke _ refl refl refl)) (listened refl refl refl)
+  by-stage (Sending n) = if-both (λ (s : MasterSent). Reads (masterSent s out bytes told result) (m .receiver)) (n + 1 <? m .message .length) _ _ (spoke _ refl refl refl) (spoke _ refl refl refl)
   by-stage (Awaiting n) = listened refl refl refl
 
-  sends-reads : Reads (masterSent (masterSends m frame) out bytes told answer) (m .receiver)
+  sends-reads : Reads (masterSent (masterSends m frame) out bytes told result) (m .receiver)
   unfolding masterSends
   sends-reads = by-stage (m .message .stage)
 
@@ -101,7 +103,7 @@ tick-reads limit small x heard call = subst (Reads (masterTick limit x heard cal
     told = masterTakes (x .master) heard (masterData x heard) .told
 
     go : (call : MasterCall) → Reads (masterTick limit x heard call) (t .receiver)
-    go no-request = sends-reads t (x .frame) (x .frame) (masterData x heard) told Answer.none
+    go no-request = sends-reads t (x .frame) (x .frame) (masterData x heard) told CallResult.none
     go (requests q put) = by (asks limit t q (length put) small)
       where
         put-in : List ℕ
@@ -111,8 +113,8 @@ tick-reads limit small x heard call = subst (Reads (masterTick limit x heard cal
         P c = Reads (masterCalled c t put-in (x .frame) (masterData x heard) told) (t .receiver)
 
         by : Asks limit t q (length put) → P (requested limit t q (length put))
-        by (is-refused why e) = subst P (sym e) (sends-reads t (x .frame) (x .frame) (masterData x heard) told (Answer.was-refused why))
-        by (is-taken fits few free e) = subst P (sym e) (sends-reads (withMessage t (newMessage t q (length put))) (stored (x .frame) 0 put-in) (stored (x .frame) 0 put-in) (masterData x heard) told Answer.was-taken)
+        by (is-refused why e) = subst P (sym e) (sends-reads t (x .frame) (x .frame) (masterData x heard) told (CallResult.was-refused why))
+        by (is-taken fits few free e) = subst P (sym e) (sends-reads (withMessage t (newMessage t q (length put))) (stored (x .frame) 0 put-in) (stored (x .frame) 0 put-in) (masterData x heard) told CallResult.was-taken)
 
 pub reads-next : {step : MasterStep} {r : Receiver} → Reads step r → (heard : Heard) → reading (step .side) heard ≡ hears (step .sent) r heard
 reads-next {step} {r} (spoke c s d e) heard = if-is-true (step .side .master .deaf) _ _ d ∙ ap (λ (z : Receiver). tells z Nothing) e ∙ sym (ap (λ (z : Sent). hears z r heard) s)

@@ -9,6 +9,7 @@ use Rattle.base.specs.Store.{stored}
 use Rattle.frame.specs.Check.{xorFrom}
 use Rattle.frame.specs.Delimiter.{stx, ack, back, delimiterOf}
 use Rattle.frame.specs.Frame.{frameBytes, preambleBytes, bodyBytes, protectedBytes, headerBytes}
+use Rattle.frame.specs.Write.{writeBuffer, writeAnswer}
 use Rattle.line.specs.Profile.{fskProfile}
 use Rattle.line.specs.Reader.{taken, takenData, silentInside, atIdle, atPreamble, atFirst, atAddress, atExpansion, atCommand, atCount, atData, atCheck}
 use Rattle.line.specs.declared.Damage.the-variants.{Parity, Overrun, Framing}
@@ -197,7 +198,7 @@ Errors =
     (sent (all-taken (0x02 ∷ 0x80 ∷ 0x00 ∷ 0x00 ∷ 0x83 ∷ 0x55 ∷ []) ++ replicate 40 (takes Silence)) ≡ replicate 53 Silent)
 
 pub errors : Errors
-unfolding each all-taken deviceSents deviceTick deviceTakes deviceSends taken takenData silentInside atIdle atPreamble atFirst atAddress atExpansion atCommand atCount atData atCheck frameBytes preambleBytes bodyBytes protectedBytes headerBytes xorFrom delimiterOf stored if_then_else_
+unfolding each all-taken deviceSents deviceTick deviceTakes deviceSends taken takenData silentInside atIdle atPreamble atFirst atAddress atExpansion atCommand atCount atData atCheck writeBuffer writeAnswer frameBytes preambleBytes bodyBytes protectedBytes headerBytes xorFrom delimiterOf stored if_then_else_
 errors = (refl, refl, refl, refl, refl)
 
 -- M3's frame
@@ -228,7 +229,7 @@ Answers =
     ≡ replicate 12 Silent ++ (ack-0 ++ replicate 24 Silent))
 
 pub answers : Answers
-unfolding each all-taken deviceSents deviceTick deviceTakes deviceSends answered taken takenData silentInside atIdle atPreamble atFirst atAddress atExpansion atCommand atCount atData atCheck frameBytes preambleBytes bodyBytes protectedBytes headerBytes xorFrom delimiterOf stored if_then_else_
+unfolding each all-taken deviceSents deviceTick deviceTakes deviceSends answered taken takenData silentInside atIdle atPreamble atFirst atAddress atExpansion atCommand atCount atData atCheck writeBuffer writeAnswer frameBytes preambleBytes bodyBytes protectedBytes headerBytes xorFrom delimiterOf stored if_then_else_
 answers = (refl, refl, refl, refl, refl, refl, refl, refl)
 
 -- the content is given in tick 0, a request of command 3 for device 2 is taken in ticks 2 to 15, and the answer that turns burst on is given at T+2, in tick 16: an ACK of 16 characters, and a BACK directly behind it up to tick 47
@@ -250,7 +251,7 @@ pub bursts : deviceSents 255 device
     (replicate 16 Silent ++
     (each (0xFF ∷ 0xFF ∷ 0xFF ∷ 0xFF ∷ 0xFF ∷ 0x86 ∷ 0x00 ∷ 0x00 ∷ 0x00 ∷ 0x00 ∷ 0x02 ∷ 0x03 ∷ 0x02 ∷ 0x00 ∷ 0x00 ∷ 0x85 ∷ []) ++
     replicate 80 Silent))))))
-unfolding each all-taken deviceSents deviceTick deviceTakes deviceSends answered contentGiven taken takenData silentInside atIdle atPreamble atFirst atAddress atExpansion atCommand atCount atData atCheck frameBytes preambleBytes bodyBytes protectedBytes headerBytes xorFrom delimiterOf stored if_then_else_
+unfolding each all-taken deviceSents deviceTick deviceTakes deviceSends answered contentGiven taken takenData silentInside atIdle atPreamble atFirst atAddress atExpansion atCommand atCount atData atCheck writeBuffer writeAnswer frameBytes preambleBytes bodyBytes protectedBytes headerBytes xorFrom delimiterOf stored if_then_else_
 bursts = refl
 
 -- the tick of its next BACK, where these bytes stand on the line from tick 49 on
@@ -259,7 +260,7 @@ next-back bytes = 48 + ticks-before (drop 48 (deviceSents 255 device (turned-on 
 
 -- nothing: RT2 behind tick 47. Another's ACK, of 12 characters: timer 1 behind tick 60. Behind tick 58 of an STX, tick 60 of a damaged ACK, tick 64 of another's BACK and tick 50 of a broken frame: RT1 primary
 pub due-backs : next-back [] ∷ next-back (shortAck true false) ∷ next-back aRequest ∷ next-back (wrong (shortAck true false)) ∷ next-back (aBack true) ∷ next-back (0xFF ∷ 0x55 ∷ []) ∷ [] ≡ 56 ∷ 62 ∷ 92 ∷ 94 ∷ 98 ∷ 84 ∷ []
-unfolding wrong ticks-before next-back all-taken deviceSents deviceTick deviceTakes deviceSends answered contentGiven taken takenData silentInside atIdle atPreamble atFirst atAddress atExpansion atCommand atCount atData atCheck frameBytes preambleBytes bodyBytes protectedBytes headerBytes xorFrom delimiterOf stored if_then_else_
+unfolding wrong ticks-before next-back all-taken deviceSents deviceTick deviceTakes deviceSends answered contentGiven taken takenData silentInside atIdle atPreamble atFirst atAddress atExpansion atCommand atCount atData atCheck writeBuffer writeAnswer frameBytes preambleBytes bodyBytes protectedBytes headerBytes xorFrom delimiterOf stored if_then_else_
 due-backs = refl
 
 -- an answer at T+1, in tick 15, that turns burst on is lost with its request, which a character drops: the ACK to the next request has no burst flag, and no BACK follows
@@ -269,5 +270,5 @@ pub wish-lost : deviceSents 255 device
     (record { heard = Character 0x03; call = gives-answer On (0 ∷ 0 ∷ []) } ∷ takes (Character 0x55) ∷ takes Silence ∷
     (replicate 5 (takes (Character 0xFF)) ++ (all-taken stx-bytes ++ (calls zeros ∷ replicate 60 (takes Silence)))))))
     ≡ replicate 28 Silent ++ (ack-0 ++ replicate 49 Silent)
-unfolding each all-taken deviceSents deviceTick deviceTakes deviceSends answered contentGiven taken takenData silentInside atIdle atPreamble atFirst atAddress atExpansion atCommand atCount atData atCheck frameBytes preambleBytes bodyBytes protectedBytes headerBytes xorFrom delimiterOf stored if_then_else_
+unfolding each all-taken deviceSents deviceTick deviceTakes deviceSends answered contentGiven taken takenData silentInside atIdle atPreamble atFirst atAddress atExpansion atCommand atCount atData atCheck writeBuffer writeAnswer frameBytes preambleBytes bodyBytes protectedBytes headerBytes xorFrom delimiterOf stored if_then_else_
 wish-lost = refl

@@ -2,10 +2,9 @@
 use Prim.Native.Nat.{ℕ, suc, _≤_, _<_}
 use native.Mathlib.Omega.{arith}
 use mathlib.Core.Path.{_≡_, refl, sym, ap, subst, _∙_}
-use mathlib.Core.Bool.{Bool, true, false}
+use mathlib.Core.Bool.{Bool, true}
 use mathlib.Core.List.{List}
 use lib.ListN.{length, getD, take}
-use Rattle.base.specs.Choice.{if_then_else_}
 use Rattle.frame.specs.Delimiter.{stx}
 use Rattle.frame.specs.declared.Header.{Header}
 use Rattle.line.specs.Reader.{idle, passing}
@@ -15,7 +14,7 @@ use Rattle.line.specs.declared.Profile.{Profile}
 use Rattle.line.specs.declared.Receiver.{Receiver}
 use Rattle.line.specs.declared.Whole.{Whole}
 use Rattle.line.proofs.Leads.{readerAfter}
-use Rattle.turns.specs.Master.{brokenTimer, burstTimer, timer, ownRt1}
+use Rattle.turns.specs.Master.{any-stx, timerAfter, ownRt1}
 use Rattle.turns.specs.Link.{MasterCall, MasterSide, MasterStep, masterTick}
 use Rattle.turns.specs.declared.Sent.{Sent}
 use Rattle.turns.specs.declared.Sent.the-variants.{Silent}
@@ -27,7 +26,7 @@ use Rattle.turns.specs.declared.Master.{Master}
 use Rattle.turns.proofs.Masters.{Holds, Formed, stands, left, Rested, Still, is-awaiting}
 use Rattle.turns.proofs.Taking as T
 use Rattle.turns.proofs.Taking.{master-speaks}
-use Rattle.turns.proofs.Listening.{master-mid, master-finished}
+use Rattle.turns.proofs.Listening.{timer-shut, master-mid, master-finished}
 use Rattle.turns.proofs.Phases.{MasterIs, MasterListens, MasterQuiet, Ready, passing-ready}
 
 -- ---- the master that sends
@@ -35,7 +34,7 @@ use Rattle.turns.proofs.Phases.{MasterIs, MasterListens, MasterQuiet, R
 -- behind k + 1 characters of its STX w
 pub data MasterPlace (k : ℕ) (w : List ℕ) (x : MasterSide) : Type 0 where
   inside : suc k < length w → x .master .message .stage ≡ Sending (suc k) → MasterPlace k w x
-  finished : suc k ≡ length w → x .master .timer ≡ brokenTimer (x .master) → Still (x .master .message .stage) → left (x .master .message .stage) ≡ ownRt1 (x .master) → MasterPlace k w x
+  finished : suc k ≡ length w → x .master .timer ≡ timerAfter (x .master .profile) (x .master .primary) any-stx (x .master .burst) → Still (x .master .message .stage) → left (x .master .message .stage) ≡ ownRt1 (x .master .profile) (x .master .primary) → MasterPlace k w x
 
 pub record MasterSpeaks (p : Profile) (primary burst : Bool) (noted : Noted) (k : ℕ) (w : List ℕ) (message : Whole) (x : MasterSide) : Type 0 where
   pub is-it : MasterIs p primary x
@@ -56,15 +55,6 @@ pub record MasterHears (p : Profile) (primary burst : Bool) (noted : Noted) (r :
   pub receiver-is : x .master .receiver ≡ r
   pub burst-is : x .master .burst ≡ burst
   pub noted-is : x .master .noted ≡ noted
-
--- a timer behind a break, or behind an STX, has no open window
-pub broken-shut : (m : Master) → brokenTimer m .window ≡ 0
-unfolding if_then_else_
-broken-shut m = go (m .burst)
-  where
-    go : (b : Bool) → (if b then burstTimer m 0 else timer (ownRt1 m)) .window ≡ 0
-    go true = refl
-    go false = refl
 
 module _ (limit : ℕ) (small : limit ≤ 255) (p : Profile) (primary burst : Bool) (noted : Noted) (w : List ℕ) (message : Whole) where
   -- the next character of the STX
@@ -108,18 +98,18 @@ module _ (limit : ℕ) (small : limit ≤ 255) (p : Profile) (primary burst : Bo
       go (T.goes-on g more e st hd len n) = put g _ e refl refl refl refl refl refl hd len (inside more (ap (λ (m : Master). m .message .stage) e ∙ st))
       go (T.is-out g last e st hd len n) =
           put g _ e refl refl refl refl refl refl hd len
-          (finished last (ap (λ (m : Master). m .timer) e ∙ sym (ap brokenTimer e)) (subst Still (sym (ap (λ (m : Master). m .message .stage) e ∙ st)) (is-awaiting (ownRt1 (x .master))))
-          (ap left (ap (λ (m : Master). m .message .stage) e ∙ st) ∙ (λ i. ownRt1 (sym e i))))
+          (finished last (ap (λ (m : Master). m .timer) e ∙ sym (ap (λ (m : Master). timerAfter (m .profile) (m .primary) any-stx (m .burst)) e)) (subst Still (sym (ap (λ (m : Master). m .message .stage) e ∙ st)) (is-awaiting (ownRt1 (x .master .profile) (x .master .primary))))
+          (ap left (ap (λ (m : Master). m .message .stage) e ∙ st) ∙ (λ i. ownRt1 (sym e i .profile) (sym e i .primary))))
 
   -- behind its last one
-  pub speaks-out : (k : ℕ) (x : MasterSide) (heard : Heard) (call : MasterCall) → x .master .timer ≡ brokenTimer (x .master) → Still (x .master .message .stage) → left (x .master .message .stage) ≡ ownRt1 (x .master) → MasterSpeaks p primary burst noted k w message x
-      → (masterTick limit x heard call .sent ≡ Silent) × MasterQuiet p primary burst noted (masterTick limit x heard call .side) × (masterTick limit x heard call .side .master .timer ≡ brokenTimer (x .master))
-      × (left (masterTick limit x heard call .side .master .message .stage) ≡ ownRt1 (x .master)) × (1 ≤ ownRt1 (x .master) → masterTick limit x heard call .side .master .message .attempts ≡ x .master .message .attempts)
-      × (1 ≤ ownRt1 (x .master) → masterTick limit x heard call .side .master .message .header ≡ x .master .message .header)
+  pub speaks-out : (k : ℕ) (x : MasterSide) (heard : Heard) (call : MasterCall) → x .master .timer ≡ timerAfter (x .master .profile) (x .master .primary) any-stx (x .master .burst) → Still (x .master .message .stage) → left (x .master .message .stage) ≡ ownRt1 (x .master .profile) (x .master .primary) → MasterSpeaks p primary burst noted k w message x
+      → (masterTick limit x heard call .sent ≡ Silent) × MasterQuiet p primary burst noted (masterTick limit x heard call .side) × (masterTick limit x heard call .side .master .timer ≡ timerAfter (x .master .profile) (x .master .primary) any-stx (x .master .burst))
+      × (left (masterTick limit x heard call .side .master .message .stage) ≡ ownRt1 (x .master .profile) (x .master .primary)) × (1 ≤ ownRt1 (x .master .profile) (x .master .primary) → masterTick limit x heard call .side .master .message .attempts ≡ x .master .message .attempts)
+      × (1 ≤ ownRt1 (x .master .profile) (x .master .primary) → masterTick limit x heard call .side .master .message .header ≡ x .master .message .header)
   speaks-out k x heard call t still l s =
       let formed : Formed (x .master .primary) (x .frame) (x .master .message) = stands w message (s .held) (s .header-is) (s .no-expansion) (ap (λ (h : Header). h .frame) (sym (s .header-is)) ∙ s .type-is)
       (ap (λ (h : Header). h .primary) (sym (s .header-is)) ∙ s .bit-is ∙ sym (s .is-it .primary-is)) in
-      let f = master-finished limit p primary x heard call small (s .is-it) (s .deaf-is) still formed (ap (λ (t : Timer). t .window) t ∙ broken-shut (x .master)) in (
+      let f = master-finished limit p primary x heard call small (s .is-it) (s .deaf-is) still formed (ap (λ (t : Timer). t .window) t ∙ timer-shut (x .master .profile) (x .master .primary) any-stx (x .master .burst)) in (
         f .silent,
         record { listens = f .listens; ready = subst Ready (sym (f .same-receiver ∙ s .receiver-is)) passing-ready; burst-is = f .same-burst ∙ s .burst-is; noted-is = f .same-noted ∙ s .noted-is },
         f .same-timer ∙ t,

@@ -1,13 +1,13 @@
 -- Single sentences of document 01 as laws of the definitions, for rules that no theorem on whole runs rests on.
-use Prim.Native.Nat.{ℕ, _/_, _≤_}
+use Prim.Native.Nat.{ℕ, _/_, _≤_, _-_}
 use native.Mathlib.Omega.{arith}
 use mathlib.Core.Path.{_≡_, refl, sym, ap, _∙_}
 use mathlib.Core.Bool.{Bool, true, false}
 use mathlib.Core.List.{List}
 use lib.ListN.{length}
-use borrow.Author.Tests.{eq-eqb, eqb-true, le-ltb}
+use borrow.Author.Tests.{eq-eqb, eqb-true, le-ltb, ne-eqb}
+use Rattle.base.specs.Refusal.{Called, accepted, refused}
 use Rattle.base.specs.Choice.{if_then_else_, _<?_, _=?_, _outside_to_}
-use Rattle.base.specs.declared.Refusal.the-variants.{BadRetries, Command}
 use Rattle.base.proofs.Choices.{true-false, if-is-true, if-is-false, if-at-most, went-then, went-else, inside-low, inside-high, inside-is}
 use Rattle.frame.specs.Address.{byteAt, largestAddress, addressTooLarge}
 use Rattle.frame.specs.Delimiter.{stx, ack, back}
@@ -15,23 +15,25 @@ use Rattle.frame.specs.Frame.{frameBytes}
 use Rattle.frame.specs.declared.Header.{Header}
 use Rattle.line.specs.Profile.{fskProfile, c8pskProfile}
 use Rattle.line.specs.declared.Event.the-variants.{Damaged}
-use Rattle.line.specs.declared.Harm.{Harm}
+use Rattle.line.specs.declared.FrameDamage.{FrameDamage}
 use Rattle.line.specs.declared.Heard.{Heard}
 use Rattle.line.specs.declared.Profile.{Profile}
 use Rattle.line.specs.declared.Receiver.{Receiver}
 use Rattle.line.specs.declared.Whole.{Whole}
-use Rattle.turns.specs.Master.{Called, accepted, refused, sameBit, toItself, isAnswer, masterStarts, freshMaster, quietTime, Request, requested, requestHeader, hasMessage, commandRefused, masterTakes, isBroadcast, seeksTag, namesDevice, addressOf, isNoted, burstAfter, notedAfter, clearTimer, setTimer, timerAfter, fails, ends, atBreak, answersMessage, atFrame}
+use Rattle.turns.specs.Party.{isBroadcast, seeksTag, Request, CallResult, was-refused}
+use Rattle.turns.specs.Master.{sameBit, toItself, isAnswer, masterStarts, freshMaster, quietTime, requested, requestHeader, hasMessage, commandRefused, masterTakes, namesDevice, addressOf, isNoted, burstAfter, notedAfter, timerAfter, fails, ends, atBreak, answersMessage, atFrame, countClear, countBurst}
 use Rattle.turns.specs.Master as M
-use Rattle.turns.specs.Device.{freshDevice, isOwn, mayAnswer, hasError, errorStatus, errorData, errorFrame, afterRequest, afterFrame, afterDamage, waited, deviceTakes, contentGiven}
-use Rattle.turns.specs.Link.{requests, gives-content, Answer, was-refused, MasterSide, DeviceSide, masterData, masterCalled, masterTick, deviceData, heardFrame, contentCalled, deviceTick}
+use Rattle.turns.specs.Device.{freshDevice, isOwn, mayAnswer, hasError, errorStatus, errorData, errorFrame, afterRequest, afterFrame, afterDamage, waited, deviceTakes, contentGiven, backDue}
+use Rattle.turns.specs.Link.{requests, gives-content, MasterSide, DeviceSide, masterData, masterCalled, masterTick, deviceData, heardFrame, contentCalled, deviceTick}
 use Rattle.turns.specs.declared.Master.{Master}
 use Rattle.turns.specs.declared.MasterTold.the-variants.{Answered, BroadcastSent}
 use Rattle.turns.specs.declared.Noted.{Noted}
 use Rattle.turns.specs.declared.Device.{Device}
-use Rattle.turns.specs.declared.DeviceTaken.{DeviceTaken}
 use Rattle.turns.specs.declared.DeviceTold.{DeviceTold}
 use Rattle.turns.specs.declared.Turn.the-variants.{Listens, Asked}
 use Rattle.turns.proofs.Bursting.{if-both}
+use Rattle.turns.specs.declared.Change.{Change}
+use Rattle.turns.specs.declared.Timer.{Timer}
 
 false-true : false ≡ true → ⊥
 false-true e = true-false (sym e)
@@ -61,10 +63,10 @@ answer-repeats m h e =
 -- "2: R outside 3 to 15"
 pub started-retries : (p : Profile) (primary : Bool) (retries : ℕ) (m : Master) → masterStarts p primary retries ≡ accepted m → (3 ≤ retries) × (retries ≤ 15)
 started-retries p primary retries m e =
-    let a = went-else (retries outside 3 to 15) (refused BadRetries) _ (accepted m) e not-accepted in
+    let a = went-else (retries outside 3 to 15) (refused 2) _ (accepted m) e not-accepted in
     (inside-low retries 3 15 _ refl (a .0), inside-high retries 3 15 _ refl (a .0))
   where
-    not-accepted : refused BadRetries ≡ accepted m → ⊥
+    not-accepted : refused 2 ≡ accepted m → ⊥
     not-accepted q = let z : _≡_ {A = ℕ} 0 1 = cc in omega arith
 
 -- "or with command 0 to its polling address"
@@ -74,9 +76,9 @@ own-polling d h short e =
     (eqb-true (d .polling) (h .address) (a .0), eqb-true (h .command) 0 (a .1))
 
 -- "Expansion bytes ..: no answer"
-pub expansion-unanswered : (d : Device) (r : Receiver) (w : Whole) → (w .expansion =? 0) ≡ false → afterFrame d r w .device .turn ≡ Listens
-expansion-unanswered d r w x =
-    if-both (λ (t : DeviceTaken). t .device .turn ≡ Listens) (w .header .frame =? stx) _ _ (ap (λ (t : DeviceTaken). t .device .turn) (if-is-false (w .expansion =? 0) _ _ x)) refl
+pub expansion-unanswered : (d : Device) (w : Whole) → (w .expansion =? 0) ≡ false → afterFrame d w .turn ≡ Listens
+expansion-unanswered d w x =
+    if-both (λ (c : Change). c .turn ≡ Listens) (w .header .frame =? stx) _ _ (ap (λ (c : Change). c .turn) (if-is-false (w .expansion =? 0) _ _ x)) refl
 
 -- "T+2 to T+STO": in the last of its ticks a request is dropped
 pub last-tick : (n : ℕ) → n ≤ 1 → waited (Asked n) ≡ Listens
@@ -95,21 +97,21 @@ unfolding if_then_else_
 statuses = (refl, refl, refl, refl)
 
 -- "with two data bytes, .. then 0"
-pub error-data : (m : Harm) → (length (errorData m) ≡ 2) × (byteAt (errorData m) 1 ≡ 0)
+pub error-data : (m : FrameDamage) → (length (errorData m) ≡ 2) × (byteAt (errorData m) 1 ≡ 0)
 error-data m = (refl, refl)
 
 -- "damage in the address: no answer": nothing is told, nothing is prepared in the frame buffer, and no request is in hand
-pub damaged-address : (d : Device) (r : Receiver) (w : Whole) (m : Harm) → m .address ≡ true
-    → (afterDamage d r w m .told ≡ DeviceTold.Nothing) × ((frame : List ℕ) → errorFrame d (Damaged w m) frame ≡ frame) × (afterDamage d r w m .device .turn ≡ Listens)
-damaged-address d r w m damaged =
+pub damaged-address : (d : Device) (w : Whole) (m : FrameDamage) → m .address ≡ true
+    → (afterDamage d w m .told ≡ DeviceTold.Nothing) × ((frame : List ℕ) → errorFrame d (Damaged w m) frame ≡ frame) × (afterDamage d w m .turn ≡ Listens)
+damaged-address d w m damaged =
     let no : Bool → Type 0 = λ (t : Bool). t ≡ false in
     let e : hasError d w m ≡ false = if-both no (w .header .frame =? stx) _ _ (if-both no (w .expansion =? 0) _ _ (if-is-true (m .address) false _ damaged) refl) refl in
     let t = if-is-false (hasError d w m) _ _ e in
-    (ap (λ (z : DeviceTaken). z .told) t, (λ frame. if-is-false (hasError d w m) _ frame e), ap (λ (z : DeviceTaken). z .device .turn) t)
+    (ap (λ (c : Change). c .told) t, (λ frame. if-is-false (hasError d w m) _ frame e), ap (λ (c : Change). c .turn) t)
 
 -- "5: command 254", of a master's request that no lower number refuses, whatever else is true
 pub request-254 : (limit : ℕ) (x : MasterSide) (heard : Heard) (q : Request) (put : List ℕ) → 5 ≤ q .preamble → q .preamble ≤ 20 → q .address ≤ largestAddress (q .long) → q .command ≡ 254
-    → masterTick limit x heard (requests q put) .answer ≡ was-refused Command
+    → masterTick limit x heard (requests q put) .result ≡ was-refused 5
 unfolding masterTick requested
 request-254 limit x heard q put low high fits e =
     let m = masterTakes (x .master) heard (masterData x heard) .master in
@@ -118,30 +120,39 @@ request-254 limit x heard q put low high fits e =
     ∙ if-is-false (addressTooLarge (requestHeader m q)) _ _ (le-ltb (largestAddress (q .long)) (q .address) fits)
     ∙ if-is-true (commandRefused q) _ _ (if-is-true (q .command =? 254) true _ (eq-eqb (q .command) 254 e)))
   where
-    by : Called Master → Answer
+    by : Called Master → CallResult
     by c =
         let t = masterTakes (x .master) heard (masterData x heard) in
-        masterCalled c (t .master) (frameBytes (q .preamble) (requestHeader (t .master) q) put) (x .frame) (masterData x heard) (t .told) .answer
+        masterCalled c (t .master) (frameBytes (q .preamble) (requestHeader (t .master) q) put) (x .frame) (masterData x heard) (t .told) .result
 
 -- and of burst content
-pub content-254 : (limit : ℕ) (x : DeviceSide) (heard : Heard) (put : List ℕ) → deviceTick limit x heard (gives-content 254 put) .answer ≡ was-refused Command
+pub content-254 : (limit : ℕ) (x : DeviceSide) (heard : Heard) (put : List ℕ) → deviceTick limit x heard (gives-content 254 put) .result ≡ was-refused 5
 unfolding deviceTick contentGiven
 content-254 limit x heard put = ap by (if-is-true (254 =? 254) _ _ refl)
   where
-    by : Called Device → Answer
-    by c = let t = deviceTakes (x .device) heard in contentCalled c (t .device) put (heardFrame x heard) (deviceData x heard) (x .contents) (t .told) .answer
+    by : Called Device → CallResult
+    by c = let t = deviceTakes (x .device) heard in contentCalled c (t .device) put (heardFrame x heard) (deviceData x heard) (x .contents) (t .told) .result
 
 -- "the quiet time ..: 2×RT1 primary for the primary, RT2 more for the secondary": FSK 66 and 74, C8PSK 84 and 98
 abbrev pub QuietTimes : Type 0
 QuietTimes =
-    (quietTime (freshMaster fskProfile true 3) ≡ 66) ×
-    (quietTime (freshMaster fskProfile false 3) ≡ 74) ×
-    (quietTime (freshMaster c8pskProfile true 3) ≡ 84) ×
-    (quietTime (freshMaster c8pskProfile false 3) ≡ 98)
+    (quietTime fskProfile true ≡ 66) ×
+    (quietTime fskProfile false ≡ 74) ×
+    (quietTime c8pskProfile true ≡ 84) ×
+    (quietTime c8pskProfile false ≡ 98)
 
 pub quiet-times : QuietTimes
 unfolding if_then_else_
 quiet-times = (refl, refl, refl, refl)
+
+-- 0 is a timer that does not run: it opens no window, and no BACK is due
+pub stopped : (p : Profile) (t : Timer) → t .next ≡ 0 → (countClear p t .window ≡ t .window - 1) × (countBurst p t .window ≡ t .window - 1)
+stopped p t e =
+    let no = ne-eqb (t .next) 1 (λ z. omega (arith, z, e)) in
+    (ap (λ (u : Timer). u .window) (if-is-false (t .next =? 1) _ _ no), ap (λ (u : Timer). u .window) (if-is-false (t .next =? 1) _ _ no))
+
+pub none-due : (d : Device) → backDue d 0 ≡ false
+none-due d = if-both (λ (b : Bool). b ≡ false) (d .burst) _ _ refl refl
 
 -- "or a BACK, sets BURST and notes its address"
 pub back-notes : (burst : Bool) (noted : Noted) (h : Header) → h .frame ≡ back → (burstAfter burst noted h ≡ true) × (notedAfter noted h ≡ addressOf h)
@@ -172,8 +183,8 @@ module _ (noted : Noted) (h : Header) (type : h .frame ≡ ack) where
 
 -- "BURST is brought up to date before the frame's timer is chosen"
 pub timer-by-new-burst : (m : Master) (r : Receiver) (w : Whole) (bytes : List ℕ) (burst : Bool) → burstAfter (m .burst) (m .noted) (w .header) ≡ burst
-    → M.afterFrame m r w bytes .master .timer ≡ (if burst then setTimer m (w .header) else clearTimer m (w .header))
-timer-by-new-burst m r w bytes burst e = ap (λ (b : Bool). timerAfter m b (w .header)) e
+    → M.afterFrame m r w bytes .master .timer ≡ timerAfter (m .profile) (m .primary) (M.endedBy m (w .header)) burst
+timer-by-new-burst m r w bytes burst e = ap (timerAfter (m .profile) (m .primary) (M.endedBy m (w .header))) e
 
 module _ (m : Master) (w : Whole) (bytes : List ℕ) where
   -- "Such an ACK ends the message as answered"
@@ -200,20 +211,20 @@ module _ (m : Master) (w : Whole) (bytes : List ℕ) where
       let e : atBreak m ≡ ends (m .message) BroadcastSent = if-is-true (isBroadcast (m .message .header)) _ _ all in
       (if-is-false (answersMessage m (w .header)) _ _ (if-is-true (isBroadcast (m .message .header)) _ _ all ∙ if-is-false (seeksTag (m .message .header)) _ _ other) ∙ e, e)
 
-module _ (d : Device) (r : Receiver) (w : Whole) (request : w .header .frame ≡ stx) (plain : w .expansion ≡ 0) where
-  as-request : afterFrame d r w ≡ afterRequest d r w
+module _ (d : Device) (w : Whole) (request : w .header .frame ≡ stx) (plain : w .expansion ≡ 0) where
+  as-request : afterFrame d w ≡ afterRequest d w
   as-request = if-is-true (w .header .frame =? stx) _ _ (eq-eqb (w .header .frame) stx request) ∙ if-is-true (w .expansion =? 0) _ _ (eq-eqb (w .expansion) 0 plain)
 
   -- "STX to its unique address, or with command 0 to its polling address: told to the host"
-  pub own-told : isOwn d (w .header) ≡ true → (afterFrame d r w .told ≡ DeviceTold.Request w) × (afterFrame d r w .device .request ≡ w .header)
+  pub own-told : isOwn d (w .header) ≡ true → (afterFrame d w .told ≡ DeviceTold.Request w) × (afterFrame d w .request ≡ w .header)
   own-told own =
       let may : mayAnswer d (w .header) ≡ true = if-both (λ (b : Bool). b ≡ true) (seeksTag (w .header)) _ _ refl own in
       let e = as-request ∙ if-is-true (mayAnswer d (w .header)) _ _ may in
-      (ap (λ (t : DeviceTaken). t .told) e, ap (λ (t : DeviceTaken). t .device .request) e)
+      (ap (λ (c : Change). c .told) e, ap (λ (c : Change). c .request) e)
 
   -- "Broadcast is told to the host and never answered": that it is not answered is `other-unanswered` in TagSentences
-  pub broadcast-told : isBroadcast (w .header) ≡ true → mayAnswer d (w .header) ≡ false → afterFrame d r w .told ≡ DeviceTold.Broadcast w
-  broadcast-told all none = ap (λ (t : DeviceTaken). t .told) (as-request ∙ if-is-false (mayAnswer d (w .header)) _ _ none ∙ if-is-true (isBroadcast (w .header)) _ _ all)
+  pub broadcast-told : isBroadcast (w .header) ≡ true → mayAnswer d (w .header) ≡ false → afterFrame d w .told ≡ DeviceTold.Broadcast w
+  broadcast-told all none = ap (λ (c : Change). c .told) (as-request ∙ if-is-false (mayAnswer d (w .header)) _ _ none ∙ if-is-true (isBroadcast (w .header)) _ _ all)
 
 -- "or with command 0 to its polling address", "STX to its unique address"
 pub own-unique : (d : Device) (h : Header) → h .long ≡ true → isOwn d h ≡ true → d .unique ≡ h .address

@@ -5,14 +5,14 @@ use mathlib.Core.Path.{_≡_, refl, sym, ap, _∙_}
 use mathlib.Core.Bool.{Bool, true, false}
 use mathlib.Core.List.{List, [], _∷_, _++_}
 use lib.ListN.{length, replicate}
+use Rattle.base.specs.Refusal.{accepted}
 use Rattle.base.specs.Choice.{if_then_else_}
 use Rattle.base.specs.Store.{stored}
 use Rattle.frame.specs.Check.{xorFrom, exclusiveOr}
 use Rattle.frame.specs.Delimiter.{stx, ack, delimiterOf}
 use Rattle.frame.specs.Frame.{frameBytes, preambleBytes, bodyBytes, protectedBytes, headerBytes}
-use Rattle.frame.specs.Write.{writeAnswer}
+use Rattle.frame.specs.Write.{writeBuffer, writeAnswer}
 use Rattle.frame.specs.declared.Header.{Header}
-use Rattle.frame.specs.declared.Written.the-variants.{To}
 use Rattle.frame.proofs.Longest.{written-length, longestHeader, longest-is-written}
 use Rattle.line.specs.Reader.{taken, takenData, atIdle, atPreamble, atFirst, atAddress, atExpansion, atCommand, atCount, atData, atCheck}
 use Rattle.turns.specs.Master.{requested}
@@ -21,7 +21,7 @@ use Rattle.turns.specs.Link.{deviceTick}
 use Rattle.turns.specs.Settled.{CheckByte, Longest, request, characters, hearing, check-byte-is, polling-is, data-is, answer-is, longest-is, table, AllSettled, no-more, row-and}
 
 -- the check byte of every frame with these bytes is their exclusive-or
-frame-with : (h : Header) (put : List ℕ) → writeAnswer 5 h (length put) 284 0 ≡ To (5 + length (protectedBytes h put) + 1) → CheckByte (protectedBytes h put) (exclusiveOr (protectedBytes h put))
+frame-with : (h : Header) (put : List ℕ) → writeAnswer 5 h (length put) 284 0 ≡ accepted (5 + length (protectedBytes h put) + 1) → CheckByte (protectedBytes h put) (exclusiveOr (protectedBytes h put))
 unfolding frameBytes bodyBytes
 frame-with h put e = record {
   header = h;
@@ -45,7 +45,7 @@ longest-frame = record {
 }
 
 pub all-settled : AllSettled table
-unfolding characters hearing requested deviceTick deviceTakes deviceSends answered taken takenData atIdle atPreamble atFirst atAddress atExpansion atCommand atCount atData atCheck frameBytes preambleBytes bodyBytes protectedBytes headerBytes writeAnswer xorFrom delimiterOf stored if_then_else_
+unfolding characters hearing requested deviceTick deviceTakes deviceSends answered taken takenData atIdle atPreamble atFirst atAddress atExpansion atCommand atCount atData atCheck writeBuffer writeAnswer frameBytes preambleBytes bodyBytes protectedBytes headerBytes xorFrom delimiterOf stored if_then_else_
 all-settled =
     row-and (check-byte-is (frame-with request [] refl))
     (row-and (check-byte-is (frame-with (record { frame = stx; long = true; primary = true; burst = false; address = 2; command = 3 }) [] refl))

@@ -5,8 +5,8 @@ use mathlib.Core.Path.{_≡_, refl, sym, ap, subst, _∙_}
 use mathlib.Core.Bool.{Bool, true, false}
 use mathlib.Core.List.{List}
 use mathlib.Core.Logic.{_⊎_, inl, inr}
-use borrow.Author.Tests.{lt-leb}
-use Rattle.base.specs.Choice.{if_then_else_, _≤?_, _=?_}
+use borrow.Author.Tests.{ne-eqb}
+use Rattle.base.specs.Choice.{if_then_else_, _=?_}
 use Rattle.base.proofs.Choices.{true-false, if-is-true, if-is-false}
 use Rattle.frame.specs.declared.Header.{Header}
 use Rattle.line.specs.declared.Heard.the-variants.{Silence}
@@ -17,7 +17,7 @@ use Rattle.turns.specs.Run.{Sole}
 use Rattle.turns.proofs.Fair.{SoleTag}
 use Rattle.turns.specs.declared.Timer.{Timer}
 use Rattle.turns.proofs.Windows as W
-use Rattle.turns.proofs.Windows.{Valid, Counted, CountedBurst, counted, counted-burst, apart-next, one-window, Slot, OneSlot, one-slot-next, one-slot-window, slot-last, shut-next}
+use Rattle.turns.proofs.Windows.{Valid, Counted, CountedBurst, counted, counted-burst, apart-next, one-window, Slot, OneSlot, one-slot-next, one-slot-window, slot-last, shut-next, running}
 use Rattle.turns.proofs.Lists.{all-sides, all-distinct, agreed-same}
 use Rattle.turns.proofs.Phases.{ClearWindows, primary-first, secondary-first, ShutFor}
 use Rattle.turns.proofs.Beginning.{silent-devices}
@@ -71,10 +71,10 @@ count-quiet p t = go (t .next =? 1)
 
 pub set-timer : (p : Profile) (x : MasterSide) → x .master .profile ≡ p → x .master .burst ≡ true → 1 < x .master .timer .quiet → timerCounted (x .master) ≡ countBurst p (x .master .timer)
 set-timer p x e b q =
-    if-is-true (x .master .burst) _ _ b ∙ if-is-false (x .master .timer .quiet ≤? 1) _ _ (lt-leb (x .master .timer .quiet) 1 q) ∙ ap (λ (r : Profile). countBurst r (x .master .timer)) e
+    if-is-true (x .master .burst) _ _ b ∙ if-is-false (x .master .timer .quiet =? 1) _ _ (ne-eqb (x .master .timer .quiet) 1 (λ z. omega (arith, z, q))) ∙ ap (λ (r : Profile). countBurst r (x .master .timer)) e
 
 set-burst : (x : MasterSide) → x .master .burst ≡ true → 1 < x .master .timer .quiet → burstCounted (x .master) ≡ true
-set-burst x b q = if-is-true (x .master .burst) _ _ b ∙ if-is-false (x .master .timer .quiet ≤? 1) _ _ (lt-leb (x .master .timer .quiet) 1 q)
+set-burst x b q = if-is-true (x .master .burst) _ _ b ∙ if-is-false (x .master .timer .quiet =? 1) _ _ (ne-eqb (x .master .timer .quiet) 1 (λ z. omega (arith, z, q)))
 
 set-counts : (p : Profile) (x : MasterSide) → x .master .profile ≡ p → x .master .burst ≡ true → 1 < x .master .timer .quiet → (t : Timer) → t .next ≡ timerCounted (x .master) .next → t .quiet ≡ timerCounted (x .master) .quiet
     → t .window ≤ timerCounted (x .master) .window → SetCounts p (x .master .timer) t
@@ -115,6 +115,11 @@ near-other p v a b (secondary-first gap g (W.first-open e f h i j)) z = omega (a
 near-other p v a b (secondary-first gap g (W.first-shut e f h i j)) z = omega (arith, g .least)
 near-other p v a b (secondary-first gap g (W.second-open e f h i j)) z = omega (arith, g .most)
 near-other p v a b (secondary-first gap g (W.second-shut e f h i j)) z = omega (arith, g .most)
+
+-- both timers run
+pub clear-runs : (p : Profile) → Valid p → (a b : Timer) → ClearWindows p a b → (1 ≤ a .next) × (1 ≤ b .next)
+clear-runs p v a b (primary-first gap g w) = running p gap a b v g w
+clear-runs p v a b (secondary-first gap g w) = let r = running p gap b a v g w in (r .1, r .0)
 
 pub swapped : {p : Profile} {a b : Timer} → ClearWindows p a b → ClearWindows p b a
 swapped (primary-first gap g w) = secondary-first gap g w

@@ -16,7 +16,8 @@ use Rattle.line.specs.declared.Heard.the-variants.{Silence, Character}
 use Rattle.line.specs.declared.Profile.{Profile}
 use Rattle.line.specs.declared.Whole.{Whole}
 use Rattle.line.proofs.Leads.{readerAfter}
-use Rattle.turns.specs.Master.{burstAfter, notedAfter, timerCounted, burstCounted, masterTakes, seeksTag, namesDevice}
+use Rattle.turns.specs.Party.{seeksTag}
+use Rattle.turns.specs.Master.{burstAfter, notedAfter, timerCounted, burstCounted, masterTakes, namesDevice}
 use Rattle.turns.specs.Device.{isOwn, mayAnswer}
 use Rattle.turns.specs.Link.{MasterCall, MasterSide, MasterStep, DeviceSide, DeviceStep, masterTick, masterData, sides, carried}
 use Rattle.turns.specs.Run.{Distinct, Sole}

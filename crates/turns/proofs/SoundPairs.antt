@@ -2,20 +2,18 @@
 use Prim.Native.Nat.{ℕ, _-_, _≤_}
 use native.Mathlib.Omega.{arith}
 use mathlib.Core.Path.{_≡_, refl, sym, ap, _∙_}
-use mathlib.Core.Bool.{Bool, true, false}
+use mathlib.Core.Bool.{true, false}
 use mathlib.Core.List.{List, [], _∷_}
 use Rattle.base.specs.Choice.{if_then_else_}
-use Rattle.base.proofs.Choices.{true-false, if-is-true, if-is-false}
+use Rattle.base.proofs.Choices.{if-is-true, if-is-false}
 use Rattle.frame.specs.declared.Header.{Header}
-use Rattle.line.specs.Reader.{idle, silentInside, insideFrame, taken, atIdle}
+use Rattle.line.specs.Reader.{silentInside, insideFrame, taken, atIdle}
 use Rattle.line.specs.Profile.{fskProfile}
 use Rattle.line.specs.declared.Event.the-variants.{Nothing, Broken}
 use Rattle.line.specs.declared.Heard.{Heard}
 use Rattle.line.specs.declared.Heard.the-variants.{Silence, Character, Damaged}
 use Rattle.line.specs.declared.Profile.{Profile}
 use Rattle.line.specs.declared.Receiver.{Receiver}
-use Rattle.line.specs.declared.Taken.{Taken}
-use Rattle.line.proofs.Ticks.{gap-passed, gap-breaks}
 use Rattle.turns.specs.Master as M
 use Rattle.turns.specs.Master.{masterTakes, masterSends, freshMaster}
 use Rattle.turns.specs.Device as D
@@ -36,20 +34,7 @@ use Rattle.turns.proofs.Windows.{Valid}
 use Rattle.turns.proofs.Fair.{Fair}
 use Rattle.turns.proofs.Tags.{fair-run}
 use Rattle.turns.proofs.NoTwoSend.{Phase, silent, primary-sends, secondary-sends, ack-sent, back-sent, phase-tick, phase-first}
-
--- ---- a reader that a silent tick leads to idle, with nothing told, stands in no frame
-
-broken-nothing : Broken ≡ Nothing → ⊥
-broken-nothing e = let z : _≡_ {A = ℕ} 0 1 = cc in omega arith
-
-ready-outside : (r : Receiver) → Ready r → insideFrame (r .place) ≡ false
-unfolding Ready
-ready-outside r ready = go (insideFrame (r .place)) refl (r .gap) refl
-  where
-    go : (inside : Bool) → insideFrame (r .place) ≡ inside → (gap : Bool) → r .gap ≡ gap → insideFrame (r .place) ≡ false
-    go false o gap e = o
-    go true i true e = absurd (broken-nothing (ap (λ (t : Taken). t .event) (sym (gap-breaks r i e) ∙ ready)))
-    go true i false e = absurd (true-false (ap (λ (t : Taken). t .receiver .gap) (sym (gap-passed r i e) ∙ ready)))
+use Rattle.turns.proofs.Silent.{ready-outside, master-outside, device-outside}
 
 -- ---- a party whose reader is ready where the line is silent takes what document 01's takes
 
@@ -61,8 +46,7 @@ module _ (m : Master) (bytes : List ℕ) where
   silent-master : Ready (m .receiver) → M.onHeard m Silence bytes ≡ masterSilence01 m
   unfolding Ready
   silent-master ready =
-      ap (λ (t : Taken). M.onSilence m (t .receiver) (t .event)) ready
-      ∙ if-is-false (idle .gap) _ _ refl
+      master-outside m (ready-outside (m .receiver) ready)
       ∙ sym (if-is-false (insideFrame (m .receiver .place)) _ _ (ready-outside (m .receiver) ready))
 
   hears-same : (heard : Heard) → Outside heard (m .receiver) → M.onHeard m heard bytes ≡ masterHears01 m heard bytes
@@ -78,8 +62,7 @@ module _ (d : Device) where
   silent-device : Ready (d .receiver) → D.onHeard d Silence ≡ deviceSilence01 d
   unfolding Ready
   silent-device ready =
-      ap (λ (t : Taken). D.onSilence d (t .receiver) (t .event)) ready
-      ∙ if-is-false (idle .gap) _ _ refl
+      device-outside d (ready-outside (d .receiver) ready)
       ∙ sym (if-is-false (insideFrame (d .receiver .place)) _ _ (ready-outside (d .receiver) ready))
 
   device-hears-same : (heard : Heard) → Outside heard (d .receiver) → D.onHeard d heard ≡ deviceHears01 d heard

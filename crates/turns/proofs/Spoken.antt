@@ -5,10 +5,10 @@ use mathlib.Core.Path.{_≡_, refl, sym, ap, subst, _∙_}
 use mathlib.Core.List.{List, [], _∷_, _++_, append-assoc}
 use lib.ListN.{length, take, getD, length-append, List·getD-append}
 use lib.Seq.{take-at, take-append-le, getD-at}
+use Rattle.base.specs.Refusal.{accepted}
 use Rattle.frame.specs.Check.{exclusiveOr}
 use Rattle.frame.specs.Frame.{protectedBytes, bodyBytes, preambleBytes, frameBytes, frameLength}
 use Rattle.frame.specs.declared.Header.{Header}
-use Rattle.frame.specs.declared.Written.the-variants.{To}
 use Rattle.frame.proofs.Lengths.{frame-count}
 use Rattle.frame.proofs.Taken.{Fits, fits-taken}
 use Rattle.line.specs.Reader.{idle, tells, taken}
@@ -45,7 +45,7 @@ spoken preamble h bytes fits =
         preamble = preamble;
         header = h;
         bytes = bytes;
-        taken-by-writer = sym (fits-taken preamble h (length bytes) (length w) 0 fits (omega (arith, frame-count preamble h bytes))) ∙ ap To whole;
+        taken-by-writer = sym (fits-taken preamble h (length bytes) (length w) 0 fits (omega (arith, frame-count preamble h bytes))) ∙ ap accepted whole;
         written = refl;
       };
       long = at-least;

@@ -5,10 +5,9 @@ use mathlib.Core.Path.{_≡_, refl, sym, ap, subst, _∙_}
 use mathlib.Core.Bool.{Bool, true, false}
 use mathlib.Core.List.{List}
 use lib.ListN.{length, getD, take}
-use borrow.Author.Tests.{eq-eqb}
 use Rattle.base.specs.Choice.{if_then_else_, _=?_}
-use Rattle.base.proofs.Choices.{if-is-true}
-use Rattle.frame.specs.Delimiter.{stx}
+use Rattle.base.proofs.Choices.{if-is-false}
+use Rattle.frame.specs.Delimiter.{stx, ack}
 use Rattle.frame.specs.declared.Header.{Header}
 use Rattle.line.specs.Reader.{idle}
 use Rattle.line.specs.declared.Heard.{Heard}
@@ -34,7 +33,7 @@ use Rattle.turns.proofs.Lists.{Quietly, all-quiet, all-carried, all-sid
 use Rattle.turns.proofs.Phases.{Agreed, MasterQuiet, DeviceQuiet, Ready, idle-ready}
 use Rattle.turns.proofs.Beginning.{DeviceHears}
 use Rattle.turns.proofs.Sending.{MasterPlace, inside, finished, MasterSpeaks, MasterHears, speaks-on, speaks-out, hears-on}
-use Rattle.turns.proofs.Quiet.{breakTimer, broken-is, stx-burst, stx-noted, stx-timer}
+use Rattle.turns.proofs.Quiet.{breakTimer, sent-is, stx-burst, stx-noted, stx-timer}
 
 module _ (limit : ℕ) (low : 2 ≤ limit) (high : limit ≤ 255) (p : Profile) (some : 1 ≤ p .sto) (w : List ℕ) (message : Whole) (sp : Spoken w message) (k : ℕ) where
   -- a device hears one more character of the frame w
@@ -66,7 +65,7 @@ module _ (limit : ℕ) (low : 2 ≤ limit) (high : limit ≤ 255) (p : Profile) 
           in-time = f .in-time;
           asked-own = λ z. own-kept (message .header) (f .same) (f .asked-own z);
           asked-for = f .request-is;
-          back-due = λ z. f .due-is ∙ if-is-true (message .header .frame =? stx) (p .rt1p) (dueAfter (x .device) (message .header)) (eq-eqb (message .header .frame) stx type);
+          back-due = λ z. f .due-is ∙ ap (dueAfter p) (if-is-false (message .header .frame =? ack) _ _ (ap (λ (n : ℕ). n =? ack) type));
         };
       }
 
@@ -83,7 +82,7 @@ pub record OneMasterSends (p : Profile) (primary other burst : Bool) (noted : No
 abbrev pub rt1Of : Profile → Bool → ℕ
 rt1Of p primary = if primary then p .rt1p else p .rt1s
 
-pub own-is : (p : Profile) (primary : Bool) (m : Master) → m .profile ≡ p → m .primary ≡ primary → ownRt1 m ≡ rt1Of p primary
+pub own-is : (p : Profile) (primary : Bool) (m : Master) → m .profile ≡ p → m .primary ≡ primary → ownRt1 (m .profile) (m .primary) ≡ rt1Of p primary
 own-is p primary m a b = λ i. if b i then a i .rt1p else a i .rt1s
 
 -- both masters behind the STX: the sender awaits its ACK for RT1
@@ -123,7 +122,7 @@ stx-tick limit low high p v primary other burst noted next k w message x y xs cx
     sp : Spoken w message
     sp = o .speaks .held .speaks
 
-    own : ownRt1 (x .master) ≡ rt1Of p primary
+    own : ownRt1 (x .master .profile) (x .master .primary) ≡ rt1Of p primary
     own = own-is p primary (x .master) (o .speaks .is-it .profile-is) (o .speaks .is-it .primary-is)
 
     some : (b : Bool) → 1 ≤ (if b then p .rt1p else p .rt1s)
@@ -152,7 +151,7 @@ stx-tick limit low high p v primary other burst noted next k w message x y xs cx
             burst-is = t .burst-is ∙ b ∙ o .hears .burst-is;
             noted-is = t .noted-is ∙ stx-noted (y .master .noted) (message .header) (o .speaks .type-is) ∙ o .hears .noted-is;
           };
-          sender-timer = s .2 ∙ broken-is p primary burst (x .master) (o .speaks .is-it .profile-is) (o .speaks .is-it .primary-is) (o .speaks .burst-is);
+          sender-timer = s .2 ∙ sent-is p primary burst (x .master) (o .speaks .is-it .profile-is) (o .speaks .is-it .primary-is) (o .speaks .burst-is);
           listener-timer = t .timer-is ∙ stx-timer p other (burstAfter (y .master .burst) (y .master .noted) (message .header)) (y .master) (message .header) (o .hears .listens .is-it .profile-is) (o .hears .listens .is-it .primary-is) (o .speaks .type-is)
               ∙ ap (breakTimer p other) (b ∙ o .hears .burst-is);
           sender-left = s .3 ∙ own;

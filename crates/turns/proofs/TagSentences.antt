@@ -6,44 +6,43 @@ use mathlib.Core.Bool.{Bool, true, false}
 use mathlib.Core.List.{List}
 use lib.ListN.{length}
 use borrow.Author.Tests.{eq-eqb, eqb-true}
+use Rattle.base.specs.Refusal.{Called, accepted, refused}
 use Rattle.base.specs.Choice.{if_then_else_, _<?_, _=?_, _outside_to_}
-use Rattle.base.specs.declared.Refusal.{Refusal}
-use Rattle.base.specs.declared.Refusal.the-variants.{PreambleLength, Address, NoRequest, BurstWish}
 use Rattle.base.proofs.Choices.{true-false, if-is-true, if-is-false, went-then, went-else, inside-low, inside-is}
 use Rattle.frame.specs.Address.{byteAt, largestAddress}
 use Rattle.frame.specs.Delimiter.{stx, ack, back}
 use Rattle.frame.specs.declared.Header.{Header}
 use Rattle.line.specs.declared.Event.the-variants.{Damaged}
-use Rattle.line.specs.declared.Harm.{Harm}
+use Rattle.line.specs.declared.FrameDamage.{FrameDamage}
 use Rattle.line.specs.declared.Heard.{Heard}
 use Rattle.line.specs.declared.Profile.{Profile}
-use Rattle.line.specs.declared.Receiver.{Receiver}
 use Rattle.line.specs.declared.Whole.{Whole}
-use Rattle.turns.specs.Master.{Called, accepted, refused, isBroadcast, seeksTag, namesDevice, burstAfter, notedAfter, ends, isAnswer, answersMessage, atBreak, atFrame}
+use Rattle.turns.specs.Party.{isBroadcast, seeksTag, was-refused}
+use Rattle.turns.specs.Master.{namesDevice, burstAfter, notedAfter, ends, isAnswer, answersMessage, atBreak, atFrame}
 use Rattle.turns.specs.Device.{isOwn, mayAnswer, hasError, afterFrame, afterDamage, deviceTakes, errorFrame, hasNoWish, wishRefused, answeredBy, answered, answerFrame, deviceStarts}
-use Rattle.turns.specs.Link.{no-call, gives-answer, was-refused, DeviceSide, DeviceStep, answerCalled, deviceTick, deviceData, heardFrame}
+use Rattle.turns.specs.Link.{no-call, gives-answer, DeviceSide, DeviceStep, answerCalled, deviceTick, deviceData, heardFrame}
 use Rattle.turns.specs.declared.Master.{Master}
 use Rattle.turns.specs.declared.MasterTold.the-variants.{BroadcastSent}
 use Rattle.turns.specs.declared.Noted.{Noted}
 use Rattle.turns.specs.declared.Device.{Device}
-use Rattle.turns.specs.declared.DeviceTaken.{DeviceTaken}
 use Rattle.turns.specs.declared.DeviceTold.{DeviceTold}
 use Rattle.turns.specs.declared.Turn.the-variants.{Listens, Asked}
 use Rattle.turns.specs.declared.Wish.{Wish}
 use Rattle.turns.specs.declared.Wish.the-variants.{On, Off}
 use Rattle.turns.proofs.Bursting.{if-both}
+use Rattle.turns.specs.declared.Change.{Change}
 
 -- ---- "A damaged one is never answered"; "other broadcasts still get none"
 
 -- no start accepts unique address 0
 pub started-unique : (p : Profile) (preamble polling unique : ℕ) (d : Device) → deviceStarts p preamble polling unique ≡ accepted d → 1 ≤ d .unique
 started-unique p preamble polling unique d e =
-    let a = went-else (preamble outside 5 to 20) (refused PreambleLength) _ (accepted d) e (not-accepted PreambleLength) in
-    let b = went-else (largestAddress false <? polling) (refused Address) _ (accepted d) (a .1) (not-accepted Address) in
-    let c = went-else (unique outside 1 to largestAddress true) (refused Address) _ (accepted d) (b .1) (not-accepted Address) in
+    let a = went-else (preamble outside 5 to 20) (refused 3) _ (accepted d) e (not-accepted 3) in
+    let b = went-else (largestAddress false <? polling) (refused 4) _ (accepted d) (a .1) (not-accepted 4) in
+    let c = went-else (unique outside 1 to largestAddress true) (refused 4) _ (accepted d) (b .1) (not-accepted 4) in
     omega (arith, inside-low unique 1 (largestAddress true) _ refl (c .0), ap uniqueOf (c .1))
   where
-    not-accepted : (why : Refusal) → refused why ≡ accepted d → ⊥
+    not-accepted : (why : ℕ) → refused why ≡ accepted d → ⊥
     not-accepted why q = let z : _≡_ {A = ℕ} 0 1 = cc in omega arith
 
     uniqueOf : Called Device → ℕ
@@ -68,30 +67,30 @@ module _ (d : Device) (some : 1 ≤ d .unique) where
           absurd (omega (arith, some, eqb-true (h .address) 0 (long .1), eqb-true (d .unique) (h .address) (sym (if-is-true (h .long) _ _ (long .0)) ∙ e)))
       go false e = e
 
-  no-error : (w : Whole) (m : Harm) → isBroadcast (w .header) ≡ true → hasError d w m ≡ false
+  no-error : (w : Whole) (m : FrameDamage) → isBroadcast (w .header) ≡ true → hasError d w m ≡ false
   no-error w m b =
       let no : Bool → Type 0 = λ (t : Bool). t ≡ false in
       if-both no (w .header .frame =? stx) _ _ (if-both no (w .expansion =? 0) _ _ (if-both no _ _ _ refl (broadcast-not-own (w .header) b)) refl) refl
 
   -- nothing is told, nothing is prepared in the frame buffer, and no request is in hand
-  pub damaged-unanswered : (r : Receiver) (w : Whole) (m : Harm) → isBroadcast (w .header) ≡ true
-      → (afterDamage d r w m .told ≡ DeviceTold.Nothing) × ((frame : List ℕ) → errorFrame d (Damaged w m) frame ≡ frame) × (afterDamage d r w m .device .turn ≡ Listens)
-  damaged-unanswered r w m b =
+  pub damaged-unanswered : (w : Whole) (m : FrameDamage) → isBroadcast (w .header) ≡ true
+      → (afterDamage d w m .told ≡ DeviceTold.Nothing) × ((frame : List ℕ) → errorFrame d (Damaged w m) frame ≡ frame) × (afterDamage d w m .turn ≡ Listens)
+  damaged-unanswered w m b =
       let e = no-error w m b in
       let t = if-is-false (hasError d w m) _ _ e in
-      (ap (λ (z : DeviceTaken). z .told) t, (λ frame. if-is-false (hasError d w m) _ frame e), ap (λ (z : DeviceTaken). z .device .turn) t)
+      (ap (λ (c : Change). c .told) t, (λ frame. if-is-false (hasError d w m) _ frame e), ap (λ (c : Change). c .turn) t)
 
   -- a broadcast of another command leaves no request in hand
-  pub other-unanswered : (r : Receiver) (w : Whole) → isBroadcast (w .header) ≡ true → seeksTag (w .header) ≡ false → afterFrame d r w .device .turn ≡ Listens
-  other-unanswered r w b other =
-      let no : DeviceTaken → Type 0 = λ (t : DeviceTaken). t .device .turn ≡ Listens in
+  pub other-unanswered : (w : Whole) → isBroadcast (w .header) ≡ true → seeksTag (w .header) ≡ false → afterFrame d w .turn ≡ Listens
+  other-unanswered w b other =
+      let no : Change → Type 0 = λ (c : Change). c .turn ≡ Listens in
       let none : mayAnswer d (w .header) ≡ false = if-is-false (seeksTag (w .header)) true (isOwn d (w .header)) other ∙ broadcast-not-own (w .header) b in
       if-both no (w .header .frame =? stx) _ _
-      (if-both no (w .expansion =? 0) _ _ (ap (λ (t : DeviceTaken). t .device .turn) (if-is-false (mayAnswer d (w .header)) _ _ none) ∙ if-both no (isBroadcast (w .header)) _ _ refl refl) refl)
+      (if-both no (w .expansion =? 0) _ _ (ap (λ (c : Change). c .turn) (if-is-false (mayAnswer d (w .header)) _ _ none) ∙ if-both no (isBroadcast (w .header)) _ _ refl refl) refl)
       refl
 
 -- and without one the host's answer is refused with 8
-pub none-in-hand : (limit : ℕ) (d : Device) (wish : Wish) (count : ℕ) → d .turn ≡ Listens → answered limit d wish count ≡ refused NoRequest
+pub none-in-hand : (limit : ℕ) (d : Device) (wish : Wish) (count : ℕ) → d .turn ≡ Listens → answered limit d wish count ≡ refused 8
 unfolding answered
 none-in-hand limit d wish count e = ap (answeredBy limit d wish count) e
 
@@ -158,21 +157,21 @@ module _ (limit : ℕ) (d : Device) (n count : ℕ) (asked : d .turn ≡ Asked n
   no-wish : hasNoWish (d .request) ≡ true
   no-wish = if-both (λ (b : Bool). b ≡ true) (d .request .command =? 0) _ _ refl tag
 
-  pub on-refused : answered limit d On count ≡ refused BurstWish
+  pub on-refused : answered limit d On count ≡ refused 10
   unfolding answered
   on-refused =
       ap (answeredBy limit d On count) asked ∙ if-is-false (count outside 2 to limit) _ _ (inside-is count 2 limit low high) ∙ if-is-true (wishRefused d On) _ _ (if-is-true (hasNoWish (d .request)) true _ no-wish)
 
-  pub off-refused : answered limit d Off count ≡ refused BurstWish
+  pub off-refused : answered limit d Off count ≡ refused 10
   unfolding answered
   off-refused = ap (answeredBy limit d Off count) asked ∙ if-is-false (count outside 2 to limit) _ _ (inside-is count 2 limit low high) ∙ if-is-true (wishRefused d Off) _ _ no-wish
 
 -- an answer that is refused leaves the request in hand, and all else too: the tick is the one without a call
-pub refused-leaves : (limit : ℕ) (x : DeviceSide) (heard : Heard) (wish : Wish) (put : List ℕ) (why : Refusal) → answered limit (deviceTakes (x .device) heard .device) wish (length put) ≡ refused why
+pub refused-leaves : (limit : ℕ) (x : DeviceSide) (heard : Heard) (wish : Wish) (put : List ℕ) (why : ℕ) → answered limit (deviceTakes (x .device) heard .device) wish (length put) ≡ refused why
     → (deviceTick limit x heard (gives-answer wish put) .side ≡ deviceTick limit x heard no-call .side) × (deviceTick limit x heard (gives-answer wish put) .sent ≡ deviceTick limit x heard no-call .sent)
-    × (deviceTick limit x heard (gives-answer wish put) .answer ≡ was-refused why)
+    × (deviceTick limit x heard (gives-answer wish put) .result ≡ was-refused why)
 unfolding deviceTick
-refused-leaves limit x heard wish put why e = (ap (λ (c : Called Device). by c .side) e, ap (λ (c : Called Device). by c .sent) e, ap (λ (c : Called Device). by c .answer) e)
+refused-leaves limit x heard wish put why e = (ap (λ (c : Called Device). by c .side) e, ap (λ (c : Called Device). by c .sent) e, ap (λ (c : Called Device). by c .result) e)
   where
     by : Called Device → DeviceStep
-    by c = answerCalled c (deviceTakes (x .device) heard .device) (answerFrame (deviceTakes (x .device) heard .device) wish put) (heardFrame x heard) (deviceData x heard) (x .contents) (deviceTakes (x .device) heard .told)
+    by c = answerCalled c (deviceTakes (x .device) heard .device) (answerFrame (deviceTakes (x .device) heard .device) wish put (heardFrame x heard)) (heardFrame x heard) (deviceData x heard) (x .contents) (deviceTakes (x .device) heard .told)

@@ -5,19 +5,19 @@ use mathlib.Core.Path.{_≡_, refl, sym, ap, subst, _∙_}
 use mathlib.Core.Bool.{Bool, true, false}
 use mathlib.Core.List.{List, [], _∷_}
 use lib.ListN.{length}
+use Rattle.base.specs.Refusal.{Called, accepted, refused}
 use Rattle.base.specs.Choice.{if_then_else_, _<?_, _≤?_, _=?_}
 use Rattle.base.proofs.Choices.{true-false}
-use Rattle.base.specs.declared.Refusal.the-variants.{NoRequest}
 use Rattle.frame.specs.Delimiter.{stx}
-use Rattle.line.specs.Reader.{taken}
+use Rattle.line.specs.Reader.{taken, insideFrame}
 use Rattle.line.specs.declared.Event.{Event}
 use Rattle.line.specs.declared.Event.the-variants.{Nothing, PassedOver, Broken, Frame, Damaged}
 use Rattle.line.specs.declared.Heard.{Heard}
 use Rattle.line.specs.declared.Heard.the-variants.{Silence, Character}
 use Rattle.line.specs.declared.Receiver.{Receiver}
-use Rattle.turns.specs.Master.{Called, accepted, refused, isBroadcast, seeksTag}
-use Rattle.turns.specs.Device.{behind, isOwn, mayAnswer, hasError, backDue, waited, wished, answersAt, counts, onSilence, onCharacter, onHeard, deviceTakes, answeredBy, answered, answerFrame, contentGiven, withContent, behindAck, backLength, sendsBy, deviceSends, begunFrame}
-use Rattle.turns.specs.Link.{DeviceCall, no-call, gives-answer, gives-content, Answer, was-taken, was-refused, DeviceSide, DeviceStep, Link, LinkStep, Calls, deviceSent, answerCalled, contentCalled, deviceCalls, deviceTick, deviceTicks, heardFrame, deviceData, sides, linkTick, linkAfter, run}
+use Rattle.turns.specs.Party.{isBroadcast, seeksTag, CallResult, was-taken, was-refused}
+use Rattle.turns.specs.Device.{deviceWith, isOwn, mayAnswer, hasError, backDue, waited, wished, answersAt, counts, onSilence, onCharacter, onHeard, deviceTakes, answeredBy, answered, answerFrame, contentGiven, deviceWithContent, behindAck, backLength, sendsBy, deviceSends, begunFrame, changed, brokenDue}
+use Rattle.turns.specs.Link.{DeviceCall, no-call, gives-answer, gives-content, DeviceSide, DeviceStep, Link, LinkStep, Calls, deviceSent, answerCalled, contentCalled, deviceCalls, deviceTick, deviceTicks, heardFrame, deviceData, sides, linkTick, linkAfter, run}
 use Rattle.turns.specs.Run.{All, none, and, EachTick, DeviceStarts, OneBursts}
 use Rattle.turns.specs.Run as R
 use Rattle.turns.specs.Credit.{Ledger, blank, told, given, toldBy, answeredWith, calledBy, ledgerAfter, ledgersAfter}
@@ -28,7 +28,7 @@ use Rattle.turns.proofs.Fresh.{device-is}
 use Rattle.turns.proofs.TagSentences.{started-unique, tag-broadcast, broadcast-not-own}
 use Rattle.turns.specs.Ledgers as G
 use Rattle.turns.specs.declared.Turn.{Turn}
-use Rattle.turns.specs.declared.Turn.the-variants.{Listens, Asked, Accepted, Begins, Answers, Follows, Bursts}
+use Rattle.turns.specs.declared.Turn.the-variants.{Listens, Asked, AnswerWaits, Begins, Answers, Follows, Bursts}
 use Rattle.turns.specs.declared.Wish.{Wish}
 use Rattle.turns.specs.declared.Device.{Device}
 use Rattle.turns.specs.declared.DeviceTaken.{DeviceTaken}
@@ -41,6 +41,7 @@ use Rattle.turns.proofs.Bursting.{if-both}
 use Rattle.turns.proofs.Devices as D
 use Rattle.turns.proofs.Devices.{ContentView, content-view, AnswerView, answer-view}
 use Rattle.turns.proofs.CreditDevices.{follows-asked, bursts-asked, accepted-asked, begins-asked, answers-asked}
+use Rattle.turns.specs.declared.Change.{Change}
 
 -- what a device has in hand, by its ledger
 pub record Owes (g : Ledger) (d : Device) : Type 0 where
@@ -71,48 +72,46 @@ module _ (g : Ledger) (d : Device) (some : 1 ≤ d .unique) (r : Receiver) where
   on-character PassedOver = nothing some (λ n q. listens-asked n q) refl
   on-character Broken = nothing some (λ n q. listens-asked n q) refl
   on-character (Frame w) =
-      if-both By (w .header .frame =? stx) _ _
-      (if-both By (w .expansion =? 0) _ _
-      (if-both By (mayAnswer d (w .header)) _ _ (record { asked = λ n q. refl; gives = λ z. absurd (true-false (sym z)); some = some })
-      (if-both By (isBroadcast (w .header)) _ _ (nothing some (λ n q. listens-asked n q) refl) (nothing some (λ n q. listens-asked n q) refl)))
+      let Q : Change → Type 0 = λ c. By (changed d r (Frame w) c) in
+      if-both Q (w .header .frame =? stx) _ _
+      (if-both Q (w .expansion =? 0) _ _
+      (if-both Q (mayAnswer d (w .header)) _ _ (record { asked = λ n q. refl; gives = λ z. absurd (true-false (sym z)); some = some })
+      (if-both Q (isBroadcast (w .header)) _ _ (nothing some (λ n q. listens-asked n q) refl) (nothing some (λ n q. listens-asked n q) refl)))
       (nothing some (λ n q. listens-asked n q) refl))
       (nothing some (λ n q. listens-asked n q) refl)
   on-character (Damaged w m) =
-      if-cases By (hasError d w m) _ _
+      if-cases (λ (c : Change). By (changed d r (Damaged w m) c)) (hasError d w m) _ _
       (λ e. record { asked = λ n q. absurd (accepted-asked n q); gives = λ z t. absurd (true-false (sym (own-of _ _ _ (isOwn d (w .header)) e) ∙ broadcast-not-own d some (w .header) (tag-broadcast (w .header) t))); some = some })
       (λ e. nothing some (λ n q. listens-asked n q) refl)
 
 module _ (g : Ledger) (d : Device) (o : Owes g d) where
-  counted : (turn : Turn) → d .turn ≡ turn → (r : Receiver) (due : ℕ) → Owes g (behind d r (waited turn) (d .request) (d .wish) (d .length) due)
+  counted : (turn : Turn) → d .turn ≡ turn → (r : Receiver) (due : ℕ) → Owes g (deviceWith d r (waited turn) (d .request) (d .wish) (d .length) due)
   unfolding if_then_else_
   counted Listens e r due = nothing (o .some) (λ n q. listens-asked n q) refl
   counted (Asked k) e r due = go (k ≤? 1)
     where
-      go : (t : Bool) → Owes g (behind d r (if t then Listens else Asked (k - 1)) (d .request) (d .wish) (d .length) due)
+      go : (t : Bool) → Owes g (deviceWith d r (if t then Listens else Asked (k - 1)) (d .request) (d .wish) (d .length) due)
       go true = nothing (o .some) (λ n q. listens-asked n q) refl
       go false = record { asked = λ n q. o .asked k e; gives = λ z. absurd (true-false (sym z)); some = o .some }
-  counted Accepted e r due = record { asked = λ n q. absurd (begins-asked n q); gives = λ z. o .gives (ap answering e); some = o .some }
+  counted AnswerWaits e r due = record { asked = λ n q. absurd (begins-asked n q); gives = λ z. o .gives (ap answering e); some = o .some }
   counted Begins e r due = record { asked = λ n q. absurd (begins-asked n q); gives = λ z. o .gives (ap answering e); some = o .some }
   counted (Answers k) e r due = record { asked = λ n q. absurd (answers-asked k n q); gives = λ z. o .gives (ap answering e); some = o .some }
   counted Follows e r due = nothing (o .some) (λ n q. follows-asked n q) refl
   counted (Bursts k) e r due = nothing (o .some) (λ n q. bursts-asked k n q) refl
 
   counts-on : (r : Receiver) (due : ℕ) (event : Event) → Owes (toldBy (counts d r due event .told) g) (counts d r due event .device)
-  counts-on r due event = if-both (λ (t : DeviceTaken). Owes (toldBy (t .told) g) (t .device)) (backDue d due) _ _ (nothing (o .some) (λ n q. follows-asked n q) refl) (counted (d .turn) refl r (due - 1))
+  counts-on r due event = if-both (λ (turn : Turn). Owes g (deviceWith d r turn (d .request) (d .wish) (d .length) (due - 1))) (backDue d due) _ _ (nothing (o .some) (λ n q. follows-asked n q) refl) (counted (d .turn) refl r (due - 1))
 
-  on-silence : (r : Receiver) (e : Event) → Owes (toldBy (onSilence d r e .told) g) (onSilence d r e .device)
-  on-silence r Nothing =
-      if-both (λ (t : DeviceTaken). Owes (toldBy (t .told) g) (t .device)) (r .gap) _ _
-      (record { asked = o .asked; gives = o .gives; some = o .some })
+  on-silence : (r : Receiver) → Owes (toldBy (onSilence d r .told) g) (onSilence d r .device)
+  on-silence r =
+      let P : DeviceTaken → Type 0 = λ t. Owes (toldBy (t .told) g) (t .device) in
+      if-both P (insideFrame (d .receiver .place)) _ _
+      (if-both P (d .receiver .gap) _ _ (counts-on r (brokenDue d) Broken) (record { asked = o .asked; gives = o .gives; some = o .some }))
       (counts-on r (d .due) Nothing)
-  on-silence r PassedOver = counts-on r (d .profile .rt1p) PassedOver
-  on-silence r Broken = counts-on r (d .profile .rt1p - 1) Broken
-  on-silence r (Frame w) = counts-on r (d .profile .rt1p) (Frame w)
-  on-silence r (Damaged w m) = counts-on r (d .profile .rt1p) (Damaged w m)
 
   on-heard : (heard : Heard) → Owes (toldBy (onHeard d heard .told) g) (onHeard d heard .device)
   unfolding By
-  on-heard Silence = on-silence _ (taken (d .receiver) Silence .event)
+  on-heard Silence = on-silence (taken (d .receiver) Silence .receiver)
   on-heard (Character c) = on-character g d (o .some) _ (taken (d .receiver) (Character c) .event)
   on-heard (Heard.Damaged c kind) = on-character g d (o .some) _ (taken (d .receiver) (Heard.Damaged c kind) .event)
 
@@ -131,7 +130,7 @@ module _ (g : Ledger) (d : Device) (o : Owes g d) (frame bytes contents : List �
   by-turn : (turn : Turn) → d .turn ≡ turn → (b : List ℕ) → Owes g (sendsBy d b turn .device)
   by-turn Listens e b = nothing (o .some) (λ n q. listens-asked n q) refl
   by-turn (Asked k) e b = record { asked = λ n q. o .asked k e; gives = λ z. absurd (true-false (sym z)); some = o .some }
-  by-turn Accepted e b = record { asked = λ n q. absurd (accepted-asked n q); gives = λ z. o .gives (ap answering e); some = o .some }
+  by-turn AnswerWaits e b = record { asked = λ n q. absurd (accepted-asked n q); gives = λ z. o .gives (ap answering e); some = o .some }
   by-turn Begins e b =
       if-both (λ (s : DeviceSent). Owes g (s .device)) (0 + 1 <? d .length) _ _
       (record { asked = λ n q. absurd (answers-asked 1 n q); gives = λ z. o .gives (ap answering e); some = o .some })
@@ -143,37 +142,37 @@ module _ (g : Ledger) (d : Device) (o : Owes g d) (frame bytes contents : List �
   by-turn Follows e b = if-both (λ (s : DeviceSent). Owes g (s .device)) (0 + 1 <? backLength d) _ _ (nothing (o .some) (λ n q. bursts-asked 1 n q) refl) (nothing (o .some) (λ n q. listens-asked n q) refl)
   by-turn (Bursts k) e b = if-both (λ (s : DeviceSent). Owes g (s .device)) (k + 1 <? d .length) _ _ (nothing (o .some) (λ n q. bursts-asked (k + 1) n q) refl) (nothing (o .some) (λ n q. listens-asked n q) refl)
 
-  sent : (t : DeviceTold) (answer : Answer) → Owes g (deviceSent d frame bytes contents t answer .side .device)
+  sent : (t : DeviceTold) (result : CallResult) → Owes g (deviceSent d frame bytes contents t result .side .device)
   unfolding deviceSends
-  sent t answer = by-turn (d .turn) refl (begunFrame d (d .turn) contents frame)
+  sent t result = by-turn (d .turn) refl (begunFrame d (d .turn) contents frame)
 
 -- ---- the host's call
 
 module _ (limit : ℕ) (g : Ledger) (d : Device) (o : Owes g d) (frame bytes contents : List ℕ) (t : DeviceTold) where
   answer-owes : (wish : Wish) (put : List ℕ) (turn : Turn) → d .turn ≡ turn
-      → let s = answerCalled (answeredBy limit d wish (length put) turn) d (answerFrame d wish put) frame bytes contents t in Owes (calledBy (gives-answer wish put) (s .answer) g) (s .side .device)
+      → let s = answerCalled (answeredBy limit d wish (length put) turn) d (answerFrame d wish put frame) frame bytes contents t in Owes (calledBy (gives-answer wish put) (s .result) g) (s .side .device)
   unfolding if_then_else_
-  answer-owes wish put Listens e = sent g d o frame bytes contents t (was-refused NoRequest)
+  answer-owes wish put Listens e = sent g d o frame bytes contents t (was-refused 8)
   answer-owes wish put (Asked n) e = go (answer-view limit d wish (length put) n)
     where
       by : Called Device → Type 0
-      by c = Owes (calledBy (gives-answer wish put) (answerCalled c d (answerFrame d wish put) frame bytes contents t .answer) g) (answerCalled c d (answerFrame d wish put) frame bytes contents t .side .device)
+      by c = Owes (calledBy (gives-answer wish put) (answerCalled c d (answerFrame d wish put frame) frame bytes contents t .result) g) (answerCalled c d (answerFrame d wish put frame) frame bytes contents t .side .device)
 
-      not-asked : (b : Bool) (k : ℕ) → (if b then Accepted else Begins) ≡ Asked k → ⊥
+      not-asked : (b : Bool) (k : ℕ) → (if b then AnswerWaits else Begins) ≡ Asked k → ⊥
       not-asked true k q = accepted-asked k q
       not-asked false k q = begins-asked k q
 
-      ready : (turn : Turn) (size : ℕ) → ((k : ℕ) → turn ≡ Asked k → ⊥) → Owes (answeredWith put g) (behind d (d .receiver) turn (d .request) wish size (d .due))
+      ready : (turn : Turn) (size : ℕ) → ((k : ℕ) → turn ≡ Asked k → ⊥) → Owes (answeredWith put g) (deviceWith d (d .receiver) turn (d .request) wish size (d .due))
       ready turn size f = record { asked = λ k q. absurd (f k q); gives = λ z tag. ap (λ (x : Ledger). found (answeredWith put x)) (o .asked n e) ∙ tag; some = o .some }
 
       go : AnswerView limit d wish (length put) n → by (answeredBy limit d wish (length put) (Asked n))
       go (D.AnswerView.is-refused why q) = subst by (sym q) (sent g d o frame bytes contents t (was-refused why))
       go (D.AnswerView.is-taken least most f q) = subst by (sym q) (sent (answeredWith put g) _ (ready (answersAt d n) _ (not-asked (n =? d .profile .sto))) _ bytes contents t was-taken)
-  answer-owes wish put Accepted e = sent g d o frame bytes contents t (was-refused NoRequest)
-  answer-owes wish put Begins e = sent g d o frame bytes contents t (was-refused NoRequest)
-  answer-owes wish put (Answers n) e = sent g d o frame bytes contents t (was-refused NoRequest)
-  answer-owes wish put Follows e = sent g d o frame bytes contents t (was-refused NoRequest)
-  answer-owes wish put (Bursts n) e = sent g d o frame bytes contents t (was-refused NoRequest)
+  answer-owes wish put AnswerWaits e = sent g d o frame bytes contents t (was-refused 8)
+  answer-owes wish put Begins e = sent g d o frame bytes contents t (was-refused 8)
+  answer-owes wish put (Answers n) e = sent g d o frame bytes contents t (was-refused 8)
+  answer-owes wish put Follows e = sent g d o frame bytes contents t (was-refused 8)
+  answer-owes wish put (Bursts n) e = sent g d o frame bytes contents t (was-refused 8)
 
   content-owes : (command : ℕ) (put : List ℕ) → let s = contentCalled (contentGiven limit d command (length put)) d put frame bytes contents t in Owes g (s .side .device)
   content-owes command put = go (content-view limit d command (length put))
@@ -184,7 +183,7 @@ module _ (limit : ℕ) (g : Ledger) (d : Device) (o : Owes g d) (frame bytes con
       go : ContentView limit d command (length put) → by (contentGiven limit d command (length put))
       go (D.ContentView.is-refused why q) = subst by (sym q) (sent g d o frame bytes contents t (was-refused why))
       go (D.ContentView.is-taken least most q) =
-          subst by (sym q) (sent g (withContent d (record { given = true; command = command; count = length put })) (record { asked = o .asked; gives = o .gives; some = o .some }) frame bytes (Rattle.base.specs.Store.stored contents 0 put) t was-taken)
+          subst by (sym q) (sent g (deviceWithContent d (record { given = true; command = command; count = length put })) (record { asked = o .asked; gives = o .gives; some = o .some }) frame bytes (Rattle.base.specs.Store.stored contents 0 put) t was-taken)
 
 -- ---- the tick
 
@@ -210,10 +209,10 @@ device-owes limit g x heard call o = go call
     content-told (refused why) put = refl
 
     go : (c : DeviceCall) → Owes (ledgerAfter c (step c) g) (step c .side .device)
-    go no-call = sent _ _ now (heardFrame x heard) (deviceData x heard) (x .contents) (t .told) Answer.none
+    go no-call = sent _ _ now (heardFrame x heard) (deviceData x heard) (x .contents) (t .told) CallResult.none
     go (gives-answer wish put) =
-        subst (λ (z : DeviceTold). Owes (calledBy (gives-answer wish put) (step (gives-answer wish put) .answer) (toldBy z g)) (step (gives-answer wish put) .side .device))
-        (sym (answer-told (answeredBy limit (t .device) wish (length put) (t .device .turn)) (answerFrame (t .device) wish put)))
+        subst (λ (z : DeviceTold). Owes (calledBy (gives-answer wish put) (step (gives-answer wish put) .result) (toldBy z g)) (step (gives-answer wish put) .side .device))
+        (sym (answer-told (answeredBy limit (t .device) wish (length put) (t .device .turn)) (answerFrame (t .device) wish put (heardFrame x heard))))
         (answer-owes limit _ _ now (heardFrame x heard) (deviceData x heard) (x .contents) (t .told) wish put (t .device .turn) refl)
     go (gives-content command put) =
         subst (λ (z : DeviceTold). Owes (toldBy z g) (step (gives-content command put) .side .device))

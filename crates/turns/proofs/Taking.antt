@@ -8,6 +8,7 @@ use mathlib.Core.List.{List}
 use mathlib.Core.Logic.{_⊎_, inl, inr}
 use lib.ListN.{length, getD}
 use borrow.Author.Tests.{ltb-true, ltb-false, leb-true, leb-false}
+use Rattle.base.specs.Refusal.{Called}
 use Rattle.base.specs.Choice.{if_then_else_, _<?_, _≤?_}
 use Rattle.base.proofs.Choices.{true-false, if-is-true, if-is-false}
 use Rattle.frame.specs.Frame.{frameBytes}
@@ -18,8 +19,9 @@ use Rattle.line.specs.declared.Heard.the-variants.{Silence}
 use Rattle.line.specs.declared.Receiver.{Receiver}
 use Rattle.line.specs.declared.Taken.{Taken}
 use Rattle.line.specs.declared.Whole.{Whole}
-use Rattle.turns.specs.Master.{Ending, behind, staged, fails, ends, atBreak, atFrame, afterBreak, brokenTimer, ifAwaiting, isBroadcast, answersMessage, waited, rt1Ends, unlessEnded, counts, timerCounted, burstCounted, burstAfter, notedAfter, timerAfter, onSilence, onCharacter, onHeard, masterTakes, timer, ownRt1, attempted, sendsAt, sendsBy, masterSends, requestHeader, requested, Called}
-use Rattle.turns.specs.Link.{MasterCall, no-request, requests, Answer, none, was-refused, MasterSide, MasterStep, masterCalls, masterCalled, masterSent, masterTick, masterData}
+use Rattle.turns.specs.Party.{isBroadcast, CallResult, none, was-refused}
+use Rattle.turns.specs.Master.{Ending, masterWith, messageAt, fails, ends, atBreak, atFrame, afterBreak, broken, endedBy, ifAwaiting, answersMessage, waited, rt1Ends, unlessEnded, counts, timerCounted, burstCounted, burstAfter, notedAfter, timerAfter, onCharacter, onHeard, masterTakes, timer, ownRt1, attempted, sendsAt, sendsBy, masterSends, requestHeader, requested}
+use Rattle.turns.specs.Link.{MasterCall, no-request, requests, MasterSide, MasterStep, masterCalls, masterCalled, masterSent, masterTick, masterData}
 use Rattle.turns.specs.declared.Sent.the-variants.{Character}
 use Rattle.turns.specs.declared.Stage.{Stage}
 use Rattle.turns.specs.declared.Stage.the-variants.{Free, Waiting, Sending, Awaiting}
@@ -30,10 +32,11 @@ use Rattle.turns.specs.declared.MasterTold.{MasterTold}
 use Rattle.turns.specs.declared.MasterTaken.{MasterTaken}
 use Rattle.turns.specs.declared.MasterSent.{MasterSent}
 use Rattle.turns.proofs.Masters.{Holds, Formed, no-message, stands, left, free-waiting, awaiting-waiting, Still, is-free, is-waiting, is-awaiting, speaking, spokenOut, Asks, asks, is-refused, is-taken, if-cases}
+use Rattle.turns.proofs.Silent.{ready-outside, master-outside}
 
 -- ---- the message behind what was heard: still not sending, and still in its buffer
 
-formed-staged : {primary : Bool} (frame : List ℕ) (g : Message) (s : Stage) → (g .stage ≡ Free → s ≡ Free) → Formed primary frame g → Formed primary frame (staged g s)
+formed-staged : {primary : Bool} (frame : List ℕ) (g : Message) (s : Stage) → (g .stage ≡ Free → s ≡ Free) → Formed primary frame g → Formed primary frame (messageAt g s)
 formed-staged frame g s f (no-message e) = no-message (f e)
 formed-staged frame g s f (stands w x h a b c u) = stands w x h a b c u
 
@@ -113,7 +116,7 @@ pub record TookFrame (frame : List ℕ) (m t : Master) (w : Whole) : Type 0 wher
   pub receiver-is : t .receiver ≡ idle
   pub burst-is : t .burst ≡ burstAfter (m .burst) (m .noted) (w .header)
   pub noted-is : t .noted ≡ notedAfter (m .noted) (w .header)
-  pub timer-is : t .timer ≡ timerAfter m (burstAfter (m .burst) (m .noted) (w .header)) (w .header)
+  pub timer-is : t .timer ≡ timerAfter (m .profile) (m .primary) (endedBy m (w .header)) (burstAfter (m .burst) (m .noted) (w .header))
   pub gone : left (t .message .stage) ≡ 0
   pub waits-on : m .message .stage ≡ Waiting → (t .message .stage ≡ Waiting) × (t .message .attempts ≡ m .message .attempts)
 
@@ -142,7 +145,7 @@ pub record TookPassed (frame : List ℕ) (m t : Master) : Type 0 where
   pub receiver-is : t .receiver ≡ passing
   pub burst-is : t .burst ≡ m .burst
   pub noted-is : t .noted ≡ m .noted
-  pub timer-is : t .timer ≡ brokenTimer m
+  pub timer-is : t .timer ≡ timerAfter (m .profile) (m .primary) broken (m .burst)
   pub gone : left (t .message .stage) ≡ 0
   pub waits-on : m .message .stage ≡ Waiting → (t .message .stage ≡ Waiting) × (t .message .attempts ≡ m .message .attempts)
 
@@ -180,13 +183,13 @@ module _ (frame bytes : List ℕ) (m : Master) (hears : m .deaf ≡ false) (stil
 
   pub takes-silence : taken (m .receiver) Silence ≡ Rattle.line.specs.Reader.tells idle Nothing → TookSilence frame m (masterTakes m Silence bytes .master)
   takes-silence e =
-      let n : Master = behind m idle (m .burst) (m .noted) (m .timer) (m .message) in
+      let n : Master = masterWith m idle (m .burst) (m .noted) (m .timer) (m .message) in
       let same : masterTakes m Silence bytes ≡ counts n MasterTold.Nothing Nothing =
-      heard-is Silence ∙ ap (λ (t : Taken). onSilence m (t .receiver) (t .event)) e ∙ if-is-false (idle .gap) _ _ refl in
+      heard-is Silence ∙ master-outside m (ready-outside (m .receiver) e) in
       subst (λ (t : MasterTaken). TookSilence frame m (t .master)) (sym same) (go (rt1Ends (m .message .stage)) refl)
     where
       n : Master
-      n = behind m idle (m .burst) (m .noted) (m .timer) (m .message)
+      n = masterWith m idle (m .burst) (m .noted) (m .timer) (m .message)
 
       keep : (s : Stage) → Still s → Still (waited s)
       keep Free is-free = is-free
@@ -247,7 +250,7 @@ module _ (frame bytes : List ℕ) (m : Master) (hears : m .deaf ≡ false) (stil
       go true q =
           let waits = not-ending (m .message .stage) q still in
           let done : Ended (m .primary) frame (m .retries) (m .message) (atBreak n) = break-ended frame n (waits .0) (waits .1) formed in
-          let over : counts n MasterTold.Nothing Nothing ≡ Rattle.turns.specs.Master.tells (behind n idle (burstCounted n) (n .noted) (unlessEnded (atBreak n .message .stage) (timerCounted n)) (atBreak n .message)) (atBreak n .told) Nothing =
+          let over : counts n MasterTold.Nothing Nothing ≡ Rattle.turns.specs.Master.tells (masterWith n idle (burstCounted n) (n .noted) (unlessEnded (atBreak n .message .stage) (timerCounted n)) (atBreak n .message)) (atBreak n .told) Nothing =
           if-is-true (rt1Ends (m .message .stage)) _ _ q in
           subst (λ (t : MasterTaken). TookSilence frame m (t .master)) (sym over)
           (record {
@@ -267,7 +270,7 @@ module _ (frame bytes : List ℕ) (m : Master) (hears : m .deaf ≡ false) (stil
             waits-on = λ z. absurd (awaiting-waiting (waits .0) (sym (waits .1) ∙ z));
           })
       go false q =
-          let on : counts n MasterTold.Nothing Nothing ≡ Rattle.turns.specs.Master.tells (behind n idle (burstCounted n) (n .noted) (timerCounted n) (staged (n .message) (waited (n .message .stage)))) MasterTold.Nothing Nothing =
+          let on : counts n MasterTold.Nothing Nothing ≡ Rattle.turns.specs.Master.tells (masterWith n idle (burstCounted n) (n .noted) (timerCounted n) (messageAt (n .message) (waited (n .message .stage)))) MasterTold.Nothing Nothing =
           if-is-false (rt1Ends (m .message .stage)) _ _ q in
           subst (λ (t : MasterTaken). TookSilence frame m (t .master)) (sym on)
           (record {
@@ -302,7 +305,7 @@ takes-nothing m heard bytes e = if-is-true (m .deaf) _ _ e
 -- a master in the middle of its STX, behind n characters: it sends the next one, whatever its host asks
 pub data Speaks (m : Master) (n : ℕ) (w : List ℕ) (step : MasterStep) : Type 0 where
   goes-on : (g : Message) → suc n < length w → step .side .master ≡ speaking m g → g .stage ≡ Sending (suc n) → g .header ≡ m .message .header → g .length ≡ m .message .length → g .attempts ≡ m .message .attempts → Speaks m n w step
-  is-out : (g : Message) → suc n ≡ length w → step .side .master ≡ spokenOut m g → g .stage ≡ Awaiting (ownRt1 m) → g .header ≡ m .message .header → g .length ≡ m .message .length → g .attempts ≡ m .message .attempts → Speaks m n w step
+  is-out : (g : Message) → suc n ≡ length w → step .side .master ≡ spokenOut m g → g .stage ≡ Awaiting (ownRt1 (m .profile) (m .primary)) → g .header ≡ m .message .header → g .length ≡ m .message .length → g .attempts ≡ m .message .attempts → Speaks m n w step
 
 pub record SpeaksAt (x : MasterSide) (n : ℕ) (w : List ℕ) (step : MasterStep) : Type 0 where
   pub speaks : Speaks (x .master) n w step
@@ -321,14 +324,14 @@ master-speaks limit x heard call n w message small deaf e h below =
     sending-free : Sending n ≡ Free → ⊥
     sending-free q = let z : _≡_ {A = ℕ} 0 1 = cc in omega arith
 
-    sent : (answer : Answer) (bytes : List ℕ) → SpeaksAt x n w (masterSent (masterSends m (x .frame)) (x .frame) bytes MasterTold.Nothing answer)
-    sent answer bytes = subst (λ (s : MasterSent). SpeaksAt x n w (masterSent s (x .frame) bytes MasterTold.Nothing answer)) (sym at) (go (n + 1 <? m .message .length) refl)
+    sent : (result : CallResult) (bytes : List ℕ) → SpeaksAt x n w (masterSent (masterSends m (x .frame)) (x .frame) bytes MasterTold.Nothing result)
+    sent result bytes = subst (λ (s : MasterSent). SpeaksAt x n w (masterSent s (x .frame) bytes MasterTold.Nothing result)) (sym at) (go (n + 1 <? m .message .length) refl)
       where
         at : masterSends m (x .frame) ≡ sendsAt m (x .frame) n (m .message .attempts)
         at = ap (sendsBy m (x .frame)) e
 
         S : MasterSent → MasterStep
-        S s = masterSent s (x .frame) bytes MasterTold.Nothing answer
+        S s = masterSent s (x .frame) bytes MasterTold.Nothing result
 
         go : (t : Bool) → (n + 1 <? m .message .length) ≡ t → SpeaksAt x n w (S (sendsAt m (x .frame) n (m .message .attempts)))
         go true q =
@@ -343,7 +346,7 @@ master-speaks limit x heard call n w message small deaf e h below =
             let last : m .message .length ≤ n + 1 = ltb-false (n + 1) (m .message .length) q in
             subst (λ (s : MasterSent). SpeaksAt x n w (S s)) (sym (if-is-false (n + 1 <? m .message .length) _ _ q))
             (record {
-              speaks = is-out (attempted (m .message) (Awaiting (ownRt1 m)) (m .message .attempts)) (omega (arith, h .sized)) refl refl refl refl refl;
+              speaks = is-out (attempted (m .message) (Awaiting (ownRt1 (m .profile) (m .primary))) (m .message .attempts)) (omega (arith, h .sized)) refl refl refl refl refl;
               character = ap Character (h .same n below);
               same-frame = refl;
             })

@@ -7,13 +7,13 @@ use mathlib.Core.List.{List, [], _∷_}
 use mathlib.Core.Logic.{_⊎_, inl, inr}
 use lib.ListN.{length, take, getD}
 use borrow.Author.Tests.{eq-eqb}
+use Rattle.base.specs.Refusal.{Called, accepted, refused}
 use Rattle.base.specs.Choice.{_=?_}
 use Rattle.base.proofs.Choices.{if-is-true, if-is-false}
 use Rattle.frame.specs.Delimiter.{stx}
 use Rattle.frame.specs.declared.Header.{Header}
-use Rattle.line.specs.Reader.{idle, tells, taken}
-use Rattle.line.specs.declared.Event.{Event}
-use Rattle.line.specs.declared.Event.the-variants.{Nothing, PassedOver, Broken, Frame, Damaged}
+use Rattle.line.specs.Reader.{idle, tells, taken, insideFrame}
+use Rattle.line.specs.declared.Event.the-variants.{Nothing, Frame}
 use Rattle.line.specs.declared.Heard.{Heard}
 use Rattle.line.specs.declared.Heard.the-variants.{Silence, Character}
 use Rattle.line.specs.declared.Profile.{Profile}
@@ -21,8 +21,8 @@ use Rattle.line.specs.declared.Receiver.{Receiver}
 use Rattle.line.specs.declared.Taken.{Taken}
 use Rattle.line.specs.declared.Whole.{Whole}
 use Rattle.line.proofs.Leads.{readerAfter}
-use Rattle.turns.specs.Master.{Called, accepted, refused, isBroadcast, seeksTag}
-use Rattle.turns.specs.Device.{mayAnswer, backDue, counts, onSilence, onCharacter, afterFrame, deviceTakes, answered, answerFrame, contentGiven}
+use Rattle.turns.specs.Party.{isBroadcast, seeksTag}
+use Rattle.turns.specs.Device.{mayAnswer, onSilence, onCharacter, afterFrame, deviceTakes, answered, answerFrame, contentGiven}
 use Rattle.turns.specs.Link.{DeviceCall, no-call, gives-answer, gives-content, MasterSide, DeviceSide, DeviceStep, Link, LinkStep, Calls, answerCalled, contentCalled, deviceTick, deviceTicks, deviceData, heardFrame, linkTick, linkAfter, run}
 use Rattle.turns.specs.Run.{All, none, and, DeviceStarts, EachTick, no-tick, tick-and}
 use Rattle.turns.specs.Ledgers.{Ledger, blank, toldBy, calledBy, ledgersAfter}
@@ -48,6 +48,7 @@ use Rattle.turns.proofs.Fresh.{valid, device-is}
 use Rattle.turns.proofs.Fair.{Fair}
 use Rattle.turns.proofs.Tags.{fair-run}
 use Rattle.turns.proofs.NoTwoSend.{Phase, silent, primary-sends, secondary-sends, ack-sent, back-sent, heardTick, tick-is, phase-tick, phase-first}
+use Rattle.turns.specs.declared.Change.{Change}
 
 -- ---- what the hosts are told in a tick
 
@@ -85,7 +86,7 @@ unfolding deviceTick
 tick-told limit x heard no-call = refl
 tick-told limit x heard (gives-answer wish put) = go (answered limit (deviceTakes (x .device) heard .device) wish (length put))
   where
-    go : (c : Called Device) → answerCalled c (deviceTakes (x .device) heard .device) (answerFrame (deviceTakes (x .device) heard .device) wish put) (heardFrame x heard) (deviceData x heard) (x .contents) (deviceTakes (x .device) heard .told) .told ≡ deviceTakes (x .device) heard .told
+    go : (c : Called Device) → answerCalled c (deviceTakes (x .device) heard .device) (answerFrame (deviceTakes (x .device) heard .device) wish put (heardFrame x heard)) (heardFrame x heard) (deviceData x heard) (x .contents) (deviceTakes (x .device) heard .told) .told ≡ deviceTakes (x .device) heard .told
     go (accepted d) = refl
     go (refused why) = refl
 tick-told limit x heard (gives-content command put) = go (contentGiven limit (deviceTakes (x .device) heard .device) command (length put))
@@ -101,21 +102,13 @@ module _ (d : Device) where
   nobody-told : DeviceTaken → Type 0
   nobody-told t = NoTag (t .told)
 
-  counts-told : (r : Receiver) (due : ℕ) (e : Event) → nobody-told (counts d r due e)
+  silence-told : (r : Receiver) → nobody-told (onSilence d r)
   unfolding nobody-told
-  counts-told r due e = if-both nobody-told (backDue d due) _ _ no-request no-request
-
-  silence-told : (r : Receiver) (e : Event) → nobody-told (onSilence d r e)
-  unfolding nobody-told
-  silence-told r Nothing = if-both nobody-told (r .gap) _ _ no-request (counts-told r (d .due) Nothing)
-  silence-told r PassedOver = counts-told r (d .profile .rt1p) PassedOver
-  silence-told r Broken = counts-told r (d .profile .rt1p - 1) Broken
-  silence-told r (Frame w) = counts-told r (d .profile .rt1p) (Frame w)
-  silence-told r (Damaged w m) = counts-told r (d .profile .rt1p) (Damaged w m)
+  silence-told r = if-both nobody-told (insideFrame (d .receiver .place)) _ _ (if-both nobody-told (d .receiver .gap) _ _ no-request no-request) no-request
 
   hears-silence : NoTag (deviceTakes d Silence .told)
   unfolding deviceTakes nobody-told
-  hears-silence = if-both nobody-told (d .deaf) _ _ no-request (silence-told _ (taken (d .receiver) Silence .event))
+  hears-silence = if-both nobody-told (d .deaf) _ _ no-request (silence-told (taken (d .receiver) Silence .receiver))
 
   -- what a listening device makes of a character
   hears-character : (c : ℕ) (t : Taken) → d .deaf ≡ false → taken (d .receiver) (Character c) ≡ t → deviceTakes d (Character c) ≡ onCharacter d (t .receiver) (t .event)
@@ -123,24 +116,24 @@ module _ (d : Device) where
   hears-character c t e q = if-is-false (d .deaf) _ _ e ∙ ap (λ (z : Taken). onCharacter d (z .receiver) (z .event)) q
 
   -- every device may answer a command 11
-  stx-told : (r : Receiver) (w : Whole) → w .header .frame ≡ stx → w .expansion ≡ 0 → seeksTag (w .header) ≡ true → afterFrame d r w .told ≡ Request w
-  stx-told r w type none-more tag =
-      ap (λ (t : DeviceTaken). t .told)
+  stx-told : (w : Whole) → w .header .frame ≡ stx → w .expansion ≡ 0 → seeksTag (w .header) ≡ true → afterFrame d w .told ≡ Request w
+  stx-told w type none-more tag =
+      ap (λ (c : Change). c .told)
       (if-is-true (w .header .frame =? stx) _ _ (eq-eqb (w .header .frame) stx type)
       ∙ (if-is-true (w .expansion =? 0) _ _ (eq-eqb (w .expansion) 0 none-more) ∙ if-is-true (mayAnswer d (w .header)) _ _ (if-is-true (seeksTag (w .header)) true _ tag)))
 
-  other-told : (r : Receiver) (w : Whole) → seeksTag (w .header) ≡ false → NoTag (afterFrame d r w .told)
-  unfolding nobody-told
-  other-told r w other =
-      if-both nobody-told (w .header .frame =? stx) _ _
-      (if-both nobody-told (w .expansion =? 0) _ _
-      (if-both nobody-told (mayAnswer d (w .header)) _ _ (λ v e. ap (λ (z : Whole). seeksTag (z .header)) (sym (same-request w v e)) ∙ other)
-      (if-both nobody-told (isBroadcast (w .header)) _ _ (λ v e. absurd (let z : _≡_ {A = ℕ} 0 1 = cc in omega arith)) no-request))
+  other-told : (w : Whole) → seeksTag (w .header) ≡ false → NoTag (afterFrame d w .told)
+  other-told w other =
+      let P : Change → Type 0 = λ c. NoTag (c .told) in
+      if-both P (w .header .frame =? stx) _ _
+      (if-both P (w .expansion =? 0) _ _
+      (if-both P (mayAnswer d (w .header)) _ _ (λ v e. ap (λ (z : Whole). seeksTag (z .header)) (sym (same-request w v e)) ∙ other)
+      (if-both P (isBroadcast (w .header)) _ _ (λ v e. absurd (let z : _≡_ {A = ℕ} 0 1 = cc in omega arith)) no-request))
       no-request)
       no-request
 
-  not-stx-told : (r : Receiver) (w : Whole) → (w .header .frame =? stx) ≡ false → NoTag (afterFrame d r w .told)
-  not-stx-told r w other = is-nothing (ap (λ (t : DeviceTaken). t .told) (if-is-false (w .header .frame =? stx) _ _ other))
+  not-stx-told : (w : Whole) → (w .header .frame =? stx) ≡ false → NoTag (afterFrame d w .told)
+  not-stx-told w other = is-nothing (ap (λ (c : Change). c .told) (if-is-false (w .header .frame =? stx) _ _ other))
 
 -- ---- all devices
 
@@ -169,7 +162,7 @@ module _ (limit : ℕ) (p : Profile) (w : List ℕ) (message : Whole) (k : ℕ) 
       let e = subst (λ (r : Receiver). taken r (Character (getD w k 0)) ≡ tells (readerAfter idle (take (suc k) w)) Nothing) (sym (h .receiver-is)) (sp .mid k below) in
       is-nothing (ap (λ (t : DeviceTaken). t .told) (hears-character (x .device) (getD w k 0) _ (h .listens .hears) e))
 
-  end-told : suc k ≡ length w → (x : DeviceSide) → Hears x → deviceTakes (x .device) (Character (getD w k 0)) .told ≡ afterFrame (x .device) idle message .told
+  end-told : suc k ≡ length w → (x : DeviceSide) → Hears x → deviceTakes (x .device) (Character (getD w k 0)) .told ≡ afterFrame (x .device) message .told
   unfolding Hears
   end-told last x h =
       let e = subst (λ (r : Receiver). taken r (Character (getD w k 0)) ≡ tells idle (Frame message)) (sym (h .receiver-is)) (sp .end k last) in
@@ -182,8 +175,8 @@ module _ (limit : ℕ) (p : Profile) (w : List ℕ) (message : Whole) (k : ℕ) 
   stx-together (inr last) type none-more {xs} hs = go (seeksTag (message .header)) refl
     where
       go : (tag : Bool) → seeksTag (message .header) ≡ tag → ToldTogether (deviceTicks limit (Character (getD w k 0)) xs cs)
-      go true tag = all-told message tag (each-told limit (Character (getD w k 0)) cs (λ x h. end-told last x h ∙ stx-told (x .device) idle message type none-more tag) hs)
-      go false tag = none-told (each-told limit (Character (getD w k 0)) cs (λ x h. subst NoTag (sym (end-told last x h)) (other-told (x .device) idle message tag)) hs)
+      go true tag = all-told message tag (each-told limit (Character (getD w k 0)) cs (λ x h. end-told last x h ∙ stx-told (x .device) message type none-more tag) hs)
+      go false tag = none-told (each-told limit (Character (getD w k 0)) cs (λ x h. subst NoTag (sym (end-told last x h)) (other-told (x .device) message tag)) hs)
 
   -- an ACK or a BACK
   pub device-together : (f : Frames) (on : Bool) → (message .header .frame =? stx) ≡ false → {xs : List DeviceSide} → OneOf (DeviceSpeaks p f k w message u on) (DeviceHears p (readerAfter idle (take k w)) u) xs → ToldTogether (deviceTicks limit (Character (getD w k 0)) xs cs)
@@ -193,7 +186,7 @@ module _ (limit : ℕ) (p : Profile) (w : List ℕ) (message : Whole) (k : ℕ) 
       by : (x : DeviceSide) → (suc k < length w) ⊎ (suc k ≡ length w) → DeviceSpeaks p f k w message u on x ⊎ DeviceHears p (readerAfter idle (take k w)) u x → NoTag (deviceTakes (x .device) (Character (getD w k 0)) .told)
       by x place (inl s) = deaf-told (x .device) (Character (getD w k 0)) (s .deaf-is)
       by x (inl below) (inr h) = mid-told below x h
-      by x (inr last) (inr h) = subst NoTag (sym (end-told last x h)) (not-stx-told (x .device) idle message type)
+      by x (inr last) (inr h) = subst NoTag (sym (end-told last x h)) (not-stx-told (x .device) message type)
 
 -- ---- a tick, and a run
 
@@ -251,5 +244,5 @@ pub none-outlives : (w : Whole) {ss : List DeviceStep} → EachTold (λ (t : Dev
 unfolding ledgersAfter closed
 none-outlives w no-device cs gs = refl
 none-outlives w (told-and e es) cs [] = refl
-none-outlives w (told-and {s} e es) [] (g ∷ gs) = λ i. calledBy no-call (s .answer) (told-anew w g e i) ∷ none-outlives w es [] gs i
-none-outlives w (told-and {s} e es) (c ∷ cs) (g ∷ gs) = λ i. calledBy c (s .answer) (told-anew w g e i) ∷ none-outlives w es cs gs i
+none-outlives w (told-and {s} e es) [] (g ∷ gs) = λ i. calledBy no-call (s .result) (told-anew w g e i) ∷ none-outlives w es [] gs i
+none-outlives w (told-and {s} e es) (c ∷ cs) (g ∷ gs) = λ i. calledBy c (s .result) (told-anew w g e i) ∷ none-outlives w es cs gs i

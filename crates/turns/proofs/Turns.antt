@@ -2,7 +2,7 @@
 use Prim.Native.Nat.{ℕ}
 use native.Mathlib.Omega.{arith}
 use mathlib.Core.Path.{_≡_}
-use Rattle.turns.specs.declared.Turn.the-variants.{Listens, Asked, Accepted, Begins, Follows}
+use Rattle.turns.specs.declared.Turn.the-variants.{Listens, Asked, AnswerWaits, Begins, Follows}
 
 pub listens-follows : Listens ≡ Follows → ⊥
 listens-follows e = let z : _≡_ {A = ℕ} 0 1 = cc in omega arith
@@ -22,13 +22,13 @@ asked-begins n e = let z : _≡_ {A = ℕ} 0 1 = cc in omega arith
 pub asked-listens : (n : ℕ) → Asked n ≡ Listens → ⊥
 asked-listens n e = let z : _≡_ {A = ℕ} 0 1 = cc in omega arith
 
-pub accepted-follows : Accepted ≡ Follows → ⊥
+pub accepted-follows : AnswerWaits ≡ Follows → ⊥
 accepted-follows e = let z : _≡_ {A = ℕ} 0 1 = cc in omega arith
 
-pub accepted-begins : Accepted ≡ Begins → ⊥
+pub accepted-begins : AnswerWaits ≡ Begins → ⊥
 accepted-begins e = let z : _≡_ {A = ℕ} 0 1 = cc in omega arith
 
-pub accepted-listens : Accepted ≡ Listens → ⊥
+pub accepted-listens : AnswerWaits ≡ Listens → ⊥
 accepted-listens e = let z : _≡_ {A = ℕ} 0 1 = cc in omega arith
 
 pub begins-follows : Begins ≡ Follows → ⊥

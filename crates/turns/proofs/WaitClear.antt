@@ -22,7 +22,7 @@ use Rattle.turns.proofs.Quiet.{ClearLine}
 use Rattle.turns.proofs.Stx as X
 use Rattle.turns.proofs.Stx.{OneMasterSends, StxTick}
 use Rattle.turns.proofs.SilentTick.{OneDeviceSends, MasterRests, MasterTries}
-use Rattle.turns.proofs.Silences.{clear-tick}
+use Rattle.turns.proofs.Silences.{clear-tick, clear-runs}
 use Rattle.turns.proofs.NoTwoSend.{heardTick}
 use Rattle.turns.proofs.KeptLink.{LinkKept, LinkSettled}
 use Rattle.turns.proofs.Rank as K
@@ -64,7 +64,7 @@ module _ (limit : ℕ) (low : 2 ≤ limit) (high : limit ≤ 255) (p : Profile) 
           → MasterRests (waiter bit l) (waiterStep bit quiet) → MasterTries (other bit l) (otherStep bit quiet)
           → ClearRank p (limit + 29) retries (waiter bit l .master .timer) (other bit l .master .timer) (left (other bit l .master .message .stage)) (other bit l .master .message .attempts) d → Clear p (limit + 29) retries bit (d - 1) (linkAfter quiet)
       stx w message line o rx ty (K.ClearRank.may-begin z g) =
-          let x = clear-rests p v (co .waiter-quiet) q rx in
+          let x = clear-rests p v (co .waiter-quiet) (clear-runs p v _ _ (co .windows) .1) q rx in
           Ways.Clear.on-stx (k .noted) true 0 w message line o (still-pending bit l quiet q (rx .waits-on)) retries
           (after-other bit quiet (λ (b : MasterSide). retries + 1 ≤ b .master .message .attempts + retries) (omega (arith, ty .some)))
           (omega (arith, x .0, stx-length limit retries p bit (linkAfter quiet) kept o))
@@ -109,7 +109,7 @@ module _ (limit : ℕ) (low : 2 ≤ limit) (high : limit ≤ 255) (p : Profile) 
           → Next bit quiet (λ (m : Link). (Soon p bit (d - 1) m ⊎ Clear p (limit + 29) retries bit (d - 1) m) ⊎ Burst p (limit + 29) bit (d - 1 + burstGain p (limit + 29)) m)
       go (Ways.begins ch z) = began ch z
       go (Ways.stays z line m rx ry) =
-          let x = clear-rests p v (co .waiter-quiet) q rx in
+          let x = clear-rests p v (co .waiter-quiet) (clear-runs p v _ _ (co .windows) .1) q rx in
           let y = clear-next p v (limit + 29) retries _ _ _ _ _ _ _ _ d (x .0) (x .1) (other-clear p v (co .other-quiet) ry) (co .windows) (co .awaits) (ry .one-less) (ry .same-attempts) (ry .over-shut) r in
           waits z (inl (rests line m (still-pending bit l quiet q (rx .waits-on))
           (after-both bit quiet (λ (a b : MasterSide). ClearNext p (limit + 29) retries (a .master .timer) (b .master .timer) (left (b .master .message .stage)) (b .master .message .attempts) (d - 1)) y)))

@@ -20,7 +20,7 @@ use Rattle.turns.proofs.DeviceSpeaking.{an-ack}
 use Rattle.turns.proofs.Windows.{Valid}
 use Rattle.turns.proofs.Quiet.{ClearLine, NobodyAwaits}
 use Rattle.turns.proofs.SilentTick.{OneDeviceSends}
-use Rattle.turns.proofs.Silences.{clear-tick}
+use Rattle.turns.proofs.Silences.{clear-tick, clear-runs}
 use Rattle.turns.proofs.AckBack as A
 use Rattle.turns.proofs.AckBack.{AckTick, ack-tick}
 use Rattle.turns.proofs.NoTwoSend.{carries, heardTick}
@@ -47,12 +47,12 @@ module _ (limit : ℕ) (low : 2 ≤ limit) (high : limit ≤ 255) (p : Profile) 
       go : SilentView p 0 false (k .noted) true bit l quiet (ClearLine p (e - 1) (linkAfter quiet .primary) (linkAfter quiet .secondary) (linkAfter quiet .devices)) → Next bit quiet (Soon p bit (d - 1))
       go (Ways.begins ch z) = began ch z
       go (Ways.stays z line n rx ry) =
-          let x = clear-rests p v (co .waiter-quiet) q rx in
+          let x = clear-rests p v (co .waiter-quiet) (clear-runs p v _ _ (co .windows) .1) q rx in
           let y = first-next p _ _ _ _ _ d (x .0) (x .1) (other-clear p v (co .other-quiet) ry) r in
           waits z (Ways.first-window (e - 1) line n (still-pending bit l quiet q (rx .waits-on))
           (after-both bit quiet (λ (a b : MasterSide). First (a .master .timer) (b .master .timer) (left (b .master .message .stage)) (d - 1))
           (subst (λ (j : ℕ). First (waiterStep bit quiet .side .master .timer) (otherStep bit quiet .side .master .timer) j (d - 1)) (sym (ry .one-less)) y)))
-      go (Ways.other-begins w message z line o rx ty) = absurd (first-alone _ _ _ _ (clear-rests p v (co .waiter-quiet) q rx .0) r (begins-clear p v (co .other-quiet) ty))
+      go (Ways.other-begins w message z line o rx ty) = absurd (first-alone _ _ _ _ (clear-rests p v (co .waiter-quiet) (clear-runs p v _ _ (co .windows) .1) q rx .0) r (begins-clear p v (co .other-quiet) ty))
       go (Ways.answer-begins w message u on z line o rx ry) =
           let a = answer-for bit (linkAfter quiet) (o .frame-is) (still-pending bit l quiet q (rx .waits-on)) in
           let some = before-other bit quiet (λ (b : MasterSide). 1 ≤ left (b .master .message .stage)) (a .1) in

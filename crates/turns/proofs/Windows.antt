@@ -1,8 +1,8 @@
 -- The windows of the two masters while the line is silent: why they never are open together, and why none is open while an answer or a BACK may begin.
-use Prim.Native.Nat.{ℕ, _+_, _-_, _*_, _≤_, _<_}
+use Prim.Native.Nat.{ℕ, zero, suc, _+_, _-_, _*_, _≤_, _<_}
 use native.Mathlib.Omega.{arith}
-use mathlib.Core.Path.{_≡_}
-use borrow.Author.Tests.{leb-true, leb-false, eqb-true, eqb-false}
+use mathlib.Core.Path.{_≡_, refl}
+use borrow.Author.Tests.{eqb-true, eqb-false}
 use Rattle.line.specs.declared.Profile.{Profile}
 use Rattle.turns.proofs.Masters.{if-cases}
 use Rattle.turns.specs.Master.{countClear, countBurst}
@@ -38,28 +38,41 @@ pub record Gap (p : Profile) (gap : ℕ) : Type 0 where
 
 -- a silent tick: the timer opens its window, or counts; a window may be left unused
 pub data Counted (p : Profile) (t u : Timer) : Type 0 where
-  opens : t .next ≤ 1 → u .next ≡ 2 * p .rt2 → u .window ≤ p .hold → Counted p t u
-  goes : 1 < t .next → u .next ≡ t .next - 1 → u .window ≤ t .window - 1 → Counted p t u
+  opens : t .next ≡ 1 → u .next ≡ 2 * p .rt2 → u .window ≤ p .hold → Counted p t u
+  goes : (t .next ≡ 1 → ⊥) → u .next ≡ t .next - 1 → u .window ≤ t .window - 1 → Counted p t u
 
 pub counted : (p : Profile) (t u : Timer) → u .next ≡ countClear p t .next → u .window ≤ countClear p t .window → Counted p t u
 counted p t u =
-    if-cases (λ (x : Timer). u .next ≡ x .next → u .window ≤ x .window → Counted p t u) _ _ _ (λ q e w. opens (leb-true (t .next) 1 q) e w) (λ q e w. goes (leb-false (t .next) 1 q) e w)
+    if-cases (λ (x : Timer). u .next ≡ x .next → u .window ≤ x .window → Counted p t u) _ _ _ (λ q e w. opens (eqb-true (t .next) 1 q) e w) (λ q e w. goes (eqb-false (t .next) 1 q) e w)
+
+-- a timer that runs
+data Ran (p : Profile) (t u : Timer) : Type 0 where
+  ends : t .next ≡ 1 → u .next ≡ 2 * p .rt2 → u .window ≤ p .hold → Ran p t u
+  runs : 1 < t .next → u .next ≡ t .next - 1 → u .window ≤ t .window - 1 → Ran p t u
+
+pub more : (n : ℕ) → (n ≡ 1 → ⊥) → 1 ≤ n → 1 < n
+more zero f z = absurd (omega (arith, z))
+more (suc zero) f z = absurd (f refl)
+more (suc (suc n)) f z = omega arith
+
+ran : {p : Profile} {t u : Timer} → 1 ≤ t .next → Counted p t u → Ran p t u
+ran z (opens a b c) = ends a b c
+ran {t = t} z (goes a b c) = runs (more (t .next) a z) b c
 
 -- a window that closed, told apart from one that is open
 data OpenOrShut (p : Profile) (t : Timer) : Type 0 where
   is-open : t .window + 2 * p .rt2 ≤ p .hold + t .next → OpenOrShut p t
   is-shut : t .window ≡ 0 → OpenOrShut p t
 
--- a silent tick keeps the windows apart
-pub apart-next : (p : Profile) (gap : ℕ) (a b c d : Timer) → Valid p → Gap p gap → Counted p a c → Counted p b d → Apart p gap a b → Apart p gap c d
-apart-next p gap a b c d v g (opens x y z) (opens k l m) (waiting e f h i) = absurd (omega (arith, v .hold-short, v .some-hold, g .least))
-apart-next p gap a b c d v g (opens x y z) (goes k l m) (waiting e f h i) = first-open (omega (arith, v .hold-short, v .some-hold, g .least)) (omega arith) (omega arith) (omega arith) (omega arith)
-apart-next p gap a b c d v g (goes x y z) (opens k l m) (waiting e f h i) = absurd (omega arith)
-apart-next p gap a b c d v g (goes x y z) (goes k l m) (waiting e f h i) = waiting (omega arith) (omega arith) (omega arith) (omega arith)
-apart-next p gap a b c d v g (opens x y z) (opens k l m) (first-open e f h i j) = absurd (omega (arith, v .hold-short, v .some-hold, g .most))
-apart-next p gap a b c d v g (opens x y z) (goes k l m) (first-open e f h i j) = absurd (omega (arith, v .hold-short, v .some-hold, g .most))
-apart-next p gap a b c d v g (goes x y z) (opens k l m) (first-open e f h i j) = second-open (omega (arith, v .hold-short, v .some-hold, g .most)) (omega arith) (omega arith) (omega arith) (omega (arith, v .hold-short, g .least, g .most))
-apart-next p gap a b c d v g (goes x y z) (goes k l m) (first-open e f h i j) = go (leb-cases (a .window) 0)
+apart-runs : (p : Profile) (gap : ℕ) (a b c d : Timer) → Valid p → Gap p gap → Ran p a c → Ran p b d → Apart p gap a b → Apart p gap c d
+apart-runs p gap a b c d v g (ends x y z) (ends k l m) (waiting e f h i) = absurd (omega (arith, v .hold-short, v .some-hold, g .least))
+apart-runs p gap a b c d v g (ends x y z) (runs k l m) (waiting e f h i) = first-open (omega (arith, v .hold-short, v .some-hold, g .least)) (omega arith) (omega arith) (omega arith) (omega arith)
+apart-runs p gap a b c d v g (runs x y z) (ends k l m) (waiting e f h i) = absurd (omega arith)
+apart-runs p gap a b c d v g (runs x y z) (runs k l m) (waiting e f h i) = waiting (omega arith) (omega arith) (omega arith) (omega arith)
+apart-runs p gap a b c d v g (ends x y z) (ends k l m) (first-open e f h i j) = absurd (omega (arith, v .hold-short, v .some-hold, g .most))
+apart-runs p gap a b c d v g (ends x y z) (runs k l m) (first-open e f h i j) = absurd (omega (arith, v .hold-short, v .some-hold, g .most))
+apart-runs p gap a b c d v g (runs x y z) (ends k l m) (first-open e f h i j) = second-open (omega (arith, v .hold-short, v .some-hold, g .most)) (omega arith) (omega arith) (omega arith) (omega (arith, v .hold-short, g .least, g .most))
+apart-runs p gap a b c d v g (runs x y z) (runs k l m) (first-open e f h i j) = go (leb-cases (a .window) 0)
   where
     leb-cases : (m n : ℕ) → Dec (m ≤ n)
     leb-cases m n = native.Mathlib.Decide.decLe m n
@@ -67,22 +80,34 @@ apart-next p gap a b c d v g (goes x y z) (goes k l m) (first-open e f h i j) = 
     go : Dec (a .window ≤ 0) → Apart p gap c d
     go (yes o) = first-shut (omega arith) (omega (arith, v .some-hold, v .hold-short, g .most)) (omega arith) (omega arith) (omega arith)
     go (no o) = first-open (omega arith) (omega (arith, v .some-hold, v .hold-short, g .most)) (omega arith) (omega arith) (omega arith)
-apart-next p gap a b c d v g (opens x y z) (opens k l m) (first-shut e f h i j) = absurd (omega (arith, v .hold-short, v .some-hold, g .most))
-apart-next p gap a b c d v g (opens x y z) (goes k l m) (first-shut e f h i j) = absurd (omega (arith, v .hold-short, v .some-hold, g .most))
-apart-next p gap a b c d v g (goes x y z) (opens k l m) (first-shut e f h i j) = second-open (omega (arith, v .hold-short, v .some-hold, g .most)) (omega arith) (omega arith) (omega arith) (omega arith)
-apart-next p gap a b c d v g (goes x y z) (goes k l m) (first-shut e f h i j) = first-shut (omega arith) (omega arith) (omega arith) (omega arith) (omega arith)
-apart-next p gap a b c d v g (opens x y z) (opens k l m) (second-open e f h i j) = absurd (omega (arith, v .hold-short, v .some-hold, g .least))
-apart-next p gap a b c d v g (opens x y z) (goes k l m) (second-open e f h i j) = first-open (omega (arith, v .hold-short, v .some-hold, g .least)) (omega arith) (omega arith) (omega arith) (omega (arith, v .hold-short, g .most))
-apart-next p gap a b c d v g (goes x y z) (opens k l m) (second-open e f h i j) = absurd (omega arith)
-apart-next p gap a b c d v g (goes x y z) (goes k l m) (second-open e f h i j) = go (native.Mathlib.Decide.decLe (b .window) 0)
+apart-runs p gap a b c d v g (ends x y z) (ends k l m) (first-shut e f h i j) = absurd (omega (arith, v .hold-short, v .some-hold, g .most))
+apart-runs p gap a b c d v g (ends x y z) (runs k l m) (first-shut e f h i j) = absurd (omega (arith, v .hold-short, v .some-hold, g .most))
+apart-runs p gap a b c d v g (runs x y z) (ends k l m) (first-shut e f h i j) = second-open (omega (arith, v .hold-short, v .some-hold, g .most)) (omega arith) (omega arith) (omega arith) (omega arith)
+apart-runs p gap a b c d v g (runs x y z) (runs k l m) (first-shut e f h i j) = first-shut (omega arith) (omega arith) (omega arith) (omega arith) (omega arith)
+apart-runs p gap a b c d v g (ends x y z) (ends k l m) (second-open e f h i j) = absurd (omega (arith, v .hold-short, v .some-hold, g .least))
+apart-runs p gap a b c d v g (ends x y z) (runs k l m) (second-open e f h i j) = first-open (omega (arith, v .hold-short, v .some-hold, g .least)) (omega arith) (omega arith) (omega arith) (omega (arith, v .hold-short, g .most))
+apart-runs p gap a b c d v g (runs x y z) (ends k l m) (second-open e f h i j) = absurd (omega arith)
+apart-runs p gap a b c d v g (runs x y z) (runs k l m) (second-open e f h i j) = go (native.Mathlib.Decide.decLe (b .window) 0)
   where
     go : Dec (b .window ≤ 0) → Apart p gap c d
     go (yes o) = second-shut (omega arith) (omega arith) (omega arith) (omega arith) (omega arith)
     go (no o) = second-open (omega arith) (omega arith) (omega arith) (omega arith) (omega arith)
-apart-next p gap a b c d v g (opens x y z) (opens k l m) (second-shut e f h i j) = absurd (omega (arith, v .hold-short, v .some-hold, g .least))
-apart-next p gap a b c d v g (opens x y z) (goes k l m) (second-shut e f h i j) = first-open (omega (arith, v .hold-short, v .some-hold, g .least)) (omega arith) (omega arith) (omega arith) (omega arith)
-apart-next p gap a b c d v g (goes x y z) (opens k l m) (second-shut e f h i j) = absurd (omega arith)
-apart-next p gap a b c d v g (goes x y z) (goes k l m) (second-shut e f h i j) = second-shut (omega arith) (omega arith) (omega arith) (omega arith) (omega arith)
+apart-runs p gap a b c d v g (ends x y z) (ends k l m) (second-shut e f h i j) = absurd (omega (arith, v .hold-short, v .some-hold, g .least))
+apart-runs p gap a b c d v g (ends x y z) (runs k l m) (second-shut e f h i j) = first-open (omega (arith, v .hold-short, v .some-hold, g .least)) (omega arith) (omega arith) (omega arith) (omega arith)
+apart-runs p gap a b c d v g (runs x y z) (ends k l m) (second-shut e f h i j) = absurd (omega arith)
+apart-runs p gap a b c d v g (runs x y z) (runs k l m) (second-shut e f h i j) = second-shut (omega arith) (omega arith) (omega arith) (omega arith) (omega arith)
+
+-- both timers run
+pub running : (p : Profile) (gap : ℕ) (a b : Timer) → Valid p → Gap p gap → Apart p gap a b → (1 ≤ a .next) × (1 ≤ b .next)
+running p gap a b v g (waiting e f h i) = (e, omega arith)
+running p gap a b v g (first-open e f h i j) = (omega (arith, v .hold-short, v .some-hold, g .most), e)
+running p gap a b v g (first-shut e f h i j) = (omega (arith, v .hold-short, v .some-hold, g .most), e)
+running p gap a b v g (second-open e f h i j) = (e, omega arith)
+running p gap a b v g (second-shut e f h i j) = (e, omega arith)
+
+-- a silent tick keeps the windows apart
+pub apart-next : (p : Profile) (gap : ℕ) (a b c d : Timer) → Valid p → Gap p gap → Counted p a c → Counted p b d → Apart p gap a b → Apart p gap c d
+apart-next p gap a b c d v g x y w = let r = running p gap a b v g w in apart-runs p gap a b c d v g (ran (r .0) x) (ran (r .1) y) w
 
 -- not both windows are open
 pub one-window : (p : Profile) (gap : ℕ) (a b : Timer) → Apart p gap a b → 0 < a .window → 0 < b .window → ⊥

@@ -1,16 +1,16 @@
+-- To be believed: what the engine must do, or what is claimed of it.
 -- "R failed retries after the first attempt end the message as given up, with the attempts, equal to the STX frames sent", and "Broadcast is sent once". Here the STX frames are counted from what the host asks, what it is answered and told and what the master sends, without the field `attempts`; AttemptsAsSaid says that every report agrees with this count.
 use Prim.Native.Nat.{ℕ, _+_, _≤_, _<_}
 use mathlib.Core.Path.{_≡_}
 use mathlib.Core.Bool.{Bool, true, false}
 use mathlib.Core.List.{List, [], _∷_}
-use Rattle.base.specs.declared.Refusal.{Refusal}
 use Rattle.frame.specs.Delimiter.{stx}
 use Rattle.frame.specs.Frame.{frameBytes}
 use Rattle.frame.specs.declared.Header.{Header}
 use Rattle.line.specs.declared.Profile.{Profile}
 use Rattle.line.specs.declared.Whole.{Whole}
-use Rattle.turns.specs.Master.{Request, isBroadcast}
-use Rattle.turns.specs.Link.{MasterCall, no-request, requests, Answer, none, was-taken, was-refused, MasterSide, masterTick}
+use Rattle.turns.specs.Party.{isBroadcast, Request, CallResult, none, was-taken, was-refused}
+use Rattle.turns.specs.Link.{MasterCall, no-request, requests, MasterSide, masterTick}
 use Rattle.turns.specs.Run.{MasterStarts}
 use Rattle.turns.specs.Gaps.{MasterInput, IsFrame}
 use Rattle.turns.specs.declared.Sent.{Sent}
@@ -47,10 +47,10 @@ abbrev pub stxHeader : Bool → Request → Header
 stxHeader primary q = record { frame = stx; long = q .long; primary = primary; burst = false; address = q .address; command = q .command }
 
 -- what the host asks: a request is taken only where no message is in hand, and is the message then, with no STX sent yet
-pub data Asked (primary : Bool) : MasterCall → Answer → MessageLog → MessageLog → Type 0 where
+pub data Asked (primary : Bool) : MasterCall → CallResult → MessageLog → MessageLog → Type 0 where
   asks-nothing : {g : MessageLog} → Asked primary no-request none g g
   is-taken : {q : Request} {put : List ℕ} → Asked primary (requests q put) was-taken no-message (in-hand (frameBytes (q .preamble) (stxHeader primary q) put) (isBroadcast (stxHeader primary q)) [] 0)
-  is-refused : {q : Request} {put : List ℕ} {why : Refusal} {g : MessageLog} → Asked primary (requests q put) (was-refused why) g g
+  is-refused : {q : Request} {put : List ℕ} {why : ℕ} {g : MessageLog} → Asked primary (requests q put) (was-refused why) g g
 
 -- what is sent: nothing, or the next character of the message's STX, without a gap. No STX begins that would be one too many, and one is counted with its last character.
 pub data Sends (retries : ℕ) : MessageLog → Sent → MessageLog → Type 0 where
@@ -65,7 +65,7 @@ pub data Counted (limit : ℕ) (primary : Bool) (retries : ℕ) : MessageLog →
   no-tick : {g : MessageLog} {x : MasterSide} → Counted limit primary retries g x []
   tick-and : {g : MessageLog} {x : MasterSide} {i : MasterInput} {is : List MasterInput} (asked after : MessageLog)
       → Reports retries g (masterTick limit x (i .heard) (i .call) .told)
-      → Asked primary (i .call) (masterTick limit x (i .heard) (i .call) .answer) (behindReport (masterTick limit x (i .heard) (i .call) .told) g) asked
+      → Asked primary (i .call) (masterTick limit x (i .heard) (i .call) .result) (behindReport (masterTick limit x (i .heard) (i .call) .told) g) asked
       → Sends retries asked (masterTick limit x (i .heard) (i .call) .sent) after
       → Counted limit primary retries after (masterTick limit x (i .heard) (i .call) .side) is → Counted limit primary retries g x (i ∷ is)
 

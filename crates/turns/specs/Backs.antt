@@ -1,9 +1,11 @@
+-- To be believed: what the engine must do, or what is claimed of it.
 -- Of BACKs, as Credit says it of ACKs: each BACK that a master finds whole has the unique address of the device that sent it, and the command and data that its host gave last before its first character. For each device a log is kept of what its host gave and what it sent, from what a run shows.
 use Prim.Native.Nat.{ℕ, _-_, _≤_}
 use mathlib.Core.Path.{_≡_}
 use mathlib.Core.Bool.{Bool, true}
 use mathlib.Core.List.{List, [], _∷_}
 use lib.ListN.{length, take, getD}
+use Rattle.frame.specs.Limits.{mostData}
 use Rattle.frame.specs.Delimiter.{back}
 use Rattle.frame.specs.Frame.{frameLength}
 use Rattle.line.specs.declared.Event.{Event}
@@ -12,7 +14,8 @@ use Rattle.line.specs.declared.Heard.{Heard}
 use Rattle.line.specs.declared.Profile.{Profile}
 use Rattle.line.specs.declared.Whole.{Whole}
 use Rattle.turns.specs.Master.{masterTakes}
-use Rattle.turns.specs.Link.{DeviceCall, no-call, gives-answer, gives-content, Answer, none, was-taken, was-refused, MasterSide, masterData, DeviceSide, DeviceStep, Link, LinkStep, Calls, linkTick, linkAfter}
+use Rattle.turns.specs.Party.{CallResult, none, was-taken, was-refused}
+use Rattle.turns.specs.Link.{DeviceCall, no-call, gives-answer, gives-content, MasterSide, masterData, DeviceSide, DeviceStep, Link, LinkStep, Calls, linkTick, linkAfter}
 use Rattle.turns.specs.Demand3.{Premises, masterIn}
 use Rattle.turns.specs.Credit.{masterOf}
 use Rattle.turns.specs.declared.Sent.{Sent}
@@ -31,12 +34,12 @@ pub record ContentLog : Type 0 where
   pub sent-with : List LastGiven
 
 -- the host's content is taken
-abbrev pub contentBy : ℕ → List ℕ → Answer → LastGiven → LastGiven
+abbrev pub contentBy : ℕ → List ℕ → CallResult → LastGiven → LastGiven
 contentBy command put none g = g
 contentBy command put was-taken g = content command put
 contentBy command put (was-refused why) g = g
 
-abbrev pub givenBy : DeviceCall → Answer → LastGiven → LastGiven
+abbrev pub givenBy : DeviceCall → CallResult → LastGiven → LastGiven
 givenBy no-call a g = g
 givenBy (gives-answer wish put) a g = g
 givenBy (gives-content command put) a g = contentBy command put a g
@@ -48,7 +51,7 @@ sentBy (Character c) g row = record { last = g; sent-with = g ∷ row }
 
 -- a tick of the device
 abbrev pub contentLogAfter : DeviceCall → DeviceStep → ContentLog → ContentLog
-contentLogAfter c s g = sentBy (s .sent) (givenBy c (s .answer) (g .last)) (g .sent-with)
+contentLogAfter c s g = sentBy (s .sent) (givenBy c (s .result) (g .last)) (g .sent-with)
 
 unfoldable pub contentLogsAfter : List DeviceCall → List DeviceStep → List ContentLog → List ContentLog
 contentLogsAfter calls [] gs = []
@@ -87,5 +90,5 @@ pub data EachBack (limit : ℕ) : List ContentLog → Link → List Calls → Ty
 -- under demand 3's premises, with room for the longest data in the masters' lent buffers
 abbrev pub BacksInARun : ℕ → Type 0
 BacksInARun limit =
-    (p : Profile) (retries : ℕ) (l : Link) (ticks : List Calls) → Premises limit p retries l ticks → 255 ≤ length (l .primary .bytes) → 255 ≤ length (l .secondary .bytes)
+    (p : Profile) (retries : ℕ) (l : Link) (ticks : List Calls) → Premises limit p retries l ticks → mostData ≤ length (l .primary .bytes) → mostData ≤ length (l .secondary .bytes)
     → EachBack limit (noContents (l .devices)) l ticks

@@ -1,16 +1,18 @@
+-- To be believed: what the engine must do, or what is claimed of it.
 -- "A device bursts from the first character of an ACK whose answer turned burst on until the first character of one whose answer turned it off." Here that is worked out from what the device heard, what its host gave and what it sent, without the field `burst`; BurstsAsSaid says that the field agrees with it in every tick.
 use Prim.Native.Nat.{ℕ}
 use mathlib.Core.Path.{_≡_}
 use mathlib.Core.Bool.{Bool, false}
 use mathlib.Core.List.{List, [], _∷_}
+use Rattle.base.specs.Refusal.{accepted}
 use Rattle.base.specs.Choice.{if_then_else_}
 use Rattle.line.specs.Profile.{profileMade}
 use Rattle.line.specs.declared.Heard.{Heard}
 use Rattle.line.specs.declared.Heard.the-variants.{Silence, Character, Damaged}
-use Rattle.line.specs.declared.MadeProfile.the-variants.{Made}
 use Rattle.line.specs.declared.Profile.{Profile}
 use Rattle.turns.specs.Device.{wished}
-use Rattle.turns.specs.Link.{DeviceCall, no-call, gives-answer, gives-content, Answer, none, was-taken, was-refused, DeviceSide, DeviceStep, deviceTick}
+use Rattle.turns.specs.Party.{CallResult, none, was-taken, was-refused}
+use Rattle.turns.specs.Link.{DeviceCall, no-call, gives-answer, gives-content, DeviceSide, DeviceStep, deviceTick}
 use Rattle.turns.specs.Run.{DeviceStarts}
 use Rattle.turns.specs.declared.Sent.{Sent}
 use Rattle.turns.specs.declared.Sent.the-variants.{Silent}
@@ -32,12 +34,12 @@ droppedBy (Character c) w = no-wish
 droppedBy (Damaged c kind) w = no-wish
 
 -- the host's answer is taken
-abbrev pub takenWith : Wish → Answer → Wished → Wished
+abbrev pub takenWith : Wish → CallResult → Wished → Wished
 takenWith wish none w = w
 takenWith wish was-taken w = wishes wish
 takenWith wish (was-refused why) w = w
 
-abbrev pub wishedBy : DeviceCall → Answer → Wished → Wished
+abbrev pub wishedBy : DeviceCall → CallResult → Wished → Wished
 wishedBy no-call a w = w
 wishedBy (gives-answer wish put) a w = takenWith wish a w
 wishedBy (gives-content command put) a w = w
@@ -53,7 +55,7 @@ sentWith (Sent.Character c) on w = effective on w
 
 -- a tick of the device
 abbrev pub logAfter : DeviceSide → Heard → DeviceCall → DeviceStep → BurstLog → BurstLog
-logAfter x heard c s g = sentWith (s .sent) (g .on) (wishedBy c (s .answer) (if x .device .deaf then g .pending else droppedBy heard (g .pending)))
+logAfter x heard c s g = sentWith (s .sent) (g .on) (wishedBy c (s .result) (if x .device .deaf then g .pending else droppedBy heard (g .pending)))
 
 -- what a device hears in a tick, and what its host gives
 pub record DeviceInput : Type 0 where
@@ -70,4 +72,4 @@ pub data Agrees (limit : ℕ) : BurstLog → DeviceSide → List DeviceInput →
 -- "burst starts off"; for every device that started, whatever it hears and its host gives
 abbrev pub BurstsAsSaid : ℕ → Type 0
 BurstsAsSaid limit =
-    (p : Profile) (x : DeviceSide) (inputs : List DeviceInput) → profileMade p ≡ Made p → DeviceStarts p x → Agrees limit (record { on = false; pending = no-wish }) x inputs
+    (p : Profile) (x : DeviceSide) (inputs : List DeviceInput) → profileMade p ≡ accepted p → DeviceStarts p x → Agrees limit (record { on = false; pending = no-wish }) x inputs

@@ -1,13 +1,15 @@
+-- To be believed: what the engine must do, or what is claimed of it.
 -- Beyond demand 3, and what the user fears most: an answer credited to the wrong transmitter. For each device a ledger is kept of what its host was told and gave, from what a run shows. A master may report its message as answered only with what stands there, and once.
 use Prim.Native.Nat.{ℕ, _≤_}
 use mathlib.Core.Path.{_≡_}
 use mathlib.Core.Bool.{Bool, true, false}
 use mathlib.Core.List.{List, [], _∷_}
 use lib.ListN.{length, take}
+use Rattle.frame.specs.Limits.{mostData}
 use Rattle.frame.specs.declared.Header.{Header}
 use Rattle.line.specs.declared.Profile.{Profile}
 use Rattle.line.specs.declared.Whole.{Whole}
-use Rattle.turns.specs.Master.{seeksTag}
+use Rattle.turns.specs.Party.{seeksTag}
 use Rattle.turns.specs.Device.{mayAnswer}
 use Rattle.turns.specs.Link.{MasterSide, DeviceSide, Link, LinkStep, Calls, linkTick, linkAfter}
 pub use Rattle.turns.specs.Ledgers.{Ledger, blank, told, given, toldBy, answeredWith, answerBy, calledBy, ledgerAfter}
@@ -85,5 +87,5 @@ pub data EachCredited (limit : ℕ) : List Ledger → Link → List Calls → Ty
 -- under demand 3's premises, with room for the longest data in the masters' lent buffers
 abbrev pub CreditInARun : ℕ → Type 0
 CreditInARun limit =
-    (p : Profile) (retries : ℕ) (l : Link) (ticks : List Calls) → Premises limit p retries l ticks → 255 ≤ length (l .primary .bytes) → 255 ≤ length (l .secondary .bytes)
+    (p : Profile) (retries : ℕ) (l : Link) (ticks : List Calls) → Premises limit p retries l ticks → mostData ≤ length (l .primary .bytes) → mostData ≤ length (l .secondary .bytes)
     → EachCredited limit (blanks (l .devices)) l ticks

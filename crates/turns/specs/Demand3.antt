@@ -1,13 +1,16 @@
+-- To be believed: what the engine must do, or what is claimed of it.
 -- Demand 3: what is promised of a whole run, in the words of document 01, "Runs of the link". It is one claim about the whole list of ticks. The definitions that it rests on stand in Master, Device, Link and Run.
 use Prim.Native.Nat.{ℕ, suc, _+_, _-_, _*_, _<_}
 use mathlib.Core.Path.{_≡_}
 use mathlib.Core.Bool.{Bool, true, false}
 use mathlib.Core.List.{List, [], _∷_}
 use lib.ListN.{length, drop}
+use Rattle.base.specs.Refusal.{accepted}
+use Rattle.frame.specs.Limits.{longestFrame}
 use Rattle.line.specs.Profile.{profileMade}
-use Rattle.line.specs.declared.MadeProfile.the-variants.{Made}
 use Rattle.line.specs.declared.Profile.{Profile}
-use Rattle.turns.specs.Link.{was-taken, MasterStep, DeviceSide, Link, LinkStep, Calls, sides, run}
+use Rattle.turns.specs.Party.{was-taken}
+use Rattle.turns.specs.Link.{MasterStep, DeviceSide, Link, LinkStep, Calls, sides, run}
 use Rattle.turns.specs.Ledgers.{blanks, OneFinds}
 use Rattle.turns.specs.Run.{All, Starts, EachTick, OneBursts, NoTwoSend}
 use Rattle.turns.specs.declared.Sent.the-variants.{Silent, Character}
@@ -17,7 +20,7 @@ use Rattle.turns.specs.declared.Sent.the-variants.{Silent, Character}
 -- "Let a primary master, a secondary master and devices that share no address all start in the same tick with one profile and one retry limit R. For every list of ticks from there, whatever master's request, device's answer or burst content each host gives in any of them, refused ones included". That no character is damaged or lost is how the line is defined in Link, and a run has no restart. `limit` is the longest data, 255.
 pub record Premises (limit : ℕ) (p : Profile) (retries : ℕ) (l : Link) (ticks : List Calls) : Type 0 where
   -- the profile is one that the check takes
-  pub made : profileMade p ≡ Made p
+  pub made : profileMade p ≡ accepted p
   pub starts : Starts p retries l
   -- "at most one device bursts at a time"
   pub one-bursts : EachTick OneBursts (run limit l ticks)
@@ -38,7 +41,7 @@ masterIn false s = s .for-secondary
 
 -- "An accepted message is a master's request that was taken."
 abbrev pub AcceptedIn : Bool → LinkStep → Type 0
-AcceptedIn primary s = masterIn primary s .answer ≡ was-taken
+AcceptedIn primary s = masterIn primary s .result ≡ was-taken
 
 -- "Its first character is the first of its first STX": a master has one message in hand at a time, so it is the first character that the master sends from the tick of acceptance on. It goes out in this tick, or in one of the next n.
 pub data BeginsWithin (primary : Bool) : ℕ → List LinkStep → Type 0 where
@@ -55,11 +58,7 @@ pub data NoneBursts (primary : Bool) : List LinkStep → Type 0 where
   until-it-begins : (c : ℕ) {s : LinkStep} {ss : List LinkStep} → NoneBurstsIn s → masterIn primary s .sent ≡ Character c → NoneBursts primary (s ∷ ss)
   and-on : {s : LinkStep} {ss : List LinkStep} → NoneBurstsIn s → NoneBursts primary ss → NoneBursts primary (s ∷ ss)
 
--- "F is 284, the longest frame"
-abbrev pub longestFrame : ℕ → ℕ
-longestFrame limit = limit + 29
-
--- "2×RT2 + HOLD + (R+1)×(F + RT1 secondary) + STO + F ticks"
+-- "2×RT2 + HOLD + (R+1)×(F + RT1 secondary) + STO + F ticks", where "F is 284, the longest frame"
 abbrev pub longestWait : ℕ → Profile → ℕ → ℕ
 longestWait limit p retries = 2 * p .rt2 + p .hold + (retries + 1) * (longestFrame limit + p .rt1s) + p .sto + longestFrame limit
 

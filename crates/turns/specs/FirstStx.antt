@@ -1,3 +1,4 @@
+-- To be believed: what the engine must do, or what is claimed of it.
 -- Demand 3, "Its first character is the first of its first STX": the character that BeginsWithin speaks of. From the tick of acceptance on the master sends nothing, and then the message's STX from its first character on, which is 0xFF; so no STX of the message went out before.
 use Prim.Native.Nat.{ℕ}
 use mathlib.Core.Path.{_≡_}
@@ -6,7 +7,7 @@ use mathlib.Core.List.{List, [], _∷_}
 use lib.ListN.{drop}
 use Rattle.frame.specs.Frame.{frameBytes}
 use Rattle.line.specs.declared.Profile.{Profile}
-use Rattle.turns.specs.Master.{Request}
+use Rattle.turns.specs.Party.{Request}
 use Rattle.turns.specs.Link.{MasterCall, requests, Link, LinkStep, Calls, run}
 use Rattle.turns.specs.Run.{MasterStarts, Starts}
 use Rattle.turns.specs.Demand3 as Demand3

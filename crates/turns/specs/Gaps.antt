@@ -1,24 +1,25 @@
+-- To be believed: what the engine must do, or what is claimed of it.
 -- Document 02, item 1, of master and device, on what each hears, what its host calls and what it sends: "One silent tick inside a frame is now passed over", "The second in a row breaks the frame, and both then count in the timers", and "Senders still leave no gap".
 use Prim.Native.Nat.{ℕ, suc, _≤_}
 use mathlib.Core.Path.{_≡_}
 use mathlib.Core.Bool.{Bool, true, false}
 use mathlib.Core.List.{List, [], _∷_}
 use lib.ListN.{length}
+use Rattle.base.specs.Refusal.{accepted}
 use Rattle.base.specs.Choice.{if_then_else_}
 use Rattle.frame.specs.Frame.{frameBytes}
 use Rattle.frame.specs.Write.{writeAnswer}
 use Rattle.frame.specs.declared.Header.{Header}
-use Rattle.frame.specs.declared.Written.the-variants.{To}
 use Rattle.line.specs.Gaps.{IsCharacter}
 use Rattle.line.specs.Profile.{profileMade}
 use Rattle.line.specs.Reader.{taken}
 use Rattle.line.specs.declared.Event.the-variants.{Nothing}
 use Rattle.line.specs.declared.Heard.{Heard}
 use Rattle.line.specs.declared.Heard.the-variants.{Silence}
-use Rattle.line.specs.declared.MadeProfile.the-variants.{Made}
 use Rattle.line.specs.declared.Profile.{Profile}
 use Rattle.line.specs.declared.Receiver.{Receiver}
-use Rattle.turns.specs.Master.{ownRt1, quietTime, isBroadcast}
+use Rattle.turns.specs.Party.{isBroadcast}
+use Rattle.turns.specs.Master.{ownRt1, quietTime}
 use Rattle.turns.specs.Link.{MasterCall, no-request, DeviceCall, no-call, MasterSide, DeviceSide, masterTick, deviceTick}
 use Rattle.turns.specs.Run.{MasterStarts, DeviceStarts}
 use Rattle.turns.specs.Bursts.{DeviceInput}
@@ -98,18 +99,18 @@ pub data ToSend (m : Master) : Type 0 where
 
 -- "BURST clear, .. after a broken .. frame ..: timer RT1"; "BURST set: .. a broken frame included, .. the quiet time from the last character"
 abbrev pub behindBreak : Master → ℕ
-behindBreak m = if m .burst then quietTime m else ownRt1 m
+behindBreak m = if m .burst then quietTime (m .profile) (m .primary) else ownRt1 (m .profile) (m .primary)
 
 -- in any state: the message, or its retry, begins where the timer ends that counts from the last character
 abbrev pub MasterCountsBoth : ℕ → Type 0
 MasterCountsBoth limit =
-    (x : MasterSide) (last : Heard) (call : MasterCall) (calls : List MasterCall) → profileMade (x .master .profile) ≡ Made (x .master .profile) → InsideFrame last (x .master .deaf) (x .master .receiver)
+    (x : MasterSide) (last : Heard) (call : MasterCall) (calls : List MasterCall) → profileMade (x .master .profile) ≡ accepted (x .master .profile) → InsideFrame last (x .master .deaf) (x .master .receiver)
     → ToSend (x .master) → behindBreak (x .master) ≤ length calls → BeginsAfter (behindBreak (x .master)) (masterSents limit x (record { heard = last; call = call } ∷ masterSilence calls))
 
 -- and a bursting device's BACK: "after RT1 primary behind anything else"
 abbrev pub DeviceCountsBoth : ℕ → Type 0
 DeviceCountsBoth limit =
-    (x : DeviceSide) (last : Heard) (call : DeviceCall) (calls : List DeviceCall) → profileMade (x .device .profile) ≡ Made (x .device .profile) → InsideFrame last (x .device .deaf) (x .device .receiver)
+    (x : DeviceSide) (last : Heard) (call : DeviceCall) (calls : List DeviceCall) → profileMade (x .device .profile) ≡ accepted (x .device .profile) → InsideFrame last (x .device .deaf) (x .device .receiver)
     → x .device .burst ≡ true → x .device .profile .rt1p ≤ length calls → BeginsAfter (x .device .profile .rt1p) (deviceSents limit x (record { heard = last; call = call } ∷ deviceSilence calls))
 
 -- ---- "Senders still leave no gap"
@@ -119,7 +120,7 @@ pub record IsFrame (w : List ℕ) : Type 0 where
   pub preamble : ℕ
   pub header : Header
   pub bytes : List ℕ
-  pub taken-by-writer : writeAnswer preamble header (length bytes) (length w) 0 ≡ To (length w)
+  pub taken-by-writer : writeAnswer preamble header (length bytes) (length w) 0 ≡ accepted (length w)
   pub written : w ≡ frameBytes preamble header bytes
 
 -- what a party sends, where `left` is left of the frame that it is sending: with nothing left it is silent or begins a frame; with something left it sends the next character, in every tick
@@ -132,7 +133,7 @@ pub data NoGap : List ℕ → List Sent → Type 0 where
 -- every master and device that started, whatever it hears and its host calls
 abbrev pub MasterLeavesNoGap : ℕ → Type 0
 MasterLeavesNoGap limit =
-    (p : Profile) (primary : Bool) (retries : ℕ) (x : MasterSide) (inputs : List MasterInput) → profileMade p ≡ Made p → MasterStarts p primary retries x → NoGap [] (masterSents limit x inputs)
+    (p : Profile) (primary : Bool) (retries : ℕ) (x : MasterSide) (inputs : List MasterInput) → profileMade p ≡ accepted p → MasterStarts p primary retries x → NoGap [] (masterSents limit x inputs)
 
 abbrev pub DeviceLeavesNoGap : ℕ → Type 0
-DeviceLeavesNoGap limit = (p : Profile) (x : DeviceSide) (inputs : List DeviceInput) → profileMade p ≡ Made p → DeviceStarts p x → NoGap [] (deviceSents limit x inputs)
+DeviceLeavesNoGap limit = (p : Profile) (x : DeviceSide) (inputs : List DeviceInput) → profileMade p ≡ accepted p → DeviceStarts p x → NoGap [] (deviceSents limit x inputs)

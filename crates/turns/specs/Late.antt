@@ -1,24 +1,27 @@
+-- To be believed: what the engine must do, or what is claimed of it.
 -- Document 02, item 14: masters switched on when it suits. Each master starts at a tick of its own. The statement in the item's words; what a run shows is what each party sends, tells and answers in each tick.
 use Prim.Native.Nat.{ℕ, zero, suc, _+_, _-_, _≤_, _<_}
 use mathlib.Core.Path.{_≡_}
 use mathlib.Core.Bool.{Bool, true, false}
 use mathlib.Core.List.{List, [], _∷_}
 use lib.ListN.{length, drop}
+use Rattle.base.specs.Refusal.{accepted}
+use Rattle.frame.specs.Limits.{longestFrame}
 use Rattle.line.specs.Profile.{profileMade}
 use Rattle.line.specs.Reader.{passing, tells, taken}
 use Rattle.line.specs.declared.Event.{Event}
 use Rattle.line.specs.declared.Event.the-variants.{Nothing, Frame}
 use Rattle.line.specs.declared.Heard.{Heard}
 use Rattle.line.specs.declared.Heard.the-variants.{Silence}
-use Rattle.line.specs.declared.MadeProfile.the-variants.{Made}
 use Rattle.line.specs.declared.Profile.{Profile}
 use Rattle.line.specs.declared.Receiver.{Receiver}
 use Rattle.line.specs.declared.Taken.{Taken}
 use Rattle.line.specs.declared.Whole.{Whole}
-use Rattle.turns.specs.Link.{MasterCall, none, MasterSide, MasterStep, DeviceCall, DeviceSide, Link, LinkStep, Calls, masterTick, deviceTick, deviceTicks, linkAfter}
+use Rattle.turns.specs.Party.{none}
+use Rattle.turns.specs.Link.{MasterCall, MasterSide, MasterStep, DeviceCall, DeviceSide, Link, LinkStep, Calls, masterTick, deviceTick, deviceTicks, linkAfter}
 use Rattle.turns.specs.Run.{All, Distinct, MasterStarts, DeviceStarts, count, deviceSenders, senders, EachTick}
 use Rattle.turns.specs.Ledgers.{blanks, OneFinds}
-use Rattle.turns.specs.Demand3.{masterIn, AcceptedIn, BeginsWithin, NoneBurstsIn, longestFrame, longestWait}
+use Rattle.turns.specs.Demand3.{masterIn, AcceptedIn, BeginsWithin, NoneBurstsIn, longestWait}
 use Rattle.turns.specs.declared.MasterTold.{MasterTold}
 use Rattle.turns.specs.declared.Sent.{Sent}
 use Rattle.turns.specs.declared.Sent.the-variants.{Silent, Character}
@@ -28,7 +31,7 @@ use Rattle.turns.specs.declared.Sent.the-variants.{Silent, Character}
 -- a master that starts in n ticks: until then it neither hears, nor takes a call, nor sends. In its start tick it does what it does in tick 0 of the common start: it hears nothing, and its host may ask.
 abbrev pub lateMaster : ℕ → ℕ → MasterSide → Heard → MasterCall → MasterStep
 lateMaster limit zero x heard call = masterTick limit x heard call
-lateMaster limit (suc n) x heard call = record { side = x; sent = Silent; told = MasterTold.Nothing; answer = none }
+lateMaster limit (suc n) x heard call = record { side = x; sent = Silent; told = MasterTold.Nothing; result = none }
 
 -- a tick of the link; the primary starts in a ticks, the secondary in b
 unfoldable pub lateTick : ℕ → ℕ → ℕ → Link → Calls → LinkStep
@@ -52,7 +55,7 @@ pub data Started (limit : ℕ) (p : Profile) (line : Heard) : DeviceSide → Typ
 
 -- the masters of l are those that their starts made, and its devices share no address. That no character is otherwise damaged or lost is how the line is defined in Link.
 pub record LatePremises (limit : ℕ) (p : Profile) (retries a b : ℕ) (l : Link) (ticks : List Calls) : Type 0 where
-  pub made : profileMade p ≡ Made p
+  pub made : profileMade p ≡ accepted p
   pub primary : MasterStarts p true retries (l .primary)
   pub secondary : MasterStarts p false retries (l .secondary)
   pub devices : All (Started limit p (l .line)) (l .devices)

@@ -1,3 +1,4 @@
+-- To be believed: what the engine must do, or what is claimed of it.
 -- Document 02, items 1 and 14: "turns on a sound pair are those of document 01" where each master starts at a tick of its own, too. Document 01's run with these starts is written out, and under item 14's premises the two runs are equal.
 use Prim.Native.Nat.{ℕ, zero, suc, _-_}
 use mathlib.Core.Path.{_≡_}

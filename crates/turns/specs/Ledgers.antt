@@ -1,11 +1,12 @@
+-- To be believed: what the engine must do, or what is claimed of it.
 -- For each device a ledger of what its host was told and gave, from what a run shows; and the premise of item 6 on the answers to command 11.
 use Prim.Native.Nat.{ℕ, _+_, _≤_}
 use mathlib.Core.Bool.{Bool, true, false}
 use mathlib.Core.List.{List, [], _∷_}
 use Rattle.base.specs.Choice.{if_then_else_}
 use Rattle.frame.specs.declared.Header.{Header}
-use Rattle.turns.specs.Master.{seeksTag}
-use Rattle.turns.specs.Link.{DeviceCall, no-call, gives-answer, gives-content, Answer, none, was-taken, was-refused, DeviceSide, DeviceStep, LinkStep, Calls}
+use Rattle.turns.specs.Party.{seeksTag, CallResult, none, was-taken, was-refused}
+use Rattle.turns.specs.Link.{DeviceCall, no-call, gives-answer, gives-content, DeviceSide, DeviceStep, LinkStep, Calls}
 use Rattle.turns.specs.declared.DeviceTold.{DeviceTold}
 use Rattle.turns.specs.declared.DeviceTold.the-variants.{Request, Broadcast}
 
@@ -30,19 +31,19 @@ answeredWith put blank = blank
 answeredWith put (told h) = given h put
 answeredWith put (given h before) = given h before
 
-abbrev pub answerBy : List ℕ → Answer → Ledger → Ledger
+abbrev pub answerBy : List ℕ → CallResult → Ledger → Ledger
 answerBy put none g = g
 answerBy put was-taken g = answeredWith put g
 answerBy put (was-refused why) g = g
 
-abbrev pub calledBy : DeviceCall → Answer → Ledger → Ledger
+abbrev pub calledBy : DeviceCall → CallResult → Ledger → Ledger
 calledBy no-call a g = g
 calledBy (gives-answer wish put) a g = answerBy put a g
 calledBy (gives-content command put) a g = g
 
 -- a tick of the device
 abbrev pub ledgerAfter : DeviceCall → DeviceStep → Ledger → Ledger
-ledgerAfter c s g = calledBy c (s .answer) (toldBy (s .told) g)
+ledgerAfter c s g = calledBy c (s .result) (toldBy (s .told) g)
 
 unfoldable pub ledgersAfter : List DeviceCall → List DeviceStep → List Ledger → List Ledger
 ledgersAfter calls [] gs = []

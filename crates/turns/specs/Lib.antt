@@ -1,6 +1,8 @@
 -- The rules of turns, from document 01: "Timers", "Master's turns", "Device's turns", "Runs of the link" and "Refusals"; then what is proved of whole runs, and "Settled by proof".
+pub mod Party
 pub mod Master
 pub mod Device
+pub mod Told
 pub mod Link
 pub mod Run
 pub mod Ledgers

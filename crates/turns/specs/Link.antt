@@ -1,16 +1,18 @@
+-- To be believed: what the engine must do, or what is claimed of it.
 -- Document 01, "Line and ticks" and "Runs of the link": one primary, one secondary and devices on one line; a tick of them all, and a run over a list of ticks.
 use Prim.Native.Nat.{ℕ}
 use mathlib.Core.List.{List, [], _∷_}
 use lib.ListN.{length}
+use Rattle.base.specs.Refusal.{Called, accepted, refused}
 use Rattle.base.specs.Choice.{if_then_else_}
 use Rattle.base.specs.Store.{stored}
-use Rattle.base.specs.declared.Refusal.{Refusal}
 use Rattle.frame.specs.Frame.{frameBytes}
 use Rattle.line.specs.Reader.{takenData}
 use Rattle.line.specs.declared.Damage.the-variants.{Framing}
 use Rattle.line.specs.declared.Heard.{Heard}
 use Rattle.line.specs.declared.Heard.the-variants.{Silence, Character, Damaged}
-use Rattle.turns.specs.Master.{Called, accepted, refused, Request, requested, requestHeader, masterTakes, masterSends}
+use Rattle.turns.specs.Party.{Request, CallResult, none, was-taken, was-refused}
+use Rattle.turns.specs.Master.{requested, requestHeader, masterTakes, masterSends}
 use Rattle.turns.specs.Device.{answered, answerFrame, contentGiven, deviceTakes, deviceSends, errorFrame, begunFrame}
 use Rattle.turns.specs.declared.Sent.{Sent}
 use Rattle.turns.specs.declared.Sent.the-variants.{Silent}
@@ -34,12 +36,6 @@ pub data DeviceCall : Type 0 where
   gives-answer : Wish → List ℕ → DeviceCall
   gives-content : ℕ → List ℕ → DeviceCall
 
--- what became of a call
-pub data Answer : Type 0 where
-  none : Answer
-  was-taken : Answer
-  was-refused : Refusal → Answer
-
 -- ---- a master with its lent buffers, and its tick
 
 pub record MasterSide : Type 0 where
@@ -53,13 +49,13 @@ pub record MasterStep : Type 0 where
   pub side : MasterSide
   pub sent : Sent
   pub told : MasterTold
-  pub answer : Answer
+  pub result : CallResult
 
 abbrev pub masterData : MasterSide → Heard → List ℕ
 masterData x heard = if x .master .deaf then x .bytes else takenData (x .master .receiver) heard (x .bytes)
 
-abbrev pub masterSent : MasterSent → List ℕ → List ℕ → MasterTold → Answer → MasterStep
-masterSent s frame bytes told answer = record { side = record { master = s .master; frame = frame; bytes = bytes }; sent = s .sent; told = told; answer = answer }
+abbrev pub masterSent : MasterSent → List ℕ → List ℕ → MasterTold → CallResult → MasterStep
+masterSent s frame bytes told result = record { side = record { master = s .master; frame = frame; bytes = bytes }; sent = s .sent; told = told; result = result }
 
 abbrev pub masterCalled : Called Master → Master → List ℕ → List ℕ → List ℕ → MasterTold → MasterStep
 masterCalled (accepted m) before put frame bytes told = masterSent (masterSends m (stored frame 0 put)) (stored frame 0 put) bytes told was-taken
@@ -89,7 +85,7 @@ pub record DeviceStep : Type 0 where
   pub side : DeviceSide
   pub sent : Sent
   pub told : DeviceTold
-  pub answer : Answer
+  pub result : CallResult
 
 abbrev pub deviceData : DeviceSide → Heard → List ℕ
 deviceData x heard = if x .device .deaf then x .bytes else takenData (x .device .receiver) heard (x .bytes)
@@ -98,8 +94,8 @@ deviceData x heard = if x .device .deaf then x .bytes else takenData (x .device 
 abbrev pub heardFrame : DeviceSide → Heard → List ℕ
 heardFrame x heard = errorFrame (x .device) (deviceTakes (x .device) heard .event) (x .frame)
 
-abbrev pub deviceSent : Device → List ℕ → List ℕ → List ℕ → DeviceTold → Answer → DeviceStep
-deviceSent d frame bytes contents told answer = record {
+abbrev pub deviceSent : Device → List ℕ → List ℕ → List ℕ → DeviceTold → CallResult → DeviceStep
+deviceSent d frame bytes contents told result = record {
   side = record {
     device = deviceSends d (begunFrame d (d .turn) contents frame) .device;
     frame = begunFrame d (d .turn) contents frame;
@@ -108,12 +104,13 @@ deviceSent d frame bytes contents told answer = record {
   };
   sent = deviceSends d (begunFrame d (d .turn) contents frame) .sent;
   told = told;
-  answer = answer;
+  result = result;
 }
 
+-- `written` is the frame buffer with the answer
 abbrev pub answerCalled : Called Device → Device → List ℕ → List ℕ → List ℕ → List ℕ → DeviceTold → DeviceStep
-answerCalled (accepted d) before put frame bytes contents told = deviceSent d (stored frame 0 put) bytes contents told was-taken
-answerCalled (refused why) before put frame bytes contents told = deviceSent before frame bytes contents told (was-refused why)
+answerCalled (accepted d) before written frame bytes contents told = deviceSent d written bytes contents told was-taken
+answerCalled (refused why) before written frame bytes contents told = deviceSent before frame bytes contents told (was-refused why)
 
 abbrev pub contentCalled : Called Device → Device → List ℕ → List ℕ → List ℕ → List ℕ → DeviceTold → DeviceStep
 contentCalled (accepted d) before put frame bytes contents told = deviceSent d frame bytes (stored contents 0 put) told was-taken
@@ -122,7 +119,7 @@ contentCalled (refused why) before put frame bytes contents told = deviceSent be
 abbrev pub deviceCalls : ℕ → DeviceTaken → DeviceCall → List ℕ → List ℕ → List ℕ → DeviceStep
 deviceCalls limit t no-call frame bytes contents = deviceSent (t .device) frame bytes contents (t .told) none
 deviceCalls limit t (gives-answer wish put) frame bytes contents =
-    answerCalled (answered limit (t .device) wish (length put)) (t .device) (answerFrame (t .device) wish put) frame bytes contents (t .told)
+    answerCalled (answered limit (t .device) wish (length put)) (t .device) (answerFrame (t .device) wish put frame) frame bytes contents (t .told)
 deviceCalls limit t (gives-content command put) frame bytes contents =
     contentCalled (contentGiven limit (t .device) command (length put)) (t .device) put frame bytes contents (t .told)
 

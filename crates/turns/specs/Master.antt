@@ -1,16 +1,17 @@
+-- To be believed: what the engine must do, or what is claimed of it.
 -- Document 01, "Master's turns", with "Timers" and the refusals of master start and master request. A tick of a master is: take what was heard, then the host's request, then send.
 use Prim.Native.Nat.{ℕ, _+_, _-_, _*_, _/_}
 use mathlib.Core.Bool.{Bool, true, false}
 use mathlib.Core.List.{List}
 use lib.ListN.{length}
 use Rattle.base.specs.Choice.{if_then_else_, _<?_, _≤?_, _=?_, _outside_to_}
-use Rattle.base.specs.declared.Refusal.{Refusal}
-use Rattle.base.specs.declared.Refusal.the-variants.{BadRetries, PreambleLength, Address, Command, DataLong, MessageInHand}
+use Rattle.base.specs.Refusal.{Called, accepted, refused}
+use Rattle.frame.specs.Limits.{fewestPreambles, mostPreambles, reservedCommand}
 use Rattle.frame.specs.Delimiter.{stx, ack, back}
 use Rattle.frame.specs.Address.{byteAt, addressTooLarge}
 use Rattle.frame.specs.Frame.{frameLength}
 use Rattle.frame.specs.declared.Header.{Header}
-use Rattle.line.specs.Reader.{passing, taken, noHeader}
+use Rattle.line.specs.Reader.{passing, taken, noHeader, insideFrame}
 use Rattle.line.specs.declared.Event.{Event}
 use Rattle.line.specs.declared.Event.the-variants.{Nothing, PassedOver, Broken, Frame, Damaged}
 use Rattle.line.specs.declared.Heard.{Heard}
@@ -18,6 +19,7 @@ use Rattle.line.specs.declared.Heard.the-variants.{Silence, Character}
 use Rattle.line.specs.declared.Profile.{Profile}
 use Rattle.line.specs.declared.Receiver.{Receiver}
 use Rattle.line.specs.declared.Whole.{Whole}
+use Rattle.turns.specs.Party.{isBroadcast, seeksTag, Request}
 use Rattle.turns.specs.declared.Sent.{Sent}
 use Rattle.turns.specs.declared.Sent.the-variants.{Silent}
 use Rattle.turns.specs.declared.Timer.{Timer}
@@ -35,16 +37,16 @@ use Rattle.turns.specs.declared.MasterSent.{MasterSent}
 -- ---- what a master is made of
 
 -- "RT1 is its own RT1"
-abbrev pub ownRt1 : Master → ℕ
-ownRt1 m = if m .primary then m .profile .rt1p else m .profile .rt1s
+abbrev pub ownRt1 : Profile → Bool → ℕ
+ownRt1 p primary = if primary then p .rt1p else p .rt1s
 
 -- "the quiet time from the last character: 2×RT1 primary for the primary, RT2 more for the secondary"
-abbrev pub quietTime : Master → ℕ
-quietTime m = if m .primary then 2 * m .profile .rt1p else 2 * m .profile .rt1p + m .profile .rt2
+abbrev pub quietTime : Profile → Bool → ℕ
+quietTime p primary = if primary then 2 * p .rt1p else 2 * p .rt1p + p .rt2
 
 -- the same master with other parts
-abbrev pub behind : Master → Receiver → Bool → Noted → Timer → Message → Master
-behind m r burst noted timer message = record {
+abbrev pub masterWith : Master → Receiver → Bool → Noted → Timer → Message → Master
+masterWith m r burst noted timer message = record {
   primary = m .primary;
   profile = m .profile;
   retries = m .retries;
@@ -56,18 +58,18 @@ behind m r burst noted timer message = record {
   message = message;
 }
 
-abbrev pub staged : Message → Stage → Message
-staged g stage = record { stage = stage; header = g .header; length = g .length; attempts = g .attempts }
+abbrev pub messageAt : Message → Stage → Message
+messageAt g stage = record { stage = stage; header = g .header; length = g .length; attempts = g .attempts }
 
--- ---- timers and windows
+-- ---- timers and windows: each number is in silent line ticks, and 0 is a timer that does not run or a window that is not open
 
--- a timer n: "any character stops it", and it counts anew from there
+-- a timer n
 abbrev pub timer : ℕ → Timer
 timer n = record { next = n; window = 0; quiet = 0 }
 
--- with BURST set: the quiet time, and a timer n if n is not 0
-abbrev pub burstTimer : Master → ℕ → Timer
-burstTimer m n = record { next = n; window = 0; quiet = quietTime m }
+-- with BURST set: a timer n, and the quiet time
+abbrev pub burstTimer : Profile → Bool → ℕ → Timer
+burstTimer p primary n = record { next = n; window = 0; quiet = quietTime p primary }
 
 -- "A timer's end opens a window." "An unused window opens again 2×RT2 ticks after it opened"
 abbrev pub opened : Profile → Timer
@@ -75,7 +77,7 @@ opened p = record { next = 2 * p .rt2; window = p .hold; quiet = 0 }
 
 -- a silent tick with BURST clear
 abbrev pub countClear : Profile → Timer → Timer
-countClear p t = if t .next ≤? 1 then opened p else record { next = t .next - 1; window = t .window - 1; quiet = 0 }
+countClear p t = if t .next =? 1 then opened p else record { next = t .next - 1; window = t .window - 1; quiet = 0 }
 
 -- a silent tick with BURST set, before the quiet time's end: a window that opens does not open again
 abbrev pub countBurst : Profile → Timer → Timer
@@ -85,20 +87,10 @@ countBurst p t =
 
 -- the quiet time's "end clears BURST", and opens a window
 abbrev pub timerCounted : Master → Timer
-timerCounted m = if m .burst then (if m .timer .quiet ≤? 1 then opened (m .profile) else countBurst (m .profile) (m .timer)) else countClear (m .profile) (m .timer)
+timerCounted m = if m .burst then (if m .timer .quiet =? 1 then opened (m .profile) else countBurst (m .profile) (m .timer)) else countClear (m .profile) (m .timer)
 
 abbrev pub burstCounted : Master → Bool
-burstCounted m = if m .burst then (if m .timer .quiet ≤? 1 then false else true) else false
-
--- ---- broadcast
-
--- "Unique address 0 is broadcast."
-abbrev pub isBroadcast : Header → Bool
-isBroadcast h = if h .long then h .address =? 0 else false
-
--- item 6: "command 11, sent to the broadcast address"; its ACK too, since "Our transmitters repeat the request's address bytes"
-abbrev pub seeksTag : Header → Bool
-seeksTag h = if isBroadcast h then h .command =? 11 else false
+burstCounted m = if m .burst then (if m .timer .quiet =? 1 then false else true) else false
 
 -- ---- BURST
 
@@ -128,35 +120,62 @@ notedAfter noted h =
     if h .frame =? ack then (if h .burst then (if namesDevice h then addressOf h else noted) else noted)
     else noted
 
--- ---- the timer behind a frame
+-- ---- the timer behind what ended
+
+-- what ended on the line, for this master
+pub data Ended : Type 0 where
+  -- nothing yet: the master is fresh
+  fresh : Ended
+  -- nothing: a frame goes on, heard or its own
+  inside : Ended
+  -- "a broken or damaged frame", and "characters passed over"
+  broken : Ended
+  any-stx : Ended
+  ack-to-itself : Ended
+  ack-to-other : Ended
+  back-to-itself : Ended
+  back-to-other : Ended
 
 -- the master bit of a frame is its own
 abbrev pub toItself : Master → Header → Bool
 toItself m h = if m .primary then h .primary else (if h .primary then false else true)
 
--- "BURST clear, and fresh, after a broken or damaged frame, or after any STX: timer RT1." "ACK to the other master, BURST clear: timer 1. ACK to itself, BURST clear: timer RT2."
-abbrev pub clearTimer : Master → Header → Timer
-clearTimer m h = if h .frame =? ack then (if toItself m h then timer (m .profile .rt2) else timer 1) else timer (ownRt1 m)
+-- a whole frame without damage
+abbrev pub endedBy : Master → Header → Ended
+endedBy m h =
+    if h .frame =? back then (if toItself m h then back-to-itself else back-to-other) else
+    if h .frame =? ack then (if toItself m h then ack-to-itself else ack-to-other) else
+    any-stx
 
--- "BURST set: after a BACK to the other master timer 1. After anything else, a broken frame included, .. the quiet time"
-abbrev pub setTimer : Master → Header → Timer
-setTimer m h = if h .frame =? back then (if toItself m h then burstTimer m 0 else burstTimer m 1) else burstTimer m 0
-
--- "BURST is brought up to date before the frame's timer is chosen."
-abbrev pub timerAfter : Master → Bool → Header → Timer
-timerAfter m burst h = if burst then setTimer m h else clearTimer m h
-
-abbrev pub brokenTimer : Master → Timer
-brokenTimer m = if m .burst then burstTimer m 0 else timer (ownRt1 m)
+-- by what ended, and BURST behind it: "BURST is brought up to date before the frame's timer is chosen." A BACK has set it, and a fresh master's is clear.
+abbrev pub timerAfter : Profile → Bool → Ended → Bool → Timer
+-- "BURST clear, and fresh, after a broken or damaged frame, or after any STX: timer RT1."
+timerAfter p primary fresh burst = timer (ownRt1 p primary)
+timerAfter p primary broken false = timer (ownRt1 p primary)
+timerAfter p primary any-stx false = timer (ownRt1 p primary)
+-- "ACK to the other master, BURST clear: timer 1."
+timerAfter p primary ack-to-other false = timer 1
+-- "ACK to itself, BURST clear: timer RT2."
+timerAfter p primary ack-to-itself false = timer (p .rt2)
+-- "BURST set: after a BACK to the other master timer 1."
+timerAfter p primary back-to-other burst = burstTimer p primary 1
+-- "After anything else, a broken frame included, .. the quiet time from the last character"
+timerAfter p primary back-to-itself burst = burstTimer p primary 0
+timerAfter p primary ack-to-other true = burstTimer p primary 0
+timerAfter p primary ack-to-itself true = burstTimer p primary 0
+timerAfter p primary any-stx true = burstTimer p primary 0
+timerAfter p primary broken true = burstTimer p primary 0
+-- "any character stops it"
+timerAfter p primary inside burst = timer 0
 
 -- ---- the message's end
 
 abbrev pub ends : Message → MasterTold → Ending
-ends g told = record { message = staged g Free; told = told }
+ends g told = record { message = messageAt g Free; told = told }
 
 -- "R failed retries after the first attempt end the message as given up, with the attempts, equal to the STX frames sent"
 abbrev pub fails : ℕ → Message → Ending
-fails retries g = if g .attempts ≤? retries then record { message = staged g Waiting; told = MasterTold.Nothing } else ends g (GivenUp (g .attempts))
+fails retries g = if g .attempts ≤? retries then record { message = messageAt g Waiting; told = MasterTold.Nothing } else ends g (GivenUp (g .attempts))
 
 -- "the ACK with its master bit, address and command": the address is the long or short form and its bits
 abbrev pub sameBit : Bool → Bool → Bool
@@ -197,10 +216,10 @@ tells m told event = record { master = m; told = told; event = event }
 -- behind a frame: BURST, then the timer, and the message
 abbrev pub afterFrame : Master → Receiver → Whole → List ℕ → MasterTaken
 afterFrame m r w bytes =
-    tells (behind m r
+    tells (masterWith m r
     (burstAfter (m .burst) (m .noted) (w .header))
     (notedAfter (m .noted) (w .header))
-    (timerAfter m (burstAfter (m .burst) (m .noted) (w .header)) (w .header))
+    (timerAfter (m .profile) (m .primary) (endedBy m (w .header)) (burstAfter (m .burst) (m .noted) (w .header)))
     (ifAwaiting (m .message .stage) (m .message) (atFrame m w bytes) .message))
     (ifAwaiting (m .message .stage) (m .message) (atFrame m w bytes) .told)
     (Frame w)
@@ -208,13 +227,17 @@ afterFrame m r w bytes =
 -- "For turns and BURST a damaged frame is neither STX, ACK nor BACK", "and characters passed over are a broken frame"
 abbrev pub afterBreak : Master → Receiver → Event → MasterTaken
 afterBreak m r event =
-    tells (behind m r (m .burst) (m .noted) (brokenTimer m) (ifAwaiting (m .message .stage) (m .message) (atBreak m) .message))
+    tells (masterWith m r (m .burst) (m .noted) (timerAfter (m .profile) (m .primary) broken (m .burst)) (ifAwaiting (m .message .stage) (m .message) (atBreak m) .message))
     (ifAwaiting (m .message .stage) (m .message) (atBreak m) .told)
     event
 
--- behind a character, by what the reader tells: inside a frame the timer is stopped
+-- a character of a frame that goes on
+abbrev pub frameGoesOn : Master → Receiver → MasterTaken
+frameGoesOn m r = tells (masterWith m r (m .burst) (m .noted) (timerAfter (m .profile) (m .primary) inside (m .burst)) (m .message)) MasterTold.Nothing Nothing
+
+-- behind a character, by what the reader tells
 abbrev pub onCharacter : Master → Receiver → Event → List ℕ → MasterTaken
-onCharacter m r Nothing bytes = tells (behind m r (m .burst) (m .noted) (timer 0) (m .message)) MasterTold.Nothing Nothing
+onCharacter m r Nothing bytes = frameGoesOn m r
 onCharacter m r PassedOver bytes = afterBreak m r PassedOver
 onCharacter m r Broken bytes = afterBreak m r Broken
 onCharacter m r (Frame w) bytes = afterFrame m r w bytes
@@ -245,26 +268,28 @@ unlessEnded (Awaiting n) t = t
 abbrev pub counts : Master → MasterTold → Event → MasterTaken
 counts m told event =
     if rt1Ends (m .message .stage) then
-    tells (behind m (m .receiver) (burstCounted m) (m .noted) (unlessEnded (atBreak m .message .stage) (timerCounted m)) (atBreak m .message)) (atBreak m .told) event
+    tells (masterWith m (m .receiver) (burstCounted m) (m .noted) (unlessEnded (atBreak m .message .stage) (timerCounted m)) (atBreak m .message)) (atBreak m .told) event
     else
-    tells (behind m (m .receiver) (burstCounted m) (m .noted) (timerCounted m) (staged (m .message) (waited (m .message .stage)))) told event
+    tells (masterWith m (m .receiver) (burstCounted m) (m .noted) (timerCounted m) (messageAt (m .message) (waited (m .message .stage)))) told event
 
 -- "both then count in the timers"
 abbrev pub countsTwice : Master → MasterTold → Event → MasterTaken
 countsTwice m told event = counts (counts m told event .master) (counts m told event .told) event
 
--- behind a silent tick: one that is passed over inside a frame counts nothing; the second in a row breaks the frame, and both count in the timer behind it
-abbrev pub onSilence : Master → Receiver → Event → MasterTaken
-onSilence m r Nothing =
-    if r .gap then tells (behind m r (m .burst) (m .noted) (m .timer) (m .message)) MasterTold.Nothing Nothing
-    else counts (behind m r (m .burst) (m .noted) (m .timer) (m .message)) MasterTold.Nothing Nothing
-onSilence m r PassedOver = counts (afterBreak m r PassedOver .master) (afterBreak m r PassedOver .told) PassedOver
-onSilence m r Broken = countsTwice (afterBreak m r Broken .master) (afterBreak m r Broken .told) Broken
-onSilence m r (Frame w) = counts (afterBreak m r (Frame w) .master) (afterBreak m r (Frame w) .told) (Frame w)
-onSilence m r (Damaged w h) = counts (afterBreak m r (Damaged w h) .master) (afterBreak m r (Damaged w h) .told) (Damaged w h)
+-- the same master with the reader behind a silent tick
+abbrev pub withReader : Master → Receiver → Master
+withReader m r = masterWith m r (m .burst) (m .noted) (m .timer) (m .message)
+
+-- a silent tick that is passed over inside a frame counts nothing; the second in a row breaks the frame, and both count in the timer behind it; outside a frame each is counted
+abbrev pub onSilence : Master → Receiver → MasterTaken
+onSilence m r =
+    if insideFrame (m .receiver .place) then
+    (if m .receiver .gap then countsTwice (afterBreak m r Broken .master) (afterBreak m r Broken .told) Broken
+    else tells (withReader m r) MasterTold.Nothing Nothing)
+    else counts (withReader m r) MasterTold.Nothing Nothing
 
 abbrev pub onHeard : Master → Heard → List ℕ → MasterTaken
-onHeard m Silence bytes = onSilence m (taken (m .receiver) Silence .receiver) (taken (m .receiver) Silence .event)
+onHeard m Silence bytes = onSilence m (taken (m .receiver) Silence .receiver)
 onHeard m (Character c) bytes = onCharacter m (taken (m .receiver) (Character c) .receiver) (taken (m .receiver) (Character c) .event) bytes
 onHeard m (Heard.Damaged c kind) bytes = onCharacter m (taken (m .receiver) (Heard.Damaged c kind) .receiver) (taken (m .receiver) (Heard.Damaged c kind) .event) bytes
 
@@ -273,13 +298,6 @@ unfoldable pub masterTakes : Master → Heard → List ℕ → MasterTaken
 masterTakes m heard bytes = if m .deaf then tells m MasterTold.Nothing Nothing else onHeard m heard bytes
 
 -- ---- the host's request
-
--- what a request says, its data aside
-pub record Request : Type 0 where
-  pub preamble : ℕ
-  pub long : Bool
-  pub address : ℕ
-  pub command : ℕ
 
 abbrev pub requestHeader : Master → Request → Header
 requestHeader m q = record { frame = stx; long = q .long; primary = m .primary; burst = false; address = q .address; command = q .command }
@@ -292,22 +310,17 @@ hasMessage (Awaiting n) = true
 
 -- "5: command 254, or a short address with a command but 0"
 abbrev pub commandRefused : Request → Bool
-commandRefused q = if q .command =? 254 then true else if q .long then false else (if q .command =? 0 then false else true)
-
--- what a call of a host comes to
-pub data Called (A : Type 0) : Type 0 where
-  accepted : A → Called A
-  refused : Refusal → Called A
+commandRefused q = if q .command =? reservedCommand then true else if q .long then false else (if q .command =? 0 then false else true)
 
 -- "3: preamble outside 5 to 20; 4: polling above 63 or unique above 38 bits; 5; 6: data above 255; 7: a message is in hand". `limit` is the longest data, 255.
 unfoldable pub requested : ℕ → Master → Request → ℕ → Called Master
 requested limit m q count =
-    if q .preamble outside 5 to 20 then refused PreambleLength else
-    if addressTooLarge (requestHeader m q) then refused Address else
-    if commandRefused q then refused Command else
-    if limit <? count then refused DataLong else
-    if hasMessage (m .message .stage) then refused MessageInHand else
-    accepted (behind m (m .receiver) (m .burst) (m .noted) (m .timer)
+    if q .preamble outside fewestPreambles to mostPreambles then refused 3 else
+    if addressTooLarge (requestHeader m q) then refused 4 else
+    if commandRefused q then refused 5 else
+    if limit <? count then refused 6 else
+    if hasMessage (m .message .stage) then refused 7 else
+    accepted (masterWith m (m .receiver) (m .burst) (m .noted) (m .timer)
     (record { stage = Waiting; header = requestHeader m q; length = frameLength (q .preamble) (requestHeader m q) count; attempts = 0 }))
 
 -- ---- send
@@ -336,9 +349,9 @@ attempted g stage attempts = record { stage = stage; header = g .header; length 
 abbrev pub sendsAt : Master → List ℕ → ℕ → ℕ → MasterSent
 sendsAt m frame n attempts =
     if n + 1 <? m .message .length then
-    sends m true (timer 0) (attempted (m .message) (Sending (n + 1)) attempts) passing (Sent.Character (byteAt frame n))
+    sends m true (timerAfter (m .profile) (m .primary) inside (m .burst)) (attempted (m .message) (Sending (n + 1)) attempts) passing (Sent.Character (byteAt frame n))
     else
-    sends m true (brokenTimer m) (attempted (m .message) (Awaiting (ownRt1 m)) attempts) passing (Sent.Character (byteAt frame n))
+    sends m true (timerAfter (m .profile) (m .primary) any-stx (m .burst)) (attempted (m .message) (Awaiting (ownRt1 (m .profile) (m .primary))) attempts) passing (Sent.Character (byteAt frame n))
 
 -- one attempt more: a message that waits has a retry left, and its attempts are at most R
 abbrev pub oneMore : ℕ → ℕ → ℕ
@@ -369,9 +382,9 @@ freshMaster p primary retries = record {
   deaf = true;
   burst = false;
   noted = record { long = false; address = 0 };
-  timer = timer (if primary then p .rt1p else p .rt1s);
+  timer = timerAfter p primary fresh false;
   message = noMessage;
 }
 
 abbrev pub masterStarts : Profile → Bool → ℕ → Called Master
-masterStarts p primary retries = if retries outside 3 to 15 then refused BadRetries else accepted (freshMaster p primary retries)
+masterStarts p primary retries = if retries outside 3 to 15 then refused 2 else accepted (freshMaster p primary retries)

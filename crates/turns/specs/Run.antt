@@ -1,11 +1,14 @@
+-- To be believed: what the engine must do, or what is claimed of it.
 -- What is said of a run of the link: document 01, "Runs of the link". How the parties start, what is asked of the devices, and who sends.
 use Prim.Native.Nat.{ℕ, _+_, _≤_}
 use mathlib.Core.Path.{_≡_}
 use mathlib.Core.Bool.{Bool, true, false}
 use mathlib.Core.List.{List, [], _∷_}
 use lib.ListN.{length}
+use Rattle.base.specs.Refusal.{accepted}
+use Rattle.frame.specs.Limits.{mostData, longestFrame}
 use Rattle.line.specs.declared.Profile.{Profile}
-use Rattle.turns.specs.Master.{accepted, masterStarts}
+use Rattle.turns.specs.Master.{masterStarts}
 use Rattle.turns.specs.Device.{deviceStarts}
 use Rattle.turns.specs.Link.{MasterSide, DeviceSide, DeviceStep, Link, LinkStep, sides}
 use Rattle.turns.specs.declared.Sent.{Sent}
@@ -38,7 +41,7 @@ pub data Sole : List DeviceSide → Type 0 where
 -- a master that its start accepted, with room for the longest frame
 pub record MasterStarts (p : Profile) (primary : Bool) (retries : ℕ) (x : MasterSide) : Type 0 where
   pub starts : masterStarts p primary retries ≡ accepted (x .master)
-  pub room : 284 ≤ length (x .frame)
+  pub room : longestFrame mostData ≤ length (x .frame)
 
 -- a device that its start accepted, with room for the longest frame and the longest content
 pub record DeviceStarts (p : Profile) (x : DeviceSide) : Type 0 where
@@ -46,8 +49,8 @@ pub record DeviceStarts (p : Profile) (x : DeviceSide) : Type 0 where
   pub polling : ℕ
   pub unique : ℕ
   pub starts : deviceStarts p preamble polling unique ≡ accepted (x .device)
-  pub room : 284 ≤ length (x .frame)
-  pub content-room : 255 ≤ length (x .contents)
+  pub room : longestFrame mostData ≤ length (x .frame)
+  pub content-room : mostData ≤ length (x .contents)
 
 -- "a primary master, a secondary master and devices that share no address all start in the same tick with one profile and one retry limit R"
 pub record Starts (p : Profile) (retries : ℕ) (l : Link) : Type 0 where

@@ -1,21 +1,23 @@
+-- To be believed: what the engine must do, or what is claimed of it.
 -- Document 01, "Settled by proof": the ten questions M1 to M10, and what the definitions give for each. The table is proved as a whole in proofs/Settled.antt.
 use Prim.Native.Nat.{ℕ, _+_, _-_, _≤_}
 use mathlib.Core.Path.{_≡_}
 use mathlib.Core.Bool.{true, false}
 use mathlib.Core.List.{List, [], _∷_, _++_}
 use lib.ListN.{length, replicate}
-use Rattle.base.specs.Refusal.{number}
+use Rattle.base.specs.Refusal.{Called, accepted, refused}
+use Rattle.frame.specs.Limits.{fewestPreambles, largestPolling, mostData, longestFrame}
 use Rattle.frame.specs.Delimiter.{stx}
 use Rattle.frame.specs.Frame.{frameBytes, preambleBytes, protectedBytes}
 use Rattle.frame.specs.Write.{writeAnswer}
 use Rattle.frame.specs.declared.Header.{Header}
-use Rattle.frame.specs.declared.Written.the-variants.{To}
 use Rattle.line.specs.Profile.{fskProfile}
 use Rattle.line.specs.declared.Heard.{Heard}
 use Rattle.line.specs.declared.Heard.the-variants.{Silence, Character}
-use Rattle.turns.specs.Master.{Called, accepted, refused, freshMaster, requested}
+use Rattle.turns.specs.Party.{CallResult, none, was-taken, was-refused}
+use Rattle.turns.specs.Master.{freshMaster, requested}
 use Rattle.turns.specs.Device.{freshDevice}
-use Rattle.turns.specs.Link.{no-call, gives-answer, Answer, none, was-taken, was-refused, DeviceSide, deviceTick}
+use Rattle.turns.specs.Link.{no-call, gives-answer, DeviceSide, deviceTick}
 use Rattle.turns.specs.declared.Wish.the-variants.{Same}
 
 pub data Question : Type 0 where
@@ -43,20 +45,20 @@ pub record CheckByte (bytes : List ℕ) (check : ℕ) : Type 0 where
   pub header : Header
   pub content : List ℕ
   pub has-bytes : protectedBytes header content ≡ bytes
-  pub is-written : writeAnswer 5 header (length content) 284 0 ≡ To (5 + length bytes + 1)
+  pub is-written : writeAnswer fewestPreambles header (length content) (longestFrame mostData) 0 ≡ accepted (fewestPreambles + length bytes + 1)
   pub every : (preamble : ℕ) (h : Header) (put : List ℕ) → protectedBytes h put ≡ bytes → frameBytes preamble h put ≡ preambleBytes preamble ++ (bytes ++ (check ∷ []))
 
 -- ---- M4 to M7: what a fresh master answers to a request
 
 abbrev pub outcome : {A : Type 0} → Called A → Outcome
 outcome (accepted x) = taken
-outcome (refused why) = refuses (number why)
+outcome (refused why) = refuses why
 
 abbrev pub askPolling : ℕ → Outcome
-askPolling address = outcome (requested 255 (freshMaster fskProfile true 3) (record { preamble = 5; long = false; address = address; command = 0 }) 0)
+askPolling address = outcome (requested mostData (freshMaster fskProfile true 3) (record { preamble = fewestPreambles; long = false; address = address; command = 0 }) 0)
 
 abbrev pub askData : ℕ → Outcome
-askData count = outcome (requested 255 (freshMaster fskProfile true 3) (record { preamble = 5; long = true; address = 1; command = 1 }) count)
+askData count = outcome (requested mostData (freshMaster fskProfile true 3) (record { preamble = fewestPreambles; long = true; address = 1; command = 1 }) count)
 
 -- ---- M8 and M9: what a device answers to its host
 
@@ -71,28 +73,28 @@ characters (c ∷ cs) = Character c ∷ characters cs
 -- a device that hears all of this, one thing a tick, and whose host gives nothing
 unfoldable pub hearing : DeviceSide → List Heard → DeviceSide
 hearing x [] = x
-hearing x (h ∷ hs) = hearing (deviceTick 255 x h no-call .side) hs
+hearing x (h ∷ hs) = hearing (deviceTick mostData x h no-call .side) hs
 
 abbrev pub device : DeviceSide
-device = record { device = freshDevice fskProfile 5 0 2; frame = replicate 284 0; bytes = replicate 255 0; contents = replicate 255 0 }
+device = record { device = freshDevice fskProfile fewestPreambles 0 2; frame = replicate (longestFrame mostData) 0; bytes = replicate mostData 0; contents = replicate mostData 0 }
 
-abbrev pub answer : Answer → Outcome
-answer none = nothing
-answer was-taken = taken
-answer (was-refused why) = refuses (number why)
+abbrev pub result : CallResult → Outcome
+result none = nothing
+result was-taken = taken
+result (was-refused why) = refuses why
 
 -- the STX's last character goes out in tick T and is heard in T+1; each silent tick behind it is one more. The host answers in tick T+late.
 abbrev pub answerAt : ℕ → Outcome
-answerAt late = answer (deviceTick 255 (hearing device (Silence ∷ Silence ∷ (characters (frameBytes 5 request []) ++ replicate (late - 2) Silence))) Silence (gives-answer Same (0 ∷ 0 ∷ [])) .answer)
+answerAt late = result (deviceTick mostData (hearing device (Silence ∷ Silence ∷ (characters (frameBytes fewestPreambles request []) ++ replicate (late - 2) Silence))) Silence (gives-answer Same (0 ∷ 0 ∷ [])) .result)
 
 -- ---- M10: no frame that the writer writes is longer than so many bytes, and one is as long
 
 pub record Longest (n : ℕ) : Type 0 where
-  pub none-longer : (preamble : ℕ) (h : Header) (put : List ℕ) (room place end : ℕ) → writeAnswer preamble h (length put) room place ≡ To end → (end ≤ place + n) × (length (frameBytes preamble h put) ≤ n)
+  pub none-longer : (preamble : ℕ) (h : Header) (put : List ℕ) (room place end : ℕ) → writeAnswer preamble h (length put) room place ≡ accepted end → (end ≤ place + n) × (length (frameBytes preamble h put) ≤ n)
   pub preamble : ℕ
   pub header : Header
   pub content : List ℕ
-  pub is-written : writeAnswer preamble header (length content) n 0 ≡ To n
+  pub is-written : writeAnswer preamble header (length content) n 0 ≡ accepted n
   pub as-long : length (frameBytes preamble header content) ≡ n
 
 -- ---- the table, and its statement
@@ -115,10 +117,10 @@ table =
     record { asked = check-byte (0x02 ∷ 0x80 ∷ 0x00 ∷ 0x00 ∷ []); stated = gives 0x82 }
     ∷ record { asked = check-byte (0x82 ∷ 0x80 ∷ 0x00 ∷ 0x00 ∷ 0x00 ∷ 0x02 ∷ 0x03 ∷ 0x00 ∷ []); stated = gives 0x03 }
     ∷ record { asked = check-byte (0x06 ∷ 0x80 ∷ 0x00 ∷ 0x02 ∷ 0x00 ∷ 0x00 ∷ []); stated = gives 0x84 }
-    ∷ record { asked = ask-polling 63; stated = taken }
-    ∷ record { asked = ask-polling 64; stated = refuses 4 }
-    ∷ record { asked = ask-data 255; stated = taken }
-    ∷ record { asked = ask-data 256; stated = refuses 6 }
+    ∷ record { asked = ask-polling largestPolling; stated = taken }
+    ∷ record { asked = ask-polling (largestPolling + 1); stated = refuses 4 }
+    ∷ record { asked = ask-data mostData; stated = taken }
+    ∷ record { asked = ask-data (mostData + 1); stated = refuses 6 }
     ∷ record { asked = answer-at 28; stated = taken }
     ∷ record { asked = answer-at 29; stated = refuses 8 }
     ∷ record { asked = longest; stated = gives 284 }

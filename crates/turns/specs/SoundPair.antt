@@ -1,3 +1,4 @@
+-- To be believed: what the engine must do, or what is claimed of it.
 -- Document 02, item 1: "Senders still leave no gap, so turns on a sound pair are those of document 01." Document 01's silent tick of a reader, a master and a device is written out, and with it document 01's run; under demand 3's premises the two runs are equal.
 use Prim.Native.Nat.{ℕ}
 use mathlib.Core.Path.{_≡_}
@@ -27,11 +28,11 @@ use Rattle.turns.specs.declared.DeviceTold.{DeviceTold}
 abbrev pub masterSilence01 : Master → MasterTaken
 masterSilence01 m =
     if insideFrame (m .receiver .place) then M.counts (afterBreak m idle Broken .master) (afterBreak m idle Broken .told) Broken
-    else M.counts (M.behind m idle (m .burst) (m .noted) (m .timer) (m .message)) MasterTold.Nothing Nothing
+    else M.counts (M.masterWith m idle (m .burst) (m .noted) (m .timer) (m .message)) MasterTold.Nothing Nothing
 
 -- a device: "after RT1 primary behind anything else"
 abbrev pub deviceSilence01 : Device → DeviceTaken
-deviceSilence01 d = if insideFrame (d .receiver .place) then D.counts d idle (d .profile .rt1p) Broken else D.counts d idle (d .due) Nothing
+deviceSilence01 d = if insideFrame (d .receiver .place) then D.counts d idle (D.dueAfter (d .profile) (D.endedBy Broken)) Broken else D.counts d idle (d .due) Nothing
 
 -- ---- document 01's tick of each party: what is heard but silence is taken as it is now, and so are the host's call and what is sent
 

@@ -11,11 +11,11 @@ pub enum Sent {
     Character(u8),
 }
 
-// A master's windows, in silent line ticks.
+// A master's timers, in silent line ticks. 0 is a timer that does not run.
 pub struct Timer {
-    // until the next window opens; 0 where none will
+    // until the next window opens
     pub next: u32,
-    // left of the open window; 0 where none is open
+    // left of the open window
     pub window: u32,
     // left of the quiet time, while BURST is set
     pub quiet: u32,
@@ -107,7 +107,7 @@ pub enum Turn {
     // a request is in hand, for so many ticks more, this one included
     Asked(u16),
     // an answer was taken in the tick that told the request, or is an error answer: it begins in the next tick
-    Accepted,
+    AnswerWaits,
     // an answer begins in this tick
     Begins,
     // its ACK is being sent; this character is next
@@ -133,7 +133,7 @@ pub struct Device {
     pub profile: Profile,
     // how many characters the frame in the lent frame buffer has
     pub length: u16,
-    // silent line ticks until a bursting device's next BACK; 0 where none is due
+    // silent line ticks until a bursting device's next BACK; 0 where no timer runs
     pub due: u32,
     pub turn: Turn,
     pub preamble: u8,
@@ -155,6 +155,14 @@ pub enum DeviceTold {
     Request(Whole),
     // a broadcast of another command than 11, never answered
     Broadcast(Whole),
+}
+
+// What a character makes of a device's turn, and what its host is told.
+pub struct Change {
+    pub turn: Turn,
+    pub request: Header,
+    pub length: u16,
+    pub told: DeviceTold,
 }
 
 pub struct DeviceTaken {

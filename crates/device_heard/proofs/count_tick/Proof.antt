@@ -1,4 +1,5 @@
 use borrow.Author.Needs.{needs}
+use Rattle.base.proofs.Choices.{choices}
 use Rattle.device_heard.proofs.Parts.{parts}
 use Rattle.device_heard.proofs.count_tick.Statement.{statement}
 use Rattle.device_heard.proofs.count_tick.Tie as tie
@@ -10,5 +11,4 @@ count-tick-spec =
     (λ c κs. search needs)
     (λ c κs. search needs)
     (λ c κs. search needs)
-    (λ c κs. search needs)
-    (λ c. search (needs, parts)))
+    (λ c. search (needs, choices, parts)))

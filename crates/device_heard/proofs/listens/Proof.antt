@@ -1,4 +1,5 @@
 use borrow.Author.Needs.{needs}
+use Rattle.base.proofs.Choices.{choices}
 use Rattle.device_heard.proofs.Parts.{parts}
 use Rattle.device_heard.proofs.listens.Statement.{statement}
 use Rattle.device_heard.proofs.listens.Tie as tie
@@ -8,4 +9,4 @@ listens-spec =
     tie.close
     (tie.spec
     (λ c κs. search needs)
-    (λ c. search (needs, parts)))
+    (λ c. search (needs, choices, parts)))

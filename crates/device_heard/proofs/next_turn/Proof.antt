@@ -1,5 +1,6 @@
 use borrow.Author.Needs.{needs}
 use Rattle.base.proofs.Choices.{choices}
+use Rattle.device_heard.proofs.Parts.{parts}
 use Rattle.device_heard.proofs.next_turn.Statement.{statement}
 use Rattle.device_heard.proofs.next_turn.Tie as tie
 
@@ -7,6 +8,7 @@ pub next-turn-spec : {M : Type 1} → statement M
 next-turn-spec =
     tie.close
     (tie.spec
-    (λ c. search (needs, choices))
     (λ c κs. search needs)
-    (λ c. search (needs, choices)))
+    (λ c. search (needs, choices, parts))
+    (λ c κs. search needs)
+    (λ c. search (needs, choices, parts)))

@@ -1,4 +1,5 @@
 use borrow.Author.Needs.{needs}
+use Rattle.base.proofs.Choices.{choices}
 use Rattle.device_heard.proofs.Parts.{parts}
 use Rattle.device_heard.proofs.on_character.Statement.{statement}
 use Rattle.device_heard.proofs.on_character.Tie as tie
@@ -9,4 +10,5 @@ on-character-spec =
     (tie.spec
     (λ c κs. search needs)
     (λ c κs. search needs)
-    (λ c. search (needs, parts)))
+    (λ c κs. search needs)
+    (λ c. search (needs, choices, parts)))

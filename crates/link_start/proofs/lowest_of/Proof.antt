@@ -10,5 +10,5 @@ lowest-of-spec =
     (λ c. search needs)
     (λ c. search needs)
     (λ c κs. search needs)
-    (λ c. search needs)
+    (λ c. search (needs, starts))
     (λ c. search (needs, starts)))

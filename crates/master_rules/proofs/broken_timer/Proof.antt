@@ -1,6 +1,5 @@
 use borrow.Author.Needs.{needs}
-use Rattle.base.proofs.Choices.{choices}
-use Rattle.master_rules.proofs.Parts.{parts}
+use Rattle.master_rules.proofs.Parts.{parts, breaks}
 use Rattle.master_rules.proofs.broken_timer.Statement.{statement}
 use Rattle.master_rules.proofs.broken_timer.Tie as tie
 
@@ -8,9 +7,9 @@ pub broken-timer-spec : {M : Type 1} → statement M
 broken-timer-spec =
     tie.close
     (tie.spec
-    (λ c κs. search (needs, choices, parts))
-    (λ c. search (needs, choices, parts))
-    (λ c κs. search (needs, choices, parts))
-    (λ c. search (needs, choices, parts))
-    (λ c κs. search (needs, choices, parts))
-    (λ c. search (needs, choices, parts)))
+    (λ c κs. search needs)
+    (λ c. search (needs, breaks, parts))
+    (λ c κs. search needs)
+    (λ c. search needs)
+    (λ c κs. search needs)
+    (λ c. search (needs, breaks, parts)))

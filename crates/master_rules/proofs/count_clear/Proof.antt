@@ -8,8 +8,8 @@ pub count-clear-spec : {M : Type 1} → statement M
 count-clear-spec =
     tie.close
     (tie.spec
-    (λ c κs. search (needs, choices, parts))
+    (λ c κs. search needs)
     (λ c. search (needs, choices, parts))
-    (λ c κs. search (needs, choices, parts))
-    (λ c. search (needs, choices, parts))
+    (λ c κs. search needs)
+    (λ c κs. search needs)
     (λ c. search (needs, choices, parts)))

@@ -5,7 +5,7 @@ use Rattle.player.proofs.follow_frame.Statement.{statement}
 use Rattle.player.proofs.follow_frame.Tie as tie
 
 abbrev Inv-loop : tie.InvT-loop
-Inv-loop tick party frame from ticks out₀ at f₀ i₀ out f i = Following tick party frame from ticks (f₀ .ear) at out₀ f i out
+Inv-loop tick party frame from ticks out₀ at f₀ i₀ out f i = Following tick party frame from ticks (f₀ .monitor) at out₀ f i out
 
 abbrev μ-loop : tie.MeasureT-loop
 μ-loop tick party frame from ticks out₀ at f₀ i₀ out f i = ticks - i

@@ -10,7 +10,7 @@ use Rattle.player.proofs.play_from.Statement.{statement}
 use Rattle.player.proofs.play_from.Tie as tie
 
 abbrev Inv-loop : tie.InvT-loop
-Inv-loop stop script stx₀ own₀ stxs₀ owns₀ frames₀ bytes₀ contents₀ out₀ p₀ tick₀ stx own stxs owns frames bytes contents out p tick = Going script stop (textFrom 0 stop (p₀ .ears) (linkOf (p₀ .link) (masterLends stx₀ own₀) (masterLends stxs₀ owns₀) (devicesLend frames₀ bytes₀ contents₀)) (recordsOf script)) out₀ (p₀ .at) p (masterLends stx own) (masterLends stxs owns) (devicesLend frames bytes contents) out tick
+Inv-loop stop script stx₀ own₀ stxs₀ owns₀ frames₀ bytes₀ contents₀ out₀ p₀ tick₀ stx own stxs owns frames bytes contents out p tick = Going script stop (textFrom 0 stop (p₀ .monitors) (linkOf (p₀ .link) (masterLends stx₀ own₀) (masterLends stxs₀ owns₀) (devicesLend frames₀ bytes₀ contents₀)) (recordsOf script)) out₀ (p₀ .at) p (masterLends stx own) (masterLends stxs owns) (devicesLend frames bytes contents) out tick
 
 abbrev μ-loop : tie.MeasureT-loop
 μ-loop stop script stx₀ own₀ stxs₀ owns₀ frames₀ bytes₀ contents₀ out₀ p₀ tick₀ stx own stxs owns frames bytes contents out p tick = stop - tick
