@@ -8,7 +8,7 @@ use Rattle.base.proofs.Choices.{if-is-true, if-is-false}
 use Rattle.frame.specs.Delimiter.{ack, back}
 use Rattle.frame.specs.declared.Header.{Header}
 use Rattle.line.specs.declared.Profile.{Profile}
-use Rattle.turns.specs.Master.{timer, burstTimer, ownRt1, Ended, broken, any-stx, ack-to-itself, ack-to-other, back-to-itself, back-to-other, toItself, endedBy, timerAfter, ifAwaiting}
+use Rattle.turns.specs.Master.{timer, burstTimer, ownRt1, EndedForMaster, broken, any-stx, ack-to-itself, ack-to-other, back-to-itself, back-to-other, toItself, endedBy, timerAfter, ifAwaiting}
 use Rattle.turns.specs.declared.Ending.{Ending}
 use Rattle.turns.specs.declared.Master.{Master}
 use Rattle.turns.specs.declared.MasterTold.{MasterTold}
@@ -34,8 +34,8 @@ pub ruleset parts = (refl, timer-same, timer-of, ending-same, if-awaiting-at)
 -- ---- the timer behind a whole frame
 
 module _ (m : Master) (h : Header) (t : Timer) (burst : Bool) where
-  behind-is : (e : Ended) → endedBy m h ≡ e → t ≡ timerAfter (m .profile) (m .primary) e burst → t ≡ timerAfter (m .profile) (m .primary) (endedBy m h) burst
-  behind-is e p q = q ∙ ap (λ (x : Ended). timerAfter (m .profile) (m .primary) x burst) (sym p)
+  behind-is : (e : EndedForMaster) → endedBy m h ≡ e → t ≡ timerAfter (m .profile) (m .primary) e burst → t ≡ timerAfter (m .profile) (m .primary) (endedBy m h) burst
+  behind-is e p q = q ∙ ap (λ (x : EndedForMaster). timerAfter (m .profile) (m .primary) x burst) (sym p)
 
   module _ (own : Bool) (is : own ≡ toItself m h) where
     pub back-own : h .frame ≡ back → own ≡ true → t ≡ burstTimer (m .profile) (m .primary) 0 → t ≡ timerAfter (m .profile) (m .primary) (endedBy m h) burst

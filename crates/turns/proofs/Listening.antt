@@ -21,7 +21,7 @@ use Rattle.line.specs.declared.Profile.{Profile}
 use Rattle.line.specs.declared.Receiver.{Receiver}
 use Rattle.line.specs.declared.Whole.{Whole}
 use Rattle.line.proofs.Leads.{readerAfter}
-use Rattle.turns.specs.Master.{burstAfter, notedAfter, Ended, fresh, inside, broken, any-stx, ack-to-itself, ack-to-other, back-to-itself, back-to-other, endedBy, timerAfter, timer, timerCounted, burstCounted, masterTakes, requested, requestHeader, namesDevice}
+use Rattle.turns.specs.Master.{burstAfter, notedAfter, EndedForMaster, fresh, inside, broken, any-stx, ack-to-itself, ack-to-other, back-to-itself, back-to-other, endedBy, timerAfter, timer, timerCounted, burstCounted, masterTakes, requested, requestHeader, namesDevice}
 use Rattle.turns.specs.Device as DV
 use Rattle.turns.specs.Device.{mayAnswer, dueAfter, errorFrame, deviceTakes, answerHeader, firstFor}
 use Rattle.turns.specs.Link.{MasterCall, no-request, requests, DeviceCall, MasterSide, MasterStep, masterCalled, masterTick, masterData, DeviceSide, DeviceStep, deviceCalls, deviceTick, deviceData, heardFrame}
@@ -158,7 +158,7 @@ master-does limit p primary x heard call small is took = go (master-goes limit t
 
 -- a timer that has just been set has no open window
 -- where something ends no window is open
-pub timer-shut : (p : Profile) (primary : Bool) (e : Ended) (burst : Bool) → timerAfter p primary e burst .window ≡ 0
+pub timer-shut : (p : Profile) (primary : Bool) (e : EndedForMaster) (burst : Bool) → timerAfter p primary e burst .window ≡ 0
 timer-shut p primary fresh burst = refl
 timer-shut p primary inside burst = refl
 timer-shut p primary broken true = refl

@@ -68,16 +68,16 @@ mayAnswer d h = if seeksTag h then true else isOwn d h
 -- ---- the next BACK
 
 -- what ended on the line, for this device's next BACK
-pub data Ended : Type 0 where
+pub data EndedForDevice : Type 0 where
   -- nothing: a frame goes on, heard or its own
-  inside : Ended
-  own-ack : Ended
-  own-back : Ended
-  another's-ack : Ended
-  anything-else : Ended
+  inside : EndedForDevice
+  own-ack : EndedForDevice
+  own-back : EndedForDevice
+  another's-ack : EndedForDevice
+  anything-else : EndedForDevice
 
 -- what a character ended, by what the reader tells
-abbrev pub endedBy : Event → Ended
+abbrev pub endedBy : Event → EndedForDevice
 endedBy Nothing = inside
 endedBy PassedOver = anything-else
 endedBy Broken = anything-else
@@ -85,7 +85,7 @@ endedBy (Frame w) = if w .header .frame =? ack then another's-ack else anything-
 endedBy (Damaged w m) = anything-else
 
 -- the silent line ticks before the next BACK; 0 where no timer runs
-abbrev pub dueAfter : Profile → Ended → ℕ
+abbrev pub dueAfter : Profile → EndedForDevice → ℕ
 -- "A bursting device sends a BACK directly behind its own ACK": as its next turn, with no timer
 dueAfter p own-ack = 0
 -- "after timer 1 behind another's ACK"

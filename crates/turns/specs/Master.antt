@@ -123,32 +123,32 @@ notedAfter noted h =
 -- ---- the timer behind what ended
 
 -- what ended on the line, for this master
-pub data Ended : Type 0 where
+pub data EndedForMaster : Type 0 where
   -- nothing yet: the master is fresh
-  fresh : Ended
+  fresh : EndedForMaster
   -- nothing: a frame goes on, heard or its own
-  inside : Ended
+  inside : EndedForMaster
   -- "a broken or damaged frame", and "characters passed over"
-  broken : Ended
-  any-stx : Ended
-  ack-to-itself : Ended
-  ack-to-other : Ended
-  back-to-itself : Ended
-  back-to-other : Ended
+  broken : EndedForMaster
+  any-stx : EndedForMaster
+  ack-to-itself : EndedForMaster
+  ack-to-other : EndedForMaster
+  back-to-itself : EndedForMaster
+  back-to-other : EndedForMaster
 
 -- the master bit of a frame is its own
 abbrev pub toItself : Master → Header → Bool
 toItself m h = if m .primary then h .primary else (if h .primary then false else true)
 
 -- a whole frame without damage
-abbrev pub endedBy : Master → Header → Ended
+abbrev pub endedBy : Master → Header → EndedForMaster
 endedBy m h =
     if h .frame =? back then (if toItself m h then back-to-itself else back-to-other) else
     if h .frame =? ack then (if toItself m h then ack-to-itself else ack-to-other) else
     any-stx
 
 -- by what ended, and BURST behind it: "BURST is brought up to date before the frame's timer is chosen." A BACK has set it, and a fresh master's is clear.
-abbrev pub timerAfter : Profile → Bool → Ended → Bool → Timer
+abbrev pub timerAfter : Profile → Bool → EndedForMaster → Bool → Timer
 -- "BURST clear, and fresh, after a broken or damaged frame, or after any STX: timer RT1."
 timerAfter p primary fresh burst = timer (ownRt1 p primary)
 timerAfter p primary broken false = timer (ownRt1 p primary)
