@@ -2,5 +2,6 @@
 pub mod Going
 pub mod Started
 pub mod Whole
+pub mod Listed
 pub mod Following
 pub mod Ahead
