@@ -3,8 +3,10 @@
 const PARTIES: usize = 8;
 
 const NO_CALL: u8 = 0;
-const SHORT_REQUEST: u8 = 1;
-const LONG_REQUEST: u8 = 2;
+/// Every request of these lists says this revision of its device.
+const REVISION: u8 = 7;
+const SHORT_ADDRESS: u8 = 1;
+const LONG_ADDRESS: u8 = 2;
 const ANSWER: u8 = 1;
 
 /// A host's call: a master's request or a device's answer.
@@ -32,10 +34,11 @@ impl Call {
                 command,
                 data,
             } => {
-                let kind = match long_address {
-                    true => LONG_REQUEST,
-                    false => SHORT_REQUEST,
+                let form = match long_address {
+                    true => LONG_ADDRESS,
+                    false => SHORT_ADDRESS,
                 };
+                let kind = 4 * REVISION + form;
                 ([kind, *preamble, *command], *address, data)
             }
             Call::Answer { data } => ([ANSWER, 0, 0], 0, data),

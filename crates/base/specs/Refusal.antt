@@ -2,7 +2,7 @@
 -- Document 01, "Refusals, by where each is checked": the table, and what a call comes to.
 use Prim.Native.Nat.{ℕ}
 use Rattle.base.specs.declared.Refusal.{Refusal}
-use Rattle.base.specs.declared.Refusal.the-variants.{BadProfile, BadRetries, PreambleLength, Address, Command, DataLong, MessageInHand, NoRequest, DataLength, BurstWish, FewPreambles, NoDelimiter, EndsEarly, Unsound, BufferShort}
+use Rattle.base.specs.declared.Refusal.the-variants.{BadProfile, BadRetries, PreambleLength, Address, Command, DataLong, MessageInHand, NoRequest, DataLength, BurstWish, FewPreambles, NoDelimiter, EndsEarly, Unsound, BufferShort, Revision}
 
 -- "A refusal gives its number only." 16, "bad script", is the player's, whose answer is a text: crates/player/specs/Play.antt.
 abbrev pub number : Refusal → ℕ
@@ -36,6 +36,8 @@ number EndsEarly = 13
 number Unsound = 14
 -- buffer too short
 number BufferShort = 15
+-- revision outside 3 to 7
+number Revision = 17
 
 -- what a call comes to: accepted, with what it gives, or refused with a number of the table
 pub data Called (A : Type 0) : Type 0 where

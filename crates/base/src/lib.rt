@@ -20,6 +20,7 @@ pub enum Refusal {
     EndsEarly,
     Unsound,
     BufferShort,
+    Revision,
 }
 
 impl Refusal {
@@ -43,6 +44,7 @@ impl Refusal {
             Refusal::EndsEarly => 13,
             Refusal::Unsound => 14,
             Refusal::BufferShort => 15,
+            Refusal::Revision => 17,
         }
     }
 }

@@ -12,13 +12,20 @@ use Rattle.frame.specs.declared.Header.{Header}
 abbrev pub addressLength : Bool → ℕ
 addressLength long = if long then 5 else 1
 
--- the largest: 6 bits, or 38 bits
+-- the largest, where polling addresses go up to `polling`: that, or 38 bits
+abbrev pub largestWith : ℕ → Bool → ℕ
+largestWith polling long = if long then 2 ^ 38 - 1 else polling
+
+abbrev pub addressAbove : ℕ → Header → Bool
+addressAbove polling h = largestWith polling (h .long) <? h .address
+
+-- of a frame, which says no revision: 6 bits, or 38 bits
 abbrev pub largestAddress : Bool → ℕ
-largestAddress long = if long then 2 ^ 38 - 1 else largestPolling
+largestAddress long = largestWith largestPolling long
 
 -- "polling above 63 or unique above 38 bits"
 abbrev pub addressTooLarge : Header → Bool
-addressTooLarge h = largestAddress (h .long) <? h .address
+addressTooLarge h = addressAbove largestPolling h
 
 -- its first byte: master bit, burst flag and the six bits that the address begins with
 abbrev pub firstByte : Header → ℕ → ℕ

@@ -12,7 +12,7 @@ use Rattle.base.specs.Refusal.{number, Called, accepted, refused}
 use Rattle.base.proofs.Stores.{stored-part, room-behind}
 use Rattle.base.proofs.Choices.{if-is-true, if-is-false, if-at-most, if-above}
 use Rattle.frame.specs.Limits.{largestPolling, mostData}
-use Rattle.frame.specs.Address.{addressLength, largestAddress, addressTooLarge}
+use Rattle.frame.specs.Address.{addressLength, largestWith, addressAbove, largestAddress}
 use Rattle.frame.specs.Frame.{headerLength, frameLength, frameBytes}
 use Rattle.frame.specs.Write.{byFields, byRoom, writeAnswer, writeBuffer, bufferBy, writtenAs}
 use Rattle.frame.proofs.Taken.{Room, taken, type-small}
@@ -21,23 +21,23 @@ use Rattle.frame.specs.declared.Written.{Written}
 use Rattle.frame.specs.declared.Written.the-variants.{To, Refused}
 
 -- by the address's form
-largest-long : (long : Bool) → long ≡ true → largestAddress long ≡ 2 ^ 38 - 1
-largest-long long e = if-is-true long (2 ^ 38 - 1) largestPolling e
+largest-long : (polling : ℕ) (long : Bool) → long ≡ true → largestWith polling long ≡ 2 ^ 38 - 1
+largest-long polling long e = if-is-true long (2 ^ 38 - 1) polling e
 
-largest-short : (long : Bool) → long ≡ false → largestAddress long ≡ largestPolling
-largest-short long e = if-is-false long (2 ^ 38 - 1) largestPolling e
+largest-short : (polling : ℕ) (long : Bool) → long ≡ false → largestWith polling long ≡ polling
+largest-short polling long e = if-is-false long (2 ^ 38 - 1) polling e
 
-pub large-long : (h : Header) → h .long ≡ true → ((2 ^ 38 - 1) <? h .address) ≡ addressTooLarge h
-large-long h e = ap (λ (n : ℕ). n <? h .address) (sym (largest-long (h .long) e))
+pub large-long : (polling : ℕ) (h : Header) → h .long ≡ true → ((2 ^ 38 - 1) <? h .address) ≡ addressAbove polling h
+large-long polling h e = ap (λ (n : ℕ). n <? h .address) (sym (largest-long polling (h .long) e))
 
-pub large-short : (h : Header) → h .long ≡ false → (largestPolling <? h .address) ≡ addressTooLarge h
-large-short h e = ap (λ (n : ℕ). n <? h .address) (sym (largest-short (h .long) e))
+pub large-short : (polling : ℕ) (h : Header) → h .long ≡ false → (polling <? h .address) ≡ addressAbove polling h
+large-short polling h e = ap (λ (n : ℕ). n <? h .address) (sym (largest-short polling (h .long) e))
 
 pub unique-fits : (h : Header) → h .long ≡ true → h .address ≤ largestAddress (h .long) → h .address < 2 ^ 38
-unique-fits h e r = omega (arith, largest-long (h .long) e)
+unique-fits h e r = omega (arith, largest-long largestPolling (h .long) e)
 
 pub polling-fits : (h : Header) → h .long ≡ false → h .address ≤ largestAddress (h .long) → h .address ≤ largestPolling
-polling-fits h e r = omega (arith, largest-short (h .long) e)
+polling-fits h e r = omega (arith, largest-short largestPolling (h .long) e)
 
 pub header-long : (h : Header) → h .long ≡ true → 8 ≡ headerLength h
 header-long h e = omega (arith, if-is-true {A = ℕ} (h .long) 5 1 e)

@@ -10,7 +10,7 @@ ghost use lib.ListN.{length};
 ghost use Rattle.base.specs.Choice.{if_then_else_};
 ghost use Rattle.base.specs.Store.{stored};
 ghost use Rattle.frame.specs.Limits.{mostPreambles, largestPolling, mostData, longestFrame};
-ghost use Rattle.frame.specs.Address.{addressTooLarge, largestAddress, firstByte};
+ghost use Rattle.frame.specs.Address.{addressAbove, largestAddress, firstByte};
 ghost use Rattle.frame.specs.Check.{xorFrom};
 ghost use Rattle.frame.specs.Frame.{headerBytes, bodyBytes, preambleBytes, frameBytes, headerLength, frameLength};
 ghost use Rattle.frame.specs.Write.{byRoom, writeAnswer, writtenAs, WriteIs};
@@ -135,14 +135,14 @@ fn put_frame(part: &mut [u8], preamble: usize, h: Header, bytes: &[u8])
     put_body(&mut part[preamble..], h, bytes);
 }
 
-// Whether a polling address is above 63, or a unique one above 38 bits.
-pub fn address_too_large(h: Header) -> bool
-    ensures { λ r. ⌜ r ≡ addressTooLarge h ⌝ }
+// Whether a polling address is above the largest, or a unique one above 38 bits.
+pub fn address_above(polling: u64, h: Header) -> bool
+    ensures { λ r. ⌜ r ≡ addressAbove polling h ⌝ }
 {
     if h.long {
         return 274877906943 < h.address;
     }
-    63 < h.address
+    polling < h.address
 }
 
 // How many bytes a frame with so many data bytes has.
@@ -176,7 +176,7 @@ fn answer(preamble: usize, h: Header, count: usize, room: usize, place: usize) -
     if base::outside(preamble, 5, 20) {
         return Written::Refused(Refusal::PreambleLength);
     }
-    if address_too_large(h) {
+    if address_above(63, h) {
         return Written::Refused(Refusal::Address);
     }
     if 255 < count {

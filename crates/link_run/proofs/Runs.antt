@@ -15,7 +15,7 @@ use Rattle.frame.specs.Write.{writeBuffer, writeAnswer}
 use Rattle.line.specs.Reader.{taken, takenData, atIdle, atPreamble, atFirst, atAddress, atExpansion, atCommand, atCount, atData, atCheck}
 use Rattle.line.specs.declared.Event.the-variants.{Frame}
 use Rattle.line.specs.declared.Heard.the-variants.{Silence}
-use Rattle.turns.specs.Master.{freshMaster, requested, masterTakes, masterSends}
+use Rattle.turns.specs.Master.{freshMaster, requested, requestedUpTo, masterTakes, masterSends}
 use Rattle.turns.specs.Device.{freshDevice, deviceTakes, deviceSends, answered, contentGiven}
 use Rattle.turns.specs.Link.{no-request, Calls, masterTick, deviceTick, deviceTicks, sides, carried, linkTick, run}
 use Rattle.turns.specs.Run.{none, Distinct, deviceSenders}
@@ -59,15 +59,15 @@ link = record {
 abbrev pub quiet : ℕ → List ℕ
 quiet n = replicate (8 * n) 0
 
--- in tick 0 the primary asks the device with the unique address 2 for command 3, and its host gives burst content; in tick 19 the host answers, and turns burst on
+-- in tick 0 the primary asks the device with the unique address 2, of revision 7, for command 3, and its host gives burst content; in tick 19 the host answers, and turns burst on
 unfoldable pub bytes : List ℕ
 bytes =
-    (2 ∷ 5 ∷ 3 ∷ 0 ∷ 0 ∷ 0 ∷ 0 ∷ 2 ∷ 0 ∷ 0 ∷ []) ++ ((0 ∷ []) ++ ((4 ∷ 0 ∷ 3 ∷ 0 ∷ 0 ∷ 0 ∷ 0 ∷ 0 ∷ 0 ∷ 2 ∷ 0 ∷ 0 ∷ []) ++ (replicate 5 0 ++ (quiet 18
+    (30 ∷ 5 ∷ 3 ∷ 0 ∷ 0 ∷ 0 ∷ 0 ∷ 2 ∷ 0 ∷ 0 ∷ []) ++ ((0 ∷ []) ++ ((4 ∷ 0 ∷ 3 ∷ 0 ∷ 0 ∷ 0 ∷ 0 ∷ 0 ∷ 0 ∷ 2 ∷ 0 ∷ 0 ∷ []) ++ (replicate 5 0 ++ (quiet 18
     ++ ((0 ∷ 0 ∷ []) ++ ((2 ∷ 0 ∷ 0 ∷ 0 ∷ 0 ∷ 0 ∷ 0 ∷ 0 ∷ 0 ∷ 2 ∷ 0 ∷ 0 ∷ []) ++ (replicate 5 0 ++ quiet 32)))))))
 
 -- 16: the primary's request is taken. It sends in ticks 4 to 17, 65; the device its ACK and a BACK from tick 19 to 50, 1.
 pub numbers-are : numbersOf (stepsOf short 3 one-slot bytes) ≡ 16 ∷ (replicate 3 0 ++ (replicate 14 65 ++ (0 ∷ (replicate 32 1 ++ (0 ∷ [])))))
-unfolding numbersOf stepsOf one-slot bytes short ticksFrom callsIn behind behindCall run deviceSenders linkTick deviceTicks sides carried masterTick deviceTick requested masterTakes masterSends deviceTakes deviceSends answered contentGiven taken takenData atIdle atPreamble atFirst atAddress atExpansion atCommand atCount atData atCheck writeBuffer writeAnswer frameBytes preambleBytes bodyBytes protectedBytes headerBytes xorFrom delimiterOf stored if_then_else_
+unfolding numbersOf stepsOf one-slot bytes short ticksFrom callsIn behind behindCall run deviceSenders linkTick deviceTicks sides carried masterTick deviceTick requested requestedUpTo masterTakes masterSends deviceTakes deviceSends answered contentGiven taken takenData atIdle atPreamble atFirst atAddress atExpansion atCommand atCount atData atCheck writeBuffer writeAnswer frameBytes preambleBytes bodyBytes protectedBytes headerBytes xorFrom delimiterOf stored if_then_else_
 numbers-are = refl
 
 pub started : linkStarts short 3 one-slot ≡ accepted link
@@ -84,13 +84,13 @@ silent = record { for-primary = no-request; for-secondary = no-request; for-devi
 -- in tick 35 the primary reports its message as answered
 pub reported : linkTick 255 (linkBehind 255 (lentFresh link) (take 35 calls)) (getD calls 35 silent) .for-primary .told
     ≡ Answered (record { header = record { frame = ack; long = true; primary = true; burst = true; address = 2; command = 3 }; expansion = 0; count = 2 })
-unfolding linkBehind link bytes short ticksFrom callsIn behind behindCall linkTick deviceTicks sides carried masterTick deviceTick requested masterTakes masterSends deviceTakes deviceSends answered contentGiven taken takenData atIdle atPreamble atFirst atAddress atExpansion atCommand atCount atData atCheck writeBuffer writeAnswer frameBytes preambleBytes bodyBytes protectedBytes headerBytes xorFrom delimiterOf stored if_then_else_
+unfolding linkBehind link bytes short ticksFrom callsIn behind behindCall linkTick deviceTicks sides carried masterTick deviceTick requested requestedUpTo masterTakes masterSends deviceTakes deviceSends answered contentGiven taken takenData atIdle atPreamble atFirst atAddress atExpansion atCommand atCount atData atCheck writeBuffer writeAnswer frameBytes preambleBytes bodyBytes protectedBytes headerBytes xorFrom delimiterOf stored if_then_else_
 reported = refl
 
 -- in tick 51 it finds the BACK whole
 pub back-found : foundBy (linkBehind 255 (lentFresh link) (take 51 calls) .primary) (linkBehind 255 (lentFresh link) (take 51 calls) .line)
     ≡ Frame (record { header = record { frame = back; long = true; primary = true; burst = true; address = 2; command = 3 }; expansion = 0; count = 2 })
-unfolding linkBehind link bytes short ticksFrom callsIn behind behindCall linkTick deviceTicks sides carried masterTick deviceTick requested masterTakes masterSends deviceTakes deviceSends answered contentGiven taken takenData atIdle atPreamble atFirst atAddress atExpansion atCommand atCount atData atCheck writeBuffer writeAnswer frameBytes preambleBytes bodyBytes protectedBytes headerBytes xorFrom delimiterOf stored if_then_else_
+unfolding linkBehind link bytes short ticksFrom callsIn behind behindCall linkTick deviceTicks sides carried masterTick deviceTick requested requestedUpTo masterTakes masterSends deviceTakes deviceSends answered contentGiven taken takenData atIdle atPreamble atFirst atAddress atExpansion atCommand atCount atData atCheck writeBuffer writeAnswer frameBytes preambleBytes bodyBytes protectedBytes headerBytes xorFrom delimiterOf stored if_then_else_
 back-found = refl
 
 -- it meets the premises
@@ -119,13 +119,13 @@ alike = record {
   high = record { left = SlotSetting.Absent; right = SlotSetting.Absent };
 }
 
--- in tick 0 the primary asks the polling address 0 for command 0; in tick 15 both hosts answer
+-- in tick 0 the primary asks the polling address 0 of a device of revision 7 for command 0; in tick 15 both hosts answer
 unfoldable pub both-reply : List ℕ
 both-reply =
-    (1 ∷ 5 ∷ 0 ∷ 0 ∷ 0 ∷ 0 ∷ 0 ∷ 0 ∷ 0 ∷ 0 ∷ []) ++ (replicate 7 0 ++ (quiet 14
+    (29 ∷ 5 ∷ 0 ∷ 0 ∷ 0 ∷ 0 ∷ 0 ∷ 0 ∷ 0 ∷ 0 ∷ []) ++ (replicate 7 0 ++ (quiet 14
     ++ ((0 ∷ 0 ∷ []) ++ ((1 ∷ 0 ∷ 0 ∷ 0 ∷ 0 ∷ 0 ∷ 0 ∷ 0 ∷ 0 ∷ 2 ∷ 0 ∷ 0 ∷ []) ++ ((1 ∷ 0 ∷ 0 ∷ 0 ∷ 0 ∷ 0 ∷ 0 ∷ 0 ∷ 0 ∷ 2 ∷ 0 ∷ 0 ∷ []) ++ replicate 4 0)))))
 
 -- the number of tick 15 tells of two senders
 pub two-told : numbersOf (stepsOf short 3 alike both-reply) ≡ 16 ∷ (replicate 3 0 ++ (replicate 10 65 ++ (0 ∷ 2 ∷ [])))
-unfolding numbersOf stepsOf alike both-reply short ticksFrom callsIn behind behindCall run deviceSenders linkTick deviceTicks sides carried masterTick deviceTick requested masterTakes masterSends deviceTakes deviceSends answered contentGiven taken takenData atIdle atPreamble atFirst atAddress atExpansion atCommand atCount atData atCheck writeBuffer writeAnswer frameBytes preambleBytes bodyBytes protectedBytes headerBytes xorFrom delimiterOf stored if_then_else_
+unfolding numbersOf stepsOf alike both-reply short ticksFrom callsIn behind behindCall run deviceSenders linkTick deviceTicks sides carried masterTick deviceTick requested requestedUpTo masterTakes masterSends deviceTakes deviceSends answered contentGiven taken takenData atIdle atPreamble atFirst atAddress atExpansion atCommand atCount atData atCheck writeBuffer writeAnswer frameBytes preambleBytes bodyBytes protectedBytes headerBytes xorFrom delimiterOf stored if_then_else_
 two-told = refl

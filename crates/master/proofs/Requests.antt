@@ -3,15 +3,16 @@ use Prim.Native.Nat.{ℕ, _+_, _≤_, _<_}
 use native.Mathlib.Omega.{arith}
 use mathlib.Core.Bool.{Bool, true, false}
 use mathlib.Core.List.{List}
-use mathlib.Core.Path.{_≡_, refl, sym, ap, _∙_}
+use mathlib.Core.Path.{_≡_, refl, sym, ap, subst, _∙_}
 use lib.ListN.{length}
 use borrow.Author.Tests.{ltb-false}
 use Rattle.base.specs.Choice.{if_then_else_, _outside_to_}
-use Rattle.base.proofs.Choices.{inside-low, inside-high}
+use Rattle.base.proofs.Choices.{inside-low, inside-high, if-is-false}
 use Rattle.base.specs.Store.{stored}
 use Rattle.base.specs.Refusal.{number, Called, accepted, refused}
 use Rattle.base.specs.declared.Refusal.{Refusal}
-use Rattle.frame.specs.Address.{addressLength, largestAddress, addressTooLarge}
+use Rattle.frame.specs.Limits.{fewestPreambles, mostPreambles, largestPolling, mostData}
+use Rattle.frame.specs.Address.{addressLength, largestWith, addressAbove}
 use Rattle.frame.specs.Delimiter.{stx, isType}
 use Rattle.frame.specs.Frame.{tooFew, frameBytes, frameLength}
 use Rattle.frame.specs.Write.{bufferBy, writeAnswer, writeBuffer, writtenAs, WriteIs}
@@ -20,12 +21,12 @@ use Rattle.frame.specs.declared.Written.{Written}
 use Rattle.frame.specs.declared.Written.the-variants.{To, Refused}
 use Rattle.frame.proofs.Taken.{Fits, fits-taken}
 use Rattle.turns.specs.Party.{Request}
-use Rattle.turns.specs.Master.{requestHeader, hasMessage, requested}
-use Rattle.turns.proofs.Masters.{stx-enough, stx-typed}
+use Rattle.turns.specs.Master.{requestHeader, hasMessage, requested, requestedUpTo, pollingUpTo}
+use Rattle.turns.proofs.Masters.{stx-enough, stx-typed, largest-with}
 use Rattle.turns.specs.declared.Master.{Master}
 use Rattle.turns.specs.declared.Stage.{Stage}
-use Rattle.master.specs.Answers.{asked, askedFrame, RequestIs}
-use Rattle.master.specs.Parts.{withMessage, FramePutIs}
+use Rattle.master.specs.Answers.{asked, askedFrame, AskedIs, UpToIs, RequestIs}
+use Rattle.master.specs.Parts.{withMessage, Fitting, FramePutIs}
 use Rattle.master.specs.declared.MasterRequested.{MasterRequested}
 
 address-short : (long : Bool) → addressLength long ≤ 5
@@ -65,33 +66,46 @@ module _ (preamble : ℕ) (h : Header) (bytes frame after : List ℕ) (r : Writt
       absurd (omega arith)
 
 -- an STX that no test refuses can be written
-pub stx-fits : (preamble : ℕ) (h : Header) (count : ℕ) (r s : Bool) → r ≡ (preamble outside 5 to 20) → r ≡ false → s ≡ addressTooLarge h → s ≡ false → count ≤ 255 → h .frame ≡ stx → Fits preamble h count
-stx-fits preamble h count r s p e q f n t = record {
-  preamble-low = inside-low preamble 5 20 r p e;
-  preamble-high = inside-high preamble 5 20 r p e;
-  address-high = ltb-false (largestAddress (h .long)) (h .address) (sym q ∙ f);
+pub stx-fits : (polling preamble : ℕ) (h : Header) (count : ℕ) (s : Bool) → Fitting polling preamble → s ≡ addressAbove polling h → s ≡ false → count ≤ 255 → h .frame ≡ stx → Fits preamble h count
+stx-fits polling preamble h count s w q f n t = record {
+  preamble-low = w .preamble-low;
+  preamble-high = w .preamble-high;
+  address-high = omega (arith, ltb-false (largestWith polling (h .long)) (h .address) (sym q ∙ f), largest-with polling largestPolling (h .long) (w .polling-high));
   count-high = n;
   enough = ap (λ (n : ℕ). tooFew n count) t ∙ stx-enough count;
   typed = ap isType t ∙ stx-typed;
 }
+
+pub fitting : (polling preamble : ℕ) (r : Bool) → polling ≤ largestPolling → r ≡ (preamble outside fewestPreambles to mostPreambles) → r ≡ false → Fitting polling preamble
+fitting polling preamble r h p e = record { polling-high = h; preamble-low = inside-low preamble fewestPreambles mostPreambles r p e; preamble-high = inside-high preamble fewestPreambles mostPreambles r p e }
 
 -- answer and buffer together
 module _ (m : Master) (q : Request) (bytes frame : List ℕ) where
   put : List ℕ
   put = frameBytes (q .preamble) (requestHeader m q) bytes
 
-  pub is-refused : (why : Refusal) → refused (number why) ≡ requested 255 m q (length bytes) → RequestIs m q bytes frame (MasterRequested.Refused why) frame
+  pub is-refused : (c : Called Master) (why : Refusal) → refused (number why) ≡ c → AskedIs c m q bytes frame (MasterRequested.Refused why) frame
   unfolding put
-  is-refused why e = record { result = e; buffer = ap (λ (x : Called Master). askedFrame x frame put) e }
+  is-refused c why e = record { result = e; buffer = ap (λ (x : Called Master). askedFrame x frame put) e }
 
-  pub is-accepted : (n : Master) (count : ℕ) (after : List ℕ) → FramePutIs (q .preamble) (requestHeader m q) bytes frame count after → n ≡ withMessage m (requestHeader m q) count
-      → accepted (withMessage m (requestHeader m q) (frameLength (q .preamble) (requestHeader m q) (length bytes))) ≡ requested 255 m q (length bytes)
-      → RequestIs m q bytes frame (MasterRequested.Accepted n) after
+  pub is-accepted : (c : Called Master) (n : Master) (count : ℕ) (after : List ℕ) → FramePutIs (q .preamble) (requestHeader m q) bytes frame count after → n ≡ withMessage m (requestHeader m q) count
+      → accepted (withMessage m (requestHeader m q) (frameLength (q .preamble) (requestHeader m q) (length bytes))) ≡ c → AskedIs c m q bytes frame (MasterRequested.Accepted n) after
   unfolding put
-  is-accepted n count after p z e =
-      let result : accepted n ≡ requested 255 m q (length bytes) = ap accepted (z ∙ ap (withMessage m (requestHeader m q)) (p .count)) ∙ e in
+  is-accepted c n count after p z e =
+      let result : accepted n ≡ c = ap accepted (z ∙ ap (withMessage m (requestHeader m q)) (p .count)) ∙ e in
       record { result = result; buffer = p .buffer ∙ ap (λ (x : Called Master). askedFrame x frame put) result }
 
+  -- behind preamble and revision, what the rest comes to
+  pub from-address : (polling : ℕ) (a b : Bool) (x : MasterRequested) (after : List ℕ) → a ≡ (q .preamble outside fewestPreambles to mostPreambles) → a ≡ false → b ≡ (q .revision outside 3 to 7) → b ≡ false
+      → polling ≡ pollingUpTo (q .revision) → UpToIs polling m q bytes frame x after → RequestIs m q bytes frame x after
+  unfolding requested
+  from-address polling a b x after p e r f same is =
+      subst (λ (c : Called Master). AskedIs c m q bytes frame x after)
+      (ap (λ (n : ℕ). requestedUpTo n mostData m q (length bytes)) same
+      ∙ sym (if-is-false (q .preamble outside fewestPreambles to mostPreambles) _ _ (sym p ∙ e) ∙ if-is-false (q .revision outside 3 to 7) _ _ (sym r ∙ f))) is
+
 pub ruleset requests = (stx-fits, is-refused, is-accepted)
+
+pub ruleset fields = (is-refused, from-address)
 
 pub ruleset puts = (refl, end-small, put-is, put-never)

@@ -34,12 +34,12 @@ use Rattle.master.specs.declared.RequestFields.{RequestFields}
 -- a request that was answered
 module _ (m : Master) (w : RequestFields) (put frame after : List ℕ) (r : MasterRequested) where
   q : Request
-  q = asks (w .preamble) (w .long) (w .address) (w .command)
+  q = asks w
 
   stx : List ℕ
   stx = frameBytes (q .preamble) (requestHeader m q) put
 
-  module _ (is : RequestIs m (asks (w .preamble) (w .long) (w .address) (w .command)) put frame r after) where
+  module _ (is : RequestIs m (asks w) put frame r after) where
     pub call-accepted : (n : Master) → r ≡ MasterRequested.Accepted n → MasterCalledIs m (MasterHostCall.Requests w) put frame (record { master = n; result = CallStatus.Taken }) after
     unfolding q stx
     call-accepted n e =

@@ -10,11 +10,12 @@ use Rattle.base.specs.Store.{stored}
 use Rattle.frame.specs.Limits.{mostData}
 use Rattle.frame.specs.Frame.{frameBytes}
 use Rattle.turns.specs.Party.{Request}
-use Rattle.turns.specs.Master.{requestHeader, requested}
+use Rattle.turns.specs.Master.{requestHeader, requested, requestedUpTo}
 use Rattle.turns.specs.declared.Master.{Master}
 use Rattle.master.specs.declared.MasterStarted.{MasterStarted}
 use Rattle.master.specs.declared.MasterStarted.the-variants.{Started, Refused}
 use Rattle.master.specs.declared.MasterRequested.{MasterRequested}
+use Rattle.master.specs.declared.RequestFields.{RequestFields}
 
 -- a fresh master, or the refusal with its number in document 01's table
 abbrev pub started : MasterStarted → Called Master
@@ -22,8 +23,8 @@ started (Started m) = accepted m
 started (Refused why) = refused (number why)
 
 -- what a request says, its data aside
-abbrev pub asks : ℕ → Bool → ℕ → ℕ → Request
-asks preamble long address command = record { preamble = preamble; long = long; address = address; command = command }
+abbrev pub asks : RequestFields → Request
+asks q = record { preamble = q .preamble; revision = q .revision; long = q .long; address = q .address; command = q .command }
 
 -- a master with the message in hand, or the refusal with its number in document 01's table
 abbrev pub asked : MasterRequested → Called Master
@@ -35,6 +36,14 @@ abbrev pub askedFrame : Called Master → List ℕ → List ℕ → List ℕ
 askedFrame (accepted m) frame put = stored frame 0 put
 askedFrame (refused why) frame put = frame
 
-pub record RequestIs (m : Master) (q : Request) (bytes frame : List ℕ) (r : MasterRequested) (after : List ℕ) : Type 0 where
-  pub result : asked r ≡ requested mostData m q (length bytes)
-  pub buffer : after ≡ askedFrame (requested mostData m q (length bytes)) frame (frameBytes (q .preamble) (requestHeader m q) bytes)
+-- a request that comes to this
+pub record AskedIs (c : Called Master) (m : Master) (q : Request) (bytes frame : List ℕ) (r : MasterRequested) (after : List ℕ) : Type 0 where
+  pub result : asked r ≡ c
+  pub buffer : after ≡ askedFrame c frame (frameBytes (q .preamble) (requestHeader m q) bytes)
+
+abbrev pub RequestIs : Master → Request → List ℕ → List ℕ → MasterRequested → List ℕ → Type 0
+RequestIs m q bytes frame r after = AskedIs (requested mostData m q (length bytes)) m q bytes frame r after
+
+-- from the address on, where polling addresses go up to `polling`
+abbrev pub UpToIs : ℕ → Master → Request → List ℕ → List ℕ → MasterRequested → List ℕ → Type 0
+UpToIs polling m q bytes frame r after = AskedIs (requestedUpTo polling mostData m q (length bytes)) m q bytes frame r after

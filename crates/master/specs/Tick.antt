@@ -20,7 +20,7 @@ use Rattle.master.specs.declared.MasterTicked.{MasterTicked}
 -- the call, with the data that are lent beside it
 abbrev pub callOf : MasterHostCall → List ℕ → MasterCall
 callOf MasterHostCall.Nothing put = no-request
-callOf (MasterHostCall.Requests q) put = requests (asks (q .preamble) (q .long) (q .address) (q .command)) put
+callOf (MasterHostCall.Requests q) put = requests (asks q) put
 
 -- a master with its lent buffers
 abbrev pub sideOf : Master → List ℕ → List ℕ → MasterSide

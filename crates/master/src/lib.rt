@@ -19,11 +19,12 @@ ghost use mathlib.Core.Path.{_≡_};
 ghost use mathlib.Core.Bool.{true, false};
 ghost use lib.ListN.{length};
 ghost use Rattle.base.specs.Choice.{if_then_else_, _=?_};
-ghost use Rattle.frame.specs.Limits.{reservedCommand};
+ghost use Prim.Native.Nat.{_≤_};
+ghost use Rattle.frame.specs.Limits.{largestPolling, reservedCommand};
 ghost use Rattle.frame.proofs.Taken.{Fits};
-ghost use Rattle.turns.specs.Master.{hasMessage, sends, sendsAt, oneMore, sendsBy, masterSends, noMessage, freshMaster, masterStarts};
-ghost use Rattle.master.specs.Answers.{started, asks, RequestIs};
-ghost use Rattle.master.specs.Parts.{withMessage, FramePutIs, sendsNothing, sendsCharacter};
+ghost use Rattle.turns.specs.Master.{hasMessage, pollingUpTo, sends, sendsAt, oneMore, sendsBy, masterSends, noMessage, freshMaster, masterStarts};
+ghost use Rattle.master.specs.Answers.{started, asks, UpToIs, RequestIs};
+ghost use Rattle.master.specs.Parts.{withMessage, Fitting, FramePutIs, sendsNothing, sendsCharacter};
 ghost use Rattle.master.specs.Tick.{uncalled, MasterCalledIs, MasterTickIs};
 
 // What a start answers.
@@ -44,6 +45,8 @@ pub struct RequestFields {
     pub address: u64,
     pub long: bool,
     pub command: u8,
+    // of the device, 3 to 7
+    pub revision: u8,
 }
 
 // A host's call in a tick.
@@ -122,35 +125,41 @@ fn put_stx(preamble: usize, h: Header, bytes: &[u8], frame: &mut [u8; 284]) -> u
     }
 }
 
-// A host's request: its STX is put into the lent frame buffer, or it is refused and the buffer stays as it was.
-pub fn request(
+// The largest polling address that a device of this revision knows.
+fn polling_up_to(revision: u8) -> u64
+    ensures { λ r. ⌜ (r ≡ pollingUpTo revision) × (r ≤ largestPolling) ⌝ }
+{
+    if revision <= 5 {
+        return 15;
+    }
+    63
+}
+
+// A request, from its address on, where polling addresses go up to the first parameter.
+fn request_up_to(
+    polling: u64,
     m: Master,
-    preamble: usize,
-    long: bool,
-    address: u64,
-    command: u8,
+    q: RequestFields,
     bytes: &[u8],
     frame: &mut [u8; 284],
 ) -> MasterRequested
-    ensures { λ r. ⌜ RequestIs m (asks preamble long address command) (now (bytes .entry)) (now (frame .entry)) r (now (frame .exit)) ⌝ }
+    requires { ⌜ Fitting polling (q .preamble) ⌝ }
+    ensures { λ r. ⌜ UpToIs polling m (asks q) (now (bytes .entry)) (now (frame .entry)) r (now (frame .exit)) ⌝ }
 {
     let g = m.message;
     let stage = g.stage;
     let h = Header {
         frame: frame::STX,
-        long: long,
+        long: q.long,
         primary: m.primary,
         burst: false,
-        address: address,
-        command: command,
+        address: q.address,
+        command: q.command,
     };
-    if base::outside(preamble, 5, 20) {
-        return MasterRequested::Refused(Refusal::PreambleLength);
-    }
-    if frame_write::address_too_large(h) {
+    if frame_write::address_above(polling, h) {
         return MasterRequested::Refused(Refusal::Address);
     }
-    if command_refused(long, command) {
+    if command_refused(q.long, q.command) {
         return MasterRequested::Refused(Refusal::Command);
     }
     if 255 < bytes.len() {
@@ -159,8 +168,22 @@ pub fn request(
     if has_message(stage) {
         return MasterRequested::Refused(Refusal::MessageInHand);
     }
-    let length = put_stx(preamble, h, bytes, frame);
+    let length = put_stx(q.preamble, h, bytes, frame);
     MasterRequested::Accepted(with_message(m, h, length))
+}
+
+// A host's request: its STX is put into the lent frame buffer, or it is refused and the buffer stays as it was.
+pub fn request(m: Master, q: RequestFields, bytes: &[u8], frame: &mut [u8; 284]) -> MasterRequested
+    ensures { λ r. ⌜ RequestIs m (asks q) (now (bytes .entry)) (now (frame .entry)) r (now (frame .exit)) ⌝ }
+{
+    if base::outside(q.preamble, 5, 20) {
+        return MasterRequested::Refused(Refusal::PreambleLength);
+    }
+    if base::outside(q.revision as usize, 3, 7) {
+        return MasterRequested::Refused(Refusal::Revision);
+    }
+    let polling = polling_up_to(q.revision);
+    request_up_to(polling, m, q, bytes, frame)
 }
 
 // What a master sends, and the master behind it.
@@ -333,7 +356,7 @@ pub fn start(profile: Profile, primary: bool, retries: u8) -> MasterStarted
 fn request_by(m: Master, q: RequestFields, put: &[u8], frame: &mut [u8; 284]) -> MasterCallTaken
     ensures { λ r. ⌜ MasterCalledIs m (MasterHostCall.Requests q) (now (put .entry)) (now (frame .entry)) r (now (frame .exit)) ⌝ }
 {
-    let r = request(m, q.preamble, q.long, q.address, q.command, put, frame);
+    let r = request(m, q, put, frame);
     match r {
         MasterRequested::Accepted(n) => MasterCallTaken {
             master: n,

@@ -23,8 +23,8 @@ use Rattle.master.specs.declared.MasterTicked.{MasterTicked}
 -- 1 asks command 3 of unique address 2, 2 command 11 by broadcast, anything else nothing
 abbrev pub requestAt : ℕ → MasterHostCall
 requestAt low =
-    if low =? 1 then MasterHostCall.Requests (record { preamble = 5; long = true; address = 2; command = 3 })
-    else (if low =? 2 then MasterHostCall.Requests (record { preamble = 5; long = true; address = 0; command = 11 }) else MasterHostCall.Nothing)
+    if low =? 1 then MasterHostCall.Requests (record { preamble = 5; revision = 7; long = true; address = 2; command = 3 })
+    else (if low =? 2 then MasterHostCall.Requests (record { preamble = 5; revision = 7; long = true; address = 0; command = 11 }) else MasterHostCall.Nothing)
 
 -- the request's data: with command 11 a tag of six zero bytes
 abbrev pub tagAt : ℕ → List ℕ

@@ -27,6 +27,7 @@ fn request_at(low: u8) -> master::MasterHostCall
     if low == 1 {
         return master::MasterHostCall::Requests(RequestFields {
             preamble: 5,
+            revision: 7,
             long: true,
             address: 2,
             command: 3,
@@ -35,6 +36,7 @@ fn request_at(low: u8) -> master::MasterHostCall
     if low == 2 {
         return master::MasterHostCall::Requests(RequestFields {
             preamble: 5,
+            revision: 7,
             long: true,
             address: 0,
             command: 11,

@@ -156,6 +156,7 @@ fn front<'a>(bytes: &'a [u8], count: usize) -> &'a [u8] {
 fn wanted(long: bool, address: u8, command: u8) -> master::MasterHostCall {
     master::MasterHostCall::Requests(RequestFields {
         preamble: 5,
+        revision: 7,
         long: long,
         address: address as u64,
         command: command,

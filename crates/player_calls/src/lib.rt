@@ -35,6 +35,7 @@ fn request_for(action: u8, argument: u8) -> MasterCall
     if action == 1 {
         let q = master::RequestFields {
             preamble: 5,
+            revision: 7,
             long: false,
             address: argument as u64,
             command: 0,
@@ -46,6 +47,7 @@ fn request_for(action: u8, argument: u8) -> MasterCall
     }
     let q = master::RequestFields {
         preamble: 5,
+        revision: 7,
         long: true,
         address: argument as u64,
         command: 3,

@@ -8,7 +8,7 @@ use Rattle.frame.specs.Delimiter.{delimiterOf}
 use Rattle.frame.specs.Frame.{frameBytes, preambleBytes, bodyBytes, protectedBytes, headerBytes}
 use Rattle.frame.specs.Write.{writeBuffer, writeAnswer}
 use Rattle.line.specs.Reader.{taken, takenData, atIdle, atPreamble, atFirst, atAddress, atExpansion, atCommand, atCount, atData, atCheck}
-use Rattle.turns.specs.Master.{requested, masterTakes, masterSends}
+use Rattle.turns.specs.Master.{requested, requestedUpTo, masterTakes, masterSends}
 use Rattle.turns.specs.Device.{deviceTakes, deviceSends, answered, contentGiven}
 use Rattle.turns.specs.Link.{masterTick, deviceTick, deviceTicks, sides, carried, linkTick, run}
 use Rattle.listing.specs.Lines.{frameEnds, endsWith, listens, linesOf, senders, tickLines, linesFrom}
@@ -22,5 +22,5 @@ pub worked-example : play (0x00 ∷ 0x00 ∷ 0x01 ∷ 0x00 ∷ 0x00 ∷ 0x2C ∷
     ≡ headLine
     ++ (52 ∷ 50 ∷ 32 ∷ 48 ∷ 32 ∷ 83 ∷ 84 ∷ 88 ∷ 32 ∷ 48 ∷ 32 ∷ 49 ∷ 48 ∷ 10
     ∷ 53 ∷ 53 ∷ 32 ∷ 50 ∷ 32 ∷ 65 ∷ 67 ∷ 75 ∷ 32 ∷ 48 ∷ 32 ∷ 49 ∷ 50 ∷ 10 ∷ [])
-unfolding play recordsOf isIn isGood goodScript wantedAt stopOf callsFrom readyLink devicesSent sentIn frameEnds endsWith listens linesOf senders tickLines linesFrom decimalOf lineText linesText run linkTick deviceTicks sides carried masterTick deviceTick requested masterTakes masterSends deviceTakes deviceSends answered contentGiven taken takenData atIdle atPreamble atFirst atAddress atExpansion atCommand atCount atData atCheck writeBuffer writeAnswer frameBytes preambleBytes bodyBytes protectedBytes headerBytes xorFrom delimiterOf stored if_then_else_
+unfolding play recordsOf isIn isGood goodScript wantedAt stopOf callsFrom readyLink devicesSent sentIn frameEnds endsWith listens linesOf senders tickLines linesFrom decimalOf lineText linesText run linkTick deviceTicks sides carried masterTick deviceTick requested requestedUpTo masterTakes masterSends deviceTakes deviceSends answered contentGiven taken takenData atIdle atPreamble atFirst atAddress atExpansion atCommand atCount atData atCheck writeBuffer writeAnswer frameBytes preambleBytes bodyBytes protectedBytes headerBytes xorFrom delimiterOf stored if_then_else_
 worked-example = refl

@@ -8,7 +8,7 @@ use Rattle.frame.specs.Delimiter.{delimiterOf}
 use Rattle.frame.specs.Frame.{frameBytes, preambleBytes, bodyBytes, protectedBytes, headerBytes}
 use Rattle.frame.specs.Write.{writeBuffer, writeAnswer}
 use Rattle.line.specs.Reader.{taken, takenData, atIdle, atPreamble, atFirst, atAddress, atExpansion, atCommand, atCount, atData, atCheck}
-use Rattle.turns.specs.Master.{requested, masterTakes, masterSends}
+use Rattle.turns.specs.Master.{requested, requestedUpTo, masterTakes, masterSends}
 use Rattle.turns.specs.Device.{deviceTakes, deviceSends, answered, contentGiven}
 use Rattle.turns.specs.Link.{masterTick, deviceTick, deviceTicks, sides, carried, linkTick, run}
 use Rattle.listing.specs.Lines.{frameEnds, endsWith, listens, linesOf, senders, tickLines, linesFrom}
@@ -52,7 +52,7 @@ pub one-bursts : play
     ∷ 67 ∷ 75 ∷ 32 ∷ 48 ∷ 32 ∷ 53 ∷ 48 ∷ 10 ∷ 50 ∷ 52 ∷ 52 ∷ 32 ∷ 53 ∷ 32 ∷ 66 ∷ 65 ∷ 67 ∷ 75 ∷ 32 ∷ 48 ∷ 32 ∷ 49 ∷ 54 ∷ 10
     ∷ 50 ∷ 53 ∷ 57 ∷ 32 ∷ 49 ∷ 32 ∷ 83 ∷ 84 ∷ 88 ∷ 32 ∷ 49 ∷ 32 ∷ 49 ∷ 52 ∷ 10 ∷ 51 ∷ 48 ∷ 56 ∷ 32 ∷ 53 ∷ 32 ∷ 66 ∷ 65 ∷ 67
     ∷ 75 ∷ 32 ∷ 49 ∷ 32 ∷ 49 ∷ 54 ∷ 10 ∷ 51 ∷ 49 ∷ 57 ∷ 32 ∷ 48 ∷ 32 ∷ 83 ∷ 84 ∷ 88 ∷ 32 ∷ 48 ∷ 32 ∷ 49 ∷ 48 ∷ 10 ∷ [])
-unfolding play recordsOf isIn isGood goodScript wantedAt stopOf callsFrom readyLink devicesSent sentIn frameEnds endsWith listens linesOf senders tickLines linesFrom decimalOf lineText linesText run linkTick deviceTicks sides carried masterTick deviceTick requested masterTakes masterSends deviceTakes deviceSends answered contentGiven taken takenData atIdle atPreamble atFirst atAddress atExpansion atCommand atCount atData atCheck writeBuffer writeAnswer frameBytes preambleBytes bodyBytes protectedBytes headerBytes xorFrom delimiterOf stored if_then_else_
+unfolding play recordsOf isIn isGood goodScript wantedAt stopOf callsFrom readyLink devicesSent sentIn frameEnds endsWith listens linesOf senders tickLines linesFrom decimalOf lineText linesText run linkTick deviceTicks sides carried masterTick deviceTick requested requestedUpTo masterTakes masterSends deviceTakes deviceSends answered contentGiven taken takenData atIdle atPreamble atFirst atAddress atExpansion atCommand atCount atData atCheck writeBuffer writeAnswer frameBytes preambleBytes bodyBytes protectedBytes headerBytes xorFrom delimiterOf stored if_then_else_
 one-bursts = refl
 
 -- two devices burst, and frames collide. The lines:
@@ -84,5 +84,5 @@ pub two-burst : play
     ∷ 49 ∷ 32 ∷ 83 ∷ 84 ∷ 88 ∷ 32 ∷ 49 ∷ 32 ∷ 49 ∷ 52 ∷ 10 ∷ 49 ∷ 53 ∷ 50 ∷ 32 ∷ 55 ∷ 32 ∷ 65 ∷ 67 ∷ 75 ∷ 32 ∷ 49 ∷ 32 ∷ 51
     ∷ 52 ∷ 10 ∷ 49 ∷ 54 ∷ 56 ∷ 32 ∷ 55 ∷ 32 ∷ 66 ∷ 65 ∷ 67 ∷ 75 ∷ 32 ∷ 48 ∷ 32 ∷ 49 ∷ 54 ∷ 10 ∷ 49 ∷ 56 ∷ 51 ∷ 32 ∷ 49 ∷ 32
     ∷ 83 ∷ 84 ∷ 88 ∷ 32 ∷ 49 ∷ 32 ∷ 49 ∷ 52 ∷ 10 ∷ 50 ∷ 50 ∷ 53 ∷ 32 ∷ 52 ∷ 32 ∷ 65 ∷ 67 ∷ 75 ∷ 32 ∷ 49 ∷ 32 ∷ 52 ∷ 49 ∷ 10 ∷ [])
-unfolding play recordsOf isIn isGood goodScript wantedAt stopOf callsFrom readyLink devicesSent sentIn frameEnds endsWith listens linesOf senders tickLines linesFrom decimalOf lineText linesText run linkTick deviceTicks sides carried masterTick deviceTick requested masterTakes masterSends deviceTakes deviceSends answered contentGiven taken takenData atIdle atPreamble atFirst atAddress atExpansion atCommand atCount atData atCheck writeBuffer writeAnswer frameBytes preambleBytes bodyBytes protectedBytes headerBytes xorFrom delimiterOf stored if_then_else_
+unfolding play recordsOf isIn isGood goodScript wantedAt stopOf callsFrom readyLink devicesSent sentIn frameEnds endsWith listens linesOf senders tickLines linesFrom decimalOf lineText linesText run linkTick deviceTicks sides carried masterTick deviceTick requested requestedUpTo masterTakes masterSends deviceTakes deviceSends answered contentGiven taken takenData atIdle atPreamble atFirst atAddress atExpansion atCommand atCount atData atCheck writeBuffer writeAnswer frameBytes preambleBytes bodyBytes protectedBytes headerBytes xorFrom delimiterOf stored if_then_else_
 two-burst = refl

@@ -77,8 +77,8 @@ wantedAt tick party (e ∷ es) = if isOf tick party e then Call (e .action) (e .
 abbrev pub masterCall : ScriptCall → MasterCall
 masterCall Nothing = no-request
 masterCall (Call action argument) =
-    if action =? 1 then requests (record { preamble = 5; long = false; address = argument; command = 0 }) []
-    else requests (record { preamble = 5; long = true; address = argument; command = 3 }) []
+    if action =? 1 then requests (record { preamble = 5; revision = 7; long = false; address = argument; command = 0 }) []
+    else requests (record { preamble = 5; revision = 7; long = true; address = argument; command = 3 }) []
 
 -- "2 device answers with that many zero bytes"
 abbrev pub deviceCall : ScriptCall → DeviceCall

@@ -16,7 +16,7 @@ use Rattle.turns.specs.declared.Wish.{Wish}
 use Rattle.turns.specs.declared.Wish.the-variants.{Same, On, Off}
 use Rattle.master.specs.Tick as M
 use Rattle.device_tick.specs.Tick as D
-use Rattle.tick_list.specs.Ticks.{addressIn, lengthIn, dataIn, requestIn, answerIn, behindCall, behind, Here, ifHere, callsIn, ticksOf}
+use Rattle.tick_list.specs.Ticks.{addressIn, lengthIn, dataIn, requestBy, requestIn, answerIn, behindCall, behind, Here, ifHere, callsIn, ticksOf}
 use Rattle.tick_list.specs.Encode.{callBytes, masterBytes, wishKind, deviceBytes, slotsOf, slotsBytes, tickBytes, ticksBytes, Bytes, no-byte, byte-and, DataCodable, RequestCodable, MasterCodable, DeviceCodable, SlotsCodable, no-slot, absent-and, present-and, TickCodable, TicksCodable, no-tick, tick-and, Encodes}
 use Rattle.tick_list.proofs.Whole.{ticks-more, ticks-none}
 
@@ -35,38 +35,51 @@ module _ (kind preamble command address : ℕ) (put rest : List ℕ) (h : length
   call-long : length (callBytes kind preamble command address put) ≡ 10 + lengthIn (callBytes kind preamble command address put ++ rest)
   call-long = omega (arith, length-back (length put) h)
 
-call-behind : (k preamble command address : ℕ) (put rest : List ℕ) → length put ≤ 256 → behindCall (callBytes (suc k) preamble command address put ++ rest) ≡ rest
+call-behind : (kind preamble command address : ℕ) (put rest : List ℕ) → 0 < kind → length put ≤ 256 → behindCall (callBytes kind preamble command address put ++ rest) ≡ rest
 unfolding behindCall
-call-behind k preamble command address put rest h =
-    sym (if-unequal (suc k) 0 rest _ _ (λ e. absurd (omega (arith, e))) (sym (drop-at (callBytes (suc k) preamble command address put) rest _ (call-long (suc k) preamble command address put rest h))))
+call-behind kind preamble command address put rest some h =
+    sym (if-unequal kind 0 rest _ _ (λ e. absurd (omega (arith, e))) (sym (drop-at (callBytes kind preamble command address put) rest _ (call-long kind preamble command address put rest h))))
 
 none-behind : (rest : List ℕ) → behindCall (0 ∷ rest) ≡ rest
 unfolding behindCall if_then_else_
 none-behind rest = refl
 
--- a master's
-request-back : (long : Bool) (preamble address command : ℕ) (put rest : List ℕ) → length put ≤ 256
-    → (let q : Request = record { preamble = preamble; long = long; address = address; command = command } in
+-- a master's: its kind is four times the revision, and the form
+form-back : (revision form : ℕ) → form < 4 → (revision * 4 + form) % 4 ≡ form
+form-back revision form h = omega arith
+
+revision-back : (revision form : ℕ) → form < 4 → (revision * 4 + form) / 4 ≡ revision
+revision-back revision form h = omega arith
+
+request-back : (long : Bool) (preamble revision address command : ℕ) (put rest : List ℕ) → length put ≤ 256
+    → (let q : Request = record { preamble = preamble; revision = revision; long = long; address = address; command = command } in
     M.callOf (requestIn (masterBytes (requests q put) ++ rest)) (dataIn (masterBytes (requests q put) ++ rest)) ≡ requests q put)
 unfolding if_then_else_
-request-back true preamble address command put rest h =
-    λ i. requests (record { preamble = preamble; long = true; address = address-back address i; command = command }) (data-back 2 preamble command address put rest h i)
-request-back false preamble address command put rest h =
-    λ i. requests (record { preamble = preamble; long = false; address = address-back address i; command = command }) (data-back 1 preamble command address put rest h i)
+request-back true preamble revision address command put rest h =
+    let kind = revision * 4 + 2 in
+    let whole = callBytes kind preamble command address put ++ rest in
+    ap (λ (form : ℕ). M.callOf (requestBy form whole) (dataIn whole)) (form-back revision 2 (omega arith))
+    ∙ (λ i. requests (record { preamble = preamble; revision = revision-back revision 2 (omega arith) i; long = true; address = address-back address i; command = command }) (data-back kind preamble command address put rest h i))
+request-back false preamble revision address command put rest h =
+    let kind = revision * 4 + 1 in
+    let whole = callBytes kind preamble command address put ++ rest in
+    ap (λ (form : ℕ). M.callOf (requestBy form whole) (dataIn whole)) (form-back revision 1 (omega arith))
+    ∙ (λ i. requests (record { preamble = preamble; revision = revision-back revision 1 (omega arith) i; long = false; address = address-back address i; command = command }) (data-back kind preamble command address put rest h i))
 
 master-back : (c : MasterCall) (rest : List ℕ) → MasterCodable c → M.callOf (requestIn (masterBytes c ++ rest)) (dataIn (masterBytes c ++ rest)) ≡ c
 unfolding if_then_else_
 master-back no-request rest h = refl
-master-back (requests q put) rest (MasterCodable.codable-request r d) = request-back (q .long) (q .preamble) (q .address) (q .command) put rest (d .at-most)
+master-back (requests q put) rest (MasterCodable.codable-request r d) = request-back (q .long) (q .preamble) (q .revision) (q .address) (q .command) put rest (d .at-most)
 
-request-behind : (long : Bool) (preamble address command : ℕ) (put rest : List ℕ) → length put ≤ 256 → behindCall (callBytes (if long then 2 else 1) preamble command address put ++ rest) ≡ rest
+form-some : (revision : ℕ) (long : Bool) → 0 < revision * 4 + (if long then 2 else 1)
 unfolding if_then_else_
-request-behind true preamble address command put rest h = call-behind 1 preamble command address put rest h
-request-behind false preamble address command put rest h = call-behind 0 preamble command address put rest h
+form-some revision true = omega arith
+form-some revision false = omega arith
 
 master-behind : (c : MasterCall) (rest : List ℕ) → MasterCodable c → behindCall (masterBytes c ++ rest) ≡ rest
 master-behind no-request rest h = none-behind rest
-master-behind (requests q put) rest (MasterCodable.codable-request r d) = request-behind (q .long) (q .preamble) (q .address) (q .command) put rest (d .at-most)
+master-behind (requests q put) rest (MasterCodable.codable-request r d) =
+    call-behind (q .revision * 4 + (if q .long then 2 else 1)) (q .preamble) (q .command) (q .address) put rest (form-some (q .revision) (q .long)) (d .at-most)
 
 some-byte : (c : MasterCall) (rest : List ℕ) → 0 < length (masterBytes c ++ rest)
 some-byte no-request rest = omega arith
@@ -83,10 +96,10 @@ device-back (gives-content command put) rest (DeviceCodable.codable-content b d)
 
 device-behind : (c : DeviceCall) (rest : List ℕ) → DeviceCodable c → behindCall (deviceBytes c ++ rest) ≡ rest
 device-behind no-call rest h = none-behind rest
-device-behind (gives-answer Same put) rest (DeviceCodable.codable-answer d) = call-behind 0 0 0 0 put rest (d .at-most)
-device-behind (gives-answer On put) rest (DeviceCodable.codable-answer d) = call-behind 1 0 0 0 put rest (d .at-most)
-device-behind (gives-answer Off put) rest (DeviceCodable.codable-answer d) = call-behind 2 0 0 0 put rest (d .at-most)
-device-behind (gives-content command put) rest (DeviceCodable.codable-content b d) = call-behind 3 0 command 0 put rest (d .at-most)
+device-behind (gives-answer Same put) rest (DeviceCodable.codable-answer d) = call-behind 1 0 0 0 put rest (omega arith) (d .at-most)
+device-behind (gives-answer On put) rest (DeviceCodable.codable-answer d) = call-behind 2 0 0 0 put rest (omega arith) (d .at-most)
+device-behind (gives-answer Off put) rest (DeviceCodable.codable-answer d) = call-behind 3 0 0 0 put rest (omega arith) (d .at-most)
+device-behind (gives-content command put) rest (DeviceCodable.codable-content b d) = call-behind 4 0 command 0 put rest (omega arith) (d .at-most)
 
 -- ---- the calls to the slots
 
@@ -198,8 +211,8 @@ call-bytes kind preamble command address put k p c a d =
 master-bytes : (c : MasterCall) → MasterCodable c → Bytes (masterBytes c)
 master-bytes no-request h = none-bytes [] no-byte
 master-bytes (requests q put) (MasterCodable.codable-request r d) =
-    call-bytes (if q .long then 2 else 1) (q .preamble) (q .command) (q .address) put
-    (if-both (λ (k : ℕ). k < 256) (q .long) 2 1 (omega arith) (omega arith)) (r .preamble-byte) (r .command-byte) (r .address-small) d
+    call-bytes (q .revision * 4 + (if q .long then 2 else 1)) (q .preamble) (q .command) (q .address) put
+    (if-both (λ (k : ℕ). q .revision * 4 + k < 256) (q .long) 2 1 (omega (arith, r .revision-small)) (omega (arith, r .revision-small))) (r .preamble-byte) (r .command-byte) (r .address-small) d
 
 device-bytes : (c : DeviceCall) → DeviceCodable c → Bytes (deviceBytes c)
 device-bytes no-call h = none-bytes [] no-byte

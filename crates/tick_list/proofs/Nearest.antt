@@ -9,12 +9,13 @@ use lib.Seq.{take-all}
 use borrow.Author.Tests.{ltb-true, ltb-false, le-ltb, ne-eqb}
 use Rattle.base.specs.Refusal.{Called, accepted, refused}
 use Rattle.base.specs.Choice.{if_then_else_, _<?_, _=?_, _outside_to_}
-use Rattle.base.proofs.Choices.{if-is-true, if-is-false, inside-high}
-use Rattle.frame.specs.Address.{largestAddress, addressTooLarge}
+use Rattle.base.proofs.Choices.{if-is-true, if-is-false, if-above, inside-high}
+use Rattle.frame.specs.Limits.{largestPolling}
+use Rattle.frame.specs.Address.{largestWith, addressAbove}
 use Rattle.frame.specs.Frame.{frameLength, frameBytes}
 use Rattle.line.specs.declared.Heard.{Heard}
 use Rattle.turns.specs.Party.{Request, CallResult, was-refused}
-use Rattle.turns.specs.Master.{requested, requestHeader, commandRefused, hasMessage, masterWith, masterTakes}
+use Rattle.turns.specs.Master.{requested, requestedUpTo, pollingUpTo, requestHeader, commandRefused, hasMessage, masterWith, masterTakes}
 use Rattle.turns.specs.Device.{answeredBy, answered, answerFrame, deviceTakes, answersAt, answerHeader, wished, contentGiven, deviceWithContent, wishRefused}
 use Rattle.turns.specs.Device as D
 use Rattle.turns.specs.Link.{MasterCall, no-request, requests, DeviceCall, no-call, gives-answer, gives-content, Calls, MasterSide, masterData, masterCalled, masterCalls, masterTick, DeviceSide, DeviceStep, deviceData, heardFrame, answerCalled, contentCalled, deviceCalls, deviceTick, Link, LinkStep, deviceTicks, sides, linkTick, linkAfter, run}
@@ -28,6 +29,7 @@ use Rattle.turns.specs.declared.DeviceTaken.{DeviceTaken}
 use Rattle.turns.specs.declared.Turn.{Turn}
 use Rattle.turns.specs.declared.Turn.the-variants.{Listens, Asked, AnswerWaits, Begins, Answers, Follows, Bursts}
 use Rattle.turns.specs.declared.Wish.{Wish}
+use Rattle.turns.proofs.Masters.{polling-fits}
 use Rattle.tick_list.specs.Ticks.{Here, ticksOf}
 use Rattle.tick_list.specs.Encode.{slotsOf, ticksBytes, Bytes, no-byte, byte-and, DataCodable, RequestCodable, MasterCodable, DeviceCodable, SlotsCodable, no-slot, absent-and, present-and, TicksCodable}
 use Rattle.tick_list.specs.Nearest.{atMost, nearestData, nearestRequest, nearestMaster, nearestDevice, present, nearestDevices, nearestTick, nearestTicks, outcome, IsRefused, is-refused, MasterGives, DeviceGives, DevicesGive, no-device, device-and, TickGives, TicksGive}
@@ -113,45 +115,60 @@ data-codable put = record { at-most = go (nearest-length put); are-bytes = all-b
 
 -- ---- a master's request
 
-tests : {A : Type 0} → Bool → Bool → Bool → Bool → Bool → Called A → Called A
-tests a b c d e x =
+tests : {A : Type 0} → Bool → Bool → Bool → Bool → Bool → Bool → Called A → Called A
+tests a r b c d e x =
     if a then refused 3 else
+    if r then refused 17 else
     if b then refused 4 else
     if c then refused 5 else
     if d then refused 6 else
     if e then refused 7 else x
 
-tests-outcome : {A : Type 0} (a b c d e : Bool) (x y : Called A) → outcome x ≡ outcome y → outcome (tests a b c d e x) ≡ outcome (tests a b c d e y)
+tests-outcome : {A : Type 0} (a r b c d e : Bool) (x y : Called A) → outcome x ≡ outcome y → outcome (tests a r b c d e x) ≡ outcome (tests a r b c d e y)
 unfolding tests if_then_else_
-tests-outcome true b c d e x y h = refl
-tests-outcome false true c d e x y h = refl
-tests-outcome false false true d e x y h = refl
-tests-outcome false false false true e x y h = refl
-tests-outcome false false false false true x y h = refl
-tests-outcome false false false false false x y h = h
+tests-outcome true r b c d e x y h = refl
+tests-outcome false true b c d e x y h = refl
+tests-outcome false false true c d e x y h = refl
+tests-outcome false false false true d e x y h = refl
+tests-outcome false false false false true e x y h = refl
+tests-outcome false false false false false true x y h = refl
+tests-outcome false false false false false false x y h = h
 
 data Refused {A : Type 0} (x : Called A) : Type 0 where
   with-number : (why : ℕ) → x ≡ refused why → Refused x
 
-tests-refused : {A : Type 0} (a b c d e : Bool) (x : Called A) → (a ≡ false → b ≡ false → d ≡ false → ⊥) → Refused (tests a b c d e x)
+tests-refused : {A : Type 0} (a r b c d e : Bool) (x : Called A) → (a ≡ false → r ≡ false → b ≡ false → d ≡ false → ⊥) → Refused (tests a r b c d e x)
 unfolding tests if_then_else_
-tests-refused true b c d e x h = with-number 3 refl
-tests-refused false true c d e x h = with-number 4 refl
-tests-refused false false true d e x h = with-number 5 refl
-tests-refused false false false true e x h = with-number 6 refl
-tests-refused false false false false e x h = absurd (h refl refl refl)
+tests-refused true r b c d e x h = with-number 3 refl
+tests-refused false true b c d e x h = with-number 17 refl
+tests-refused false false true c d e x h = with-number 4 refl
+tests-refused false false false true d e x h = with-number 5 refl
+tests-refused false false false false true e x h = with-number 6 refl
+tests-refused false false false false false e x h = absurd (h refl refl refl refl)
 
 module _ (limit : ℕ) (small : limit < 256) (m : Master) (q : Request) (put : List ℕ) where
   preamble-same : (atMost 255 (q .preamble) outside 5 to 20) ≡ (q .preamble outside 5 to 20)
   preamble-same = cut-outside 5 20 255 (q .preamble) _ (omega arith) (omega arith) (at-most 255 (q .preamble))
 
-  largest-small : (long : Bool) → largestAddress long < 2 ^ 40 - 1
+  revision-same : (atMost 63 (q .revision) outside 3 to 7) ≡ (q .revision outside 3 to 7)
+  revision-same = cut-outside 3 7 63 (q .revision) _ (omega arith) (omega arith) (at-most 63 (q .revision))
+
+  polling-same : pollingUpTo (atMost 63 (q .revision)) ≡ pollingUpTo (q .revision)
+  polling-same = go (at-most 63 (q .revision))
+    where
+      go : Cut 63 (q .revision) (atMost 63 (q .revision)) → pollingUpTo (atMost 63 (q .revision)) ≡ pollingUpTo (q .revision)
+      go (kept h e) = ap pollingUpTo e
+      go (cut h e) = sym (if-above (atMost 63 (q .revision)) 5 largestPolling 15 largestPolling (omega (arith, e)) refl) ∙ if-above (q .revision) 5 largestPolling 15 largestPolling (omega arith) refl
+
+  largest-small : (long : Bool) → largestWith (pollingUpTo (q .revision)) long < 2 ^ 40 - 1
   unfolding if_then_else_
   largest-small true = omega arith
-  largest-small false = omega arith
+  largest-small false = omega (arith, polling-fits (q .revision))
 
-  address-same : addressTooLarge (requestHeader m (nearestRequest q)) ≡ addressTooLarge (requestHeader m q)
-  address-same = cut-above (largestAddress (q .long)) (2 ^ 40 - 1) (q .address) _ (largest-small (q .long)) (at-most (2 ^ 40 - 1) (q .address))
+  address-same : addressAbove (pollingUpTo (atMost 63 (q .revision))) (requestHeader m (nearestRequest q)) ≡ addressAbove (pollingUpTo (q .revision)) (requestHeader m q)
+  address-same =
+      ap (λ (n : ℕ). addressAbove n (requestHeader m (nearestRequest q))) polling-same
+      ∙ cut-above (largestWith (pollingUpTo (q .revision)) (q .long)) (2 ^ 40 - 1) (q .address) _ (largest-small (q .long)) (at-most (2 ^ 40 - 1) (q .address))
 
   command-same : commandRefused (nearestRequest q) ≡ commandRefused q
   command-same =
@@ -168,18 +185,20 @@ module _ (limit : ℕ) (small : limit < 256) (m : Master) (q : Request) (put : L
       (record { stage = Waiting; header = requestHeader m r; length = frameLength (r .preamble) (requestHeader m r) count; attempts = 0 })
 
   pub request-outcome : outcome (requested limit m (nearestRequest q) (length (nearestData put))) ≡ outcome (requested limit m q (length put))
-  unfolding requested tests waits
+  unfolding requested requestedUpTo tests waits
   request-outcome =
-      (λ i. outcome {A = Master} (tests (preamble-same i) (address-same i) (command-same i) (data-same-test i) (hasMessage (m .message .stage)) (accepted (waits (nearestRequest q) (length (nearestData put))))))
-      ∙ tests-outcome (q .preamble outside 5 to 20) (addressTooLarge (requestHeader m q)) (commandRefused q) (limit <? length put) (hasMessage (m .message .stage))
+      (λ i. outcome {A = Master} (tests (preamble-same i) (revision-same i) (address-same i) (command-same i) (data-same-test i) (hasMessage (m .message .stage)) (accepted (waits (nearestRequest q) (length (nearestData put))))))
+      ∙ tests-outcome (q .preamble outside 5 to 20) (q .revision outside 3 to 7) (addressAbove (pollingUpTo (q .revision)) (requestHeader m q)) (commandRefused q) (limit <? length put) (hasMessage (m .message .stage))
       (accepted (waits (nearestRequest q) (length (nearestData put)))) (accepted (waits q (length put))) refl
 
-  request-refused : (q .preamble < 256 → q .address < 2 ^ 40 → length put ≤ 256 → ⊥) → Refused (requested limit m q (length put))
-  unfolding requested tests waits
+  request-refused : (q .preamble < 256 → q .revision < 64 → q .address < 2 ^ 40 → length put ≤ 256 → ⊥) → Refused (requested limit m q (length put))
+  unfolding requested requestedUpTo tests waits
   request-refused h =
-      tests-refused (q .preamble outside 5 to 20) (addressTooLarge (requestHeader m q)) (commandRefused q) (limit <? length put) (hasMessage (m .message .stage)) (accepted (waits q (length put)))
-      (λ a b d. h (omega (arith, inside-high (q .preamble) 5 20 (q .preamble outside 5 to 20) refl a))
-      (omega (arith, ltb-false (largestAddress (q .long)) (q .address) b, largest-small (q .long)))
+      tests-refused (q .preamble outside 5 to 20) (q .revision outside 3 to 7) (addressAbove (pollingUpTo (q .revision)) (requestHeader m q)) (commandRefused q) (limit <? length put) (hasMessage (m .message .stage))
+      (accepted (waits q (length put)))
+      (λ a r b d. h (omega (arith, inside-high (q .preamble) 5 20 (q .preamble outside 5 to 20) refl a))
+      (omega (arith, inside-high (q .revision) 3 7 (q .revision outside 3 to 7) refl r))
+      (omega (arith, ltb-false (largestWith (pollingUpTo (q .revision)) (q .long)) (q .address) b, largest-small (q .long)))
       (omega (arith, ltb-false limit (length put) d)))
 
 -- ---- a device's answer and its burst content
@@ -259,6 +278,7 @@ module _ (limit : ℕ) (small : limit < 256) (d : Device) (put : List ℕ) where
 request-codable : (q : Request) → RequestCodable (nearestRequest q)
 request-codable q = record {
   preamble-byte = omega (arith, at-most-small 255 (q .preamble));
+  revision-small = omega (arith, at-most-small 63 (q .revision));
   address-small = omega (arith, at-most-small (2 ^ 40 - 1) (q .address));
   command-byte = omega (arith, at-most-small 255 (q .command));
 }
@@ -301,23 +321,24 @@ module _ (limit : ℕ) (small : limit < 256) where
 
   master-calls : (t : MasterTaken) (c : MasterCall) (frame bytes : List ℕ) → MasterGives c → masterCalls limit t (nearestMaster c) frame bytes ≡ masterCalls limit t c frame bytes
   master-calls t no-request frame bytes g = refl
-  master-calls t (requests q put) frame bytes (MasterGives.gives-request b k) = go (at-most 255 (q .preamble)) (at-most (2 ^ 40 - 1) (q .address)) (nearest-length put)
+  master-calls t (requests q put) frame bytes (MasterGives.gives-request b k) = go (at-most 255 (q .preamble)) (at-most 63 (q .revision)) (at-most (2 ^ 40 - 1) (q .address)) (nearest-length put)
     where
-      other : (q .preamble < 256 → q .address < 2 ^ 40 → length put ≤ 256 → ⊥) → masterCalls limit t (nearestMaster (requests q put)) frame bytes ≡ masterCalls limit t (requests q put) frame bytes
+      other : (q .preamble < 256 → q .revision < 64 → q .address < 2 ^ 40 → length put ≤ 256 → ⊥) → masterCalls limit t (nearestMaster (requests q put)) frame bytes ≡ masterCalls limit t (requests q put) frame bytes
       other h =
           master-refused (requested limit (t .master) q (length put)) (requested limit (t .master) (nearestRequest q) (length (nearestData put))) (t .master)
           (frameBytes (q .preamble) (requestHeader (t .master) q) put) (frameBytes (nearestRequest q .preamble) (requestHeader (t .master) (nearestRequest q)) (nearestData put)) frame bytes (t .told)
           (request-refused limit small (t .master) q put h) (request-outcome limit small (t .master) q put)
 
-      go : Cut 255 (q .preamble) (atMost 255 (q .preamble)) → Cut (2 ^ 40 - 1) (q .address) (atMost (2 ^ 40 - 1) (q .address)) → Cut 256 (length put) (length (nearestData put))
+      go : Cut 255 (q .preamble) (atMost 255 (q .preamble)) → Cut 63 (q .revision) (atMost 63 (q .revision)) → Cut (2 ^ 40 - 1) (q .address) (atMost (2 ^ 40 - 1) (q .address)) → Cut 256 (length put) (length (nearestData put))
           → masterCalls limit t (nearestMaster (requests q put)) frame bytes ≡ masterCalls limit t (requests q put) frame bytes
-      go (kept h p) (kept i a) (kept j n) =
+      go (kept h p) (kept g r) (kept i a) (kept j n) =
           let command = at-most-same 255 (q .command) (omega arith) in
           ap (λ (c : MasterCall). masterCalls limit t c frame bytes)
-          (λ x. requests (record { preamble = p x; long = q .long; address = a x; command = command x }) (data-same put j k x))
-      go (cut h p) a n = other (λ x y z. absurd (omega arith))
-      go (kept h p) (cut i a) n = other (λ x y z. absurd (omega arith))
-      go (kept h p) (kept i a) (cut j n) = other (λ x y z. absurd (omega arith))
+          (λ x. requests (record { preamble = p x; revision = r x; long = q .long; address = a x; command = command x }) (data-same put j k x))
+      go (cut h p) r a n = other (λ x v y z. absurd (omega arith))
+      go (kept h p) (cut g r) a n = other (λ x v y z. absurd (omega arith))
+      go (kept h p) (kept g r) (cut i a) n = other (λ x v y z. absurd (omega arith))
+      go (kept h p) (kept g r) (kept i a) (cut j n) = other (λ x v y z. absurd (omega arith))
 
   master-tick : (x : MasterSide) (heard : Heard) (c : MasterCall) → MasterGives c → masterTick limit x heard (nearestMaster c) ≡ masterTick limit x heard c
   unfolding masterTick
@@ -408,7 +429,7 @@ module _ (limit : ℕ) (small : limit < 256) where
       let t = masterTakes (x .master) heard (masterData x heard) in
       outcome-refused (requested limit (t .master) q (length put)) _ (master-outcome (requested limit (t .master) q (length put)) (t .master) _ (x .frame) (masterData x heard) (t .told))
       (request-refused limit small (t .master) q put
-      (λ p a n. h (MasterCodable.codable-request (record { preamble-byte = p; address-small = a; command-byte = b }) (record { at-most = n; are-bytes = k }))))
+      (λ p r a n. h (MasterCodable.codable-request (record { preamble-byte = p; revision-small = r; address-small = a; command-byte = b }) (record { at-most = n; are-bytes = k }))))
 
   pub device-not-codable : (x : DeviceSide) (heard : Heard) (c : DeviceCall) → DeviceGives c → (DeviceCodable c → ⊥) → IsRefused (deviceTick limit x heard c .result)
   unfolding deviceTick

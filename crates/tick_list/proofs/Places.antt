@@ -1,5 +1,5 @@
 -- Laws of places in a list of ticks: its bytes, the data of a call, and the place behind a call.
-use Prim.Native.Nat.{ℕ, suc, _+_, _-_, _*_, _%_, _^_, _≤_, _<_}
+use Prim.Native.Nat.{ℕ, suc, _+_, _-_, _*_, _/_, _%_, _^_, _≤_, _<_}
 use native.Mathlib.Omega.{arith}
 use mathlib.Core.Bool.{Bool}
 use mathlib.Core.Path.{_≡_, refl, sym, ap, subst, _∙_}
@@ -44,12 +44,12 @@ pub address-is : (rest : List ℕ) (a b c d e n : ℕ) → a ≡ byteAt rest 3 �
 address-is rest a b c d e n p q r s t f = f ∙ (λ i. p i * 2 ^ 32 + q i * 2 ^ 24 + r i * 2 ^ 16 + s i * 2 ^ 8 + t i)
 
 -- calls
-pub wanted-is : (rest : List ℕ) (long : Bool) (preamble command address : ℕ) → preamble ≡ byteAt rest 1 → command ≡ byteAt rest 2 → address ≡ addressIn rest
-    → MasterHostCall.Requests (record { preamble = preamble; long = long; address = address; command = command }) ≡ requestOf long rest
-wanted-is rest long preamble command address p q r = λ i. MasterHostCall.Requests (record { preamble = p i; long = long; address = r i; command = q i })
+pub wanted-is : (rest : List ℕ) (long : Bool) (kind preamble command address : ℕ) → kind ≡ byteAt rest 0 → preamble ≡ byteAt rest 1 → command ≡ byteAt rest 2 → address ≡ addressIn rest
+    → MasterHostCall.Requests (record { preamble = preamble; revision = kind / 4; long = long; address = address; command = command }) ≡ requestOf long rest
+wanted-is rest long kind preamble command address k p q r = λ i. MasterHostCall.Requests (record { preamble = p i; revision = k i / 4; long = long; address = r i; command = q i })
 
-pub request-is : (rest : List ℕ) (kind : ℕ) (r : MasterHostCall) → kind ≡ byteAt rest 0 → r ≡ requestBy kind rest → r ≡ requestIn rest
-request-is rest kind r p q = q ∙ ap (λ (k : ℕ). requestBy k rest) p
+pub request-is : (rest : List ℕ) (kind : ℕ) (r : MasterHostCall) → kind ≡ byteAt rest 0 → r ≡ requestBy (kind % 4) rest → r ≡ requestIn rest
+request-is rest kind r p q = q ∙ ap (λ (k : ℕ). requestBy (k % 4) rest) p
 
 pub answer-is : (rest : List ℕ) (kind command : ℕ) (r : DeviceHost.DeviceHostCall) → kind ≡ byteAt rest 0 → command ≡ byteAt rest 2 → r ≡ answerBy kind command → r ≡ answerIn rest
 answer-is rest kind command r p q e = e ∙ (λ i. answerBy (p i) (q i))

@@ -1,6 +1,6 @@
 -- How the code stands for what is to be believed.
 -- The bytes of a list of ticks: the encoder to the decoder of Ticks.antt, and which lists it encodes. That every such list is decoded from its bytes is proved in proofs/Encode.antt.
-use Prim.Native.Nat.{ℕ, _+_, _/_, _%_, _^_, _≤_, _<_}
+use Prim.Native.Nat.{ℕ, _+_, _*_, _/_, _%_, _^_, _≤_, _<_}
 use mathlib.Core.Bool.{Bool, true, false}
 use mathlib.Core.Path.{_≡_}
 use mathlib.Core.List.{List, [], _∷_, _++_}
@@ -22,10 +22,10 @@ callBytes kind preamble command address put =
     (length put / 256) ∷ (length put % 256) ∷
     put
 
--- "one byte 0, no call"; kind 1 is a request with a short address, 2 one with a long address
+-- "one byte 0, no call"; the kind of a request is four times its revision and 1 with a short address, 2 with a long address
 abbrev pub masterBytes : MasterCall → List ℕ
 masterBytes no-request = 0 ∷ []
-masterBytes (requests q put) = callBytes (if q .long then 2 else 1) (q .preamble) (q .command) (q .address) put
+masterBytes (requests q put) = callBytes (q .revision * 4 + (if q .long then 2 else 1)) (q .preamble) (q .command) (q .address) put
 
 -- kind 1 is an answer, 2 one that turns burst on, 3 one that turns it off, 4 is burst content
 abbrev pub wishKind : Wish → ℕ
@@ -71,6 +71,7 @@ pub record DataCodable (put : List ℕ) : Type 0 where
 
 pub record RequestCodable (q : Request) : Type 0 where
   pub preamble-byte : q .preamble < 256
+  pub revision-small : q .revision < 64
   pub address-small : q .address < 2 ^ 40
   pub command-byte : q .command < 256
 

@@ -1,7 +1,7 @@
 -- How the code stands for what is to be believed.
 -- A list of ticks as bytes, so that a run can be lent "a list of ticks from tick 0" (document 01, "Runs of the link"). Every byte string is some list of ticks. A tick is eight calls, one behind the other: to the primary, to the secondary, and to the devices of the six slots.
 -- A call is one byte 0, no call; or a kind that is not 0, the preamble, the command, the address in five bytes, the length of the data in two, each most significant first, and the data. The length counts modulo 257, so that a call can have 0 to 256 data bytes. Behind the end every byte is 0, and data are as many as there are.
-use Prim.Native.Nat.{ℕ, zero, suc, _+_, _*_, _%_, _^_}
+use Prim.Native.Nat.{ℕ, zero, suc, _+_, _*_, _/_, _%_, _^_}
 use mathlib.Core.Bool.{Bool, true, false}
 use mathlib.Core.List.{List, [], _∷_}
 use lib.ListN.{length, take, drop}
@@ -29,15 +29,15 @@ lengthIn rest = (byteAt rest 8 * 256 + byteAt rest 9) % 257
 abbrev pub dataIn : List ℕ → List ℕ
 dataIn rest = take (lengthIn rest) (drop 10 rest)
 
--- a master's call: kind 1 is a request with a short address, 2 one with a long address, any other is none
+-- a master's call: the kind is four times the revision and 1 for a request with a short address, 2 for one with a long address; any other is none
 abbrev pub requestOf : Bool → List ℕ → MasterHost.MasterHostCall
-requestOf long rest = MasterHost.MasterHostCall.Requests (record { preamble = byteAt rest 1; long = long; address = addressIn rest; command = byteAt rest 2 })
+requestOf long rest = MasterHost.MasterHostCall.Requests (record { preamble = byteAt rest 1; revision = kindIn rest / 4; long = long; address = addressIn rest; command = byteAt rest 2 })
 
 abbrev pub requestBy : ℕ → List ℕ → MasterHost.MasterHostCall
-requestBy kind rest = if kind =? 1 then requestOf false rest else (if kind =? 2 then requestOf true rest else MasterHost.MasterHostCall.Nothing)
+requestBy form rest = if form =? 1 then requestOf false rest else (if form =? 2 then requestOf true rest else MasterHost.MasterHostCall.Nothing)
 
 abbrev pub requestIn : List ℕ → MasterHost.MasterHostCall
-requestIn rest = requestBy (kindIn rest) rest
+requestIn rest = requestBy (kindIn rest % 4) rest
 
 -- a device's call: kind 1 is an answer, 2 one that turns burst on, 3 one that turns it off, 4 is burst content, any other is none
 abbrev pub answerBy : ℕ → ℕ → DeviceHost.DeviceHostCall

@@ -112,11 +112,13 @@ fn wanted_in(ticks: &[u8], at: usize, long: bool) -> master::MasterHostCall
     requires { ⌜ at ≤ length (now ticks) ⌝ }
     ensures { λ r. ⌜ r ≡ requestOf long (drop at (now (ticks .entry))) ⌝ }
 {
+    let kind = byte_in(ticks, at, 0);
     let preamble = byte_in(ticks, at, 1);
     let command = byte_in(ticks, at, 2);
     let address = address_in(ticks, at);
     let q = RequestFields {
         preamble: preamble as usize,
+        revision: kind / 4,
         long: long,
         address: address,
         command: command,
@@ -124,15 +126,15 @@ fn wanted_in(ticks: &[u8], at: usize, long: bool) -> master::MasterHostCall
     master::MasterHostCall::Requests(q)
 }
 
-// A master's call, by its kind.
-fn request_by(kind: u8, ticks: &[u8], at: usize) -> master::MasterHostCall
+// A master's call, by its form.
+fn request_by(form: u8, ticks: &[u8], at: usize) -> master::MasterHostCall
     requires { ⌜ at ≤ length (now ticks) ⌝ }
-    ensures { λ r. ⌜ r ≡ requestBy kind (drop at (now (ticks .entry))) ⌝ }
+    ensures { λ r. ⌜ r ≡ requestBy form (drop at (now (ticks .entry))) ⌝ }
 {
-    if kind == 1 {
+    if form == 1 {
         return wanted_in(ticks, at, false);
     }
-    if kind == 2 {
+    if form == 2 {
         return wanted_in(ticks, at, true);
     }
     master::MasterHostCall::Nothing
@@ -142,7 +144,8 @@ fn request_in(ticks: &[u8], at: usize) -> master::MasterHostCall
     requires { ⌜ at ≤ length (now ticks) ⌝ }
     ensures { λ r. ⌜ r ≡ requestIn (drop at (now (ticks .entry))) ⌝ }
 {
-    request_by(byte_in(ticks, at, 0), ticks, at)
+    let kind = byte_in(ticks, at, 0);
+    request_by(kind % 4, ticks, at)
 }
 
 // A device's call, by its kind.

@@ -11,7 +11,7 @@ use Rattle.frame.specs.Delimiter.{delimiterOf}
 use Rattle.frame.specs.Frame.{frameBytes, preambleBytes, bodyBytes, protectedBytes, headerBytes}
 use Rattle.line.specs.Reader.{taken, takenData, silentInside, atIdle}
 use Rattle.line.specs.declared.Heard.the-variants.{Silence}
-use Rattle.turns.specs.Master.{requested, masterTakes, masterSends}
+use Rattle.turns.specs.Master.{requested, requestedUpTo, masterTakes, masterSends}
 use Rattle.turns.specs.Link.{requests, MasterSide, masterTick}
 use Rattle.turns.specs.Gaps.{MasterInput, masterSents}
 use Rattle.turns.specs.declared.Sent.the-variants.{Silent, Character}
@@ -36,7 +36,7 @@ masterReports limit x (i ∷ is) = toldThen (masterTick limit x (i .heard) (i .c
 pub first-stx-sent : masterSents 255 primary (asks ∷ replicate 42 (hears Silence))
     ≡ replicate 33 Silent
     ++ (Character 0xFF ∷ Character 0xFF ∷ Character 0xFF ∷ Character 0xFF ∷ Character 0xFF ∷ Character 0x02 ∷ Character 0x80 ∷ Character 0x00 ∷ Character 0x00 ∷ Character 0x82 ∷ [])
-unfolding primary hears asks masterSents masterTick requested masterTakes masterSends taken takenData silentInside atIdle frameBytes preambleBytes bodyBytes protectedBytes headerBytes xorFrom delimiterOf stored if_then_else_
+unfolding primary hears asks masterSents masterTick requested requestedUpTo masterTakes masterSends taken takenData silentInside atIdle frameBytes preambleBytes bodyBytes protectedBytes headerBytes xorFrom delimiterOf stored if_then_else_
 first-stx-sent = refl
 
 unfoldable pub stxThen : List ℕ → List ℕ
@@ -46,22 +46,22 @@ unfoldable pub unanswered : List MasterInput
 unanswered = asks ∷ replicate 209 (hears Silence)
 
 pub sent-four-times : marks (masterSents 255 primary unanswered) ≡ stxThen (stxThen (stxThen (stxThen (replicate 38 0))))
-unfolding stxThen unanswered marks primary hears asks masterSents masterTick requested masterTakes masterSends taken takenData silentInside atIdle frameBytes preambleBytes bodyBytes protectedBytes headerBytes xorFrom delimiterOf stored if_then_else_
+unfolding stxThen unanswered marks primary hears asks masterSents masterTick requested requestedUpTo masterTakes masterSends taken takenData silentInside atIdle frameBytes preambleBytes bodyBytes protectedBytes headerBytes xorFrom delimiterOf stored if_then_else_
 sent-four-times = refl
 
 pub given-up-after-four : masterReports 255 primary unanswered ≡ GivenUp 4 ∷ []
-unfolding unanswered masterReports primary hears asks masterTick requested masterTakes masterSends taken takenData silentInside atIdle frameBytes preambleBytes bodyBytes protectedBytes headerBytes xorFrom delimiterOf stored if_then_else_
+unfolding unanswered masterReports primary hears asks masterTick requested requestedUpTo masterTakes masterSends taken takenData silentInside atIdle frameBytes preambleBytes bodyBytes protectedBytes headerBytes xorFrom delimiterOf stored if_then_else_
 given-up-after-four = refl
 
 -- ---- a broadcast, of 14 characters
 
 unfoldable pub broadcast : List MasterInput
-broadcast = record { heard = Silence; call = requests (record { preamble = 5; long = true; address = 0; command = 3 }) [] } ∷ replicate 89 (hears Silence)
+broadcast = record { heard = Silence; call = requests (record { preamble = 5; revision = 7; long = true; address = 0; command = 3 }) [] } ∷ replicate 89 (hears Silence)
 
 pub sent-once : marks (masterSents 255 primary broadcast) ≡ replicate 33 0 ++ (replicate 14 1 ++ replicate 43 0)
-unfolding broadcast marks primary hears masterSents masterTick requested masterTakes masterSends taken takenData silentInside atIdle frameBytes preambleBytes bodyBytes protectedBytes headerBytes xorFrom delimiterOf stored if_then_else_
+unfolding broadcast marks primary hears masterSents masterTick requested requestedUpTo masterTakes masterSends taken takenData silentInside atIdle frameBytes preambleBytes bodyBytes protectedBytes headerBytes xorFrom delimiterOf stored if_then_else_
 sent-once = refl
 
 pub reported-sent : masterReports 255 primary broadcast ≡ BroadcastSent ∷ []
-unfolding broadcast masterReports primary hears masterTick requested masterTakes masterSends taken takenData silentInside atIdle frameBytes preambleBytes bodyBytes protectedBytes headerBytes xorFrom delimiterOf stored if_then_else_
+unfolding broadcast masterReports primary hears masterTick requested requestedUpTo masterTakes masterSends taken takenData silentInside atIdle frameBytes preambleBytes bodyBytes protectedBytes headerBytes xorFrom delimiterOf stored if_then_else_
 reported-sent = refl

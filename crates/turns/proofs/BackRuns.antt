@@ -13,7 +13,7 @@ use Rattle.frame.specs.Frame.{frameBytes, preambleBytes, bodyBytes, protectedBy
 use Rattle.frame.specs.Write.{writeBuffer, writeAnswer}
 use Rattle.line.specs.Reader.{taken, takenData, atIdle, atPreamble, atFirst, atAddress, atExpansion, atCommand, atCount, atData, atCheck}
 use Rattle.line.specs.declared.Event.the-variants.{Frame}
-use Rattle.turns.specs.Master.{requested, masterTakes, masterSends}
+use Rattle.turns.specs.Master.{requested, requestedUpTo, masterTakes, masterSends}
 use Rattle.turns.specs.Device.{deviceTakes, deviceSends, answered, contentGiven}
 use Rattle.turns.specs.Link.{no-request, DeviceCall, gives-content, Link, Calls, masterTick, deviceTick, deviceTicks, sides, carried, linkTick, linkAfter}
 use Rattle.turns.specs.Ledgers.{blanks}
@@ -38,18 +38,18 @@ content-changed = ask 2 (P.content ∷ []) ∷ (replicate 18 quiet ++ (host-give
 
 -- what it gave last before the BACK's first character, the sixteenth from the last
 pub given-before : getD (getD (logsBehind 255 (noContents (one-device .devices)) one-device content-changed) 0 (record { last = no-content; sent-with = [] }) .sent-with) 15 no-content ≡ content 3 (0 ∷ 0 ∷ [])
-unfolding logsBehind contentLogsAfter noContents content-changed host-gives ask P.content turn-on short one-device quiet linkTick deviceTicks sides carried masterTick deviceTick requested masterTakes masterSends deviceTakes deviceSends answered contentGiven taken takenData atIdle atPreamble atFirst atAddress atExpansion atCommand atCount atData atCheck writeBuffer writeAnswer frameBytes preambleBytes bodyBytes protectedBytes headerBytes xorFrom delimiterOf stored if_then_else_
+unfolding logsBehind contentLogsAfter noContents content-changed host-gives ask P.content turn-on short one-device quiet linkTick deviceTicks sides carried masterTick deviceTick requested requestedUpTo masterTakes masterSends deviceTakes deviceSends answered contentGiven taken takenData atIdle atPreamble atFirst atAddress atExpansion atCommand atCount atData atCheck writeBuffer writeAnswer frameBytes preambleBytes bodyBytes protectedBytes headerBytes xorFrom delimiterOf stored if_then_else_
 given-before = refl
 
 -- and at all
 pub given-last : getD (logsBehind 255 (noContents (one-device .devices)) one-device content-changed) 0 (record { last = no-content; sent-with = [] }) .last ≡ content 9 (1 ∷ 2 ∷ [])
-unfolding logsBehind contentLogsAfter noContents content-changed host-gives ask P.content turn-on short one-device quiet linkTick deviceTicks sides carried masterTick deviceTick requested masterTakes masterSends deviceTakes deviceSends answered contentGiven taken takenData atIdle atPreamble atFirst atAddress atExpansion atCommand atCount atData atCheck writeBuffer writeAnswer frameBytes preambleBytes bodyBytes protectedBytes headerBytes xorFrom delimiterOf stored if_then_else_
+unfolding logsBehind contentLogsAfter noContents content-changed host-gives ask P.content turn-on short one-device quiet linkTick deviceTicks sides carried masterTick deviceTick requested requestedUpTo masterTakes masterSends deviceTakes deviceSends answered contentGiven taken takenData atIdle atPreamble atFirst atAddress atExpansion atCommand atCount atData atCheck writeBuffer writeAnswer frameBytes preambleBytes bodyBytes protectedBytes headerBytes xorFrom delimiterOf stored if_then_else_
 given-last = refl
 
 -- in tick 51 the primary finds the BACK whole
 pub found-whole : foundBy (linkBehind 255 one-device content-changed .primary) (linkBehind 255 one-device content-changed .line)
     ≡ Frame (record { header = record { frame = back; long = true; primary = true; burst = true; address = 2; command = 3 }; expansion = 0; count = 2 })
-unfolding linkBehind content-changed host-gives ask P.content turn-on short one-device quiet linkTick deviceTicks sides carried masterTick deviceTick requested masterTakes masterSends deviceTakes deviceSends answered contentGiven taken takenData atIdle atPreamble atFirst atAddress atExpansion atCommand atCount atData atCheck writeBuffer writeAnswer frameBytes preambleBytes bodyBytes protectedBytes headerBytes xorFrom delimiterOf stored if_then_else_
+unfolding linkBehind content-changed host-gives ask P.content turn-on short one-device quiet linkTick deviceTicks sides carried masterTick deviceTick requested requestedUpTo masterTakes masterSends deviceTakes deviceSends answered contentGiven taken takenData atIdle atPreamble atFirst atAddress atExpansion atCommand atCount atData atCheck writeBuffer writeAnswer frameBytes preambleBytes bodyBytes protectedBytes headerBytes xorFrom delimiterOf stored if_then_else_
 found-whole = refl
 
 -- the run meets the premises

@@ -13,7 +13,7 @@ use Rattle.frame.specs.Frame.{frameBytes, preambleBytes, bodyBytes, protectedBy
 use Rattle.frame.specs.Write.{writeBuffer, writeAnswer}
 use Rattle.frame.specs.declared.Header.{Header}
 use Rattle.line.specs.Reader.{taken, takenData, atIdle, atPreamble, atFirst, atAddress, atExpansion, atCommand, atCount, atData, atCheck}
-use Rattle.turns.specs.Master.{requested, masterTakes, masterSends}
+use Rattle.turns.specs.Master.{requested, requestedUpTo, masterTakes, masterSends}
 use Rattle.turns.specs.Device.{deviceTakes, deviceSends, answered, contentGiven}
 use Rattle.turns.specs.Link.{no-request, gives-answer, Link, LinkStep, Calls, masterTick, deviceTick, deviceTicks, sides, carried, linkTick, linkAfter}
 use Rattle.turns.specs.Credit.{Ledger, blank, given, ledgersAfter, blanks, closed, closedBy, bookedBy, EachCredited}
@@ -53,17 +53,17 @@ answered-run = ask 2 [] ∷ (replicate 18 quiet ++ (answers (0 ∷ 0 ∷ 7 ∷ [
 
 -- before tick 36 the ledger holds what the host gave
 pub booked-answer : ledgersBehind bookedBy 255 (blanks (one-device .devices)) one-device answered-run ≡ given asked (0 ∷ 0 ∷ 7 ∷ []) ∷ []
-unfolding ledgersBehind ledgersAfter blanks closed answered-run answers ask short one-device quiet linkTick deviceTicks sides carried masterTick deviceTick requested masterTakes masterSends deviceTakes deviceSends answered contentGiven taken takenData atIdle atPreamble atFirst atAddress atExpansion atCommand atCount atData atCheck writeBuffer writeAnswer frameBytes preambleBytes bodyBytes protectedBytes headerBytes xorFrom delimiterOf stored if_then_else_
+unfolding ledgersBehind ledgersAfter blanks closed answered-run answers ask short one-device quiet linkTick deviceTicks sides carried masterTick deviceTick requested requestedUpTo masterTakes masterSends deviceTakes deviceSends answered contentGiven taken takenData atIdle atPreamble atFirst atAddress atExpansion atCommand atCount atData atCheck writeBuffer writeAnswer frameBytes preambleBytes bodyBytes protectedBytes headerBytes xorFrom delimiterOf stored if_then_else_
 booked-answer = refl
 
 -- and in it the primary reports its message as answered
 pub reported-answer : linkTick 255 (linkBehind 255 one-device answered-run) quiet .for-primary .told
     ≡ Answered (record { header = record { frame = ack; long = true; primary = true; burst = false; address = 2; command = 3 }; expansion = 0; count = 3 })
-unfolding linkBehind answered-run answers ask short one-device quiet linkTick deviceTicks sides carried masterTick deviceTick requested masterTakes masterSends deviceTakes deviceSends answered contentGiven taken takenData atIdle atPreamble atFirst atAddress atExpansion atCommand atCount atData atCheck writeBuffer writeAnswer frameBytes preambleBytes bodyBytes protectedBytes headerBytes xorFrom delimiterOf stored if_then_else_
+unfolding linkBehind answered-run answers ask short one-device quiet linkTick deviceTicks sides carried masterTick deviceTick requested requestedUpTo masterTakes masterSends deviceTakes deviceSends answered contentGiven taken takenData atIdle atPreamble atFirst atAddress atExpansion atCommand atCount atData atCheck writeBuffer writeAnswer frameBytes preambleBytes bodyBytes protectedBytes headerBytes xorFrom delimiterOf stored if_then_else_
 reported-answer = refl
 
 pub reported-data : take 3 (linkTick 255 (linkBehind 255 one-device answered-run) quiet .for-primary .side .bytes) ≡ 0 ∷ 0 ∷ 7 ∷ []
-unfolding linkBehind answered-run answers ask short one-device quiet linkTick deviceTicks sides carried masterTick deviceTick requested masterTakes masterSends deviceTakes deviceSends answered contentGiven taken takenData atIdle atPreamble atFirst atAddress atExpansion atCommand atCount atData atCheck writeBuffer writeAnswer frameBytes preambleBytes bodyBytes protectedBytes headerBytes xorFrom delimiterOf stored if_then_else_
+unfolding linkBehind answered-run answers ask short one-device quiet linkTick deviceTicks sides carried masterTick deviceTick requested requestedUpTo masterTakes masterSends deviceTakes deviceSends answered contentGiven taken takenData atIdle atPreamble atFirst atAddress atExpansion atCommand atCount atData atCheck writeBuffer writeAnswer frameBytes preambleBytes bodyBytes protectedBytes headerBytes xorFrom delimiterOf stored if_then_else_
 reported-data = refl
 
 -- the run meets the premises, so each report of it is credited
@@ -96,7 +96,7 @@ failed-run =
 
 -- in tick 134 it is given up
 pub given-up : linkTick 255 (linkBehind 255 one-device failed-run) quiet .for-primary .told ≡ GivenUp 4
-unfolding linkBehind failed-run failing answers ask short one-device quiet linkTick deviceTicks sides carried masterTick deviceTick requested masterTakes masterSends deviceTakes deviceSends answered contentGiven taken takenData atIdle atPreamble atFirst atAddress atExpansion atCommand atCount atData atCheck writeBuffer writeAnswer frameBytes preambleBytes bodyBytes protectedBytes headerBytes xorFrom delimiterOf stored if_then_else_
+unfolding linkBehind failed-run failing answers ask short one-device quiet linkTick deviceTicks sides carried masterTick deviceTick requested requestedUpTo masterTakes masterSends deviceTakes deviceSends answered contentGiven taken takenData atIdle atPreamble atFirst atAddress atExpansion atCommand atCount atData atCheck writeBuffer writeAnswer frameBytes preambleBytes bodyBytes protectedBytes headerBytes xorFrom delimiterOf stored if_then_else_
 given-up = refl
 
 -- in tick 135 the host requests the same again, and its first STX goes out from tick 136 on
@@ -105,15 +105,15 @@ asked-again = failed-run ++ (quiet ∷ (ask 2 [] ∷ replicate 4 quiet))
 
 -- while it goes out, ledgers that are closed at reports alone hold the old answer
 pub stale-stands : ledgersBehind reportsClose 255 (blanks (one-device .devices)) one-device asked-again ≡ given asked (0x80 ∷ 0 ∷ []) ∷ []
-unfolding ledgersBehind ledgersAfter blanks closed asked-again failed-run failing answers ask short one-device quiet linkTick deviceTicks sides carried masterTick deviceTick requested masterTakes masterSends deviceTakes deviceSends answered contentGiven taken takenData atIdle atPreamble atFirst atAddress atExpansion atCommand atCount atData atCheck writeBuffer writeAnswer frameBytes preambleBytes bodyBytes protectedBytes headerBytes xorFrom delimiterOf stored if_then_else_
+unfolding ledgersBehind ledgersAfter blanks closed asked-again failed-run failing answers ask short one-device quiet linkTick deviceTicks sides carried masterTick deviceTick requested requestedUpTo masterTakes masterSends deviceTakes deviceSends answered contentGiven taken takenData atIdle atPreamble atFirst atAddress atExpansion atCommand atCount atData atCheck writeBuffer writeAnswer frameBytes preambleBytes bodyBytes protectedBytes headerBytes xorFrom delimiterOf stored if_then_else_
 stale-stands = refl
 
 -- with the new message's header, so that they would let it pass as the answer to it
 pub stale-asked : linkBehind 255 one-device asked-again .primary .master .message .header ≡ asked
-unfolding linkBehind asked-again failed-run failing answers ask short one-device quiet linkTick deviceTicks sides carried masterTick deviceTick requested masterTakes masterSends deviceTakes deviceSends answered contentGiven taken takenData atIdle atPreamble atFirst atAddress atExpansion atCommand atCount atData atCheck writeBuffer writeAnswer frameBytes preambleBytes bodyBytes protectedBytes headerBytes xorFrom delimiterOf stored if_then_else_
+unfolding linkBehind asked-again failed-run failing answers ask short one-device quiet linkTick deviceTicks sides carried masterTick deviceTick requested requestedUpTo masterTakes masterSends deviceTakes deviceSends answered contentGiven taken takenData atIdle atPreamble atFirst atAddress atExpansion atCommand atCount atData atCheck writeBuffer writeAnswer frameBytes preambleBytes bodyBytes protectedBytes headerBytes xorFrom delimiterOf stored if_then_else_
 stale-asked = refl
 
 -- in the credit's ledgers nothing stands
 pub stale-closed : ledgersBehind bookedBy 255 (blanks (one-device .devices)) one-device asked-again ≡ blank ∷ []
-unfolding ledgersBehind ledgersAfter blanks closed asked-again failed-run failing answers ask short one-device quiet linkTick deviceTicks sides carried masterTick deviceTick requested masterTakes masterSends deviceTakes deviceSends answered contentGiven taken takenData atIdle atPreamble atFirst atAddress atExpansion atCommand atCount atData atCheck writeBuffer writeAnswer frameBytes preambleBytes bodyBytes protectedBytes headerBytes xorFrom delimiterOf stored if_then_else_
+unfolding ledgersBehind ledgersAfter blanks closed asked-again failed-run failing answers ask short one-device quiet linkTick deviceTicks sides carried masterTick deviceTick requested requestedUpTo masterTakes masterSends deviceTakes deviceSends answered contentGiven taken takenData atIdle atPreamble atFirst atAddress atExpansion atCommand atCount atData atCheck writeBuffer writeAnswer frameBytes preambleBytes bodyBytes protectedBytes headerBytes xorFrom delimiterOf stored if_then_else_
 stale-closed = refl

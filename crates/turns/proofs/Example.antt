@@ -13,7 +13,7 @@ use Rattle.frame.specs.Write.{writeBuffer, writeAnswer}
 use Rattle.line.specs.Profile.{fskProfile}
 use Rattle.line.specs.Reader.{taken, takenData, atIdle, atPreamble, atFirst, atAddress, atExpansion, atCommand, atCount, atData, atCheck}
 use Rattle.line.specs.declared.Heard.the-variants.{Silence}
-use Rattle.turns.specs.Master.{freshMaster, requested, masterTakes, masterSends}
+use Rattle.turns.specs.Master.{freshMaster, requested, requestedUpTo, masterTakes, masterSends}
 use Rattle.turns.specs.Device.{freshDevice, deviceTakes, deviceSends, answered, contentGiven}
 use Rattle.turns.specs.Link.{no-request, requests, gives-answer, Link, LinkStep, Calls, DeviceStep, masterTick, deviceTick, deviceTicks, sides, carried, linkTick, run}
 use Rattle.turns.specs.declared.Sent.{Sent}
@@ -32,7 +32,7 @@ unfoldable pub quiet : Calls
 quiet = record { for-primary = no-request; for-secondary = no-request; for-devices = [] }
 
 unfoldable pub asks : Calls
-asks = record { for-primary = requests (record { preamble = 5; long = false; address = 0; command = 0 }) []; for-secondary = no-request; for-devices = [] }
+asks = record { for-primary = requests (record { preamble = 5; revision = 7; long = false; address = 0; command = 0 }) []; for-secondary = no-request; for-devices = [] }
 
 pub replies : Calls
 replies = record { for-primary = no-request; for-secondary = no-request; for-devices = gives-answer Same (0 ∷ 0 ∷ []) ∷ [] }
@@ -53,5 +53,5 @@ senders [] = []
 senders (s ∷ ss) = (one (s .for-primary .sent) 1 + one (s .for-secondary .sent) 2 + devices-sent (s .for-devices)) ∷ senders ss
 
 pub worked-run : senders (run 255 fresh ticks) ≡ replicate 33 0 ++ (replicate 10 1 ++ (0 ∷ (replicate 12 4 ++ replicate 4 0)))
-unfolding senders devices-sent one ticks replies asks quiet fresh run linkTick deviceTicks sides carried masterTick deviceTick requested masterTakes masterSends deviceTakes deviceSends answered contentGiven taken takenData atIdle atPreamble atFirst atAddress atExpansion atCommand atCount atData atCheck writeBuffer writeAnswer frameBytes preambleBytes bodyBytes protectedBytes headerBytes xorFrom delimiterOf stored if_then_else_
+unfolding senders devices-sent one ticks replies asks quiet fresh run linkTick deviceTicks sides carried masterTick deviceTick requested requestedUpTo masterTakes masterSends deviceTakes deviceSends answered contentGiven taken takenData atIdle atPreamble atFirst atAddress atExpansion atCommand atCount atData atCheck writeBuffer writeAnswer frameBytes preambleBytes bodyBytes protectedBytes headerBytes xorFrom delimiterOf stored if_then_else_
 worked-run = refl

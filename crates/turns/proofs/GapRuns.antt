@@ -15,7 +15,7 @@ use Rattle.line.specs.Gaps.{is-sound}
 use Rattle.line.specs.Reader.{taken, takenData, silentInside, atIdle, atPreamble, atFirst, atAddress, atExpansion, atCommand, atCount, atData, atCheck}
 use Rattle.line.specs.declared.Heard.{Heard}
 use Rattle.line.specs.declared.Heard.the-variants.{Silence, Character}
-use Rattle.turns.specs.Master.{freshMaster, requested, masterTakes, masterSends}
+use Rattle.turns.specs.Master.{freshMaster, requested, requestedUpTo, masterTakes, masterSends}
 use Rattle.turns.specs.Device.{freshDevice, deviceTakes, deviceSends, answered, contentGiven}
 use Rattle.turns.specs.Link.{no-request, requests, no-call, gives-answer, gives-content, MasterSide, DeviceSide, masterTick, deviceTick}
 use Rattle.turns.specs.Run.{count}
@@ -38,11 +38,11 @@ hears heard = record { heard = heard; call = no-request }
 
 -- in tick 0 its host asks for a short command 0, which is an STX of 10 characters
 unfoldable pub asks : MasterInput
-asks = record { heard = Silence; call = requests (record { preamble = 5; long = false; address = 0; command = 0 }) [] }
+asks = record { heard = Silence; call = requests (record { preamble = 5; revision = 7; long = false; address = 0; command = 0 }) [] }
 
 -- it takes a lone 0xFF in tick 2, so T is 1: the STX begins in tick 1 + 33 + 1
 pub cut-clear : marks (masterSents 255 primary (asks ∷ hears Silence ∷ hears (Character 0xFF) ∷ replicate 43 (hears Silence))) ≡ replicate 35 0 ++ (replicate 10 1 ++ (0 ∷ []))
-unfolding marks primary hears asks masterSents masterTick requested masterTakes masterSends taken takenData silentInside atIdle atPreamble atFirst atAddress atExpansion atCommand atCount atData atCheck frameBytes preambleBytes bodyBytes protectedBytes headerBytes xorFrom delimiterOf stored if_then_else_
+unfolding marks primary hears asks masterSents masterTick requested requestedUpTo masterTakes masterSends taken takenData silentInside atIdle atPreamble atFirst atAddress atExpansion atCommand atCount atData atCheck frameBytes preambleBytes bodyBytes protectedBytes headerBytes xorFrom delimiterOf stored if_then_else_
 cut-clear = refl
 
 -- behind tick 1 it is as the theorem asks
@@ -50,7 +50,7 @@ unfoldable pub waiting : MasterSide
 waiting = masterTick 255 (masterTick 255 primary Silence (asks .call) .side) Silence no-request .side
 
 pub waiting-cut : InsideFrame (Character 0xFF) (waiting .master .deaf) (waiting .master .receiver) × ToSend (waiting .master)
-unfolding waiting primary asks masterTick requested masterTakes masterSends taken silentInside atIdle stored if_then_else_
+unfolding waiting primary asks masterTick requested requestedUpTo masterTakes masterSends taken silentInside atIdle stored if_then_else_
 waiting-cut = (record { hears = refl; character = is-sound; inside = refl }, message-waits refl)
 
 -- a BACK for the primary, in ticks 2 to 17, sets BURST
@@ -63,7 +63,7 @@ aBack = frameBytes 5 (record { frame = back; long = true; primary = true; burst 
 
 -- the 0xFF comes in tick 18, so T is 17: the STX begins in tick 17 + 66 + 1
 pub cut-set : marks (masterSents 255 primary (asks ∷ hears Silence ∷ (each aBack ++ (hears (Character 0xFF) ∷ replicate 67 (hears Silence))))) ≡ replicate 84 0 ++ (1 ∷ 1 ∷ [])
-unfolding marks primary hears asks each aBack masterSents masterTick requested masterTakes masterSends taken takenData silentInside atIdle atPreamble atFirst atAddress atExpansion atCommand atCount atData atCheck frameBytes preambleBytes bodyBytes protectedBytes headerBytes xorFrom delimiterOf stored if_then_else_
+unfolding marks primary hears asks each aBack masterSents masterTick requested requestedUpTo masterTakes masterSends taken takenData silentInside atIdle atPreamble atFirst atAddress atExpansion atCommand atCount atData atCheck frameBytes preambleBytes bodyBytes protectedBytes headerBytes xorFrom delimiterOf stored if_then_else_
 cut-set = refl
 
 -- ---- a device, FSK: RT1 primary 33

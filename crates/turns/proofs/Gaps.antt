@@ -11,7 +11,7 @@ use Rattle.base.specs.Refusal.{Called, accepted, refused}
 use Rattle.base.specs.Choice.{if_then_else_, _<?_, _=?_, _outside_to_}
 use Rattle.base.specs.Store.{stored}
 use Rattle.base.proofs.Choices.{if-is-true, if-is-false}
-use Rattle.frame.specs.Address.{byteAt, addressTooLarge}
+use Rattle.frame.specs.Address.{byteAt, addressAbove}
 use Rattle.frame.specs.Frame.{frameBytes}
 use Rattle.line.specs.Reader.{character, idle, gapped, taken, takenData, insideFrame}
 use Rattle.line.specs.declared.Event.{Event}
@@ -25,7 +25,7 @@ use Rattle.line.proofs.Gaps.{Within, goes-within}
 use Rattle.line.proofs.Ticks.{Inside}
 use Rattle.turns.specs.Master as M
 use Rattle.turns.specs.Party.{isBroadcast, Request, CallResult, none, was-taken, was-refused}
-use Rattle.turns.specs.Master.{requested, requestHeader, hasMessage, commandRefused, masterTakes, sendsBy, masterSends}
+use Rattle.turns.specs.Master.{requested, requestedUpTo, pollingUpTo, requestHeader, hasMessage, commandRefused, masterTakes, sendsBy, masterSends}
 use Rattle.turns.specs.Device as D
 use Rattle.turns.specs.Device.{errorFrame, backDue, backLength, begunFrame, deviceWithContent, contentGiven, answered, answeredBy, answerFrame, deviceTakes, deviceSends}
 use Rattle.turns.specs.Link.{MasterCall, no-request, requests, DeviceCall, no-call, gives-answer, gives-content, MasterSide, MasterStep, DeviceSide, DeviceStep, masterSent, masterCalled, masterCalls, masterTick, masterData, deviceSent, answerCalled, contentCalled, deviceCalls, deviceTick, deviceData, heardFrame}
@@ -62,13 +62,14 @@ data Refuses : Called Master → Type 0 where
   refuses : (why : ℕ) → Refuses (refused why)
 
 in-hand : (limit : ℕ) (m : Master) (q : Request) (count : ℕ) → hasMessage (m .message .stage) ≡ true → Refuses (requested limit m q count)
-unfolding requested
+unfolding requested requestedUpTo
 in-hand limit m q count e =
     if-both Refuses (q .preamble outside 5 to 20) _ _ (refuses _)
-    (if-both Refuses (addressTooLarge (requestHeader m q)) _ _ (refuses _)
+    (if-both Refuses (q .revision outside 3 to 7) _ _ (refuses _)
+    (if-both Refuses (addressAbove (pollingUpTo (q .revision)) (requestHeader m q)) _ _ (refuses _)
     (if-both Refuses (commandRefused q) _ _ (refuses _)
     (if-both Refuses (limit <? count) _ _ (refuses _)
-    (subst Refuses (sym (if-is-true (hasMessage (m .message .stage)) _ _ e)) (refuses _)))))
+    (subst Refuses (sym (if-is-true (hasMessage (m .message .stage)) _ _ e)) (refuses _))))))
 
 -- so it is what it takes and then sends
 taken-sent : (limit : ℕ) (x : MasterSide) (heard : Heard) (call : MasterCall) (t : Master) (P : Sent → Master → Type 0) → masterTakes (x .master) heard (masterData x heard) .master ≡ t → hasMessage (t .message .stage) ≡ true
@@ -283,13 +284,14 @@ data Leaves (m : Master) : Called Master → Type 0 where
   not-taken : {why : ℕ} → Leaves m (refused why)
 
 request-leaves : (limit : ℕ) (m : Master) (q : Request) (n : ℕ) → Leaves m (requested limit m q n)
-unfolding requested
+unfolding requested requestedUpTo
 request-leaves limit m q n =
     if-both (Leaves m) (q .preamble outside 5 to 20) _ _ not-taken
-    (if-both (Leaves m) (addressTooLarge (requestHeader m q)) _ _ not-taken
+    (if-both (Leaves m) (q .revision outside 3 to 7) _ _ not-taken
+    (if-both (Leaves m) (addressAbove (pollingUpTo (q .revision)) (requestHeader m q)) _ _ not-taken
     (if-both (Leaves m) (commandRefused q) _ _ not-taken
     (if-both (Leaves m) (limit <? n) _ _ not-taken
-    (if-both (Leaves m) (hasMessage (m .message .stage)) _ _ not-taken (leaves refl refl)))))
+    (if-both (Leaves m) (hasMessage (m .message .stage)) _ _ not-taken (leaves refl refl))))))
 
 behind-character : (limit : ℕ) (x : MasterSide) (last : Heard) (call : MasterCall) → InsideFrame last (x .master .deaf) (x .master .receiver) → masterTick limit x last call .sent ≡ Silent
     → ListensIn (taken (x .master .receiver) last .receiver) (masterTick limit x last call .side .master)

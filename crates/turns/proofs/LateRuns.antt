@@ -14,7 +14,7 @@ use Rattle.frame.specs.Frame.{frameBytes, preambleBytes, bodyBytes, protectedBy
 use Rattle.frame.specs.Write.{writeBuffer, writeAnswer}
 use Rattle.line.specs.Reader.{taken, takenData, atIdle, atPreamble, atFirst, atAddress, atExpansion, atCommand, atCount, atData, atCheck, silentInside}
 use Rattle.line.specs.declared.Heard.the-variants.{Silence}
-use Rattle.turns.specs.Master.{freshMaster, requested, masterTakes, masterSends}
+use Rattle.turns.specs.Master.{freshMaster, requested, requestedUpTo, masterTakes, masterSends}
 use Rattle.turns.specs.Device.{freshDevice, deviceTakes, deviceSends, answered, contentGiven}
 use Rattle.turns.specs.Party.{CallResult, was-taken, was-refused}
 use Rattle.turns.specs.Link.{MasterCall, no-request, requests, no-call, gives-answer, gives-content, Link, LinkStep, Calls, DeviceSide, masterTick, deviceTick, deviceTicks, sides, carried, linkAfter}
@@ -42,7 +42,7 @@ link = record {
 
 -- a request of command 3, with a preamble of so many characters
 pub request : ℕ → MasterCall
-request preamble = requests (record { preamble = preamble; long = true; address = 2; command = 3 }) (0 ∷ 0 ∷ [])
+request preamble = requests (record { preamble = preamble; revision = 7; long = true; address = 2; command = 3 }) (0 ∷ 0 ∷ [])
 
 pub calls : MasterCall → MasterCall → Calls
 calls a b = record { for-primary = a; for-secondary = b; for-devices = [] }
@@ -113,11 +113,11 @@ equal = quiet ∷ (quiet ∷ (calls (request 20) (request 20) ∷ replicate 40 q
 
 -- both send in ticks 6 to 36, which is the longest overlap; the primary's retry begins in tick 41
 pub equal-run : (E.senders (lateRun 2 2 0 link equal) ≡ replicate 6 0 ++ (replicate 31 3 ++ (replicate 4 0 ++ replicate 2 1))) × (off-in (lateRun 2 2 0 link equal) ≡ true)
-unfolding off off-in equal E.senders E.devices-sent E.one short link request calls answers quiet lateRun lateTick deviceTicks sides carried masterTick deviceTick requested masterTakes masterSends deviceTakes deviceSends answered contentGiven taken takenData atIdle atPreamble atFirst atAddress atExpansion atCommand atCount atData atCheck silentInside writeBuffer writeAnswer frameBytes preambleBytes bodyBytes protectedBytes headerBytes xorFrom delimiterOf stored if_then_else_
+unfolding off off-in equal E.senders E.devices-sent E.one short link request calls answers quiet lateRun lateTick deviceTicks sides carried masterTick deviceTick requested requestedUpTo masterTakes masterSends deviceTakes deviceSends answered contentGiven taken takenData atIdle atPreamble atFirst atAddress atExpansion atCommand atCount atData atCheck silentInside writeBuffer writeAnswer frameBytes preambleBytes bodyBytes protectedBytes headerBytes xorFrom delimiterOf stored if_then_else_
 equal-run = (refl, refl)
 
 pub equal-begins : BeginTogether (lateRun 2 2 0 link equal) 6
-unfolding equal inTick short link request calls answers quiet lateRun lateTick deviceTicks sides carried masterTick deviceTick requested masterTakes masterSends deviceTakes deviceSends answered contentGiven taken takenData atIdle atPreamble atFirst atAddress atExpansion atCommand atCount atData atCheck silentInside writeBuffer writeAnswer frameBytes preambleBytes bodyBytes protectedBytes headerBytes xorFrom delimiterOf stored if_then_else_
+unfolding equal inTick short link request calls answers quiet lateRun lateTick deviceTicks sides carried masterTick deviceTick requested requestedUpTo masterTakes masterSends deviceTakes deviceSends answered contentGiven taken takenData atIdle atPreamble atFirst atAddress atExpansion atCommand atCount atData atCheck silentInside writeBuffer writeAnswer frameBytes preambleBytes bodyBytes protectedBytes headerBytes xorFrom delimiterOf stored if_then_else_
 equal-begins = record { primary-sends = refl; secondary-sends = refl; primary-did-not = refl; secondary-did-not = refl }
 
 -- so they begin together in no other tick
@@ -131,7 +131,7 @@ unequal = quiet ∷ (quiet ∷ (calls (request 5) (request 7) ∷ replicate 30 q
 
 -- both send in ticks 6 to 21, the secondary alone to tick 23; the primary's retry begins RT1 behind that, in tick 28
 pub unequal-run : (E.senders (lateRun 2 2 0 link unequal) ≡ replicate 6 0 ++ (replicate 16 3 ++ (replicate 2 2 ++ (replicate 4 0 ++ replicate 5 1)))) × (off-in (lateRun 2 2 0 link unequal) ≡ true)
-unfolding off off-in unequal E.senders E.devices-sent E.one short link request calls answers quiet lateRun lateTick deviceTicks sides carried masterTick deviceTick requested masterTakes masterSends deviceTakes deviceSends answered contentGiven taken takenData atIdle atPreamble atFirst atAddress atExpansion atCommand atCount atData atCheck silentInside writeBuffer writeAnswer frameBytes preambleBytes bodyBytes protectedBytes headerBytes xorFrom delimiterOf stored if_then_else_
+unfolding off off-in unequal E.senders E.devices-sent E.one short link request calls answers quiet lateRun lateTick deviceTicks sides carried masterTick deviceTick requested requestedUpTo masterTakes masterSends deviceTakes deviceSends answered contentGiven taken takenData atIdle atPreamble atFirst atAddress atExpansion atCommand atCount atData atCheck silentInside writeBuffer writeAnswer frameBytes preambleBytes bodyBytes protectedBytes headerBytes xorFrom delimiterOf stored if_then_else_
 unequal-run = (refl, refl)
 
 pub unequal-holds : LateStart 2 short 3 2 0 (lateRun 2 2 0 link unequal)
@@ -141,14 +141,14 @@ unequal-holds = holds 2 0 unequal (unequal-run .1)
 unfoldable pub fsk : List Calls
 fsk =
     replicate 41 quiet
-    ++ (calls (requests (record { preamble = 5; long = true; address = 2; command = 3 }) []) (requests (record { preamble = 5; long = true; address = 2; command = 3 }) [])
+    ++ (calls (requests (record { preamble = 5; revision = 7; long = true; address = 2; command = 3 }) []) (requests (record { preamble = 5; revision = 7; long = true; address = 2; command = 3 }) [])
     ∷ (replicate 60 quiet
     ++ (record { for-primary = no-request; for-secondary = no-request; for-devices = gives-answer Same (0 ∷ 0 ∷ 0 ∷ 0 ∷ 0 ∷ []) ∷ [] }
     ∷ replicate 30 quiet)))
 
 -- both send in ticks 41 to 54; the retry goes out in ticks 88 to 101, the ACK in 103 to 121, and the secondary begins in tick 123
 pub fsk-run : E.senders (lateRun 255 8 0 fresh fsk) ≡ replicate 41 0 ++ (replicate 14 3 ++ (replicate 33 0 ++ (replicate 14 1 ++ (0 ∷ (replicate 19 4 ++ (0 ∷ replicate 10 2))))))
-unfolding fsk fresh E.senders E.devices-sent E.one calls quiet lateRun lateTick deviceTicks sides carried masterTick deviceTick requested masterTakes masterSends deviceTakes deviceSends answered contentGiven taken takenData atIdle atPreamble atFirst atAddress atExpansion atCommand atCount atData atCheck silentInside writeBuffer writeAnswer frameBytes preambleBytes bodyBytes protectedBytes headerBytes xorFrom delimiterOf stored if_then_else_
+unfolding fsk fresh E.senders E.devices-sent E.one calls quiet lateRun lateTick deviceTicks sides carried masterTick deviceTick requested requestedUpTo masterTakes masterSends deviceTakes deviceSends answered contentGiven taken takenData atIdle atPreamble atFirst atAddress atExpansion atCommand atCount atData atCheck silentInside writeBuffer writeAnswer frameBytes preambleBytes bodyBytes protectedBytes headerBytes xorFrom delimiterOf stored if_then_else_
 fsk-run = refl
 
 -- ---- starts during a frame; the primary starts in tick 0, is asked in it and sends in ticks 4 to 19
@@ -159,7 +159,7 @@ in-stx = calls (request 5) no-request ∷ (replicate 7 quiet ++ (calls no-reques
 
 -- it hears the ACK whole, in ticks 21 to 51, and begins in tick 53
 pub in-stx-run : (E.senders (lateRun 2 0 8 link in-stx) ≡ replicate 4 0 ++ (replicate 16 1 ++ (0 ∷ (replicate 31 4 ++ (0 ∷ replicate 4 2))))) × (off-in (lateRun 2 0 8 link in-stx) ≡ true)
-unfolding off off-in in-stx E.senders E.devices-sent E.one short link request calls answers quiet lateRun lateTick deviceTicks sides carried masterTick deviceTick requested masterTakes masterSends deviceTakes deviceSends answered contentGiven taken takenData atIdle atPreamble atFirst atAddress atExpansion atCommand atCount atData atCheck silentInside writeBuffer writeAnswer frameBytes preambleBytes bodyBytes protectedBytes headerBytes xorFrom delimiterOf stored if_then_else_
+unfolding off off-in in-stx E.senders E.devices-sent E.one short link request calls answers quiet lateRun lateTick deviceTicks sides carried masterTick deviceTick requested requestedUpTo masterTakes masterSends deviceTakes deviceSends answered contentGiven taken takenData atIdle atPreamble atFirst atAddress atExpansion atCommand atCount atData atCheck silentInside writeBuffer writeAnswer frameBytes preambleBytes bodyBytes protectedBytes headerBytes xorFrom delimiterOf stored if_then_else_
 in-stx-run = (refl, refl)
 
 pub in-stx-holds : LateStart 2 short 3 0 8 (lateRun 2 0 8 link in-stx)
@@ -174,7 +174,7 @@ unfolding older-device
 older-started = started-before refl (started-before refl (starts-now device-starts) no-call) (gives-content 3 (0 ∷ 0 ∷ []))
 
 pub older-run : E.senders (lateRun 2 0 8 (record { primary = link .primary; secondary = link .secondary; devices = older-device ∷ []; line = Silence }) in-stx) ≡ E.senders (lateRun 2 0 8 link in-stx)
-unfolding in-stx older-device E.senders E.devices-sent E.one short link request calls answers quiet lateRun lateTick deviceTicks sides carried masterTick deviceTick requested masterTakes masterSends deviceTakes deviceSends answered contentGiven taken takenData atIdle atPreamble atFirst atAddress atExpansion atCommand atCount atData atCheck silentInside writeBuffer writeAnswer frameBytes preambleBytes bodyBytes protectedBytes headerBytes xorFrom delimiterOf stored if_then_else_
+unfolding in-stx older-device E.senders E.devices-sent E.one short link request calls answers quiet lateRun lateTick deviceTicks sides carried masterTick deviceTick requested requestedUpTo masterTakes masterSends deviceTakes deviceSends answered contentGiven taken takenData atIdle atPreamble atFirst atAddress atExpansion atCommand atCount atData atCheck silentInside writeBuffer writeAnswer frameBytes preambleBytes bodyBytes protectedBytes headerBytes xorFrom delimiterOf stored if_then_else_
 older-run = refl
 
 -- the secondary starts in the middle of the ACK, in tick 30, and is asked then
@@ -183,7 +183,7 @@ in-ack = calls (request 5) no-request ∷ (replicate 19 quiet ++ (answers ∷ (r
 
 -- it passes over the ACK, and begins RT1 behind it, in tick 58
 pub in-ack-run : (E.senders (lateRun 2 0 30 link in-ack) ≡ replicate 4 0 ++ (replicate 16 1 ++ (0 ∷ (replicate 31 4 ++ (replicate 6 0 ++ replicate 3 2))))) × (off-in (lateRun 2 0 30 link in-ack) ≡ true)
-unfolding off off-in in-ack E.senders E.devices-sent E.one short link request calls answers quiet lateRun lateTick deviceTicks sides carried masterTick deviceTick requested masterTakes masterSends deviceTakes deviceSends answered contentGiven taken takenData atIdle atPreamble atFirst atAddress atExpansion atCommand atCount atData atCheck silentInside writeBuffer writeAnswer frameBytes preambleBytes bodyBytes protectedBytes headerBytes xorFrom delimiterOf stored if_then_else_
+unfolding off off-in in-ack E.senders E.devices-sent E.one short link request calls answers quiet lateRun lateTick deviceTicks sides carried masterTick deviceTick requested requestedUpTo masterTakes masterSends deviceTakes deviceSends answered contentGiven taken takenData atIdle atPreamble atFirst atAddress atExpansion atCommand atCount atData atCheck silentInside writeBuffer writeAnswer frameBytes preambleBytes bodyBytes protectedBytes headerBytes xorFrom delimiterOf stored if_then_else_
 in-ack-run = (refl, refl)
 
 pub in-ack-holds : LateStart 2 short 3 0 30 (lateRun 2 0 30 link in-ack)
@@ -255,7 +255,7 @@ claimed = quiet ∷ (quiet ∷ (calls (request 5) no-request ∷ (replicate 22 q
 -- the primary's STX goes out in ticks 6 to 21, and the secondary's request is taken
 claimed-run : (counts (lateRun 2 2 0 link claimed) ≡ replicate 6 0 ++ (replicate 16 1 ++ drop 22 (counts (lateRun 2 2 0 link claimed))))
     × (numberAt (counts (lateRun 2 2 0 link claimed)) 5 ≡ 0) × (numberAt (counts (lateRun 2 2 0 link claimed)) 22 ≡ 0) × (takenIn false (lateRun 2 2 0 link claimed) 25 ≡ true) × (off-in (lateRun 2 2 0 link claimed) ≡ true)
-unfolding claimed off off-in counts deviceSenders numberAt takenIn isTaken short link request calls answers quiet lateRun lateTick deviceTicks sides carried masterTick deviceTick requested masterTakes masterSends deviceTakes deviceSends answered contentGiven taken takenData atIdle atPreamble atFirst atAddress atExpansion atCommand atCount atData atCheck silentInside writeBuffer writeAnswer frameBytes preambleBytes bodyBytes protectedBytes headerBytes xorFrom delimiterOf stored if_then_else_
+unfolding claimed off off-in counts deviceSenders numberAt takenIn isTaken short link request calls answers quiet lateRun lateTick deviceTicks sides carried masterTick deviceTick requested requestedUpTo masterTakes masterSends deviceTakes deviceSends answered contentGiven taken takenData atIdle atPreamble atFirst atAddress atExpansion atCommand atCount atData atCheck silentInside writeBuffer writeAnswer frameBytes preambleBytes bodyBytes protectedBytes headerBytes xorFrom delimiterOf stored if_then_else_
 claimed-run = (refl, refl, refl, refl, refl)
 
 claimed-long : length (lateRun 2 2 0 link claimed) ≡ 216
@@ -319,7 +319,7 @@ pub early-run : (E.senders (lateRun 2 0 37 link early)
     ++ (replicate 31 4
     ++ (0
     ∷ replicate 3 2))))))))))))))) × (off-in (lateRun 2 0 37 link early) ≡ true)
-unfolding off off-in early E.senders E.devices-sent E.one short link request calls answers quiet lateRun lateTick deviceTicks sides carried masterTick deviceTick requested masterTakes masterSends deviceTakes deviceSends answered contentGiven taken takenData atIdle atPreamble atFirst atAddress atExpansion atCommand atCount atData atCheck silentInside writeBuffer writeAnswer frameBytes preambleBytes bodyBytes protectedBytes headerBytes xorFrom delimiterOf stored if_then_else_
+unfolding off off-in early E.senders E.devices-sent E.one short link request calls answers quiet lateRun lateTick deviceTicks sides carried masterTick deviceTick requested requestedUpTo masterTakes masterSends deviceTakes deviceSends answered contentGiven taken takenData atIdle atPreamble atFirst atAddress atExpansion atCommand atCount atData atCheck silentInside writeBuffer writeAnswer frameBytes preambleBytes bodyBytes protectedBytes headerBytes xorFrom delimiterOf stored if_then_else_
 early-run = (refl, refl)
 
 pub early-holds : LateStart 2 short 3 0 37 (lateRun 2 0 37 link early)
@@ -341,7 +341,7 @@ silent-late bit n (s ∷ ss) e (begins m c q) = true-false (sym e ∙ (λ i. if 
 silent-late bit (suc n) (s ∷ ss) e (waits q b) = silent-late bit n ss (sym (λ i. if isSilent (q i) then silentFor bit (suc n) ss else false) ∙ e) b
 
 early-is : (takenIn false (lateRun 2 0 37 link early) 37 ≡ true) × (silentFor false (suc (longestWait 2 short 3)) (drop 37 (lateRun 2 0 37 link early)) ≡ true)
-unfolding early takenIn isTaken silentFor isSilent short link request calls answers quiet lateRun lateTick deviceTicks sides carried masterTick deviceTick requested masterTakes masterSends deviceTakes deviceSends answered contentGiven taken takenData atIdle atPreamble atFirst atAddress atExpansion atCommand atCount atData atCheck silentInside writeBuffer writeAnswer frameBytes preambleBytes bodyBytes protectedBytes headerBytes xorFrom delimiterOf stored if_then_else_
+unfolding early takenIn isTaken silentFor isSilent short link request calls answers quiet lateRun lateTick deviceTicks sides carried masterTick deviceTick requested requestedUpTo masterTakes masterSends deviceTakes deviceSends answered contentGiven taken takenData atIdle atPreamble atFirst atAddress atExpansion atCommand atCount atData atCheck silentInside writeBuffer writeAnswer frameBytes preambleBytes bodyBytes protectedBytes headerBytes xorFrom delimiterOf stored if_then_else_
 early-is = (refl, refl)
 
 pub early-accepted : TakenIn false (lateRun 2 0 37 link early) 37

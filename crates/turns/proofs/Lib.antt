@@ -41,6 +41,7 @@ pub mod Late
 pub mod LateRuns
 pub mod LateSound
 pub mod Limits
+pub mod Revisions
 pub mod Listening
 pub mod Lists
 pub mod OutOfStep

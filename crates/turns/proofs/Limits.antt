@@ -8,7 +8,7 @@ use Rattle.frame.specs.Delimiter.{stx}
 use Rattle.frame.specs.declared.Header.{Header}
 use Rattle.line.specs.Profile.{fskProfile}
 use Rattle.line.specs.Reader.{idle}
-use Rattle.turns.specs.Master.{freshMaster, masterStarts, requested}
+use Rattle.turns.specs.Master.{freshMaster, masterStarts, requested, requestedUpTo}
 use Rattle.turns.specs.Master as M
 use Rattle.turns.specs.Device.{freshDevice, deviceStarts, answered, contentGiven, deviceWithContent}
 use Rattle.turns.specs.Device as D
@@ -32,7 +32,7 @@ master-starts = refl
 -- ---- master request: 3, 4, 5, 6 and 7
 
 abbrev pub ask : Master → ℕ → Bool → ℕ → ℕ → ℕ → Outcome
-ask m preamble long address command count = outcome (requested 255 m (record { preamble = preamble; long = long; address = address; command = command }) count)
+ask m preamble long address command count = outcome (requested 255 m (record { preamble = preamble; revision = 7; long = long; address = address; command = command }) count)
 
 abbrev pub free : Master
 free = freshMaster fskProfile true 3
@@ -54,7 +54,7 @@ Requests =
     (ask busy 4 false 64 254 256 ∷ ask busy 5 false 64 254 256 ∷ ask busy 5 false 63 254 256 ∷ ask busy 5 false 63 0 256 ∷ [] ≡ refuses 3 ∷ refuses 4 ∷ refuses 5 ∷ refuses 6 ∷ [])
 
 pub requests : Requests
-unfolding requested if_then_else_
+unfolding requested requestedUpTo if_then_else_
 requests = (refl, refl, refl, refl, refl)
 
 -- ---- device start: "3; 4, also for unique address 0"

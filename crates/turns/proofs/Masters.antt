@@ -14,7 +14,8 @@ use Rattle.base.specs.Store.{stored}
 use Rattle.base.proofs.Choices.{true-false, inside-low, inside-high, if-is-true, if-is-false}
 use Rattle.base.proofs.Stores.{stored-front}
 use Rattle.frame.specs.Delimiter.{stx, isType}
-use Rattle.frame.specs.Address.{byteAt, largestAddress, addressTooLarge}
+use Rattle.frame.specs.Limits.{largestPolling}
+use Rattle.frame.specs.Address.{byteAt, largestWith, addressAbove}
 use Rattle.frame.specs.Frame.{tooFew, frameBytes, frameLength}
 use Rattle.frame.specs.Write.{writeBuffer}
 use Rattle.frame.specs.declared.Header.{Header}
@@ -25,7 +26,7 @@ use Rattle.line.specs.Reader.{passing}
 use Rattle.line.specs.declared.Whole.{Whole}
 use Rattle.line.proofs.Hearing.{wholeMessage}
 use Rattle.turns.specs.Party.{Request, CallResult, none, was-taken, was-refused}
-use Rattle.turns.specs.Master.{requested, requestHeader, hasMessage, commandRefused, masterWith, timer, any-stx, timerAfter, sendsAt, oneMore, sendsBy, masterSends}
+use Rattle.turns.specs.Master.{requested, requestedUpTo, pollingUpTo, requestHeader, hasMessage, commandRefused, masterWith, timer, any-stx, timerAfter, sendsAt, oneMore, sendsBy, masterSends}
 use Rattle.turns.specs.Link.{MasterCall, no-request, requests, MasterStep, masterCalls, masterCalled, masterSent}
 use Rattle.turns.specs.declared.Sent.the-variants.{Silent, Character}
 use Rattle.turns.specs.declared.Stage.{Stage}
@@ -206,54 +207,82 @@ pub data Asks (limit : ℕ) (m : Master) (q : Request) (count : ℕ) : Type 0 wh
   is-refused : (why : ℕ) → requested limit m q count ≡ refused why → Asks limit m q count
   is-taken : Fits (q .preamble) (requestHeader m q) count → count ≤ limit → m .message .stage ≡ Free → requested limit m q count ≡ accepted (withMessage m (newMessage m q count)) → Asks limit m q count
 
+-- a smaller largest polling address is a smaller largest address
+pub largest-with : (polling most : ℕ) (long : Bool) → polling ≤ most → largestWith polling long ≤ largestWith most long
+unfolding if_then_else_
+largest-with polling most true h = omega arith
+largest-with polling most false h = h
+
+-- no revision knows a polling address that no frame can have
+pub polling-fits : (revision : ℕ) → pollingUpTo revision ≤ largestPolling
+unfolding if_then_else_
+polling-fits revision = go (revision ≤? 5)
+  where
+    go : (old : Bool) → (if old then 15 else largestPolling) ≤ largestPolling
+    go true = omega arith
+    go false = omega arith
+
+-- from the address on, for every largest polling address: one proof for all revisions
+module _ (polling limit : ℕ) (m : Master) (q : Request) (count : ℕ) (few : polling ≤ largestPolling) (small : limit ≤ 255) (a : (q .preamble outside 5 to 20) ≡ false) (start : requested limit m q count ≡ requestedUpTo polling limit m q count) where
+  asks-up-to : Asks limit m q count
+  unfolding requestedUpTo
+  asks-up-to = second B refl
+    where
+      B : Bool
+      B = addressAbove polling (requestHeader m q)
+
+      C : Bool
+      C = commandRefused q
+
+      D : Bool
+      D = limit <? count
+
+      E : Bool
+      E = hasMessage (m .message .stage)
+
+      free : (s : Stage) → hasMessage s ≡ false → s ≡ Free
+      free Free e = refl
+      free Waiting e = absurd (true-false e)
+      free (Sending n) e = absurd (true-false e)
+      free (Awaiting n) e = absurd (true-false e)
+
+      fifth : (t : Bool) → E ≡ t → B ≡ false → C ≡ false → D ≡ false → Asks limit m q count
+      fifth true e b c d = is-refused 7 (start ∙ if-is-false B _ _ b ∙ if-is-false C _ _ c ∙ if-is-false D _ _ d ∙ if-is-true E _ _ e)
+      fifth false e b c d =
+          is-taken (record {
+            preamble-low = inside-low (q .preamble) 5 20 _ refl a;
+            preamble-high = inside-high (q .preamble) 5 20 _ refl a;
+            address-high = omega (arith, ltb-false (largestWith polling (q .long)) (q .address) b, largest-with polling largestPolling (q .long) few);
+            count-high = omega (arith, ltb-false limit count d);
+            enough = stx-enough count;
+            typed = stx-typed;
+          }) (ltb-false limit count d) (free (m .message .stage) e) (start ∙ if-is-false B _ _ b ∙ if-is-false C _ _ c ∙ if-is-false D _ _ d ∙ if-is-false E _ _ e)
+
+      fourth : (t : Bool) → D ≡ t → B ≡ false → C ≡ false → Asks limit m q count
+      fourth true d b c = is-refused 6 (start ∙ if-is-false B _ _ b ∙ if-is-false C _ _ c ∙ if-is-true D _ _ d)
+      fourth false d b c = fifth E refl b c d
+
+      third : (t : Bool) → C ≡ t → B ≡ false → Asks limit m q count
+      third true c b = is-refused 5 (start ∙ if-is-false B _ _ b ∙ if-is-true C _ _ c)
+      third false c b = fourth D refl b c
+
+      second : (t : Bool) → B ≡ t → Asks limit m q count
+      second true b = is-refused 4 (start ∙ if-is-true B _ _ b)
+      second false b = third C refl b
+
 pub asks : (limit : ℕ) (m : Master) (q : Request) (count : ℕ) → limit ≤ 255 → Asks limit m q count
 unfolding requested
-asks limit m q count small = first (q .preamble outside 5 to 20) refl
+asks limit m q count small = first A refl
   where
     A : Bool
     A = q .preamble outside 5 to 20
 
     B : Bool
-    B = addressTooLarge (requestHeader m q)
-
-    C : Bool
-    C = commandRefused q
-
-    D : Bool
-    D = limit <? count
-
-    E : Bool
-    E = hasMessage (m .message .stage)
-
-    free : (s : Stage) → hasMessage s ≡ false → s ≡ Free
-    free Free e = refl
-    free Waiting e = absurd (true-false e)
-    free (Sending n) e = absurd (true-false e)
-    free (Awaiting n) e = absurd (true-false e)
-
-    fifth : (t : Bool) → E ≡ t → A ≡ false → B ≡ false → C ≡ false → D ≡ false → Asks limit m q count
-    fifth true e a b c d = is-refused 7 (if-is-false A _ _ a ∙ if-is-false B _ _ b ∙ if-is-false C _ _ c ∙ if-is-false D _ _ d ∙ if-is-true E _ _ e)
-    fifth false e a b c d =
-        is-taken (record {
-          preamble-low = inside-low (q .preamble) 5 20 A refl a;
-          preamble-high = inside-high (q .preamble) 5 20 A refl a;
-          address-high = ltb-false (largestAddress (q .long)) (q .address) b;
-          count-high = omega (arith, ltb-false limit count d);
-          enough = stx-enough count;
-          typed = stx-typed;
-        }) (ltb-false limit count d) (free (m .message .stage) e) (if-is-false A _ _ a ∙ if-is-false B _ _ b ∙ if-is-false C _ _ c ∙ if-is-false D _ _ d ∙ if-is-false E _ _ e)
-
-    fourth : (t : Bool) → D ≡ t → A ≡ false → B ≡ false → C ≡ false → Asks limit m q count
-    fourth true d a b c = is-refused 6 (if-is-false A _ _ a ∙ if-is-false B _ _ b ∙ if-is-false C _ _ c ∙ if-is-true D _ _ d)
-    fourth false d a b c = fifth E refl a b c d
-
-    third : (t : Bool) → C ≡ t → A ≡ false → B ≡ false → Asks limit m q count
-    third true c a b = is-refused 5 (if-is-false A _ _ a ∙ if-is-false B _ _ b ∙ if-is-true C _ _ c)
-    third false c a b = fourth D refl a b c
+    B = q .revision outside 3 to 7
 
     second : (t : Bool) → B ≡ t → A ≡ false → Asks limit m q count
-    second true b a = is-refused 4 (if-is-false A _ _ a ∙ if-is-true B _ _ b)
-    second false b a = third C refl a b
+    second true b a = is-refused 17 (if-is-false A _ _ a ∙ if-is-true B _ _ b)
+    second false b a = asks-up-to (pollingUpTo (q .revision)) limit m q count (polling-fits (q .revision)) small a (if-is-false A _ _ a ∙ if-is-false B _ _ b)
 
     first : (t : Bool) → A ≡ t → Asks limit m q count
     first true a = is-refused 3 (if-is-true A _ _ a)

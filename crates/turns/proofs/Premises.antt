@@ -17,7 +17,7 @@ use Rattle.line.specs.Reader.{taken, takenData, atIdle, atPreamble, atFirst, at
 use Rattle.line.specs.declared.Heard.{Heard}
 use Rattle.line.specs.declared.Heard.the-variants.{Silence}
 use Rattle.line.specs.declared.Profile.{Profile}
-use Rattle.turns.specs.Master.{freshMaster, requested, masterTakes, masterSends}
+use Rattle.turns.specs.Master.{freshMaster, requested, requestedUpTo, masterTakes, masterSends}
 use Rattle.turns.specs.Device.{freshDevice, deviceTakes, deviceSends, answered, contentGiven}
 use Rattle.turns.specs.Link.{no-request, requests, DeviceCall, no-call, gives-answer, gives-content, Link, LinkStep, Calls, DeviceSide, DeviceStep, masterTick, deviceTick, deviceTicks, sides, carried, linkTick, linkAfter, run}
 use Rattle.turns.specs.Run.{none, and, Distinct, Sole, no-one, sole-and, DeviceStarts, Starts, deviceSenders, senders, EachTick, no-tick, tick-and, OneBursts, NoTwoSend}
@@ -105,7 +105,7 @@ short = record { sto = 3; hold = 1; rt2 = 2; rt1p = 4; rt1s = 6 }
 
 -- the primary asks the device with this unique address
 unfoldable pub ask : ℕ → List DeviceCall → Calls
-ask unique devices = record { for-primary = requests (record { preamble = 5; long = true; address = unique; command = 3 }) []; for-secondary = no-request; for-devices = devices }
+ask unique devices = record { for-primary = requests (record { preamble = 5; revision = 7; long = true; address = unique; command = 3 }) []; for-secondary = no-request; for-devices = devices }
 
 unfoldable pub turn-on : DeviceCall
 turn-on = gives-answer On (0 ∷ 0 ∷ [])
@@ -125,15 +125,15 @@ one-device = record {
 pub both-ask : List Calls
 both-ask =
     record {
-      for-primary = requests (record { preamble = 5; long = true; address = 2; command = 3 }) [];
-      for-secondary = requests (record { preamble = 5; long = true; address = 2; command = 3 }) [];
+      for-primary = requests (record { preamble = 5; revision = 7; long = true; address = 2; command = 3 }) [];
+      for-secondary = requests (record { preamble = 5; revision = 7; long = true; address = 2; command = 3 }) [];
       for-devices = content ∷ [];
     }
     ∷ (replicate 18 quiet ++ (record { for-primary = no-request; for-secondary = no-request; for-devices = turn-on ∷ [] } ∷ replicate 46 quiet))
 
 -- the primary sends in ticks 4 to 17, the device its ACK and a BACK from tick 19 to 50, the secondary from tick 52 on
 pub both-go-out : E.senders (run 255 one-device both-ask) ≡ replicate 4 0 ++ (replicate 14 1 ++ (0 ∷ (replicate 32 4 ++ (0 ∷ replicate 14 2))))
-unfolding E.senders E.devices-sent E.one short one-device both-ask turn-on content quiet run linkTick deviceTicks sides carried masterTick deviceTick requested masterTakes masterSends deviceTakes deviceSends answered contentGiven taken takenData atIdle atPreamble atFirst atAddress atExpansion atCommand atCount atData atCheck writeBuffer writeAnswer frameBytes preambleBytes bodyBytes protectedBytes headerBytes xorFrom delimiterOf stored if_then_else_
+unfolding E.senders E.devices-sent E.one short one-device both-ask turn-on content quiet run linkTick deviceTicks sides carried masterTick deviceTick requested requestedUpTo masterTakes masterSends deviceTakes deviceSends answered contentGiven taken takenData atIdle atPreamble atFirst atAddress atExpansion atCommand atCount atData atCheck writeBuffer writeAnswer frameBytes preambleBytes bodyBytes protectedBytes headerBytes xorFrom delimiterOf stored if_then_else_
 both-go-out = refl
 
 short-starts : DeviceStarts short (record { device = freshDevice short 5 0 2; frame = replicate 284 0; bytes = replicate 255 0; contents = replicate 255 0 })
@@ -165,13 +165,13 @@ rest = replicate 340 quiet
 
 pub asked-twice : Calls
 asked-twice = record {
-  for-primary = requests (record { preamble = 5; long = true; address = 2; command = 3 }) [];
-  for-secondary = requests (record { preamble = 5; long = true; address = 2; command = 3 }) [];
+  for-primary = requests (record { preamble = 5; revision = 7; long = true; address = 2; command = 3 }) [];
+  for-secondary = requests (record { preamble = 5; revision = 7; long = true; address = 2; command = 3 }) [];
   for-devices = content ∷ [];
 }
 
 pub secondary-begins : BeginsWithin false (dueWithin 2 short 3 0 + longerWithBurst 2 short) (run 2 one-device (asked-twice ∷ rest))
-unfolding run rest asked-twice content quiet short one-device blanks linkTick masterTick requested masterTakes masterSends if_then_else_
+unfolding run rest asked-twice content quiet short one-device blanks linkTick masterTick requested requestedUpTo masterTakes masterSends if_then_else_
 secondary-begins =
     wait 2 (omega arith) (omega arith) short 3 one-device (asked-twice ∷ rest) (record { made = short-taken; starts = one-device-starts; one-bursts = lone 2 one-device _ (asked-twice ∷ rest) refl; one-finds = lone-finds 2 _ one-device (asked-twice ∷ rest) (omega arith) }) false 0 _ _ refl refl .1
     (omega (arith, run-length 2 (linkAfter (linkTick 2 one-device asked-twice)) rest))
@@ -196,7 +196,7 @@ counts (s ∷ ss) = senders s ∷ counts ss
 
 -- in tick 44 two send
 pub two-answer : counts (run 255 alike (asks ∷ (replicate 43 quiet ++ (both-reply ∷ [])))) ≡ replicate 33 0 ++ (replicate 10 1 ++ (0 ∷ 2 ∷ []))
-unfolding counts deviceSenders alike both-reply asks quiet run linkTick deviceTicks sides carried masterTick deviceTick requested masterTakes masterSends deviceTakes deviceSends answered contentGiven taken takenData atIdle atPreamble atFirst atAddress atExpansion atCommand atCount atData atCheck writeBuffer writeAnswer frameBytes preambleBytes bodyBytes protectedBytes headerBytes xorFrom delimiterOf stored if_then_else_
+unfolding counts deviceSenders alike both-reply asks quiet run linkTick deviceTicks sides carried masterTick deviceTick requested requestedUpTo masterTakes masterSends deviceTakes deviceSends answered contentGiven taken takenData atIdle atPreamble atFirst atAddress atExpansion atCommand atCount atData atCheck writeBuffer writeAnswer frameBytes preambleBytes bodyBytes protectedBytes headerBytes xorFrom delimiterOf stored if_then_else_
 two-answer = refl
 
 -- ---- two devices burst: behind an STX that nobody answers both begin a BACK
@@ -226,5 +226,5 @@ both-burst =
 
 -- in tick 154 two send
 pub two-burst : drop 150 (counts (run 255 two-devices both-burst)) ≡ 0 ∷ 0 ∷ 0 ∷ 0 ∷ 2 ∷ []
-unfolding counts deviceSenders short two-devices ask turn-on content both-burst quiet run linkTick deviceTicks sides carried masterTick deviceTick requested masterTakes masterSends deviceTakes deviceSends answered contentGiven taken takenData atIdle atPreamble atFirst atAddress atExpansion atCommand atCount atData atCheck writeBuffer writeAnswer frameBytes preambleBytes bodyBytes protectedBytes headerBytes xorFrom delimiterOf stored if_then_else_
+unfolding counts deviceSenders short two-devices ask turn-on content both-burst quiet run linkTick deviceTicks sides carried masterTick deviceTick requested requestedUpTo masterTakes masterSends deviceTakes deviceSends answered contentGiven taken takenData atIdle atPreamble atFirst atAddress atExpansion atCommand atCount atData atCheck writeBuffer writeAnswer frameBytes preambleBytes bodyBytes protectedBytes headerBytes xorFrom delimiterOf stored if_then_else_
 two-burst = refl

@@ -15,7 +15,7 @@ use Rattle.line.specs.Reader.{taken, takenData, silentInside, atIdle, atPreambl
 use Rattle.line.specs.declared.Damage.the-variants.{Parity, Overrun, Framing}
 use Rattle.line.specs.declared.Heard.{Heard}
 use Rattle.line.specs.declared.Heard.the-variants.{Silence, Character, Damaged}
-use Rattle.turns.specs.Master.{freshMaster, requested, masterTakes, masterSends}
+use Rattle.turns.specs.Master.{freshMaster, requested, requestedUpTo, masterTakes, masterSends}
 use Rattle.turns.specs.Device.{deviceTakes, deviceSends, answered, contentGiven}
 use Rattle.turns.specs.Link.{no-request, requests, no-call, gives-answer, gives-content, DeviceCall, MasterSide, masterTick, deviceTick}
 use Rattle.turns.specs.Bursts.{DeviceInput}
@@ -32,7 +32,7 @@ master primary = record { master = freshMaster fskProfile primary 3; frame = rep
 
 -- command 0 of polling address 0: an STX of 10 characters
 abbrev pub asks : MasterInput
-asks = record { heard = Silence; call = requests (record { preamble = 5; long = false; address = 0; command = 0 }) [] }
+asks = record { heard = Silence; call = requests (record { preamble = 5; revision = 7; long = false; address = 0; command = 0 }) [] }
 
 abbrev pub hears : Heard → MasterInput
 hears heard = record { heard = heard; call = no-request }
@@ -104,7 +104,7 @@ Behind =
     (both (λ own. shortAck own true ++ longAck own false 1) ≡ 95 ∷ 103 ∷ [])
 
 pub behind : Behind
-unfolding wrong all-heard ticks-before begins-behind masterSents masterTick requested masterTakes masterSends taken takenData silentInside atIdle atPreamble atFirst atAddress atExpansion atCommand atCount atData atCheck frameBytes preambleBytes bodyBytes protectedBytes headerBytes xorFrom delimiterOf stored if_then_else_
+unfolding wrong all-heard ticks-before begins-behind masterSents masterTick requested requestedUpTo masterTakes masterSends taken takenData silentInside atIdle atPreamble atFirst atAddress atExpansion atCommand atCount atData atCheck frameBytes preambleBytes bodyBytes protectedBytes headerBytes xorFrom delimiterOf stored if_then_else_
 behind = (refl, refl, refl, refl, refl, refl, refl, refl, refl, refl, refl, refl, refl, refl, refl)
 
 -- ---- a master: its windows and its attempts
@@ -115,7 +115,7 @@ begins-asked tick = ticks-before (masterSents 255 (master true) (replicate tick 
 
 -- windows of HOLD ticks, 33 and 34, then again 2×RT2 ticks behind each other: 49 and 50, 65 and 66
 pub windows : begins-asked 33 ∷ begins-asked 34 ∷ begins-asked 35 ∷ begins-asked 48 ∷ begins-asked 50 ∷ begins-asked 51 ∷ begins-asked 66 ∷ [] ≡ 33 ∷ 34 ∷ 49 ∷ 49 ∷ 50 ∷ 65 ∷ 66 ∷ []
-unfolding ticks-before begins-asked masterSents masterTick requested masterTakes masterSends taken takenData silentInside frameBytes preambleBytes bodyBytes protectedBytes headerBytes xorFrom stored if_then_else_
+unfolding ticks-before begins-asked masterSents masterTick requested requestedUpTo masterTakes masterSends taken takenData silentInside frameBytes preambleBytes bodyBytes protectedBytes headerBytes xorFrom stored if_then_else_
 windows = refl
 
 unfoldable pub each : List ℕ → List Sent
@@ -129,12 +129,12 @@ stx-0 = each (0xFF ∷ 0xFF ∷ 0xFF ∷ 0xFF ∷ 0xFF ∷ 0x02 ∷ 0x80 ∷ 0x0
 -- no answer, R 3: the STX goes out four times, each RT1 behind the one before, and not again
 pub four-attempts : masterSents 255 (master true) (asks ∷ replicate 299 (hears Silence))
     ≡ replicate 33 Silent ++ (stx-0 ++ (replicate 33 Silent ++ (stx-0 ++ (replicate 33 Silent ++ (stx-0 ++ (replicate 33 Silent ++ (stx-0 ++ replicate 128 Silent)))))))
-unfolding each masterSents masterTick requested masterTakes masterSends taken takenData silentInside frameBytes preambleBytes bodyBytes protectedBytes headerBytes xorFrom stored if_then_else_
+unfolding each masterSents masterTick requested requestedUpTo masterTakes masterSends taken takenData silentInside frameBytes preambleBytes bodyBytes protectedBytes headerBytes xorFrom stored if_then_else_
 four-attempts = refl
 
 -- behind a BACK to the other master it begins in tick 18 with BURST set; without an answer RT1's end opens no window, and it tries again behind the quiet time
 pub quiet-runs-on : masterSents 255 (master true) (asks ∷ hears Silence ∷ (all-heard (aBack false) ++ replicate 86 (hears Silence))) ≡ replicate 18 Silent ++ (stx-0 ++ (replicate 66 Silent ++ stx-0))
-unfolding all-heard each masterSents masterTick requested masterTakes masterSends taken takenData silentInside atIdle atPreamble atFirst atAddress atExpansion atCommand atCount atData atCheck frameBytes preambleBytes bodyBytes protectedBytes headerBytes xorFrom delimiterOf stored if_then_else_
+unfolding all-heard each masterSents masterTick requested requestedUpTo masterTakes masterSends taken takenData silentInside atIdle atPreamble atFirst atAddress atExpansion atCommand atCount atData atCheck frameBytes preambleBytes bodyBytes protectedBytes headerBytes xorFrom delimiterOf stored if_then_else_
 quiet-runs-on = refl
 
 -- what stands on the line from tick 44 on behind the STX of ticks 33 to 42: an ACK of 12 characters with this first data byte; RT2 behind it a failed attempt is repeated, an answered one is not
@@ -143,23 +143,23 @@ behind-status status =
     masterSents 255 (master true) (asks ∷ (replicate 44 (hears Silence) ++ (all-heard (frameBytes 5 (record { frame = ack; long = false; primary = true; burst = false; address = 0; command = 0 }) (status ∷ 0 ∷ [])) ++ replicate 17 (hears Silence))))
 
 pub bit-seven : (behind-status 0x80 ≡ replicate 33 Silent ++ (stx-0 ++ (replicate 21 Silent ++ stx-0))) × (behind-status 0x7F ≡ replicate 33 Silent ++ (stx-0 ++ replicate 31 Silent))
-unfolding all-heard each behind-status masterSents masterTick requested masterTakes masterSends taken takenData silentInside atIdle atPreamble atFirst atAddress atExpansion atCommand atCount atData atCheck frameBytes preambleBytes bodyBytes protectedBytes headerBytes xorFrom delimiterOf stored if_then_else_
+unfolding all-heard each behind-status masterSents masterTick requested requestedUpTo masterTakes masterSends taken takenData silentInside atIdle atPreamble atFirst atAddress atExpansion atCommand atCount atData atCheck frameBytes preambleBytes bodyBytes protectedBytes headerBytes xorFrom delimiterOf stored if_then_else_
 bit-seven = (refl, refl)
 
 -- characters of which the first is taken in tick 1, without a silent tick before, are passed over: a broken frame, RT1 behind it
 pub passed-over : ticks-before (masterSents 255 (master true) (asks ∷ (all-heard (shortAck false false) ++ replicate 40 (hears Silence)))) ≡ 45
-unfolding ticks-before all-heard masterSents masterTick requested masterTakes masterSends taken takenData silentInside atIdle atPreamble atFirst atAddress atExpansion atCommand atCount atData atCheck frameBytes preambleBytes bodyBytes protectedBytes headerBytes xorFrom delimiterOf stored if_then_else_
+unfolding ticks-before all-heard masterSents masterTick requested requestedUpTo masterTakes masterSends taken takenData silentInside atIdle atPreamble atFirst atAddress atExpansion atCommand atCount atData atCheck frameBytes preambleBytes bodyBytes protectedBytes headerBytes xorFrom delimiterOf stored if_then_else_
 passed-over = refl
 
 -- behind the STX of ticks 33 to 42 a broken frame in ticks 44 and 45 fails the attempt, and RT1 behind it comes the next
 pub broken-fails : masterSents 255 (master true) (asks ∷ (replicate 44 (hears Silence) ++ (all-heard (0xFF ∷ 0x55 ∷ []) ++ replicate 42 (hears Silence)))) ≡ replicate 33 Silent ++ (stx-0 ++ (replicate 36 Silent ++ stx-0))
-unfolding all-heard each masterSents masterTick requested masterTakes masterSends taken takenData silentInside atIdle atPreamble atFirst atAddress atExpansion atCommand atCount atData atCheck frameBytes preambleBytes bodyBytes protectedBytes headerBytes xorFrom delimiterOf stored if_then_else_
+unfolding all-heard each masterSents masterTick requested requestedUpTo masterTakes masterSends taken takenData silentInside atIdle atPreamble atFirst atAddress atExpansion atCommand atCount atData atCheck frameBytes preambleBytes bodyBytes protectedBytes headerBytes xorFrom delimiterOf stored if_then_else_
 broken-fails = refl
 
 -- a broadcast of command 3, 14 characters, is sent once
-pub broadcast-once : masterSents 255 (master true) (record { heard = Silence; call = requests (record { preamble = 5; long = true; address = 0; command = 3 }) [] } ∷ replicate 199 (hears Silence))
+pub broadcast-once : masterSents 255 (master true) (record { heard = Silence; call = requests (record { preamble = 5; revision = 7; long = true; address = 0; command = 3 }) [] } ∷ replicate 199 (hears Silence))
     ≡ replicate 33 Silent ++ (each (0xFF ∷ 0xFF ∷ 0xFF ∷ 0xFF ∷ 0xFF ∷ 0x82 ∷ 0x80 ∷ 0x00 ∷ 0x00 ∷ 0x00 ∷ 0x00 ∷ 0x03 ∷ 0x00 ∷ 0x01 ∷ []) ++ replicate 153 Silent)
-unfolding each masterSents masterTick requested masterTakes masterSends taken takenData silentInside frameBytes preambleBytes bodyBytes protectedBytes headerBytes xorFrom stored if_then_else_
+unfolding each masterSents masterTick requested requestedUpTo masterTakes masterSends taken takenData silentInside frameBytes preambleBytes bodyBytes protectedBytes headerBytes xorFrom stored if_then_else_
 broadcast-once = refl
 
 -- ---- a device with polling address 0 and unique address 2: what it sends

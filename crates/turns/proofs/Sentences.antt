@@ -9,7 +9,7 @@ use borrow.Author.Tests.{eq-eqb, eqb-true, le-ltb, ne-eqb}
 use Rattle.base.specs.Refusal.{Called, accepted, refused}
 use Rattle.base.specs.Choice.{if_then_else_, _<?_, _=?_, _outside_to_}
 use Rattle.base.proofs.Choices.{true-false, if-is-true, if-is-false, if-at-most, went-then, went-else, inside-low, inside-high, inside-is}
-use Rattle.frame.specs.Address.{byteAt, largestAddress, addressTooLarge}
+use Rattle.frame.specs.Address.{byteAt, largestWith, addressAbove}
 use Rattle.frame.specs.Delimiter.{stx, ack, back}
 use Rattle.frame.specs.Frame.{frameBytes}
 use Rattle.frame.specs.declared.Header.{Header}
@@ -21,7 +21,7 @@ use Rattle.line.specs.declared.Profile.{Profile}
 use Rattle.line.specs.declared.Receiver.{Receiver}
 use Rattle.line.specs.declared.Whole.{Whole}
 use Rattle.turns.specs.Party.{isBroadcast, seeksTag, Request, CallResult, was-refused}
-use Rattle.turns.specs.Master.{sameBit, toItself, isAnswer, masterStarts, freshMaster, quietTime, requested, requestHeader, hasMessage, commandRefused, masterTakes, namesDevice, addressOf, isNoted, burstAfter, notedAfter, timerAfter, fails, ends, atBreak, answersMessage, atFrame, countClear, countBurst}
+use Rattle.turns.specs.Master.{sameBit, toItself, isAnswer, masterStarts, freshMaster, quietTime, requested, requestedUpTo, pollingUpTo, requestHeader, hasMessage, commandRefused, masterTakes, namesDevice, addressOf, isNoted, burstAfter, notedAfter, timerAfter, fails, ends, atBreak, answersMessage, atFrame, countClear, countBurst}
 use Rattle.turns.specs.Master as M
 use Rattle.turns.specs.Device.{freshDevice, isOwn, mayAnswer, hasError, errorStatus, errorData, errorFrame, afterRequest, afterFrame, afterDamage, waited, deviceTakes, contentGiven, backDue}
 use Rattle.turns.specs.Link.{requests, gives-content, MasterSide, DeviceSide, masterData, masterCalled, masterTick, deviceData, heardFrame, contentCalled, deviceTick}
@@ -110,14 +110,15 @@ damaged-address d w m damaged =
     (ap (λ (c : Change). c .told) t, (λ frame. if-is-false (hasError d w m) _ frame e), ap (λ (c : Change). c .turn) t)
 
 -- "5: command 254", of a master's request that no lower number refuses, whatever else is true
-pub request-254 : (limit : ℕ) (x : MasterSide) (heard : Heard) (q : Request) (put : List ℕ) → 5 ≤ q .preamble → q .preamble ≤ 20 → q .address ≤ largestAddress (q .long) → q .command ≡ 254
-    → masterTick limit x heard (requests q put) .result ≡ was-refused 5
-unfolding masterTick requested
-request-254 limit x heard q put low high fits e =
+pub request-254 : (limit : ℕ) (x : MasterSide) (heard : Heard) (q : Request) (put : List ℕ) → 5 ≤ q .preamble → q .preamble ≤ 20 → 3 ≤ q .revision → q .revision ≤ 7
+    → q .address ≤ largestWith (pollingUpTo (q .revision)) (q .long) → q .command ≡ 254 → masterTick limit x heard (requests q put) .result ≡ was-refused 5
+unfolding masterTick requested requestedUpTo
+request-254 limit x heard q put low high oldest latest fits e =
     let m = masterTakes (x .master) heard (masterData x heard) .master in
     ap by
     (if-is-false (q .preamble outside 5 to 20) _ _ (inside-is (q .preamble) 5 20 low high)
-    ∙ if-is-false (addressTooLarge (requestHeader m q)) _ _ (le-ltb (largestAddress (q .long)) (q .address) fits)
+    ∙ if-is-false (q .revision outside 3 to 7) _ _ (inside-is (q .revision) 3 7 oldest latest)
+    ∙ if-is-false (addressAbove (pollingUpTo (q .revision)) (requestHeader m q)) _ _ (le-ltb (largestWith (pollingUpTo (q .revision)) (q .long)) (q .address) fits)
     ∙ if-is-true (commandRefused q) _ _ (if-is-true (q .command =? 254) true _ (eq-eqb (q .command) 254 e)))
   where
     by : Called Master → CallResult

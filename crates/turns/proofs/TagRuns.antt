@@ -15,7 +15,7 @@ use Rattle.frame.specs.Delimiter.{delimiterOf}
 use Rattle.frame.specs.Frame.{frameBytes, preambleBytes, bodyBytes, protectedBytes, headerBytes}
 use Rattle.frame.specs.Write.{writeBuffer, writeAnswer}
 use Rattle.line.specs.Reader.{taken, takenData, atIdle, atPreamble, atFirst, atAddress, atExpansion, atCommand, atCount, atData, atCheck}
-use Rattle.turns.specs.Master.{requested, masterTakes, masterSends}
+use Rattle.turns.specs.Master.{requested, requestedUpTo, masterTakes, masterSends}
 use Rattle.turns.specs.Device.{deviceStarts, freshDevice, deviceTakes, deviceSends, answered, contentGiven}
 use Rattle.turns.specs.Link.{no-request, requests, no-call, gives-answer, DeviceSide, DeviceStep, Link, LinkStep, Calls, masterTick, deviceTick, deviceTicks, sides, carried, linkTick, linkAfter, run}
 use Rattle.turns.specs.Run.{All, none, and, Differ, Distinct, Sole, no-one, sole-and, DeviceStarts, Starts, deviceSenders, EachTick, no-tick, tick-and, OneBursts, NoTwoSend}
@@ -123,7 +123,7 @@ few-burst (s ∷ ss) e = let t = few-and (bursting (sides (s .for-devices))) (bu
 
 -- the primary sends command 11 by broadcast
 unfoldable pub seek : Calls
-seek = record { for-primary = requests (record { preamble = 5; long = true; address = 0; command = 11 }) []; for-secondary = no-request; for-devices = [] }
+seek = record { for-primary = requests (record { preamble = 5; revision = 7; long = true; address = 0; command = 11 }) []; for-secondary = no-request; for-devices = [] }
 
 unfoldable pub second-answers : Calls
 second-answers = record { for-primary = no-request; for-secondary = no-request; for-devices = no-call ∷ (gives-answer Same (0 ∷ 0 ∷ []) ∷ []) }
@@ -135,17 +135,17 @@ one-answers = seek ∷ (replicate 18 quiet ++ (second-answers ∷ replicate 17 q
 
 -- both are told it in tick 18, behind the STX of ticks 4 to 17
 pub both-told : hosts-told (run 255 two-devices one-answers) ≡ replicate 18 0 ++ (2 ∷ replicate 18 0)
-unfolding hosts-told told-in told-request one-answers second-answers seek short two-devices quiet run linkTick deviceTicks sides carried masterTick deviceTick requested masterTakes masterSends deviceTakes deviceSends answered contentGiven taken takenData atIdle atPreamble atFirst atAddress atExpansion atCommand atCount atData atCheck writeBuffer writeAnswer frameBytes preambleBytes bodyBytes protectedBytes headerBytes xorFrom delimiterOf stored if_then_else_
+unfolding hosts-told told-in told-request one-answers second-answers seek short two-devices quiet run linkTick deviceTicks sides carried masterTick deviceTick requested requestedUpTo masterTakes masterSends deviceTakes deviceSends answered contentGiven taken takenData atIdle atPreamble atFirst atAddress atExpansion atCommand atCount atData atCheck writeBuffer writeAnswer frameBytes preambleBytes bodyBytes protectedBytes headerBytes xorFrom delimiterOf stored if_then_else_
 both-told = refl
 
 -- one sends its ACK, in ticks 19 to 34
 pub one-found : E.senders (run 255 two-devices one-answers) ≡ replicate 4 0 ++ (replicate 14 1 ++ (0 ∷ (replicate 16 4 ++ (0 ∷ 0 ∷ []))))
-unfolding E.senders E.devices-sent E.one one-answers second-answers seek short two-devices quiet run linkTick deviceTicks sides carried masterTick deviceTick requested masterTakes masterSends deviceTakes deviceSends answered contentGiven taken takenData atIdle atPreamble atFirst atAddress atExpansion atCommand atCount atData atCheck writeBuffer writeAnswer frameBytes preambleBytes bodyBytes protectedBytes headerBytes xorFrom delimiterOf stored if_then_else_
+unfolding E.senders E.devices-sent E.one one-answers second-answers seek short two-devices quiet run linkTick deviceTicks sides carried masterTick deviceTick requested requestedUpTo masterTakes masterSends deviceTakes deviceSends answered contentGiven taken takenData atIdle atPreamble atFirst atAddress atExpansion atCommand atCount atData atCheck writeBuffer writeAnswer frameBytes preambleBytes bodyBytes protectedBytes headerBytes xorFrom delimiterOf stored if_then_else_
 one-found = refl
 
 -- and the primary reports its message as answered in tick 35
 pub one-reported : reports (run 255 two-devices one-answers) ≡ replicate 35 0 ++ (1 ∷ 0 ∷ [])
-unfolding reports reported one-answers second-answers seek short two-devices quiet run linkTick deviceTicks sides carried masterTick deviceTick requested masterTakes masterSends deviceTakes deviceSends answered contentGiven taken takenData atIdle atPreamble atFirst atAddress atExpansion atCommand atCount atData atCheck writeBuffer writeAnswer frameBytes preambleBytes bodyBytes protectedBytes headerBytes xorFrom delimiterOf stored if_then_else_
+unfolding reports reported one-answers second-answers seek short two-devices quiet run linkTick deviceTicks sides carried masterTick deviceTick requested requestedUpTo masterTakes masterSends deviceTakes deviceSends answered contentGiven taken takenData atIdle atPreamble atFirst atAddress atExpansion atCommand atCount atData atCheck writeBuffer writeAnswer frameBytes preambleBytes bodyBytes protectedBytes headerBytes xorFrom delimiterOf stored if_then_else_
 one-reported = refl
 
 abbrev device-at : ℕ → ℕ → DeviceSide
@@ -168,7 +168,7 @@ two-starts = record {
 
 -- all premises are met, so that demand 3 speaks of this run
 pub one-meets : Premises 255 short 3 two-devices one-answers
-unfolding few finds finders ledgersAfter blanks bursts bursting one-answers second-answers seek short two-devices quiet run linkTick deviceTicks sides carried masterTick deviceTick requested masterTakes masterSends deviceTakes deviceSends answered contentGiven taken takenData atIdle atPreamble atFirst atAddress atExpansion atCommand atCount atData atCheck writeBuffer writeAnswer frameBytes preambleBytes bodyBytes protectedBytes headerBytes xorFrom delimiterOf stored if_then_else_
+unfolding few finds finders ledgersAfter blanks bursts bursting one-answers second-answers seek short two-devices quiet run linkTick deviceTicks sides carried masterTick deviceTick requested requestedUpTo masterTakes masterSends deviceTakes deviceSends answered contentGiven taken takenData atIdle atPreamble atFirst atAddress atExpansion atCommand atCount atData atCheck writeBuffer writeAnswer frameBytes preambleBytes bodyBytes protectedBytes headerBytes xorFrom delimiterOf stored if_then_else_
 one-meets = record {
   made = short-taken;
   starts = two-starts;
@@ -198,16 +198,16 @@ burster-answers =
 
 -- the STX in ticks 70 to 83; the ACK in ticks 85 to 100, and directly behind it the BACK
 pub back-behind : drop 69 (E.senders (run 255 two-devices burster-answers)) ≡ 0 ∷ (replicate 14 1 ++ (0 ∷ (replicate 32 4 ++ (0 ∷ 0 ∷ []))))
-unfolding E.senders E.devices-sent E.one burster-answers first-answers seek ask content turn-on short two-devices quiet run linkTick deviceTicks sides carried masterTick deviceTick requested masterTakes masterSends deviceTakes deviceSends answered contentGiven taken takenData atIdle atPreamble atFirst atAddress atExpansion atCommand atCount atData atCheck writeBuffer writeAnswer frameBytes preambleBytes bodyBytes protectedBytes headerBytes xorFrom delimiterOf stored if_then_else_
+unfolding E.senders E.devices-sent E.one burster-answers first-answers seek ask content turn-on short two-devices quiet run linkTick deviceTicks sides carried masterTick deviceTick requested requestedUpTo masterTakes masterSends deviceTakes deviceSends answered contentGiven taken takenData atIdle atPreamble atFirst atAddress atExpansion atCommand atCount atData atCheck writeBuffer writeAnswer frameBytes preambleBytes bodyBytes protectedBytes headerBytes xorFrom delimiterOf stored if_then_else_
 back-behind = refl
 
 -- the primary reports it as answered in tick 101
 pub burster-reported : drop 84 (reports (run 255 two-devices burster-answers)) ≡ replicate 17 0 ++ (1 ∷ replicate 17 0)
-unfolding reports reported burster-answers first-answers seek ask content turn-on short two-devices quiet run linkTick deviceTicks sides carried masterTick deviceTick requested masterTakes masterSends deviceTakes deviceSends answered contentGiven taken takenData atIdle atPreamble atFirst atAddress atExpansion atCommand atCount atData atCheck writeBuffer writeAnswer frameBytes preambleBytes bodyBytes protectedBytes headerBytes xorFrom delimiterOf stored if_then_else_
+unfolding reports reported burster-answers first-answers seek ask content turn-on short two-devices quiet run linkTick deviceTicks sides carried masterTick deviceTick requested requestedUpTo masterTakes masterSends deviceTakes deviceSends answered contentGiven taken takenData atIdle atPreamble atFirst atAddress atExpansion atCommand atCount atData atCheck writeBuffer writeAnswer frameBytes preambleBytes bodyBytes protectedBytes headerBytes xorFrom delimiterOf stored if_then_else_
 burster-reported = refl
 
 pub burster-meets : Premises 255 short 3 two-devices burster-answers
-unfolding few finds finders ledgersAfter blanks bursts bursting burster-answers first-answers seek ask content turn-on short two-devices quiet run linkTick deviceTicks sides carried masterTick deviceTick requested masterTakes masterSends deviceTakes deviceSends answered contentGiven taken takenData atIdle atPreamble atFirst atAddress atExpansion atCommand atCount atData atCheck writeBuffer writeAnswer frameBytes preambleBytes bodyBytes protectedBytes headerBytes xorFrom delimiterOf stored if_then_else_
+unfolding few finds finders ledgersAfter blanks bursts bursting burster-answers first-answers seek ask content turn-on short two-devices quiet run linkTick deviceTicks sides carried masterTick deviceTick requested requestedUpTo masterTakes masterSends deviceTakes deviceSends answered contentGiven taken takenData atIdle atPreamble atFirst atAddress atExpansion atCommand atCount atData atCheck writeBuffer writeAnswer frameBytes preambleBytes bodyBytes protectedBytes headerBytes xorFrom delimiterOf stored if_then_else_
 burster-meets = record {
   made = short-taken;
   starts = two-starts;
@@ -222,10 +222,10 @@ two-answer = seek ∷ (replicate 18 quiet ++ (both-reply ∷ []))
 
 -- the premise does not hold of tick 19
 pub two-find : finds (blanks (two-devices .devices)) two-answer (run 255 two-devices two-answer) ≡ replicate 19 0 ++ (2 ∷ [])
-unfolding finds finders ledgersAfter blanks two-answer seek short two-devices both-reply quiet run linkTick deviceTicks sides carried masterTick deviceTick requested masterTakes masterSends deviceTakes deviceSends answered contentGiven taken takenData atIdle atPreamble atFirst atAddress atExpansion atCommand atCount atData atCheck writeBuffer writeAnswer frameBytes preambleBytes bodyBytes protectedBytes headerBytes xorFrom delimiterOf stored if_then_else_
+unfolding finds finders ledgersAfter blanks two-answer seek short two-devices both-reply quiet run linkTick deviceTicks sides carried masterTick deviceTick requested requestedUpTo masterTakes masterSends deviceTakes deviceSends answered contentGiven taken takenData atIdle atPreamble atFirst atAddress atExpansion atCommand atCount atData atCheck writeBuffer writeAnswer frameBytes preambleBytes bodyBytes protectedBytes headerBytes xorFrom delimiterOf stored if_then_else_
 two-find = refl
 
 -- and two send in it
 pub two-send : counts (run 255 two-devices two-answer) ≡ replicate 4 0 ++ (replicate 14 1 ++ (0 ∷ 2 ∷ []))
-unfolding counts deviceSenders two-answer seek short two-devices both-reply quiet run linkTick deviceTicks sides carried masterTick deviceTick requested masterTakes masterSends deviceTakes deviceSends answered contentGiven taken takenData atIdle atPreamble atFirst atAddress atExpansion atCommand atCount atData atCheck writeBuffer writeAnswer frameBytes preambleBytes bodyBytes protectedBytes headerBytes xorFrom delimiterOf stored if_then_else_
+unfolding counts deviceSenders two-answer seek short two-devices both-reply quiet run linkTick deviceTicks sides carried masterTick deviceTick requested requestedUpTo masterTakes masterSends deviceTakes deviceSends answered contentGiven taken takenData atIdle atPreamble atFirst atAddress atExpansion atCommand atCount atData atCheck writeBuffer writeAnswer frameBytes preambleBytes bodyBytes protectedBytes headerBytes xorFrom delimiterOf stored if_then_else_
 two-send = refl

@@ -6,9 +6,9 @@ use mathlib.Core.List.{List}
 use lib.ListN.{length}
 use Rattle.base.specs.Choice.{if_then_else_, _<?_, _≤?_, _=?_, _outside_to_}
 use Rattle.base.specs.Refusal.{Called, accepted, refused}
-use Rattle.frame.specs.Limits.{fewestPreambles, mostPreambles, reservedCommand}
+use Rattle.frame.specs.Limits.{fewestPreambles, mostPreambles, largestPolling, reservedCommand}
 use Rattle.frame.specs.Delimiter.{stx, ack, back}
-use Rattle.frame.specs.Address.{byteAt, addressTooLarge}
+use Rattle.frame.specs.Address.{byteAt, addressAbove}
 use Rattle.frame.specs.Frame.{frameLength}
 use Rattle.frame.specs.declared.Header.{Header}
 use Rattle.line.specs.Reader.{passing, taken, noHeader, insideFrame}
@@ -312,16 +312,26 @@ hasMessage (Awaiting n) = true
 abbrev pub commandRefused : Request → Bool
 commandRefused q = if q .command =? reservedCommand then true else if q .long then false else (if q .command =? 0 then false else true)
 
--- "3: preamble outside 5 to 20; 4: polling above 63 or unique above 38 bits; 5; 6: data above 255; 7: a message is in hand". `limit` is the longest data, 255.
-unfoldable pub requested : ℕ → Master → Request → ℕ → Called Master
-requested limit m q count =
-    if q .preamble outside fewestPreambles to mostPreambles then refused 3 else
-    if addressTooLarge (requestHeader m q) then refused 4 else
+-- from the address on, where polling addresses go up to `polling`: "4: polling above" it "or unique above 38 bits; 5; 6: data above 255; 7: a message is in hand". `limit` is the longest data, 255.
+unfoldable pub requestedUpTo : ℕ → ℕ → Master → Request → ℕ → Called Master
+requestedUpTo polling limit m q count =
+    if addressAbove polling (requestHeader m q) then refused 4 else
     if commandRefused q then refused 5 else
     if limit <? count then refused 6 else
     if hasMessage (m .message .stage) then refused 7 else
     accepted (masterWith m (m .receiver) (m .burst) (m .noted) (m .timer)
     (record { stage = Waiting; header = requestHeader m q; length = frameLength (q .preamble) (requestHeader m q) count; attempts = 0 }))
+
+-- item 2: "HART revisions 3 to 5 know polling addresses 0 to 15, later ones 0 to 63."
+abbrev pub pollingUpTo : ℕ → ℕ
+pollingUpTo revision = if revision ≤? 5 then 15 else largestPolling
+
+-- "3: preamble outside 5 to 20"; item 2: "The request refuses a revision outside 3 to 7 with 17, checked after 3; an address too large for the revision is 4."
+unfoldable pub requested : ℕ → Master → Request → ℕ → Called Master
+requested limit m q count =
+    if q .preamble outside fewestPreambles to mostPreambles then refused 3 else
+    if q .revision outside 3 to 7 then refused 17 else
+    requestedUpTo (pollingUpTo (q .revision)) limit m q count
 
 -- ---- send
 

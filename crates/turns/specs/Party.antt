@@ -13,9 +13,10 @@ isBroadcast h = if h .long then h .address =? 0 else false
 abbrev pub seeksTag : Header → Bool
 seeksTag h = if isBroadcast h then h .command =? 11 else false
 
--- what a request says, its data aside
+-- what a request says, its data aside. Item 2: "A master request now says the device's revision, 3 to 7."
 pub record Request : Type 0 where
   pub preamble : ℕ
+  pub revision : ℕ
   pub long : Bool
   pub address : ℕ
   pub command : ℕ

@@ -55,10 +55,10 @@ outcome (accepted x) = taken
 outcome (refused why) = refuses why
 
 abbrev pub askPolling : ℕ → Outcome
-askPolling address = outcome (requested mostData (freshMaster fskProfile true 3) (record { preamble = fewestPreambles; long = false; address = address; command = 0 }) 0)
+askPolling address = outcome (requested mostData (freshMaster fskProfile true 3) (record { preamble = fewestPreambles; revision = 7; long = false; address = address; command = 0 }) 0)
 
 abbrev pub askData : ℕ → Outcome
-askData count = outcome (requested mostData (freshMaster fskProfile true 3) (record { preamble = fewestPreambles; long = true; address = 1; command = 1 }) count)
+askData count = outcome (requested mostData (freshMaster fskProfile true 3) (record { preamble = fewestPreambles; revision = 7; long = true; address = 1; command = 1 }) count)
 
 -- ---- M8 and M9: what a device answers to its host
 
