@@ -1,4 +1,5 @@
-//! Measures the archive and the oracle by turns, in one process.
+//! Measures the archive and the oracle by turns, in one process. Each program uses a part of this.
+#![allow(dead_code)]
 
 use std::time::Instant;
 
@@ -37,7 +38,7 @@ pub fn by_turns(
     }
 }
 
-fn nanoseconds(calls: usize, mut call: impl FnMut()) -> f64 {
+pub fn nanoseconds(calls: usize, mut call: impl FnMut()) -> f64 {
     let start = Instant::now();
     for _ in 0..calls {
         call();
@@ -45,7 +46,7 @@ fn nanoseconds(calls: usize, mut call: impl FnMut()) -> f64 {
     start.elapsed().as_nanos() as f64 / calls as f64
 }
 
-fn median(mut numbers: Vec<f64>) -> f64 {
+pub fn median(mut numbers: Vec<f64>) -> f64 {
     numbers.sort_by(f64::total_cmp);
     numbers[numbers.len() / 2]
 }

@@ -105,6 +105,14 @@ uint32_t nengapiko_write(size_t preamble, uint8_t type, bool long_address,
 uint32_t nengapiko_read(const uint8_t *bytes, size_t size,
                         uint64_t fields[NENGAPIKO_FIELDS]);
 
+/*
+ * The exclusive-or of x and of count bytes from start on; x where these would run past the end. The
+ * first works it out by words, as nengapiko_read does, the second byte by byte; they give the same.
+ * They are for tests and measurements, in the archive of the crate check_c.
+ */
+uint8_t nengapiko_check_words(uint8_t x, const uint8_t *bytes, size_t size, size_t start, size_t count);
+uint8_t nengapiko_check_bytes(uint8_t x, const uint8_t *bytes, size_t size, size_t start, size_t count);
+
 /* What was heard in a tick of a recording: bits 7 to 5 of the tick's first byte. */
 enum nengapiko_heard {
     NENGAPIKO_SILENCE = 0,

@@ -1,5 +1,7 @@
 -- The laws and theorems of the frame's definitions.
 pub mod Checks
+pub mod Xors
+pub mod Words
 pub mod Delimiters
 pub mod Lengths
 pub mod Longest

@@ -122,7 +122,7 @@ fn put_body(part: &mut [u8], h: Header, bytes: &[u8])
     ensures { λ _. ⌜ now (part .exit) ≡ stored (now (part .entry)) 0 (bodyBytes h (now (bytes .entry))) ⌝ }
 {
     let n = put_header(part, h, bytes.len() as u8);
-    let header = frame::xor_from(0, &part[..n]);
+    let header = frame::xor_bytes(0, &part[..n]);
     put_checked(&mut part[n..], bytes, header);
 }
 

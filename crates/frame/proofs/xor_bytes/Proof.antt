@@ -3,8 +3,8 @@ use Prim.Native.Nat.{_-_}
 use lib.ListN.{length}
 use borrow.Author.Needs.{needs}
 use Rattle.frame.proofs.Checks.{Passed, passed-none, passed-more, passed-all}
-use Rattle.frame.proofs.xor_from.Statement.{statement}
-use Rattle.frame.proofs.xor_from.Tie as tie
+use Rattle.frame.proofs.xor_bytes.Statement.{statement}
+use Rattle.frame.proofs.xor_bytes.Tie as tie
 
 abbrev Inv-loop : tie.InvT-loop
 Inv-loop x bytes sum₀ i₀ sum i = Passed x bytes sum i
@@ -12,8 +12,8 @@ Inv-loop x bytes sum₀ i₀ sum i = Passed x bytes sum i
 abbrev μ-loop : tie.MeasureT-loop
 μ-loop x bytes sum₀ i₀ sum i = length bytes - i
 
-pub xor-from-spec : {M : Type 1} → statement M
-xor-from-spec =
+pub xor-bytes-spec : {M : Type 1} → statement M
+xor-bytes-spec =
     tie.close
     (tie.spec
     Inv-loop

@@ -1,0 +1,2 @@
+-- The laws of the exclusive-or of a part.
+pub mod Parts

@@ -1,0 +1,15 @@
+use borrow.Author.Needs.{needs}
+use Rattle.frame.proofs.Words.{last-word}
+use Rattle.frame.proofs.last_word.Statement.{statement}
+use Rattle.frame.proofs.last_word.Tie as tie
+
+pub last-word-spec : {M : Type 1} → statement M
+last-word-spec =
+    tie.close
+    (tie.spec
+    (λ c. search needs)
+    (λ c κs. search needs)
+    (λ c. search needs)
+    (λ c. search needs)
+    (λ c. search needs)
+    (λ c. search (needs, last-word)))

@@ -1,0 +1,38 @@
+-- Inner contracts: nothing that is to be believed rests on them.
+-- The exclusive-or a 64-bit word at a time (document 02, item 3): what the functions that work it out so promise. Its definition is in Check, byte by byte.
+use Prim.Native.Nat.{ℕ, _+_, _*_, _/_, _%_, _^_, _<_}
+use mathlib.Core.Path.{_≡_}
+use mathlib.Core.List.{List, [], _∷_}
+use lib.Bits.{bitXor}
+use lib.ListN.{take, drop}
+use Rattle.frame.specs.Check.{exclusiveOr}
+
+-- the exclusive-or of so many bytes from a place on
+abbrev pub xorAt : List ℕ → ℕ → ℕ → ℕ
+xorAt bytes i count = exclusiveOr (take count (drop i bytes))
+
+-- of every other of the eight words from a place on
+abbrev pub everyOther : List ℕ → ℕ → ℕ
+everyOther bytes i = bitXor (bitXor (xorAt bytes i 8) (xorAt bytes (i + 16) 8)) (bitXor (xorAt bytes (i + 32) 8) (xorAt bytes (i + 48) 8))
+
+-- of a number's low k bits and the bits above them
+unfoldable pub halves : ℕ → ℕ → ℕ
+halves k n = bitXor (n % 2 ^ k) (n / 2 ^ k)
+
+-- of a word's eight bytes
+abbrev pub folded : ℕ → ℕ
+folded word = halves 8 (halves 16 (halves 32 word))
+
+-- bytes as one number, the first the least significant
+unfoldable pub number : List ℕ → ℕ
+number [] = 0
+number (b ∷ bytes) = number bytes * 256 + b
+
+pub data Bytes : List ℕ → Type 0 where
+  none : Bytes []
+  byte-and : {b : ℕ} {bytes : List ℕ} → b < 256 → Bytes bytes → Bytes (b ∷ bytes)
+
+-- n is the number of so many bytes from a place on
+pub record NumberIs (bytes : List ℕ) (i count n : ℕ) : Type 0 where
+  pub is : n ≡ number (take count (drop i bytes))
+  pub of-bytes : Bytes (take count (drop i bytes))
