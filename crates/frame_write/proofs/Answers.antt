@@ -45,12 +45,6 @@ header-long h e = omega (arith, if-is-true {A = ℕ} (h .long) 5 1 e)
 pub header-short : (h : Header) → h .long ≡ false → 4 ≡ headerLength h
 header-short h e = omega (arith, if-is-false {A = ℕ} (h .long) 5 1 e)
 
-pub length-long : (preamble : ℕ) (h : Header) (count : ℕ) → h .long ≡ true → preamble + (8 + count + 1) ≡ frameLength preamble h count
-length-long preamble h count e = omega (arith, header-long h e)
-
-pub length-short : (preamble : ℕ) (h : Header) (count : ℕ) → h .long ≡ false → preamble + (4 + count + 1) ≡ frameLength preamble h count
-length-short preamble h count e = omega (arith, header-short h e)
-
 -- by the room
 pub room-enough : (place length room : ℕ) → place ≤ room → length ≤ room - place → accepted (place + length) ≡ byRoom (place + length) room
 room-enough place length room h k = if-at-most (place + length) room (accepted (place + length)) (accepted (place + length)) (refused 15) (omega arith) refl
@@ -113,6 +107,6 @@ pub part-fits : (preamble : ℕ) (h : Header) (count place end : ℕ) (buffer : 
 part-fits preamble h count place end buffer r e q =
     omega (arith, frame-fits preamble h count (length buffer) place end r e q, length-take (length buffer - place) (drop place buffer), length-drop place buffer)
 
-pub ruleset answers = (refl, large-long, large-short, length-long, length-short, room-enough, room-short, place-beyond)
+pub ruleset answers = (refl, large-long, large-short, header-long, header-short, room-enough, room-short, place-beyond)
 
 pub ruleset writes = (refl, place-inside, type-fits, address-fits, count-fits, part-fits, stored-part, room-behind, buffer-to, buffer-refused, answer-to, answer-refused)

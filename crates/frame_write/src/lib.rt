@@ -3,38 +3,24 @@ use base::Refusal;
 use frame::Header;
 use frame::Written;
 ghost use mathlib.Core.Path.{_≡_};
-ghost use mathlib.Core.Bool.{true, false};
-ghost use mathlib.Core.List.{[], _∷_, _++_};
+ghost use mathlib.Core.List.{[], _∷_};
 ghost use Prim.Native.Nat.{_+_, _^_, _≤_, _<_};
 ghost use lib.ListN.{length};
 ghost use Rattle.base.specs.Choice.{if_then_else_};
 ghost use Rattle.base.specs.Store.{stored};
 ghost use Rattle.frame.specs.Limits.{mostPreambles, largestPolling, mostData, longestFrame};
-ghost use Rattle.frame.specs.Address.{addressAbove, largestAddress, firstByte};
-ghost use Rattle.frame.specs.Check.{xorFrom};
+ghost use Rattle.frame.specs.Address.{addressLength, longAddress, shortAddress, addressBytes, addressAbove, largestAddress, firstByte};
+ghost use Rattle.frame.specs.Delimiter.{delimiterByte};
 ghost use Rattle.frame.specs.Frame.{headerBytes, bodyBytes, preambleBytes, frameBytes, headerLength, frameLength};
 ghost use Rattle.frame.specs.Write.{byRoom, writeAnswer, writtenAs, WriteIs};
 
-// The first n bytes become 0xFF.
-fn put_preamble(part: &mut [u8], n: usize)
-    requires { ⌜ n ≤ length (now part) ⌝ }
-    ensures { λ _. ⌜ now (part .exit) ≡ stored (now (part .entry)) 0 (preambleBytes n) ⌝ }
+// The preamble: every byte of its part is 0xFF.
+fn put_preamble(part: &mut [u8])
+    ensures { λ _. ⌜ now (part .exit) ≡ preambleBytes (length (now (part .entry))) ⌝ }
 {
     let mut i = 0;
-    while i < n {
+    while i < part.len() {
         part[i] = 0xFF;
-        i += 1;
-    }
-}
-
-// Some bytes, at the front of part.
-fn put_bytes(part: &mut [u8], bytes: &[u8])
-    requires { ⌜ length (now bytes) ≤ length (now part) ⌝ }
-    ensures { λ _. ⌜ now (part .exit) ≡ stored (now (part .entry)) 0 (now (bytes .entry)) ⌝ }
-{
-    let mut i = 0;
-    while i < bytes.len() {
-        part[i] = bytes[i];
         i += 1;
     }
 }
@@ -57,63 +43,104 @@ fn first_byte(h: Header, bits: u8) -> u8
     flag(h.primary, 128) + flag(h.burst, 64) + bits
 }
 
-// Delimiter, unique address, command and byte count.
-fn long_header(h: Header, count: u8) -> [u8; 8]
-    requires { ⌜ (h .long ≡ true) × (h .frame ≤ 6) × (h .address < 2 ^ 38) ⌝ }
-    ensures { λ r. ⌜ r ≡ headerBytes h count ⌝ }
+// The delimiter.
+fn put_delimiter(part: &mut [u8], h: Header)
+    requires { ⌜ (length (now part) ≡ 1) × (h .frame ≤ 6) ⌝ }
+    ensures { λ _. ⌜ now (part .exit) ≡ delimiterByte (h .frame) (h .long) ∷ [] ⌝ }
+{
+    part[0] = flag(h.long, 128) + h.frame;
+}
+
+// A unique address.
+fn put_long_address(part: &mut [u8], h: Header)
+    requires { ⌜ (length (now part) ≡ 5) × (h .address < 2 ^ 38) ⌝ }
+    ensures { λ _. ⌜ now (part .exit) ≡ longAddress h ⌝ }
 {
     let a = h.address;
-    let first = first_byte(h, (a / 4294967296) as u8);
-    [
-        128 + h.frame,
-        first,
-        (a / 16777216 % 256) as u8,
-        (a / 65536 % 256) as u8,
-        (a / 256 % 256) as u8,
-        (a % 256) as u8,
-        h.command,
-        count,
-    ]
+    part[0] = first_byte(h, (a / 4294967296) as u8);
+    part[1] = (a / 16777216 % 256) as u8;
+    part[2] = (a / 65536 % 256) as u8;
+    part[3] = (a / 256 % 256) as u8;
+    part[4] = (a % 256) as u8;
 }
 
-// Delimiter, polling address, command and byte count.
-fn short_header(h: Header, count: u8) -> [u8; 4]
-    requires { ⌜ (h .long ≡ false) × (h .address ≤ largestPolling) ⌝ }
-    ensures { λ r. ⌜ r ≡ headerBytes h count ⌝ }
+// A polling address.
+fn put_short_address(part: &mut [u8], h: Header)
+    requires { ⌜ (length (now part) ≡ 1) × (h .address ≤ largestPolling) ⌝ }
+    ensures { λ _. ⌜ now (part .exit) ≡ shortAddress h ⌝ }
 {
-    let first = first_byte(h, h.address as u8);
-    [h.frame, first, h.command, count]
+    part[0] = first_byte(h, h.address as u8);
 }
 
-// Delimiter, address, command and byte count, at the front of part; how many bytes they are.
-fn put_header(part: &mut [u8], h: Header, count: u8) -> usize
-    requires { ⌜ (headerLength h ≤ length (now part)) × (h .frame ≤ 6) × (h .address ≤ largestAddress (h .long)) ⌝ }
-    ensures { λ r. ⌜ (r ≡ headerLength h) × (now (part .exit) ≡ stored (now (part .entry)) 0 (headerBytes h count)) ⌝ }
+// The address.
+fn put_address(part: &mut [u8], h: Header)
+    requires { ⌜ (length (now part) ≡ addressLength (h .long)) × (h .address ≤ largestAddress (h .long)) ⌝ }
+    ensures { λ _. ⌜ now (part .exit) ≡ addressBytes h ⌝ }
 {
     if h.long {
-        let header = long_header(h, count);
-        put_bytes(part, &header);
-        return 8;
+        put_long_address(part, h);
+        return;
     }
-    let header = short_header(h, count);
-    put_bytes(part, &header);
-    4
+    put_short_address(part, h);
 }
 
-// Some bytes at the front of part, and behind them the exclusive-or of x and all of them.
-fn put_checked(part: &mut [u8], bytes: &[u8], x: u8)
-    requires { ⌜ length (now bytes) < length (now part) ⌝ }
-    ensures { λ _. ⌜ now (part .exit) ≡ stored (now (part .entry)) 0 (now (bytes .entry) ++ (xorFrom x (now (bytes .entry)) ∷ [])) ⌝ }
+// The command.
+fn put_command(part: &mut [u8], command: u8)
+    requires { ⌜ length (now part) ≡ 1 ⌝ }
+    ensures { λ _. ⌜ now (part .exit) ≡ command ∷ [] ⌝ }
 {
-    let mut sum = x;
+    part[0] = command;
+}
+
+// The byte count.
+fn put_count(part: &mut [u8], count: u8)
+    requires { ⌜ length (now part) ≡ 1 ⌝ }
+    ensures { λ _. ⌜ now (part .exit) ≡ count ∷ [] ⌝ }
+{
+    part[0] = count;
+}
+
+// Delimiter, address, command and byte count.
+fn put_header(part: &mut [u8], h: Header, count: u8)
+    requires { ⌜ (length (now part) ≡ headerLength h) × (h .frame ≤ 6) × (h .address ≤ largestAddress (h .long)) ⌝ }
+    ensures { λ _. ⌜ now (part .exit) ≡ headerBytes h count ⌝ }
+{
+    let address_end = part.len() - 2;
+    let command_end = part.len() - 1;
+    put_delimiter(&mut part[0..1], h);
+    put_address(&mut part[1..address_end], h);
+    put_command(&mut part[address_end..command_end], h.command);
+    put_count(&mut part[command_end..], count);
+}
+
+// The data.
+fn put_data(part: &mut [u8], bytes: &[u8])
+    requires { ⌜ length (now part) ≡ length (now bytes) ⌝ }
+    ensures { λ _. ⌜ now (part .exit) ≡ now (bytes .entry) ⌝ }
+{
     let mut i = 0;
     while i < bytes.len() {
-        let byte = bytes[i];
-        part[i] = byte;
-        sum = sum ^ byte;
+        part[i] = bytes[i];
         i += 1;
     }
-    part[i] = sum;
+}
+
+// The check byte.
+fn put_check(part: &mut [u8], check: u8)
+    requires { ⌜ length (now part) ≡ 1 ⌝ }
+    ensures { λ _. ⌜ now (part .exit) ≡ check ∷ [] ⌝ }
+{
+    part[0] = check;
+}
+
+// How many bytes delimiter, address, command and byte count are.
+fn header_length(h: Header) -> usize
+    ensures { λ r. ⌜ (r ≡ headerLength h) × (r ≤ 8) ⌝ }
+{
+    if h.long {
+        return 8;
+    }
+    4
 }
 
 // Delimiter to check byte, at the front of part.
@@ -121,9 +148,12 @@ fn put_body(part: &mut [u8], h: Header, bytes: &[u8])
     requires { ⌜ (headerLength h + length (now bytes) + 1 ≤ length (now part)) × (h .frame ≤ 6) × (h .address ≤ largestAddress (h .long)) × (length (now bytes) ≤ mostData) ⌝ }
     ensures { λ _. ⌜ now (part .exit) ≡ stored (now (part .entry)) 0 (bodyBytes h (now (bytes .entry))) ⌝ }
 {
-    let n = put_header(part, h, bytes.len() as u8);
-    let header = frame::xor_bytes(0, &part[..n]);
-    put_checked(&mut part[n..], bytes, header);
+    let start = header_length(h);
+    let end = start + bytes.len();
+    put_header(&mut part[0..start], h, bytes.len() as u8);
+    put_data(&mut part[start..end], bytes);
+    let check = frame::xor_bytes(0, &part[..end]);
+    put_check(&mut part[end..end + 1], check);
 }
 
 // The whole frame, at the front of part.
@@ -131,7 +161,7 @@ fn put_frame(part: &mut [u8], preamble: usize, h: Header, bytes: &[u8])
     requires { ⌜ (frameLength preamble h (length (now bytes)) ≤ length (now part)) × (h .frame ≤ 6) × (h .address ≤ largestAddress (h .long)) × (length (now bytes) ≤ mostData) ⌝ }
     ensures { λ _. ⌜ now (part .exit) ≡ stored (now (part .entry)) 0 (frameBytes preamble h (now (bytes .entry))) ⌝ }
 {
-    put_preamble(part, preamble);
+    put_preamble(&mut part[0..preamble]);
     put_body(&mut part[preamble..], h, bytes);
 }
 
@@ -150,10 +180,7 @@ fn frame_length(preamble: usize, h: Header, count: usize) -> usize
     requires { ⌜ (preamble ≤ mostPreambles) × (count ≤ mostData) ⌝ }
     ensures { λ r. ⌜ (r ≡ frameLength preamble h count) × (r ≤ longestFrame mostData) ⌝ }
 {
-    if h.long {
-        return preamble + (8 + count + 1);
-    }
-    preamble + (4 + count + 1)
+    preamble + (header_length(h) + count + 1)
 }
 
 // Whether so many bytes fit a buffer of room bytes from a place on.
