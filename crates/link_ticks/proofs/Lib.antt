@@ -1,0 +1,6 @@
+-- The laws of the loops over the parties and over the ticks.
+pub mod Cases
+pub mod Lists
+pub mod Devices
+pub mod Masters
+pub mod Going

@@ -1,0 +1,335 @@
+// Ticks of a link: two masters and six slots for devices on one line. All parties tick in one function, so that no state is copied from tick to tick: docs/BENCHMARKS.md, "The link".
+use line::Heard;
+use parties::CallOutcome;
+use parties::Calls;
+use parties::DeviceCall;
+use parties::DeviceDid;
+use parties::Link;
+use parties::MasterCall;
+use parties::MasterDid;
+use parties::Slot;
+use parties::Ticked;
+use parties::Way;
+use party::CallStatus;
+use turns::Device;
+use turns::DeviceTold;
+use turns::Master;
+use turns::MasterTold;
+ghost use mathlib.Core.Path.{_≡_};
+ghost use lib.ListN.{length};
+ghost use Rattle.base.specs.Lent.{before};
+ghost use Rattle.party.specs.Calls.{resultOf};
+ghost use Rattle.parties.specs.Ways.{inSlot};
+ghost use Rattle.link_ticks.specs.Ticks.{masterTells, deviceTells, masterCallIn, deviceCallIn, goesOn, linkWith, callsWith, TicksAre};
+ghost use Rattle.link_ticks.specs.Ticks.{answerKept, masterToldKept, deviceToldKept, masterDidBy, deviceDidBy, masterNothing, deviceNothing};
+
+fn in_slot(d: Device) -> Slot
+    ensures { λ r. ⌜ r ≡ inSlot d ⌝ }
+{
+    Slot {
+        device: d,
+        here: true,
+    }
+}
+
+// The call in the tick with this number: only the first has calls.
+fn master_call(call: MasterCall, t: u16) -> MasterCall
+    ensures { λ r. ⌜ r ≡ masterCallIn t call ⌝ }
+{
+    if t == 0 {
+        return call;
+    }
+    parties::no_master_call()
+}
+
+fn device_call(call: DeviceCall, t: u16) -> DeviceCall
+    ensures { λ r. ⌜ r ≡ deviceCallIn t call ⌝ }
+{
+    if t == 0 {
+        return call;
+    }
+    parties::no_device_call()
+}
+
+// Whether a host is told something, with this.
+fn master_tells(told: MasterTold, others: bool) -> bool
+    ensures { λ r. ⌜ r ≡ masterTells told others ⌝ }
+{
+    match told {
+        MasterTold::Nothing => others,
+        MasterTold::Answered(_) => true,
+        MasterTold::GivenUp(_) => true,
+        MasterTold::BroadcastSent => true,
+    }
+}
+
+fn device_tells(told: DeviceTold, others: bool) -> bool
+    ensures { λ r. ⌜ r ≡ deviceTells told others ⌝ }
+{
+    match told {
+        DeviceTold::Nothing => others,
+        DeviceTold::Request(_) => true,
+        DeviceTold::Broadcast(_) => true,
+    }
+}
+
+// What became of a call, where this is answered in another tick.
+fn answer_kept(old: CallOutcome, result: CallStatus) -> CallOutcome
+    ensures { λ r. ⌜ r ≡ answerKept old (resultOf result) ⌝ }
+{
+    match result {
+        CallStatus::Nothing => old,
+        CallStatus::Taken => CallOutcome::Taken,
+        CallStatus::Refused(why) => CallOutcome::Refused(why.number()),
+    }
+}
+
+fn master_told_kept(old: MasterTold, told: MasterTold) -> MasterTold
+    ensures { λ r. ⌜ r ≡ masterToldKept old told ⌝ }
+{
+    match told {
+        MasterTold::Nothing => old,
+        MasterTold::Answered(w) => MasterTold::Answered(w),
+        MasterTold::GivenUp(n) => MasterTold::GivenUp(n),
+        MasterTold::BroadcastSent => MasterTold::BroadcastSent,
+    }
+}
+
+fn device_told_kept(old: DeviceTold, told: DeviceTold) -> DeviceTold
+    ensures { λ r. ⌜ r ≡ deviceToldKept old told ⌝ }
+{
+    match told {
+        DeviceTold::Nothing => old,
+        DeviceTold::Request(w) => DeviceTold::Request(w),
+        DeviceTold::Broadcast(w) => DeviceTold::Broadcast(w),
+    }
+}
+
+// What a host was told and answered, behind another tick.
+fn master_did(old: MasterDid, told: MasterTold, result: CallStatus) -> MasterDid
+    ensures { λ r. ⌜ r ≡ masterDidBy old told (resultOf result) ⌝ }
+{
+    let a = old.told;
+    let b = old.result;
+    MasterDid {
+        told: master_told_kept(a, told),
+        result: answer_kept(b, result),
+    }
+}
+
+fn device_did(old: DeviceDid, told: DeviceTold, result: CallStatus) -> DeviceDid
+    ensures { λ r. ⌜ r ≡ deviceDidBy old told (resultOf result) ⌝ }
+{
+    let a = old.told;
+    let b = old.result;
+    DeviceDid {
+        told: device_told_kept(a, told),
+        result: answer_kept(b, result),
+    }
+}
+
+fn master_nothing() -> MasterDid
+    ensures { λ r. ⌜ r ≡ masterNothing ⌝ }
+{
+    MasterDid {
+        told: MasterTold::Nothing,
+        result: CallOutcome::Nothing,
+    }
+}
+
+fn device_nothing() -> DeviceDid
+    ensures { λ r. ⌜ r ≡ deviceNothing ⌝ }
+{
+    DeviceDid {
+        told: DeviceTold::Nothing,
+        result: CallOutcome::Nothing,
+    }
+}
+
+// Whether there is a tick with this number.
+fn goes_on(t: u16, most: u16, told: bool) -> bool
+    ensures { λ r. ⌜ r ≡ goesOn t most told ⌝ }
+{
+    if told {
+        return false;
+    }
+    if t < most {
+        return t < 64;
+    }
+    false
+}
+
+// There is a row for each: what the arrays' types say, in words that the promise below needs.
+fn rows_each(frames: &[[u8; 284]], bytes: &[[u8; 255]], contents: &[[u8; 255]], sent: &[[u16; 8]])
+    requires { ⌜ (length (now frames) ≡ 8) × (length (now bytes) ≡ 8) × (length (now contents) ≡ 6) × (length (now sent) ≡ 64) ⌝ }
+    ensures { λ _. ⌜ (length (before frames) ≡ 8) × (length (before bytes) ≡ 8) × (length (before contents) ≡ 6) × (length (before sent) ≡ 64) ⌝ }
+{}
+
+// The ticks, with link and calls taken apart. In each the devices tick from the last to the first, then the masters, and the line joins what they send in that order.
+fn ticks_of(
+    masters: [Master; 2],
+    devices: [Slot; 6],
+    heard: Heard,
+    requests: [MasterCall; 2],
+    calls: [DeviceCall; 6],
+    put: &[u8],
+    most: u16,
+    frames: &mut [[u8; 284]; 8],
+    bytes: &mut [[u8; 255]; 8],
+    contents: &mut [[u8; 255]; 6],
+    sent: &mut [[u16; 8]; 64],
+) -> Ticked
+    ensures { λ r. ⌜ TicksAre (linkWith masters devices heard) (callsWith requests calls) (before put) most frames bytes contents sent r ⌝ }
+{
+    rows_each(frames, bytes, contents, sent);
+    let mut ms = masters;
+    let mut ds = devices;
+    let mut line = heard;
+    let nothing = master_nothing();
+    let none = device_nothing();
+    let mut ms_did = [nothing; 2];
+    let mut ds_did = [none; 6];
+    let mut told = false;
+    let mut t: u16 = 0;
+    while goes_on(t, most, told) {
+        let mut row: [u16; 8] = [256; 8];
+        let mut next = Heard::Silence;
+        let mut n = 6;
+        while 0 < n {
+            let i = n - 1;
+            n = i;
+            let slot = ds[i];
+            if slot.here {
+                let d = slot.device;
+                let call = device_call(calls[i], t);
+                let way = parties::device_way(d, line, call);
+                match way {
+                    Way::Counts => {
+                        let at = ds[i];
+                        let same = at.device;
+                        ds[i] = parties::counted_device(same);
+                    }
+                    Way::Hears(r) => {
+                        let at = ds[i];
+                        let same = at.device;
+                        let reader = same.receiver;
+                        parties::keep(reader, line, &mut bytes[i + 2]);
+                        ds[i] = parties::heard_device(same, r);
+                    }
+                    Way::Acts => {
+                        let at = ds[i];
+                        let same = at.device;
+                        let did = ds_did[i];
+                        let s = parties::device_tick(
+                            same,
+                            line,
+                            call,
+                            put,
+                            &mut frames[i + 2],
+                            &mut bytes[i + 2],
+                            &mut contents[i],
+                        );
+                        let e = s.device;
+                        let c = s.sent;
+                        let x = s.told;
+                        let a = s.result;
+                        ds[i] = in_slot(e);
+                        row[i + 2] = parties::code(c);
+                        ds_did[i] = device_did(did, x, a);
+                        told = device_tells(x, told);
+                        next = parties::join(c, next);
+                    }
+                }
+            }
+        }
+        let mut k = 2;
+        while 0 < k {
+            let i = k - 1;
+            k = i;
+            let m = ms[i];
+            let call = master_call(requests[i], t);
+            let way = parties::master_way(m, line, call);
+            match way {
+                Way::Counts => {
+                    let same = ms[i];
+                    ms[i] = parties::counted_master(same);
+                }
+                Way::Hears(r) => {
+                    let same = ms[i];
+                    let reader = same.receiver;
+                    parties::keep(reader, line, &mut bytes[i]);
+                    ms[i] = parties::heard_master(same, r);
+                }
+                Way::Acts => {
+                    let same = ms[i];
+                    let did = ms_did[i];
+                    let s = parties::master_tick(
+                        same,
+                        line,
+                        call,
+                        put,
+                        &mut frames[i],
+                        &mut bytes[i],
+                    );
+                    let e = s.master;
+                    let c = s.sent;
+                    let x = s.told;
+                    let a = s.result;
+                    ms[i] = e;
+                    row[i] = parties::code(c);
+                    ms_did[i] = master_did(did, x, a);
+                    told = master_tells(x, told);
+                    next = parties::join(c, next);
+                }
+            }
+        }
+        let at = t as usize;
+        sent[at] = row;
+        line = next;
+        t += 1;
+    }
+    let link = Link {
+        masters: ms,
+        devices: ds,
+        line: line,
+    };
+    Ticked {
+        link: link,
+        count: t,
+        masters: ms_did,
+        devices: ds_did,
+    }
+}
+
+// The tick with these calls, and more without a call, so many in all and at most 64; they end behind a tick in which a host is told something. Row t of `sent` is what each party sent in tick t: the character, or 256. Each call names its data in what is put.
+pub fn ticks(
+    link: Link,
+    calls: Calls,
+    put: &[u8],
+    most: u16,
+    frames: &mut [[u8; 284]; 8],
+    bytes: &mut [[u8; 255]; 8],
+    contents: &mut [[u8; 255]; 6],
+    sent: &mut [[u16; 8]; 64],
+) -> Ticked
+    ensures { λ r. ⌜ TicksAre link calls (before put) most frames bytes contents sent r ⌝ }
+{
+    let masters = link.masters;
+    let devices = link.devices;
+    let line = link.line;
+    let requests = calls.masters;
+    let given = calls.devices;
+    ticks_of(
+        masters,
+        devices,
+        line,
+        requests,
+        given,
+        put,
+        most,
+        frames,
+        bytes,
+        contents,
+        sent,
+    )
+}

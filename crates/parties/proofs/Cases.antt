@@ -1,0 +1,142 @@
+-- A definition by cases, at a case that a `match` has told, and a party's tick with its part of what is put.
+use Prim.Native.Nat.{ℕ, _-_}
+use mathlib.Core.Bool.{Bool, true}
+use mathlib.Core.List.{List}
+use mathlib.Core.Path.{_≡_, refl, sym, ap, subst, _∙_}
+use lib.ListN.{length, take, drop}
+use Rattle.base.specs.Choice.{if_then_else_}
+use Rattle.line.specs.Reader.{idle, character, taken, kept, takenData}
+use Rattle.line.specs.declared.Damage.{Damage}
+use Rattle.line.specs.declared.Event.{Event}
+use Rattle.line.specs.declared.Heard.{Heard}
+use Rattle.line.specs.declared.Heard.the-variants.{Silence, Character}
+use Rattle.line.specs.declared.Receiver.{Receiver}
+use Rattle.line.specs.declared.Taken.{Taken}
+use Rattle.turns.specs.Device as DD
+use Rattle.turns.specs.Master as MM
+use Rattle.turns.specs.Master.{countClear, timer}
+use Rattle.turns.specs.Link.{joins}
+use Rattle.turns.specs.declared.Device.{Device}
+use Rattle.turns.specs.declared.Master.{Master}
+use Rattle.turns.specs.declared.Sent.{Sent}
+use Rattle.turns.specs.declared.Timer.{Timer}
+use Rattle.turns.specs.declared.Turn.the-variants.{Listens}
+use Rattle.master.specs.Tick as M
+use Rattle.master.specs.declared.MasterHostCall as MasterHost
+use Rattle.master.specs.declared.MasterTicked.{MasterTicked}
+use Rattle.device_tick.specs.Tick as D
+use Rattle.device_tick.specs.declared.DeviceTicked.{DeviceTicked}
+use Rattle.device_tick.specs.declared.DeviceHostCall as DeviceHost
+use Rattle.parties.specs.Part.{dataOf, PartIs}
+use Rattle.parties.specs.Stands.{noPart, noMasterCall, noDeviceCall}
+use Rattle.parties.specs.Ways.{hearsBy, countsIf, callsDevice, deviceCounts, deviceHears, deviceWay, countedDevice, inSlot, callsMaster, masterCounts, masterHears, masterWay, countedMaster, heardMaster}
+use Rattle.parties.specs.declared.Bounds.{Bounds}
+use Rattle.parties.specs.declared.DeviceCall.{DeviceCall}
+use Rattle.parties.specs.declared.MasterCall.{MasterCall}
+use Rattle.parties.specs.declared.Part.{Part}
+use Rattle.parties.specs.declared.Slot.{Slot}
+use Rattle.parties.specs.declared.Way.{Way}
+use Rattle.parties.specs.declared.Way.the-variants.{Acts}
+
+pub joins-sent : (p q : Sent) (heard r : Heard) → p ≡ q → r ≡ joins q heard → r ≡ joins p heard
+joins-sent p q heard r e f = f ∙ ap (λ (x : Sent). joins x heard) (sym e)
+
+pub joins-heard : (c : ℕ) (p q r : Heard) → p ≡ q → r ≡ joins (Sent.Character c) q → r ≡ joins (Sent.Character c) p
+joins-heard c p q r e f = f ∙ ap (joins (Sent.Character c)) (sym e)
+
+pub hears-by : (r : Receiver) (p q : Event) (w : Way) → p ≡ q → w ≡ hearsBy r q → w ≡ hearsBy r p
+hears-by r p q w e f = f ∙ ap (hearsBy r) (sym e)
+
+-- ---- the data of what is heard
+
+module _ (r : Receiver) (bytes : List ℕ) where
+  pub data-silent : (heard : Heard) → heard ≡ Silence → bytes ≡ takenData r heard bytes
+  unfolding takenData
+  data-silent heard e = ap (λ (h : Heard). takenData r h bytes) (sym e)
+
+  pub data-character : (heard : Heard) (c : ℕ) (xs : List ℕ) → heard ≡ Character c → xs ≡ kept (r .place) c bytes → xs ≡ takenData r heard bytes
+  unfolding takenData
+  data-character heard c xs e f = f ∙ ap (λ (h : Heard). takenData r h bytes) (sym e)
+
+  pub data-damaged : (heard : Heard) (c : ℕ) (kind : Damage) (xs : List ℕ) → heard ≡ Heard.Damaged c kind → xs ≡ kept (r .place) c bytes → xs ≡ takenData r heard bytes
+  unfolding takenData
+  data-damaged heard c kind xs e f = f ∙ ap (λ (h : Heard). takenData r h bytes) (sym e)
+
+pub ruleset heard-data = (refl, data-silent, data-character, data-damaged)
+
+pub ruleset cases = (refl, joins-sent, joins-heard, hears-by)
+
+-- ---- the ways
+
+-- a character, by the reader's step
+pub stepped-by : (r : Receiver) (c : ℕ) (t : Taken) (w : Way) → t ≡ character (r .place) r c → w ≡ hearsBy (t .receiver) (t .event) → w ≡ hearsBy (taken r (Character c) .receiver) (taken r (Character c) .event)
+unfolding taken
+stepped-by r c t w e f = f ∙ ap (λ (u : Taken). hearsBy (u .receiver) (u .event)) e
+
+module _ (d : Device) (heard : Heard) (w : Way) where
+  pub device-way-is : (call : DeviceHost.DeviceHostCall) → w ≡ (if d .deaf then Acts else if callsDevice call then Acts else deviceHears d heard) → w ≡ deviceWay d heard call
+  unfolding deviceWay
+  device-way-is call e = e
+
+  pub device-silence : (b : Bool) → heard ≡ Silence → b ≡ deviceCounts d → w ≡ countsIf b → w ≡ deviceHears d heard
+  device-silence b e p f = f ∙ ap countsIf p ∙ ap (deviceHears d) (sym e)
+
+  pub device-character : (c : ℕ) (t : Taken) → heard ≡ Character c → t ≡ character (d .receiver .place) (d .receiver) c → w ≡ hearsBy (t .receiver) (t .event) → w ≡ deviceHears d heard
+  device-character c t e p f = stepped-by (d .receiver) c t w p f ∙ ap (deviceHears d) (sym e)
+
+  pub device-damage : (c : ℕ) (kind : Damage) → heard ≡ Heard.Damaged c kind → w ≡ Acts → w ≡ deviceHears d heard
+  device-damage c kind e f = f ∙ ap (deviceHears d) (sym e)
+
+module _ (m : Master) (heard : Heard) (w : Way) where
+  pub master-way-is : (call : MasterHost.MasterHostCall) → w ≡ (if m .deaf then Acts else if callsMaster call then Acts else masterHears m heard) → w ≡ masterWay m heard call
+  unfolding masterWay
+  master-way-is call e = e
+
+  pub master-silence : (b : Bool) → heard ≡ Silence → b ≡ masterCounts m → w ≡ countsIf b → w ≡ masterHears m heard
+  master-silence b e p f = f ∙ ap countsIf p ∙ ap (masterHears m) (sym e)
+
+  pub master-character : (c : ℕ) → heard ≡ Character c → w ≡ masterHears m (Character c) → w ≡ masterHears m heard
+  master-character c e f = f ∙ ap (masterHears m) (sym e)
+
+  pub master-damage : (c : ℕ) (kind : Damage) → heard ≡ Heard.Damaged c kind → w ≡ Acts → w ≡ masterHears m heard
+  master-damage c kind e f = f ∙ ap (masterHears m) (sym e)
+
+pub ruleset ways = (refl, device-way-is, device-silence, device-character, device-damage, master-way-is, master-silence, master-character, master-damage, stepped-by)
+
+-- ---- equal parts make equal parties and calls
+
+pub in-slot : (d e : Device) → e ≡ d → _≡_ {A = Slot} (record { device = e; here = true }) (inSlot d)
+in-slot d e p = ap inSlot p
+
+pub counted-device-is : (d e : Device) (r : Receiver) (due : ℕ) → r ≡ idle → due ≡ d .due - 1 → e ≡ DD.deviceWith d r Listens (d .request) (d .wish) (d .length) due → _≡_ {A = Slot} (record { device = e; here = true }) (inSlot (countedDevice d))
+counted-device-is d e r due p q k = ap inSlot (k ∙ (λ i. DD.deviceWith d (p i) Listens (d .request) (d .wish) (d .length) (q i)))
+
+pub counted-master-is : (m k : Master) (r : Receiver) (t : Timer) → r ≡ idle → t ≡ countClear (m .profile) (m .timer) → k ≡ MM.masterWith m r (m .burst) (m .noted) t (m .message) → k ≡ countedMaster m
+counted-master-is m k r t p q e = e ∙ (λ i. MM.masterWith m (p i) (m .burst) (m .noted) (q i) (m .message))
+
+pub heard-master-is : (m k : Master) (r : Receiver) (t : Timer) → t ≡ timer 0 → k ≡ MM.masterWith m r (m .burst) (m .noted) t (m .message) → k ≡ heardMaster m r
+heard-master-is m k r t q e = e ∙ (λ i. MM.masterWith m r (m .burst) (m .noted) (q i) (m .message))
+
+pub no-master-call-is : (p : Part) → p ≡ noPart → _≡_ {A = MasterCall} (record { call = MasterHost.MasterHostCall.Nothing; part = p }) noMasterCall
+no-master-call-is p e = λ i. record { call = MasterHost.MasterHostCall.Nothing; part = e i }
+
+pub no-device-call-is : (p : Part) → p ≡ noPart → _≡_ {A = DeviceCall} (record { call = DeviceHost.DeviceHostCall.Nothing; part = p }) noDeviceCall
+no-device-call-is p e = λ i. record { call = DeviceHost.DeviceHostCall.Nothing; part = e i }
+
+pub ruleset equals = (refl, in-slot, counted-device-is, counted-master-is, heard-master-is, no-master-call-is, no-device-call-is)
+
+-- ---- the part of what is put
+
+module _ (put : List ℕ) (b : Bounds) where
+  pub master-part : (m : Master) (heard : Heard) (c : MasterCall) (frame bytes : List ℕ) (r : MasterTicked) (frame-after bytes-after : List ℕ)
+      → PartIs (c .part .from) (c .part .count) (length put) b
+      → M.MasterTickIs m heard (c .call) (take (b .end - b .start) (drop (b .start) put)) frame bytes r frame-after bytes-after
+      → M.MasterTickIs m heard (c .call) (dataOf (c .part) put) frame bytes r frame-after bytes-after
+  master-part m heard c frame bytes r frame-after bytes-after p q = subst (λ (l : List ℕ). M.MasterTickIs m heard (c .call) l frame bytes r frame-after bytes-after) (p .is put refl) q
+
+  pub device-part : (d : Device) (heard : Heard) (c : DeviceCall) (frame bytes contents : List ℕ) (r : DeviceTicked) (frame-after bytes-after contents-after : List ℕ)
+      → PartIs (c .part .from) (c .part .count) (length put) b
+      → D.DeviceTickIs d heard (c .call) (take (b .end - b .start) (drop (b .start) put)) frame bytes contents r frame-after bytes-after contents-after
+      → D.DeviceTickIs d heard (c .call) (dataOf (c .part) put) frame bytes contents r frame-after bytes-after contents-after
+  device-part d heard c frame bytes contents r frame-after bytes-after contents-after p q =
+      subst (λ (l : List ℕ). D.DeviceTickIs d heard (c .call) l frame bytes contents r frame-after bytes-after contents-after) (p .is put refl) q

@@ -1,0 +1,4 @@
+-- The laws by which the parties' functions are proved, and by which the short ways are a party's tick.
+pub mod Parts
+pub mod Cases
+pub mod Ways

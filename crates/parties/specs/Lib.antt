@@ -1,0 +1,4 @@
+-- The parties of a link in the code, and how they stand for those of turns.
+pub mod Part
+pub mod Stands
+pub mod Ways

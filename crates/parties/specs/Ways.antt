@@ -1,0 +1,111 @@
+-- How the code stands for what is to be believed.
+-- How a party's tick goes: it only counts a silent tick, it only hears a character, or it acts. The laws in proofs/Ways.antt say that the short ways are its tick.
+use Prim.Native.Nat.{ℕ, _-_}
+use mathlib.Core.Bool.{Bool, true, false}
+use Rattle.base.specs.Choice.{if_then_else_}
+use Rattle.line.specs.Reader.{idle, insideFrame, taken}
+use Rattle.line.specs.declared.Event.{Event}
+use Rattle.line.specs.declared.Event.the-variants.{Nothing, PassedOver, Broken, Frame, Damaged}
+use Rattle.line.specs.declared.Heard.{Heard}
+use Rattle.line.specs.declared.Heard.the-variants.{Silence, Character}
+use Rattle.line.specs.declared.Receiver.{Receiver}
+use Rattle.turns.specs.Device as D
+use Rattle.turns.specs.Master as M
+use Rattle.turns.specs.Master.{countClear, timer}
+use Rattle.turns.specs.declared.Device.{Device}
+use Rattle.turns.specs.declared.Master.{Master}
+use Rattle.turns.specs.declared.Stage.{Stage}
+use Rattle.turns.specs.declared.Stage.the-variants.{Free, Waiting, Sending, Awaiting}
+use Rattle.turns.specs.declared.Turn.{Turn}
+use Rattle.turns.specs.declared.Turn.the-variants.{Listens, Asked, AnswerWaits, Begins, Answers, Follows, Bursts}
+use Rattle.turns.specs.declared.Wish.the-variants.{Same}
+use Rattle.master.specs.declared.MasterHostCall as MasterHost
+use Rattle.device_tick.specs.declared.DeviceHostCall as DeviceHost
+use Rattle.parties.specs.declared.Slot.{Slot}
+use Rattle.parties.specs.declared.Way.{Way}
+use Rattle.parties.specs.declared.Way.the-variants.{Counts, Hears, Acts}
+
+-- a character, by what the reader finds
+abbrev pub hearsBy : Receiver → Event → Way
+hearsBy r Nothing = Hears r
+hearsBy r PassedOver = Acts
+hearsBy r Broken = Acts
+hearsBy r (Frame w) = Acts
+hearsBy r (Damaged w m) = Acts
+
+abbrev pub countsIf : Bool → Way
+countsIf counts = if counts then Counts else Acts
+
+-- ---- a device
+
+abbrev pub callsDevice : DeviceHost.DeviceHostCall → Bool
+callsDevice DeviceHost.DeviceHostCall.Nothing = false
+callsDevice (DeviceHost.DeviceHostCall.Answers wish) = true
+callsDevice (DeviceHost.DeviceHostCall.Content command) = true
+
+abbrev pub isListening : Turn → Bool
+isListening Listens = true
+isListening (Asked n) = false
+isListening AnswerWaits = false
+isListening Begins = false
+isListening (Answers n) = false
+isListening Follows = false
+isListening (Bursts n) = false
+
+-- no BACK may begin, no frame is broken and no request is in hand
+abbrev pub deviceCounts : Device → Bool
+deviceCounts d = if d .burst then false else if insideFrame (d .receiver .place) then false else isListening (d .turn)
+
+abbrev pub deviceHears : Device → Heard → Way
+deviceHears d Silence = countsIf (deviceCounts d)
+deviceHears d (Character c) = hearsBy (taken (d .receiver) (Character c) .receiver) (taken (d .receiver) (Character c) .event)
+deviceHears d (Heard.Damaged c kind) = Acts
+
+unfoldable pub deviceWay : Device → Heard → DeviceHost.DeviceHostCall → Way
+deviceWay d heard call = if d .deaf then Acts else if callsDevice call then Acts else deviceHears d heard
+
+abbrev pub countedDevice : Device → Device
+countedDevice d = D.deviceWith d idle Listens (d .request) (d .wish) (d .length) (d .due - 1)
+
+abbrev pub heardDevice : Device → Receiver → Device
+heardDevice d r = D.deviceWith d r Listens (d .request) Same (d .length) 0
+
+abbrev pub inSlot : Device → Slot
+inSlot d = record { device = d; here = true }
+
+-- ---- a master
+
+abbrev pub callsMaster : MasterHost.MasterHostCall → Bool
+callsMaster MasterHost.MasterHostCall.Nothing = false
+callsMaster (MasterHost.MasterHostCall.Requests q) = true
+
+abbrev pub isFree : Stage → Bool
+isFree Free = true
+isFree Waiting = false
+isFree (Sending n) = false
+isFree (Awaiting n) = false
+
+abbrev pub isSending : Stage → Bool
+isSending Free = false
+isSending Waiting = false
+isSending (Sending n) = true
+isSending (Awaiting n) = false
+
+-- BURST is clear, no frame is broken and no message is in hand
+abbrev pub masterCounts : Master → Bool
+masterCounts m = if m .burst then false else if insideFrame (m .receiver .place) then false else isFree (m .message .stage)
+
+abbrev pub masterHears : Master → Heard → Way
+masterHears m Silence = countsIf (masterCounts m)
+masterHears m (Character c) =
+    if isSending (m .message .stage) then Acts else hearsBy (taken (m .receiver) (Character c) .receiver) (taken (m .receiver) (Character c) .event)
+masterHears m (Heard.Damaged c kind) = Acts
+
+unfoldable pub masterWay : Master → Heard → MasterHost.MasterHostCall → Way
+masterWay m heard call = if m .deaf then Acts else if callsMaster call then Acts else masterHears m heard
+
+abbrev pub countedMaster : Master → Master
+countedMaster m = M.masterWith m idle (m .burst) (m .noted) (countClear (m .profile) (m .timer)) (m .message)
+
+abbrev pub heardMaster : Master → Receiver → Master
+heardMaster m r = M.masterWith m r (m .burst) (m .noted) (timer 0) (m .message)

@@ -1,0 +1,452 @@
+// The parties of a link: two masters and six slots for devices, the calls to them, and the short way of a party that only hears.
+use device_tick::DeviceTicked;
+use line::Damage;
+use line::Event;
+use line::Heard;
+use line::Receiver;
+use line::Taken;
+use master::MasterTicked;
+use turns::Device;
+use turns::DeviceTold;
+use turns::Master;
+use turns::MasterTold;
+use turns::Sent;
+use turns::Stage;
+use turns::Timer;
+use turns::Turn;
+use turns::Wish;
+ghost use mathlib.Core.Path.{_≡_};
+ghost use Prim.Native.Nat.{_<_};
+ghost use Rattle.base.specs.Lent.{before, after};
+ghost use Rattle.line.specs.Reader.{takenData};
+ghost use Rattle.turns.specs.Link.{joins};
+ghost use Rattle.parties.specs.Part.{PartIs};
+ghost use Rattle.parties.specs.Stands.{codeOf, noPart, noMasterCall, noDeviceCall, MasterIs, DeviceIs};
+ghost use Rattle.parties.specs.Ways.{hearsBy, countsIf, callsDevice, isListening, deviceCounts, deviceWay, countedDevice, heardDevice, inSlot};
+ghost use Rattle.parties.specs.Ways.{callsMaster, isFree, isSending, masterCounts, masterHears, masterWay, countedMaster, heardMaster};
+
+// The data of a call: so many of the lent bytes, from a place on, as far as there are.
+pub struct Part {
+    pub from: usize,
+    pub count: usize,
+}
+
+// Where a part of so many lent bytes begins, and where it ends.
+pub struct Bounds {
+    pub start: usize,
+    pub end: usize,
+}
+
+// The end of a part that begins inside so many bytes.
+fn end_of(start: usize, count: usize, room: usize) -> Bounds
+    requires { ⌜ start < room ⌝ }
+    ensures { λ r. ⌜ PartIs start count room r ⌝ }
+{
+    if room - start < count {
+        return Bounds {
+            start: start,
+            end: room,
+        };
+    }
+    Bounds {
+        start: start,
+        end: start + count,
+    }
+}
+
+// The bounds of a part within so many bytes.
+pub fn bounds_of(part: Part, room: usize) -> Bounds
+    ensures { λ r. ⌜ PartIs (part .from) (part .count) room r ⌝ }
+{
+    let start = part.from;
+    let count = part.count;
+    if start < room {
+        return end_of(start, count, room);
+    }
+    Bounds {
+        start: room,
+        end: room,
+    }
+}
+
+// A host's call to a master in a tick, with the data of a request.
+pub struct MasterCall {
+    pub call: master::MasterHostCall,
+    pub part: Part,
+}
+
+// A host's call to a device in a tick, with the data of an answer or of a burst content.
+pub struct DeviceCall {
+    pub call: device_tick::DeviceHostCall,
+    pub part: Part,
+}
+
+// A tick's calls, at most one for each party.
+pub struct Calls {
+    pub masters: [MasterCall; 2],
+    pub devices: [DeviceCall; 6],
+}
+
+// A place for a device. Where none is here, `device` is any.
+pub struct Slot {
+    pub device: Device,
+    pub here: bool,
+}
+
+// A link: its parties, and what the line carried in the last tick. The first master is the primary.
+pub struct Link {
+    pub masters: [Master; 2],
+    pub devices: [Slot; 6],
+    pub line: Heard,
+}
+
+// What became of a host's call: a refusal by its number in document 01's table.
+pub enum CallOutcome {
+    Nothing,
+    Taken,
+    Refused(u32),
+}
+
+// What a host was told, and what became of its call.
+pub struct MasterDid {
+    pub told: MasterTold,
+    pub result: CallOutcome,
+}
+
+pub struct DeviceDid {
+    pub told: DeviceTold,
+    pub result: CallOutcome,
+}
+
+// A link behind so many ticks, and what the hosts were told and answered in them.
+pub struct Ticked {
+    pub link: Link,
+    pub count: u16,
+    pub masters: [MasterDid; 2],
+    pub devices: [DeviceDid; 6],
+}
+
+// A character on a line that carried this without it.
+fn join_character(c: u8, heard: Heard) -> Heard
+    ensures { λ r. ⌜ r ≡ joins (Sent.Character c) heard ⌝ }
+{
+    match heard {
+        Heard::Silence => Heard::Character(c),
+        Heard::Character(_) => Heard::Damaged(0x00, Damage::Framing),
+        Heard::Damaged(_, _) => Heard::Damaged(0x00, Damage::Framing),
+    }
+}
+
+// What the line carries where one party sends this and the others are heard so.
+pub fn join(sent: Sent, heard: Heard) -> Heard
+    ensures { λ r. ⌜ r ≡ joins sent heard ⌝ }
+{
+    match sent {
+        Sent::Silent => heard,
+        Sent::Character(c) => join_character(c, heard),
+    }
+}
+
+// What is sent, as a number: the character, or 256 for none.
+pub fn code(sent: Sent) -> u16
+    ensures { λ r. ⌜ r ≡ codeOf sent ⌝ }
+{
+    match sent {
+        Sent::Silent => 256,
+        Sent::Character(c) => c as u16,
+    }
+}
+
+fn no_part() -> Part
+    ensures { λ r. ⌜ r ≡ noPart ⌝ }
+{
+    Part { from: 0, count: 0 }
+}
+
+pub fn no_master_call() -> MasterCall
+    ensures { λ r. ⌜ r ≡ noMasterCall ⌝ }
+{
+    let part = no_part();
+    MasterCall {
+        call: master::MasterHostCall::Nothing,
+        part: part,
+    }
+}
+
+pub fn no_device_call() -> DeviceCall
+    ensures { λ r. ⌜ r ≡ noDeviceCall ⌝ }
+{
+    let part = no_part();
+    DeviceCall {
+        call: device_tick::DeviceHostCall::Nothing,
+        part: part,
+    }
+}
+
+fn calls_master(c: MasterCall) -> bool
+    ensures { λ r. ⌜ r ≡ callsMaster (c .call) ⌝ }
+{
+    let call = c.call;
+    match call {
+        master::MasterHostCall::Nothing => false,
+        master::MasterHostCall::Requests(_) => true,
+    }
+}
+
+fn calls_device(c: DeviceCall) -> bool
+    ensures { λ r. ⌜ r ≡ callsDevice (c .call) ⌝ }
+{
+    let call = c.call;
+    match call {
+        device_tick::DeviceHostCall::Nothing => false,
+        device_tick::DeviceHostCall::Answers(_) => true,
+        device_tick::DeviceHostCall::Content(_) => true,
+    }
+}
+
+// The data buffer behind what was heard.
+pub fn keep(reader: Receiver, heard: Heard, bytes: &mut [u8; 255])
+    ensures { λ _. ⌜ after bytes ≡ takenData reader heard (before bytes) ⌝ }
+{
+    let place = reader.place;
+    match heard {
+        Heard::Silence => {}
+        Heard::Character(c) => tick_reader::keep(place, c, bytes),
+        Heard::Damaged(c, _) => tick_reader::keep(place, c, bytes),
+    }
+}
+
+fn is_listening(turn: Turn) -> bool
+    ensures { λ r. ⌜ r ≡ isListening turn ⌝ }
+{
+    match turn {
+        Turn::Listens => true,
+        Turn::Asked(_) => false,
+        Turn::AnswerWaits => false,
+        Turn::Begins => false,
+        Turn::Answers(_) => false,
+        Turn::Follows => false,
+        Turn::Bursts(_) => false,
+    }
+}
+
+// How a party's tick goes: it only counts a silent tick, it only hears a character and its reader is this behind it, or it acts.
+pub enum Way {
+    Counts,
+    Hears(Receiver),
+    Acts,
+}
+
+// A character, by what the reader finds.
+fn by_event(t: Taken) -> Way
+    ensures { λ r. ⌜ r ≡ hearsBy (t .receiver) (t .event) ⌝ }
+{
+    let r = t.receiver;
+    let event = t.event;
+    match event {
+        Event::Nothing => Way::Hears(r),
+        Event::PassedOver => Way::Acts,
+        Event::Broken => Way::Acts,
+        Event::Frame(_) => Way::Acts,
+        Event::Damaged(_, _) => Way::Acts,
+    }
+}
+
+// A silent tick.
+fn if_counts(counts: bool) -> Way
+    ensures { λ r. ⌜ r ≡ countsIf counts ⌝ }
+{
+    if counts {
+        return Way::Counts;
+    }
+    Way::Acts
+}
+
+fn device_counts(d: Device) -> bool
+    ensures { λ r. ⌜ r ≡ deviceCounts d ⌝ }
+{
+    let turn = d.turn;
+    let reader = d.receiver;
+    let place = reader.place;
+    if d.burst {
+        return false;
+    }
+    if tick_reader::is_inside(place) {
+        return false;
+    }
+    is_listening(turn)
+}
+
+// How a device's tick goes.
+pub fn device_way(d: Device, heard: Heard, call: DeviceCall) -> Way
+    ensures { λ r. ⌜ r ≡ deviceWay d heard (call .call) ⌝ }
+{
+    if d.deaf {
+        return Way::Acts;
+    }
+    if calls_device(call) {
+        return Way::Acts;
+    }
+    let reader = d.receiver;
+    match heard {
+        Heard::Silence => if_counts(device_counts(d)),
+        Heard::Character(c) => by_event(tick_reader::heard_character(reader, c)),
+        Heard::Damaged(_, _) => Way::Acts,
+    }
+}
+
+// A device behind a silent tick that it only counts.
+pub fn counted_device(d: Device) -> Slot
+    ensures { λ r. ⌜ r ≡ inSlot (countedDevice d) ⌝ }
+{
+    let idle = tick_reader::idle_reader();
+    let request = d.request;
+    let wish = d.wish;
+    let due = party::one_less(d.due);
+    let device = device_heard::with_parts(d, idle, Turn::Listens, request, wish, d.length, due);
+    Slot {
+        device: device,
+        here: true,
+    }
+}
+
+// A device behind a character that it only hears.
+pub fn heard_device(d: Device, r: Receiver) -> Slot
+    ensures { λ s. ⌜ s ≡ inSlot (heardDevice d r) ⌝ }
+{
+    let request = d.request;
+    let device = device_heard::with_parts(d, r, Turn::Listens, request, Wish::Same, d.length, 0);
+    Slot {
+        device: device,
+        here: true,
+    }
+}
+
+fn is_free(stage: Stage) -> bool
+    ensures { λ r. ⌜ r ≡ isFree stage ⌝ }
+{
+    match stage {
+        Stage::Free => true,
+        Stage::Waiting => false,
+        Stage::Sending(_) => false,
+        Stage::Awaiting(_) => false,
+    }
+}
+
+fn is_sending(stage: Stage) -> bool
+    ensures { λ r. ⌜ r ≡ isSending stage ⌝ }
+{
+    match stage {
+        Stage::Free => false,
+        Stage::Waiting => false,
+        Stage::Sending(_) => true,
+        Stage::Awaiting(_) => false,
+    }
+}
+
+fn master_counts(m: Master) -> bool
+    ensures { λ r. ⌜ r ≡ masterCounts m ⌝ }
+{
+    let g = m.message;
+    let stage = g.stage;
+    let reader = m.receiver;
+    let place = reader.place;
+    if m.burst {
+        return false;
+    }
+    if tick_reader::is_inside(place) {
+        return false;
+    }
+    is_free(stage)
+}
+
+fn master_character(m: Master, c: u8) -> Way
+    ensures { λ r. ⌜ r ≡ masterHears m (Heard.Character c) ⌝ }
+{
+    let g = m.message;
+    let stage = g.stage;
+    if is_sending(stage) {
+        return Way::Acts;
+    }
+    let reader = m.receiver;
+    by_event(tick_reader::heard_character(reader, c))
+}
+
+// How a master's tick goes.
+pub fn master_way(m: Master, heard: Heard, call: MasterCall) -> Way
+    ensures { λ r. ⌜ r ≡ masterWay m heard (call .call) ⌝ }
+{
+    if m.deaf {
+        return Way::Acts;
+    }
+    if calls_master(call) {
+        return Way::Acts;
+    }
+    match heard {
+        Heard::Silence => if_counts(master_counts(m)),
+        Heard::Character(c) => master_character(m, c),
+        Heard::Damaged(_, _) => Way::Acts,
+    }
+}
+
+// A master behind a silent tick that it only counts.
+pub fn counted_master(m: Master) -> Master
+    ensures { λ r. ⌜ r ≡ countedMaster m ⌝ }
+{
+    let idle = tick_reader::idle_reader();
+    let p = m.profile;
+    let t = m.timer;
+    let noted = m.noted;
+    let message = m.message;
+    let timer = master_rules::count_clear(p, t);
+    master_rules::with_parts(m, idle, m.burst, noted, timer, message)
+}
+
+// A master behind a character that it only hears.
+pub fn heard_master(m: Master, r: Receiver) -> Master
+    ensures { λ s. ⌜ s ≡ heardMaster m r ⌝ }
+{
+    let noted = m.noted;
+    let message = m.message;
+    let timer = master_rules::timer_of(0);
+    master_rules::with_parts(m, r, m.burst, noted, timer, message)
+}
+
+// A master's tick, whose call names its data in what is put.
+pub fn master_tick(
+    m: Master,
+    heard: Heard,
+    called: MasterCall,
+    put: &[u8],
+    frame: &mut [u8; 284],
+    bytes: &mut [u8; 255],
+) -> MasterTicked
+    ensures { λ r. ⌜ MasterIs m heard called (before put) frame bytes r ⌝ }
+{
+    let call = called.call;
+    let part = called.part;
+    let b = bounds_of(part, put.len());
+    let start = b.start;
+    let end = b.end;
+    master::tick(m, heard, call, &put[start..end], frame, bytes)
+}
+
+// A device's tick, whose call names its data in what is put.
+pub fn device_tick(
+    d: Device,
+    heard: Heard,
+    called: DeviceCall,
+    put: &[u8],
+    frame: &mut [u8; 284],
+    bytes: &mut [u8; 255],
+    contents: &mut [u8; 255],
+) -> DeviceTicked
+    ensures { λ r. ⌜ DeviceIs d heard called (before put) frame bytes contents r ⌝ }
+{
+    let call = called.call;
+    let part = called.part;
+    let b = bounds_of(part, put.len());
+    let start = b.start;
+    let end = b.end;
+    device_tick::tick(d, heard, call, &put[start..end], contents, frame, bytes)
+}
