@@ -5,13 +5,15 @@
 mod called;
 #[path = "../tests/oracles.rs"]
 mod oracles;
+#[path = "../tests/engine_archive.rs"]
+mod engine_archive;
 #[path = "../tests/party_archive.rs"]
 mod party_archive;
 mod recordings;
 mod rounds;
 
 use oracles::{device_oracle, master_oracle};
-use recordings::{compare, frame, head, noise, silent, SILENCE};
+use recordings::{compare, frame, head, noise, silent, Run, SILENCE};
 
 const TICKS: usize = 200_000;
 const CALLS: usize = 1;
@@ -55,31 +57,36 @@ fn called_always() -> Vec<u8> {
     CALL.repeat(TICKS)
 }
 
+/// A master's lines, and a device's.
+fn masters(name: &str, archive: Run, other: Run) {
+    let lines = [
+        ("busy", busy_master()),
+        ("unanswered", called_always()),
+        ("silent", silent(TICKS)),
+        ("noise", noise(TICKS)),
+    ];
+    for (line, recording) in lines {
+        compare(&format!("{name} {line}"), CALLS, archive, other, &recording);
+    }
+}
+
+fn devices(name: &str, archive: Run, other: Run) {
+    let lines = [
+        ("busy", busy_device()),
+        ("silent", silent(TICKS)),
+        ("noise", noise(TICKS)),
+    ];
+    for (line, recording) in lines {
+        compare(&format!("{name} {line}"), CALLS, archive, other, &recording);
+    }
+}
+
 fn main() {
     head();
-    let master = |name, recording: &[u8]| {
-        compare(
-            name,
-            CALLS,
-            party_archive::master,
-            master_oracle::ticks,
-            recording,
-        );
-    };
-    master("master busy", &busy_master());
-    master("master unanswered", &called_always());
-    master("master silent", &silent(TICKS));
-    master("master noise", &noise(TICKS));
-    let device = |name, recording: &[u8]| {
-        compare(
-            name,
-            CALLS,
-            party_archive::device,
-            device_oracle::ticks,
-            recording,
-        );
-    };
-    device("device busy", &busy_device());
-    device("device silent", &silent(TICKS));
-    device("device noise", &noise(TICKS));
+    masters("master", party_archive::master, master_oracle::ticks);
+    devices("device", party_archive::device, device_oracle::ticks);
+    println!("one call a tick, against the oracles");
+    masters("master", engine_archive::master, master_oracle::ticks);
+    println!("one call a tick, against the functions by value");
+    masters("master", engine_archive::master, party_archive::master);
 }

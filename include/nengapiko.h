@@ -35,18 +35,23 @@ enum nengapiko_type {
     NENGAPIKO_ACK = 6   /* a device's answer */
 };
 
-/* What a write or a read returns. */
+/* What a write, a read, a master's start and its tick return: document 01's numbers. */
 enum nengapiko_answer {
-    NENGAPIKO_TAKEN = 0,                  /* written, or read */
-    NENGAPIKO_REFUSED_PREAMBLE = 3,       /* write: preamble outside 5 to 20 */
-    NENGAPIKO_REFUSED_ADDRESS = 4,        /* write: polling address above 63, or unique address above 38 bits */
-    NENGAPIKO_REFUSED_DATA_LONG = 6,      /* write: more than 255 data bytes */
+    NENGAPIKO_TAKEN = 0,                  /* written, read, started; or the request was taken, or there was none */
+    NENGAPIKO_REFUSED_PROFILE = 1,        /* start: a profile that document 01 does not allow */
+    NENGAPIKO_REFUSED_RETRIES = 2,        /* start: retries outside 3 to 15 */
+    NENGAPIKO_REFUSED_PREAMBLE = 3,       /* write, request: preamble outside 5 to 20 */
+    NENGAPIKO_REFUSED_ADDRESS = 4,        /* write, request: polling address above 63, of a request to revision 5 or lower above 15; or unique address above 38 bits */
+    NENGAPIKO_REFUSED_COMMAND = 5,        /* request: command 254, or a short address with a command but 0 */
+    NENGAPIKO_REFUSED_DATA_LONG = 6,      /* write, request: more than 255 data bytes */
+    NENGAPIKO_REFUSED_IN_HAND = 7,        /* request: a message is in hand */
     NENGAPIKO_REFUSED_DATA_LENGTH = 9,    /* write: an ACK or BACK with fewer than 2 data bytes */
     NENGAPIKO_REFUSED_FEW_PREAMBLES = 11, /* read: fewer than two 0xFF in front */
     NENGAPIKO_REFUSED_NO_DELIMITER = 12,  /* write: type not 2, 6 or 1; read: the byte behind the preamble is no delimiter */
     NENGAPIKO_REFUSED_ENDS_EARLY = 13,    /* read: the bytes end before the frame does */
     NENGAPIKO_REFUSED_UNSOUND = 14,       /* read: an ACK or BACK with count below 2, else a wrong check byte */
-    NENGAPIKO_REFUSED_BUFFER_SHORT = 15   /* write: the frame does not fit from the place named */
+    NENGAPIKO_REFUSED_BUFFER_SHORT = 15,  /* write: the frame does not fit from the place named */
+    NENGAPIKO_REFUSED_REVISION = 17       /* request: revision outside 3 to 7 */
 };
 
 /* The longest frame, in bytes: 20 preambles, a long address, 255 data bytes. */
@@ -151,6 +156,118 @@ enum nengapiko_event {
  */
 size_t nengapiko_ticks(const uint8_t *recording, size_t size,
                        uint8_t *events, size_t room);
+
+/* ------------------------------------------------------------------------
+ * The tick reader and a master, one call a tick: crate nengapiko.
+ *
+ * A state is an array of 64-bit words, and beside it stand the byte buffers of the sizes below;
+ * all of them belong to the caller. A start fills the state. Every content of the words and of the
+ * buffers is some state, so every call takes them, whatever they hold; words are to be kept as a
+ * call has left them, and have no meaning but this. A buffer's content before the start does not
+ * matter. No two arguments of a call may overlap. Calls on different states may run at once.
+ */
+
+#if defined(__cplusplus)
+#define NENGAPIKO_RESTRICT
+#else
+#define NENGAPIKO_RESTRICT restrict
+#endif
+
+enum nengapiko_size {
+    NENGAPIKO_READER_WORDS = 16,
+    NENGAPIKO_MASTER_WORDS = 39,
+    NENGAPIKO_FRAME_BYTES = 284, /* the frame that is being sent */
+    NENGAPIKO_DATA_BYTES = 255,  /* the data of the frame that is being heard */
+    NENGAPIKO_RESULTS = 17
+};
+
+/*
+ * What a tick tells: the numbers that each of the two tick functions sets, all of them in every
+ * call. The frame that the reader found stands in them where the event is NENGAPIKO_WHOLE or
+ * NENGAPIKO_DAMAGED, and its data at the front of the data buffer; else its numbers are 0. An
+ * answer to a master is the frame of that same tick.
+ */
+enum nengapiko_result {
+    NENGAPIKO_RESULT_SENT = 0,     /* 0, or 256 and the character to be sent in this tick */
+    NENGAPIKO_RESULT_TOLD = 1,     /* an enum nengapiko_master_told; 0 of a reader */
+    NENGAPIKO_RESULT_ATTEMPTS = 2, /* the STX frames sent for a message that was given up */
+    NENGAPIKO_RESULT_EVENT = 3,    /* an enum nengapiko_event */
+    NENGAPIKO_RESULT_TYPE = 4,     /* of the frame: an enum nengapiko_type */
+    NENGAPIKO_RESULT_LONG = 5,
+    NENGAPIKO_RESULT_PRIMARY = 6,
+    NENGAPIKO_RESULT_BURST = 7,
+    NENGAPIKO_RESULT_ADDRESS = 8,
+    NENGAPIKO_RESULT_EXPANSION = 9,
+    NENGAPIKO_RESULT_COMMAND = 10,
+    NENGAPIKO_RESULT_COUNT = 11,
+    NENGAPIKO_RESULT_PARITY = 12, /* damage in command, data or check byte, by its kind */
+    NENGAPIKO_RESULT_OVERRUN = 13,
+    NENGAPIKO_RESULT_FRAMING = 14,
+    NENGAPIKO_RESULT_CHECK = 15,          /* a wrong check byte */
+    NENGAPIKO_RESULT_ADDRESS_DAMAGED = 16 /* damage in address or expansion bytes */
+};
+
+/* What a master tells its host of its message. */
+enum nengapiko_master_told {
+    NENGAPIKO_MASTER_NOTHING = 0,
+    NENGAPIKO_MASTER_ANSWERED = 1,      /* by the frame of this tick */
+    NENGAPIKO_MASTER_GIVEN_UP = 2,      /* after the attempts of this tick */
+    NENGAPIKO_MASTER_BROADCAST_SENT = 3
+};
+
+/* Starts a reader: it passes over characters until the first silent tick. */
+void nengapiko_reader_start(uint64_t *state);
+
+/*
+ * A tick of a reader.
+ *
+ *   state      NENGAPIKO_READER_WORDS words
+ *   data       NENGAPIKO_DATA_BYTES bytes
+ *   heard      an enum nengapiko_heard; any other number is silence
+ *   character  the character, where one was heard
+ *   results    NENGAPIKO_RESULTS numbers
+ */
+void nengapiko_reader_tick(uint64_t *NENGAPIKO_RESTRICT state, uint8_t *NENGAPIKO_RESTRICT data,
+                           uint8_t heard, uint8_t character,
+                           uint64_t *NENGAPIKO_RESTRICT results);
+
+/*
+ * Starts a master.
+ *
+ *   sto .. rt1_secondary  the profile's five numbers, in ticks
+ *   primary               true for the primary master
+ *   retries               R, 3 to 15
+ *   state                 NENGAPIKO_MASTER_WORDS words; left as they were by a refusal
+ *
+ * Returns 0, 1 or 2 of enum nengapiko_answer.
+ */
+uint32_t nengapiko_master_start(uint16_t sto, uint16_t hold, uint16_t rt2, uint16_t rt1_primary,
+                                uint16_t rt1_secondary, bool primary, uint8_t retries,
+                                uint64_t *state);
+
+/*
+ * A tick of a master: it takes what the line carried in the tick before, then its host's request,
+ * then sends a character or none.
+ *
+ *   state, frame, data  NENGAPIKO_MASTER_WORDS words, NENGAPIKO_FRAME_BYTES and
+ *                       NENGAPIKO_DATA_BYTES bytes
+ *   heard, character    as for nengapiko_reader_tick
+ *   requests            whether the host requests in this tick; the next seven are of the request
+ *   preamble            how many 0xFF go in front, 5 to 20
+ *   revision            the device's HART revision, 3 to 7
+ *   long_address, address, command, bytes, count   as for nengapiko_write
+ *   results             NENGAPIKO_RESULTS numbers
+ *
+ * Returns 0, or the request's refusal of enum nengapiko_answer, the first that applies of 3, 17, 4,
+ * 5, 6 and 7; the tick is then that of no request.
+ */
+uint32_t nengapiko_master_tick(uint64_t *NENGAPIKO_RESTRICT state,
+                               uint8_t *NENGAPIKO_RESTRICT frame,
+                               uint8_t *NENGAPIKO_RESTRICT data, uint8_t heard, uint8_t character,
+                               bool requests, size_t preamble, uint8_t revision,
+                               bool long_address, uint64_t address, uint8_t command,
+                               const uint8_t *NENGAPIKO_RESTRICT bytes, size_t count,
+                               uint64_t *NENGAPIKO_RESTRICT results);
 
 /* What a master does in a tick. */
 enum nengapiko_step {

@@ -1,7 +1,8 @@
-//! Compares the archive's master and device with the oracles: the number of ticks, and the whole
+//! Compares the archives' masters and devices with the oracles: the number of ticks, and the whole
 //! buffer of events. The recordings are the same in every run.
 
 mod called;
+mod engine_archive;
 #[allow(dead_code)]
 mod frames;
 #[path = "oracles.rs"]
@@ -59,6 +60,13 @@ const DEVICE: Party = Party {
         (2, "broadcast"),
         (4, "sends"),
     ],
+};
+
+/// The same master, by one call for each tick.
+const MASTER_TICKS: Party = Party {
+    name: "master tick by tick",
+    archive: engine_archive::master,
+    ..MASTER
 };
 
 /// The answer that the master waits for, from delimiter to the last data byte.
@@ -230,7 +238,7 @@ fn agrees(party: &Party) -> bool {
 }
 
 fn main() -> ExitCode {
-    match [MASTER, DEVICE]
+    match [MASTER, MASTER_TICKS, DEVICE]
         .iter()
         .filter(|party| !agrees(party))
         .count()

@@ -1,0 +1,68 @@
+-- A start by what was answered, and a tick by what its parts gave.
+use Prim.Native.Nat.{ℕ}
+use mathlib.Core.Bool.{Bool}
+use mathlib.Core.List.{List}
+use mathlib.Core.Path.{_≡_, refl, sym, ap, subst, _∙_}
+use Rattle.base.specs.declared.Refusal.{Refusal}
+use Rattle.base.specs.Refusal.{number, Called}
+use Rattle.frame.specs.Limits.{mostData}
+use Rattle.line.specs.Profile.{profileMade, madeAs}
+use Rattle.line.specs.declared.Heard.{Heard}
+use Rattle.line.specs.declared.MadeProfile.{MadeProfile}
+use Rattle.line.specs.declared.Profile.{Profile}
+use Rattle.turns.specs.Link.{MasterStep, masterTick}
+use Rattle.turns.specs.Master.{masterStarts, masterTakes}
+use Rattle.turns.specs.Told.{masterTells}
+use Rattle.turns.specs.declared.Master.{Master}
+use Rattle.party.specs.Calls.{resultOf}
+use Rattle.master.specs.Answers.{started}
+use Rattle.master.specs.Tick.{callOf, sideOf, MasterTickIs}
+use Rattle.master.specs.declared.MasterHostCall.{MasterHostCall}
+use Rattle.master.specs.declared.MasterStarted.{MasterStarted}
+use Rattle.master.specs.declared.MasterTicked.{MasterTicked}
+use Rattle.words.specs.Numbers.{tickNumbers, sentNumber, callNumber}
+use Rattle.master_c.specs.Words.{packed, unpacked, MasterFits}
+use Rattle.master_c.specs.Tick.{startsBy, StartIs, toldAttempts, MasterTicks}
+use Rattle.master_c.proofs.Kept.{master-kept}
+
+-- the fresh master's words, or the refusal
+pub start-taken : (x : MasterStarted) (m : Master) (before after : List ℕ) → x ≡ MasterStarted.Started m → after ≡ packed m → StartIs (started x) before after 0
+start-taken x m before after e p = subst (λ (y : MasterStarted). StartIs (started y) before after 0) (sym e) (record { returned = refl; words-are = p })
+
+pub start-refused : (x : MasterStarted) (why : Refusal) (before : List ℕ) (r : ℕ) → x ≡ MasterStarted.Refused why → r ≡ number why → StartIs (started x) before before r
+start-refused x why before r e p = subst (λ (y : MasterStarted). StartIs (started y) before before r) (sym e) (record { returned = p; words-are = refl })
+
+pub profile-taken : (p q : Profile) (made : MadeProfile) (primary : Bool) (retries : ℕ) (x : MasterStarted) (before after : List ℕ) (r : ℕ)
+    → madeAs made ≡ profileMade p → made ≡ MadeProfile.Made q → started x ≡ masterStarts q primary retries → StartIs (started x) before after r
+    → StartIs (startsBy (profileMade p) primary retries) before after r
+profile-taken p q made primary retries x before after r d e s v =
+    subst (λ (c : Called Master). StartIs c before after r) (s ∙ ap (λ (y : Called Profile). startsBy y primary retries) (sym (ap madeAs e) ∙ d)) v
+
+pub profile-refused : (p : Profile) (why : Refusal) (made : MadeProfile) (primary : Bool) (retries : ℕ) (before : List ℕ) (r : ℕ)
+    → madeAs made ≡ profileMade p → made ≡ MadeProfile.Refused why → r ≡ number why
+    → StartIs (startsBy (profileMade p) primary retries) before before r
+profile-refused p why made primary retries before r d e n =
+    subst (λ (y : Called Profile). StartIs (startsBy y primary retries) before before r) (sym (ap madeAs e) ∙ d) (record { returned = n; words-are = refl })
+
+pub ruleset starts = (refl, start-taken, start-refused, profile-taken, profile-refused)
+
+-- a tick of the master that the words were
+pub tick-is : (before frame bytes : List ℕ) (m : Master) (heard : Heard) (call : MasterHostCall) (put : List ℕ) (t : MasterTicked) (frame-after bytes-after words results : List ℕ) (sent told attempts r : ℕ)
+    → m ≡ unpacked before → MasterTickIs m heard call put frame bytes t frame-after bytes-after → MasterFits (t .master) → words ≡ packed (t .master)
+    → results ≡ tickNumbers sent told attempts (t .event) → sent ≡ sentNumber (t .sent) → told ≡ masterTells (t .told) .number → attempts ≡ toldAttempts (t .told)
+    → r ≡ callNumber (resultOf (t .result))
+    → MasterTicks before frame bytes heard call put words frame-after bytes-after results r
+tick-is before frame bytes m heard call put t frame-after bytes-after words results sent told attempts r d v f w n a b e q =
+    let step : _ = v .step ∙ ap (λ (x : Master). masterTick mostData (sideOf x frame bytes) heard (callOf call put)) d in
+    record {
+      words-are = w ∙ ap (λ (s : MasterStep). packed (s .side .master)) step;
+      unpacked-is = ap unpacked w ∙ master-kept (t .master) f ∙ ap (λ (s : MasterStep). s .side .master) step;
+      frame-is = ap (λ (s : MasterStep). s .side .frame) step;
+      bytes-are = ap (λ (s : MasterStep). s .side .bytes) step;
+      results-are = n ∙ (λ i. tickNumbers
+          ((a ∙ ap (λ (s : MasterStep). sentNumber (s .sent)) step) i)
+          ((b ∙ ap (λ (s : MasterStep). masterTells (s .told) .number) step) i)
+          ((e ∙ ap (λ (s : MasterStep). toldAttempts (s .told)) step) i)
+          ((v .found ∙ ap (λ (x : Master). masterTakes x heard bytes-after .event) d) i));
+      returned = q ∙ ap (λ (s : MasterStep). callNumber (s .result)) step;
+    }

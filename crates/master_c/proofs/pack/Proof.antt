@@ -1,0 +1,13 @@
+use Rattle.master_c.proofs.Kept.{packed-is}
+use borrow.Author.Needs.{needs}
+use Rattle.master_c.proofs.pack.Statement.{statement}
+use Rattle.master_c.proofs.pack.Tie as tie
+
+pub pack-spec : {M : Type 1} → statement M
+pack-spec =
+    tie.close
+    (tie.spec
+    (λ c κs. search needs)
+    (λ c κs. search needs)
+    (λ c κs. search needs)
+    (λ c. search (needs, packed-is)))

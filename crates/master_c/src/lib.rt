@@ -1,0 +1,291 @@
+// A master for programs in C: its state as words that the caller lends, its start and its tick.
+use line::Heard;
+use line::MadeProfile;
+use line::Profile;
+use master::MasterHostCall;
+use master::MasterStarted;
+use turns::Master;
+use turns::MasterTold;
+use turns::Message;
+use turns::Noted;
+use turns::Stage;
+use turns::Timer;
+ghost use Prim.Native.Nat.{_<_, _^_};
+ghost use mathlib.Core.Path.{_≡_};
+ghost use Rattle.line.specs.Profile.{profileMade};
+ghost use Rattle.turns.specs.Told.{masterTells};
+ghost use Rattle.master.specs.Answers.{started};
+ghost use Rattle.master_c.specs.Words.{stageWord, stageBy, stageOf, messageAt, timerAt, notedAt, wordsOf, packed, unpacked, StageFits, MessageFits, TimerFits, MasterFits};
+ghost use Rattle.master_c.specs.Tick.{startsBy, StartIs, toldAttempts, MasterTicks};
+
+fn stage_word(stage: Stage) -> u64
+    ensures { λ r. ⌜ r ≡ stageWord stage ⌝ }
+{
+    match stage {
+        Stage::Free => 0,
+        Stage::Waiting => 1,
+        Stage::Sending(n) => 2 + 16 * (n as u64),
+        Stage::Awaiting(n) => 3 + 16 * (n as u64),
+    }
+}
+
+fn stage_by(number: u64, n: u16) -> Stage
+    ensures { λ r. ⌜ r ≡ stageBy number n ⌝ }
+{
+    if number == 1 {
+        return Stage::Waiting;
+    }
+    if number == 2 {
+        return Stage::Sending(n);
+    }
+    if number == 3 {
+        return Stage::Awaiting(n);
+    }
+    Stage::Free
+}
+
+fn stage_of(word: u64) -> Stage
+    ensures { λ r. ⌜ r ≡ stageOf word ⌝ }
+{
+    stage_by(word % 16, (word / 16 % 0x10000) as u16)
+}
+
+fn message_at(words: &[u64], place: u16) -> Message
+    ensures { λ r. ⌜ r ≡ messageAt (now (words .entry)) place ⌝ }
+{
+    let i = place as usize;
+    let header = words::header_at(words, place);
+    let stage = stage_of(words::word_at(words, i + 6));
+    Message {
+        header: header,
+        stage: stage,
+        length: words::u16_at(words, i + 7),
+        attempts: words::u16_at(words, i + 8),
+    }
+}
+
+fn timer_at(words: &[u64], place: u16) -> Timer
+    ensures { λ r. ⌜ r ≡ timerAt (now (words .entry)) place ⌝ }
+{
+    let i = place as usize;
+    Timer {
+        next: words::u32_at(words, i),
+        window: words::u32_at(words, i + 1),
+        quiet: words::u32_at(words, i + 2),
+    }
+}
+
+fn noted_at(words: &[u64], place: u16) -> Noted
+    ensures { λ r. ⌜ r ≡ notedAt (now (words .entry)) place ⌝ }
+{
+    let i = place as usize;
+    Noted {
+        long: words::flag_at(words, i),
+        address: words::word_at(words, i + 1),
+    }
+}
+
+// The master that some words are.
+pub fn unpack(words: &[u64; 39]) -> Master
+    ensures { λ m. ⌜ m ≡ unpacked (now (words .entry)) ⌝ }
+{
+    let profile = words::profile_at(words, 1);
+    let timer = timer_at(words, 9);
+    let receiver = words::receiver_at(words, 12);
+    let noted = noted_at(words, 28);
+    let message = message_at(words, 30);
+    Master {
+        primary: words::flag_at(words, 0),
+        profile: profile,
+        retries: words::u8_at(words, 6),
+        deaf: words::flag_at(words, 7),
+        burst: words::flag_at(words, 8),
+        timer: timer,
+        receiver: receiver,
+        noted: noted,
+        message: message,
+    }
+}
+
+// The words of a master, with those of the reader's place and of the message's stage.
+fn words_of(m: Master, place: u64, stage: u64) -> [u64; 39]
+    ensures { λ r. ⌜ r ≡ wordsOf m place stage ⌝ }
+{
+    let p = m.profile;
+    let t = m.timer;
+    let r = m.receiver;
+    let rh = r.header;
+    let damage = r.damage;
+    let n = m.noted;
+    let g = m.message;
+    let h = g.header;
+    [
+        m.primary as u64,
+        p.sto as u64,
+        p.hold as u64,
+        p.rt2 as u64,
+        p.rt1p as u64,
+        p.rt1s as u64,
+        m.retries as u64,
+        m.deaf as u64,
+        m.burst as u64,
+        t.next as u64,
+        t.window as u64,
+        t.quiet as u64,
+        rh.frame as u64,
+        rh.long as u64,
+        rh.primary as u64,
+        rh.burst as u64,
+        rh.address,
+        rh.command as u64,
+        place,
+        r.expansion as u64,
+        r.count as u64,
+        r.sum as u64,
+        r.gap as u64,
+        damage.parity as u64,
+        damage.overrun as u64,
+        damage.framing as u64,
+        damage.check as u64,
+        damage.address as u64,
+        n.long as u64,
+        n.address,
+        h.frame as u64,
+        h.long as u64,
+        h.primary as u64,
+        h.burst as u64,
+        h.address,
+        h.command as u64,
+        stage,
+        g.length as u64,
+        g.attempts as u64,
+    ]
+}
+
+// The words of a master.
+pub fn pack(m: Master) -> [u64; 39]
+    ensures { λ r. ⌜ r ≡ packed m ⌝ }
+{
+    let r = m.receiver;
+    let place = r.place;
+    let g = m.message;
+    let stage = g.stage;
+    words_of(m, words::place_word(place), stage_word(stage))
+}
+
+// The next four do nothing: what the code holds are values of their types.
+fn u16_fits(n: u16)
+    ensures { λ _. ⌜ n < 2 ^ 16 ⌝ }
+{}
+
+fn stage_fits(stage: Stage)
+    ensures { λ _. ⌜ StageFits stage ⌝ }
+{
+    match stage {
+        Stage::Free => {}
+        Stage::Waiting => {}
+        Stage::Sending(n) => u16_fits(n),
+        Stage::Awaiting(n) => u16_fits(n),
+    }
+}
+
+fn timer_fits(t: Timer)
+    ensures { λ _. ⌜ TimerFits t ⌝ }
+{}
+
+fn message_fits(g: Message)
+    ensures { λ _. ⌜ MessageFits g ⌝ }
+{
+    let header = g.header;
+    let stage = g.stage;
+    words::header_fits(header);
+    stage_fits(stage);
+}
+
+fn master_fits(m: Master)
+    ensures { λ _. ⌜ MasterFits m ⌝ }
+{
+    let profile = m.profile;
+    let timer = m.timer;
+    let receiver = m.receiver;
+    let message = m.message;
+    words::profile_fits(profile);
+    timer_fits(timer);
+    words::receiver_fits(receiver);
+    message_fits(message);
+}
+
+fn started_by(result: MasterStarted, words: &mut [u64; 39]) -> u32
+    ensures { λ r. ⌜ StartIs (started result) (now (words .entry)) (now (words .exit)) r ⌝ }
+{
+    match result {
+        MasterStarted::Started(m) => {
+            *words = pack(m);
+            0
+        }
+        MasterStarted::Refused(why) => why.number(),
+    }
+}
+
+// The words of a fresh master, or refusal 1 or 2 and the words as they were.
+pub fn start(profile: Profile, primary: bool, retries: u8, words: &mut [u64; 39]) -> u32
+    ensures { λ r. ⌜ StartIs (startsBy (profileMade profile) primary retries) (now (words .entry)) (now (words .exit)) r ⌝ }
+{
+    let made = profile.checked();
+    match made {
+        MadeProfile::Made(p) => started_by(master::start(p, primary, retries), words),
+        MadeProfile::Refused(why) => why.number(),
+    }
+}
+
+fn told_number(told: MasterTold) -> u64
+    ensures { λ r. ⌜ r ≡ masterTells told .number ⌝ }
+{
+    match told {
+        MasterTold::Nothing => 0,
+        MasterTold::Answered(_) => 1,
+        MasterTold::GivenUp(_) => 2,
+        MasterTold::BroadcastSent => 3,
+    }
+}
+
+fn told_attempts(told: MasterTold) -> u64
+    ensures { λ r. ⌜ r ≡ toldAttempts told ⌝ }
+{
+    match told {
+        MasterTold::Nothing => 0,
+        MasterTold::Answered(_) => 0,
+        MasterTold::GivenUp(n) => n as u64,
+        MasterTold::BroadcastSent => 0,
+    }
+}
+
+// A tick of the master that the words are. Lent are the data of a request, the buffer that holds the master's STX and the one for the data of the frame that it hears.
+pub fn tick(
+    words: &mut [u64; 39],
+    frame: &mut [u8; 284],
+    bytes: &mut [u8; 255],
+    heard: Heard,
+    call: MasterHostCall,
+    put: &[u8],
+    results: &mut [u64; 17],
+) -> u32
+    ensures { λ r. ⌜ MasterTicks (now (words .entry)) (now (frame .entry)) (now (bytes .entry)) heard call (now (put .entry)) (now (words .exit)) (now (frame .exit)) (now (bytes .exit)) (now (results .exit)) r ⌝ }
+{
+    let m = unpack(words);
+    let t = master::tick(m, heard, call, put, frame, bytes);
+    let next = t.master;
+    let sent = t.sent;
+    let told = t.told;
+    let event = t.event;
+    let result = t.result;
+    master_fits(next);
+    *words = pack(next);
+    *results = words::tick_numbers(
+        words::sent_number(sent),
+        told_number(told),
+        told_attempts(told),
+        event,
+    );
+    words::call_number(result)
+}

@@ -1,0 +1,12 @@
+use Rattle.nengapiko.proofs.Arguments.{arguments}
+use borrow.Author.Needs.{needs}
+use Rattle.nengapiko.proofs.nengapiko_master_start.Statement.{statement}
+use Rattle.nengapiko.proofs.nengapiko_master_start.Tie as tie
+
+pub nengapiko-master-start-spec : {M : Type 1} → statement M
+nengapiko-master-start-spec =
+    tie.close
+    (tie.spec
+    (λ c κs. search needs)
+    (λ c κs. search needs)
+    (λ c. search (needs, arguments)))

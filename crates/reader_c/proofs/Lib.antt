@@ -1,0 +1,2 @@
+-- The law by which the reader's tick is proved.
+pub mod Ticks

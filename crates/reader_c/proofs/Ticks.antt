@@ -1,0 +1,30 @@
+-- A tick of the reader by what its parts gave.
+use Prim.Native.Nat.{ℕ}
+use mathlib.Core.List.{List}
+use mathlib.Core.Path.{_≡_, sym, ap, subst, _∙_}
+use Rattle.line.specs.Reader.{taken, ReaderTakeIs}
+use Rattle.line.specs.declared.Heard.{Heard}
+use Rattle.line.specs.declared.Receiver.{Receiver}
+use Rattle.line.specs.declared.Taken.{Taken}
+use Rattle.words.specs.Reader.{receiverWords}
+use Rattle.words.specs.Numbers.{tickNumbers}
+use Rattle.words.specs.Fits.{ReceiverFits}
+use Rattle.words.proofs.Kept.{receiver-kept}
+use Rattle.reader_c.specs.Tick.{unpacked, StepIs}
+
+by-reader : (r : Receiver) (heard : Heard) (before after words results : List ℕ) (t : Taken)
+    → ReaderTakeIs r heard before t after → ReceiverFits (t .receiver) → words ≡ receiverWords (t .receiver) → results ≡ tickNumbers 0 0 0 (t .event)
+    → StepIs r heard before words after results
+by-reader r heard before after words results t v f w n = record {
+  words-are = w ∙ ap (λ (x : Taken). receiverWords (x .receiver)) (v .reader);
+  unpacked-is = ap unpacked w ∙ receiver-kept (t .receiver) f ∙ ap (λ (x : Taken). x .receiver) (v .reader);
+  bytes-are = v .buffer;
+  results-are = n ∙ ap (λ (x : Taken). tickNumbers 0 0 0 (x .event)) (v .reader);
+}
+
+-- of the reader that the words were
+pub tick-is : (old : List ℕ) (r : Receiver) (heard : Heard) (before after words results : List ℕ) (t : Taken)
+    → r ≡ unpacked old → ReaderTakeIs r heard before t after → ReceiverFits (t .receiver) → words ≡ receiverWords (t .receiver) → results ≡ tickNumbers 0 0 0 (t .event)
+    → StepIs (unpacked old) heard before words after results
+tick-is old r heard before after words results t d v f w n =
+    subst (λ (x : Receiver). StepIs x heard before words after results) d (by-reader r heard before after words results t v f w n)

@@ -1,0 +1,11 @@
+use borrow.Author.Needs.{needs}
+use Rattle.reader_c.proofs.start.Statement.{statement}
+use Rattle.reader_c.proofs.start.Tie as tie
+
+pub start-spec : {M : Type 1} → statement M
+start-spec =
+    tie.close
+    (tie.spec
+    (λ c κs. search needs)
+    (λ c κs. search needs)
+    (λ c. cc))

@@ -1,0 +1,21 @@
+-- How the code stands for what is to be believed.
+-- The tick reader's tick, over its words and the lent buffer for the data of the frame that it hears.
+use mathlib.Core.List.{List}
+use mathlib.Core.Path.{_≡_}
+use Prim.Native.Nat.{ℕ}
+use Rattle.line.specs.Reader.{taken, takenData}
+use Rattle.line.specs.declared.Heard.{Heard}
+use Rattle.line.specs.declared.Receiver.{Receiver}
+use Rattle.words.specs.Reader.{receiverWords, receiverAt}
+use Rattle.words.specs.Numbers.{tickNumbers}
+
+-- the reader that some words are; its words are 16
+abbrev pub unpacked : List ℕ → Receiver
+unpacked words = receiverAt words 0
+
+-- what a call leaves behind a tick of this reader: the words, the data and the results
+pub record StepIs (r : Receiver) (heard : Heard) (before words bytes results : List ℕ) : Type 0 where
+  pub words-are : words ≡ receiverWords (taken r heard .receiver)
+  pub unpacked-is : unpacked words ≡ taken r heard .receiver
+  pub bytes-are : bytes ≡ takenData r heard before
+  pub results-are : results ≡ tickNumbers 0 0 0 (taken r heard .event)
