@@ -35,7 +35,7 @@ enum nengapiko_type {
     NENGAPIKO_ACK = 6   /* a device's answer */
 };
 
-/* What a write, a read, a master's start and its tick return: document 01's numbers. */
+/* What a write, a read, a master's start and its tick return: document 01's numbers; and the refusal of the modem chip. */
 enum nengapiko_answer {
     NENGAPIKO_TAKEN = 0,                  /* written, read, started; or the request was taken, or there was none */
     NENGAPIKO_REFUSED_PROFILE = 1,        /* start: a profile that document 01 does not allow */
@@ -51,7 +51,8 @@ enum nengapiko_answer {
     NENGAPIKO_REFUSED_ENDS_EARLY = 13,    /* read: the bytes end before the frame does */
     NENGAPIKO_REFUSED_UNSOUND = 14,       /* read: an ACK or BACK with count below 2, else a wrong check byte */
     NENGAPIKO_REFUSED_BUFFER_SHORT = 15,  /* write: the frame does not fit from the place named */
-    NENGAPIKO_REFUSED_REVISION = 17       /* request: revision outside 3 to 7 */
+    NENGAPIKO_REFUSED_REVISION = 17,      /* request: revision outside 3 to 7 */
+    NENGAPIKO_REFUSED_REGISTER = 19       /* modem chip: a write to byte 0 or 3 to 7, or any byte above 7 */
 };
 
 /* The longest frame, in bytes: 20 preambles, a long address, 255 data bytes. */

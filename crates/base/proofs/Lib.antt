@@ -2,3 +2,4 @@
 pub mod Choices
 pub mod Stores
 pub mod Tables
+mod Numbers

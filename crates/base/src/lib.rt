@@ -1,9 +1,9 @@
-// What every layer shares: the refusals of document 01, and a range test.
+// What every layer shares: the refusals of documents 01 and 02, and a range test.
 ghost use mathlib.Core.Path.{_≡_};
 ghost use Rattle.base.specs.Choice.{_outside_to_};
 ghost use Rattle.base.specs.Refusal.{number};
 
-// Why a call is refused. Each is a number of document 01's table.
+// Why a call is refused. Each is a number of document 01's table, the last of document 02, item 5.
 pub enum Refusal {
     BadProfile,
     BadRetries,
@@ -21,6 +21,7 @@ pub enum Refusal {
     Unsound,
     BufferShort,
     Revision,
+    Register,
 }
 
 impl Refusal {
@@ -45,6 +46,7 @@ impl Refusal {
             Refusal::Unsound => 14,
             Refusal::BufferShort => 15,
             Refusal::Revision => 17,
+            Refusal::Register => 19,
         }
     }
 }

@@ -1,0 +1,2 @@
+-- The laws by which a script of accesses is proved.
+pub mod Script

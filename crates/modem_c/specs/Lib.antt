@@ -1,0 +1,2 @@
+-- The modem chip over a script of accesses.
+pub mod Script

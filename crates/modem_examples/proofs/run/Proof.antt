@@ -1,0 +1,29 @@
+use Prim.Native.Nat.{_-_, _≤_}
+use borrow.Author.Needs.{needs}
+use Rattle.modem_examples.proofs.run.Statement.{statement}
+use Rattle.modem_examples.proofs.run.Tie as tie
+
+abbrev Inv-loop : tie.InvT-loop
+Inv-loop frame₀ bytes₀ x₀ m₀ carried₀ next₀ t15 frame bytes x m carried next = next ≤ 60
+
+abbrev μ-loop : tie.MeasureT-loop
+μ-loop frame₀ bytes₀ x₀ m₀ carried₀ next₀ t15 frame bytes x m carried next = 60 - next
+
+pub run-spec : {M : Type 1} → statement M
+run-spec =
+    tie.close
+    (tie.spec
+    Inv-loop
+    μ-loop
+    (λ c κs. search needs)
+    (λ c κs. search needs)
+    (λ c. search needs)
+    (λ c. search needs)
+    (λ c κs. search needs)
+    (λ c. search needs)
+    (λ c κs. search needs)
+    (λ c κs. search needs)
+    (λ c κs. search needs)
+    (λ c. search needs)
+    (λ c. search needs)
+    (λ c. search needs))

@@ -1,0 +1,96 @@
+-- A master behind a chip: it is deaf in the tick behind its own sending, and deaf it does what it does in silence.
+use Prim.Native.Nat.{ℕ, _+_}
+use native.Mathlib.Omega.{arith}
+use mathlib.Core.Bool.{Bool, true, false}
+use mathlib.Core.List.{List}
+use mathlib.Core.Path.{_≡_, refl, sym, ap, ap₂, _∙_}
+use lib.ListN.{length}
+use Rattle.base.specs.Refusal.{Called, accepted, refused}
+use Rattle.base.specs.Choice.{if_then_else_, _<?_}
+use Rattle.base.proofs.Choices.{if-is-true}
+use Rattle.frame.specs.Frame.{frameBytes}
+use Rattle.line.specs.Reader.{takenData}
+use Rattle.line.specs.declared.Event.{Event}
+use Rattle.line.specs.declared.Heard.{Heard}
+use Rattle.line.specs.declared.Heard.the-variants.{Silence}
+use Rattle.turns.specs.Master.{masterTakes, masterSends, requested, onHeard, tells, oneMore, sendsBy, sendsAt, requestHeader}
+use Rattle.turns.specs.Link.{MasterSide, MasterStep, MasterCall, no-request, requests, masterData, masterCalled, masterCalls, masterTick}
+use Rattle.turns.specs.declared.Sent.{Sent}
+use Rattle.turns.specs.declared.Stage.{Stage}
+use Rattle.turns.specs.declared.Stage.the-variants.{Free, Waiting, Sending, Awaiting}
+use Rattle.turns.specs.declared.Master.{Master}
+use Rattle.turns.specs.declared.MasterTaken.{MasterTaken}
+use Rattle.turns.specs.declared.MasterSent.{MasterSent}
+use Rattle.turns.specs.declared.MasterTold.{MasterTold}
+use Rattle.modem_party.specs.Behind.{Step, HearsNot}
+use Rattle.modem_party.specs.Ticks.{masterStep, masterDeaf, MasterSame}
+use Rattle.modem_party.proofs.Same.{behind-chip-same}
+
+-- ---- deaf, it takes nothing
+
+module _ (x : MasterSide) (d : x .master .deaf ≡ true) where
+  data-deaf : (h : Heard) → masterData x h ≡ x .bytes
+  data-deaf h = if-is-true (x .master .deaf) (x .bytes) (takenData (x .master .receiver) h (x .bytes)) d
+
+  takes-deaf : (h : Heard) (bytes : List ℕ) → masterTakes (x .master) h bytes ≡ tells (x .master) MasterTold.Nothing Event.Nothing
+  unfolding masterTakes
+  takes-deaf h bytes = if-is-true (x .master .deaf) _ (onHeard (x .master) h bytes) d
+
+  ticks-deaf : (limit : ℕ) (h : Heard) (c : MasterCall) → masterTick limit x h c ≡ masterCalls limit (tells (x .master) MasterTold.Nothing Event.Nothing) c (x .frame) (x .bytes)
+  unfolding masterTick
+  ticks-deaf limit h c = ap₂ (λ (t : MasterTaken) (b : List ℕ). masterCalls limit t c (x .frame) b) (takes-deaf h (masterData x h)) (data-deaf h)
+
+  ignores : (limit : ℕ) (h : Heard) (c : MasterCall) → masterTick limit x h c ≡ masterTick limit x Silence c
+  ignores limit h c = ticks-deaf limit h c ∙ sym (ticks-deaf limit Silence c)
+
+-- ---- if it sent, it is deaf
+
+abbrev DeafIf : MasterSent → Type 0
+DeafIf u = (c : ℕ) → u .sent ≡ Sent.Character c → u .master .deaf ≡ true
+
+either : (b : Bool) (u v : MasterSent) → DeafIf u → DeafIf v → DeafIf (if b then u else v)
+unfolding if_then_else_
+either true u v p q = p
+either false u v p q = q
+
+not-silent : {A : Type 0} (c : ℕ) → Sent.Silent ≡ Sent.Character c → A
+not-silent c e = let z : _≡_ {A = ℕ} 0 1 = cc in absurd (omega arith)
+
+at-deaf : (m : Master) (frame : List ℕ) (n attempts : ℕ) → DeafIf (sendsAt m frame n attempts)
+at-deaf m frame n attempts = either (n + 1 <? m .message .length) _ _ (λ c e. refl) (λ c e. refl)
+
+by-deaf : (m : Master) (frame : List ℕ) (s : Stage) → DeafIf (sendsBy m frame s)
+by-deaf m frame Free = λ c e. not-silent c e
+by-deaf m frame Waiting = either (0 <? m .timer .window) _ _ (at-deaf m frame 0 (oneMore (m .retries) (m .message .attempts))) (λ c e. not-silent c e)
+by-deaf m frame (Sending n) = at-deaf m frame n (m .message .attempts)
+by-deaf m frame (Awaiting n) = λ c e. not-silent c e
+
+sends-deaf : (m : Master) (frame : List ℕ) → DeafIf (masterSends m frame)
+unfolding masterSends
+sends-deaf m frame = by-deaf m frame (m .message .stage)
+
+abbrev DeafStep : MasterStep → Type 0
+DeafStep u = (c : ℕ) → u .sent ≡ Sent.Character c → u .side .master .deaf ≡ true
+
+called-deaf : (r : Called Master) (m : Master) (put frame bytes : List ℕ) (told : MasterTold) → DeafStep (masterCalled r m put frame bytes told)
+called-deaf (accepted n) m put frame bytes told c e = sends-deaf _ _ c e
+called-deaf (refused why) m put frame bytes told c e = sends-deaf _ _ c e
+
+calls-deaf : (limit : ℕ) (t : MasterTaken) (k : MasterCall) (frame bytes : List ℕ) → DeafStep (masterCalls limit t k frame bytes)
+calls-deaf limit t no-request frame bytes c e = sends-deaf _ _ c e
+calls-deaf limit t (requests q put) frame bytes c e = called-deaf (requested limit (t .master) q (length put)) (t .master) _ frame bytes (t .told) c e
+
+ticked-deaf : (limit : ℕ) (x : MasterSide) (h : Heard) (k : MasterCall) → DeafStep (masterTick limit x h k)
+unfolding masterTick
+ticked-deaf limit x h k = calls-deaf limit (masterTakes (x .master) h (masterData x h)) k (x .frame) (masterData x h)
+
+-- ---- behind a chip
+
+pub master-hears-not : (limit : ℕ) → HearsNot (masterStep limit) masterDeaf
+master-hears-not limit = record {
+  ignores = λ s h c d. ap (λ (u : MasterStep). record { behind = u .side; sent = u .sent; told = u }) (ignores s d limit h c);
+  sends-deaf = λ s h c k e. ticked-deaf limit s h c k e;
+}
+
+pub master-same : (limit : ℕ) → MasterSame limit
+master-same limit = behind-chip-same (masterStep limit) masterDeaf (master-hears-not limit)

@@ -1,0 +1,94 @@
+-- To be believed: what the engine must do, or what is claimed of it.
+-- Document 02, item 5: "A party behind the chip that reads byte 2 in every tick must send and report, tick for tick, what it does without it." The claim, for any party.
+use Prim.Native.Nat.{ℕ}
+use mathlib.Core.Bool.{Bool, true, false}
+use mathlib.Core.List.{List, [], _∷_}
+use mathlib.Core.Path.{_≡_}
+use Rattle.line.specs.declared.Heard.{Heard}
+use Rattle.line.specs.declared.Heard.the-variants.{Silence}
+use Rattle.modem.specs.Parity.{ninth}
+use Rattle.modem.specs.Chip.{arrives, chipAfter, goesOut}
+use Rattle.modem.specs.Driver.{hears, transmits, staysSilent, wire}
+use Rattle.modem.specs.declared.Carried.{Carried}
+use Rattle.modem.specs.declared.Carried.the-variants.{Nine}
+use Rattle.modem.specs.declared.Chip.{Chip}
+use Rattle.modem.specs.declared.Mark.{Mark}
+use Rattle.turns.specs.declared.Sent.{Sent}
+
+-- ---- a party, and a list of ticks without the chip
+
+-- a party's tick: the party behind it, what it sends, and all that it tells
+pub record Step (S T : Type 0) : Type 0 where
+  pub behind : S
+  pub sent : Sent
+  pub told : T
+
+-- what is heard, the ninth bit under a mark, and the host's call
+pub record Tick (C : Type 0) : Type 0 where
+  pub heard : Heard
+  pub bit : Bool
+  pub call : C
+
+unfoldable pub plain : {S C T : Type 0} → (S → Heard → C → Step S T) → S → List (Tick C) → List (Step S T)
+plain step s [] = []
+plain step s (t ∷ ts) = step s (t .heard) (t .call) ∷ plain step (step s (t .heard) (t .call) .behind) ts
+
+-- what is asked of a party: it is deaf in the tick behind one in which it sent, and deaf it does what it does in silence (document 01: "A sending party hears nothing")
+pub record HearsNot {S C T : Type 0} (step : S → Heard → C → Step S T) (deaf : S → Bool) : Type 0 where
+  pub ignores : (s : S) (h : Heard) (c : C) → deaf s ≡ true → step s h c ≡ step s Silence c
+  pub sends-deaf : (s : S) (h : Heard) (c : C) (x : ℕ) → step s h c .sent ≡ Sent.Character x → deaf (step s h c .behind) ≡ true
+
+-- ---- the same behind a chip
+
+-- what the driver does with what the party sends
+abbrev pub says : Chip → Sent → Chip
+says x Sent.Silent = staysSilent x
+says x (Sent.Character c) = transmits x c
+
+pub record Behind (S T : Type 0) : Type 0 where
+  pub step : Step S T
+  pub chip : Chip
+  pub carried : Carried
+
+-- the party's tick is done; what it sends goes out
+abbrev pub closes : {S T : Type 0} → Chip → Step S T → Behind S T
+closes x u = record { step = u; chip = chipAfter (says x (u .sent)); carried = goesOut (says x (u .sent)) }
+
+-- a tick: the chip takes what the line carried, the driver reads, the party has its tick, the driver writes, the tick ends
+abbrev pub behindTick : {S C T : Type 0} → (S → Heard → C → Step S T) → Chip → S → Carried → C → Behind S T
+behindTick step x s w c = closes (hears (arrives x w) .chip) (step s (hears (arrives x w) .heard) c)
+
+-- what the party does in a tick, and what its line gets
+pub record OnLine (S T : Type 0) : Type 0 where
+  pub step : Step S T
+  pub carried : Carried
+
+abbrev pub onLine : {S T : Type 0} → Behind S T → OnLine S T
+onLine b = record { step = b .step; carried = b .carried }
+
+unfoldable pub chipped : {S C T : Type 0} → (S → Heard → C → Step S T) → Chip → S → List (Tick C) → List (OnLine S T)
+chipped step x s [] = []
+chipped step x s (t ∷ ts) =
+    onLine (behindTick step x s (wire (t .heard) (t .bit)) (t .call))
+    ∷ chipped step (behindTick step x s (wire (t .heard) (t .bit)) (t .call) .chip) (behindTick step x s (wire (t .heard) (t .bit)) (t .call) .step .behind) ts
+
+-- ---- the claim
+
+-- what the line carries for what a party sends
+abbrev pub wireSent : Sent → Carried
+wireSent Sent.Silent = Carried.Silence
+wireSent (Sent.Character c) = Nine c (ninth c) Mark.Sound
+
+unfoldable pub wired : {S T : Type 0} → List (Step S T) → List (OnLine S T)
+wired [] = []
+wired (u ∷ us) = record { step = u; carried = wireSent (u .sent) } ∷ wired us
+
+-- a chip between two ticks of a party: byte 2 is read, nothing is written, and it is deaf only if the party is. A fresh one is so.
+pub record Rests (x : Chip) (deaf : Bool) : Type 0 where
+  pub read-out : x .received ≡ false
+  pub ready : x .ready ≡ true
+  pub nothing-left : x .sending ≡ false
+  pub deaf-too : x .deaf ≡ true → deaf ≡ true
+
+abbrev pub BehindSame : {S C T : Type 0} → (S → Heard → C → Step S T) → (S → Bool) → Type 0
+BehindSame {S} {C} {T} step deaf = (x : Chip) (s : S) (ts : List (Tick C)) → Rests x (deaf s) → chipped step x s ts ≡ wired (plain step s ts)

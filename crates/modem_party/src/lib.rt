@@ -1,0 +1,83 @@
+// A master and a device behind a modem chip. A tick: the chip takes what the line carried, the driver reads the registers, the party has its tick, the driver writes what it sends, and the tick ends.
+use device_tick::DeviceTicked;
+use master::MasterTicked;
+use modem::Carried;
+use modem::Chip;
+use modem::TickEnded;
+use turns::Device;
+use turns::Master;
+use turns::Sent;
+ghost use mathlib.Core.Path.{_≡_};
+ghost use Rattle.modem_party.specs.Behind.{says};
+ghost use Rattle.modem_party.specs.Ticks.{MasterBehindIs, DeviceBehindIs};
+
+// A master behind a tick, and its chip with what goes out.
+pub struct MasterBehind {
+    pub ticked: MasterTicked,
+    pub ended: TickEnded,
+}
+
+// A device behind a tick, and its chip with what goes out.
+pub struct DeviceBehind {
+    pub ticked: DeviceTicked,
+    pub ended: TickEnded,
+}
+
+// What the driver does with what a party sends.
+pub fn say(x: Chip, sent: Sent) -> Chip
+    ensures { λ r. ⌜ r ≡ says x sent ⌝ }
+{
+    match sent {
+        Sent::Silent => modem::stay_silent(x),
+        Sent::Character(c) => modem::transmit(x, c),
+    }
+}
+
+// A tick of a master behind a chip, with what the line carried in the tick before. Lent is what a master's tick is lent.
+pub fn master_tick(
+    x: Chip,
+    carried: Carried,
+    m: Master,
+    call: master::MasterHostCall,
+    put: &[u8],
+    frame: &mut [u8; 284],
+    bytes: &mut [u8; 255],
+) -> MasterBehind
+    ensures { λ r. ⌜ MasterBehindIs x carried m call (now (put .entry)) (now (frame .entry)) (now (bytes .entry)) r (now (frame .exit)) (now (bytes .exit)) ⌝ }
+{
+    let h = modem::hear(modem::arrive(x, carried));
+    let chip = h.chip;
+    let heard = h.heard;
+    let ticked = master::tick(m, heard, call, put, frame, bytes);
+    let sent = ticked.sent;
+    let ended = modem::end_tick(say(chip, sent));
+    MasterBehind {
+        ticked: ticked,
+        ended: ended,
+    }
+}
+
+// A tick of a device behind a chip, with what the line carried in the tick before. Lent is what a device's tick is lent.
+pub fn device_tick(
+    x: Chip,
+    carried: Carried,
+    d: Device,
+    call: device_tick::DeviceHostCall,
+    put: &[u8],
+    contents: &mut [u8; 255],
+    frame: &mut [u8; 284],
+    bytes: &mut [u8; 255],
+) -> DeviceBehind
+    ensures { λ r. ⌜ DeviceBehindIs x carried d call (now (put .entry)) (now (frame .entry)) (now (bytes .entry)) (now (contents .entry)) r (now (frame .exit)) (now (bytes .exit)) (now (contents .exit)) ⌝ }
+{
+    let h = modem::hear(modem::arrive(x, carried));
+    let chip = h.chip;
+    let heard = h.heard;
+    let ticked = device_tick::tick(d, heard, call, put, contents, frame, bytes);
+    let sent = ticked.sent;
+    let ended = modem::end_tick(say(chip, sent));
+    DeviceBehind {
+        ticked: ticked,
+        ended: ended,
+    }
+}
