@@ -10,7 +10,7 @@ pub extern "C" fn nengapiko_check_words(x: u8, bytes: &[u8], start: usize, count
 {
     if start <= bytes.len() {
         if count <= bytes.len() - start {
-            return frame::xor_from(x, &bytes[start..start + count]);
+            return check_words::xor_from(x, &bytes[start..start + count]);
         }
         return x;
     }

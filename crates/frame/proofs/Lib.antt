@@ -1,7 +1,5 @@
 -- The laws and theorems of the frame's definitions.
 pub mod Checks
-pub mod Xors
-pub mod Words
 pub mod Delimiters
 pub mod Lengths
 pub mod Longest

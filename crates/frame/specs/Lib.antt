@@ -3,7 +3,6 @@ pub mod Limits
 pub mod Delimiter
 pub mod Address
 pub mod Check
-pub mod Words
 pub mod Frame
 pub mod Write
 pub mod Read

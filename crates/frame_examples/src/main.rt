@@ -82,7 +82,7 @@ fn show_check(bytes: &[u8]) {
     text(b"check");
     hexadecimal(bytes);
     text(b":");
-    digits(frame::xor_from(0, bytes));
+    digits(check_words::xor_from(0, bytes));
     text(b"\n");
 }
 

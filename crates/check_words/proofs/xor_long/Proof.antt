@@ -1,7 +1,7 @@
 use borrow.Author.Needs.{needs}
-use Rattle.frame.proofs.Words.{two-words, all-words}
-use Rattle.frame.proofs.xor_long.Statement.{statement}
-use Rattle.frame.proofs.xor_long.Tie as tie
+use Rattle.check_words.proofs.Words.{two-words, all-words}
+use Rattle.check_words.proofs.xor_long.Statement.{statement}
+use Rattle.check_words.proofs.xor_long.Tie as tie
 
 pub xor-long-spec : {M : Type 1} → statement M
 xor-long-spec =

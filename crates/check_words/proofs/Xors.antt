@@ -6,7 +6,7 @@ use mathlib.Core.Path.{_≡_, refl, sym, ap, ap₂, _∙_}
 use lib.Arith.{bin-ind}
 use lib.Bits.{bitXor, differ, xor-step, xor-shr, xor-mod, xor-comm, xor-lt}
 use lib.Pow.{high, low, pow-pos, shr-lt}
-use Rattle.frame.specs.Words.{halves, folded}
+use Rattle.check_words.specs.Words.{halves, folded}
 
 -- ---- associativity, bit by bit
 

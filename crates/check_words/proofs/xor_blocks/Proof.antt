@@ -1,8 +1,8 @@
 use Prim.Native.Nat.{_-_}
 use borrow.Author.Needs.{needs}
-use Rattle.frame.proofs.Words.{Blocked, blocked-none, blocked-more, blocked-all}
-use Rattle.frame.proofs.xor_blocks.Statement.{statement}
-use Rattle.frame.proofs.xor_blocks.Tie as tie
+use Rattle.check_words.proofs.Words.{Blocked, blocked-none, blocked-more, blocked-all}
+use Rattle.check_words.proofs.xor_blocks.Statement.{statement}
+use Rattle.check_words.proofs.xor_blocks.Tie as tie
 
 abbrev Inv-loop : tie.InvT-loop
 Inv-loop x bytes n a₀ b₀ i₀ a b i = Blocked x bytes n a b i

@@ -9,10 +9,10 @@ use lib.Bits.{bitXor, xor-zero-r}
 use lib.ListN.{length, take, drop, getD, take-append-drop, length-take, length-drop}
 use lib.Pow.{high, pow-add, pow-pos}
 use lib.Seq.{take-add, take-at, take-all, drop-at, drop-drop, drop-cons, length-take-le}
 use Rattle.frame.specs.Check.{xorFrom, exclusiveOr}
-use Rattle.frame.specs.Words.{xorAt, everyOther, halves, folded, number, Bytes, none, byte-and, NumberIs}
+use Rattle.check_words.specs.Words.{xorAt, everyOther, halves, folded, number, Bytes, none, byte-and, NumberIs}
 use Rattle.frame.proofs.Checks.{xor-append}
-use Rattle.frame.proofs.Xors.{xor-assoc, xor-swap, xor-pairs, halves-xor, halves-join, folded-small, folded-xor}
+use Rattle.check_words.proofs.Xors.{xor-assoc, xor-swap, xor-pairs, halves-xor, halves-join, folded-small, folded-xor}
 
 -- ---- neighbouring parts
 

@@ -1,8 +1,8 @@
 use Prim.Native.Nat.{_-_}
 use borrow.Author.Needs.{needs}
-use Rattle.frame.proofs.Words.{Worded, worded-none, worded-more, worded-all}
-use Rattle.frame.proofs.xor_words.Statement.{statement}
-use Rattle.frame.proofs.xor_words.Tie as tie
+use Rattle.check_words.proofs.Words.{Worded, worded-none, worded-more, worded-all}
+use Rattle.check_words.proofs.xor_words.Statement.{statement}
+use Rattle.check_words.proofs.xor_words.Tie as tie
 
 abbrev Inv-loop : tie.InvT-loop
 Inv-loop first bytes start count sum₀ i₀ sum i = Worded first bytes start count sum i

@@ -1,7 +1,7 @@
 use borrow.Author.Needs.{needs}
-use Rattle.frame.proofs.Words.{quad-is}
-use Rattle.frame.proofs.quad.Statement.{statement}
-use Rattle.frame.proofs.quad.Tie as tie
+use Rattle.check_words.proofs.Words.{quad-is}
+use Rattle.check_words.proofs.quad.Statement.{statement}
+use Rattle.check_words.proofs.quad.Tie as tie
 
 pub quad-spec : {M : Type 1} → statement M
 quad-spec =

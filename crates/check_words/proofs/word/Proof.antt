@@ -1,7 +1,7 @@
 use borrow.Author.Needs.{needs}
-use Rattle.frame.proofs.Words.{word-is}
-use Rattle.frame.proofs.word.Statement.{statement}
-use Rattle.frame.proofs.word.Tie as tie
+use Rattle.check_words.proofs.Words.{word-is}
+use Rattle.check_words.proofs.word.Statement.{statement}
+use Rattle.check_words.proofs.word.Tie as tie
 
 pub word-spec : {M : Type 1} → statement M
 word-spec =

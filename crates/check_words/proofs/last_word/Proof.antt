@@ -1,7 +1,7 @@
 use borrow.Author.Needs.{needs}
-use Rattle.frame.proofs.Words.{last-word}
-use Rattle.frame.proofs.last_word.Statement.{statement}
-use Rattle.frame.proofs.last_word.Tie as tie
+use Rattle.check_words.proofs.Words.{last-word}
+use Rattle.check_words.proofs.last_word.Statement.{statement}
+use Rattle.check_words.proofs.last_word.Tie as tie
 
 pub last-word-spec : {M : Type 1} → statement M
 last-word-spec =

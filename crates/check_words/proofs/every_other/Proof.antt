@@ -1,7 +1,7 @@
 use borrow.Author.Needs.{needs}
-use Rattle.frame.proofs.Words.{four-words}
-use Rattle.frame.proofs.every_other.Statement.{statement}
-use Rattle.frame.proofs.every_other.Tie as tie
+use Rattle.check_words.proofs.Words.{four-words}
+use Rattle.check_words.proofs.every_other.Statement.{statement}
+use Rattle.check_words.proofs.every_other.Tie as tie
 
 pub every-other-spec : {M : Type 1} → statement M
 every-other-spec =

@@ -1,8 +1,8 @@
 use borrow.Author.Needs.{needs}
-use Rattle.frame.specs.Words.{halves}
-use Rattle.frame.proofs.Words.{folded-word}
-use Rattle.frame.proofs.fold.Statement.{statement}
-use Rattle.frame.proofs.fold.Tie as tie
+use Rattle.check_words.specs.Words.{halves}
+use Rattle.check_words.proofs.Words.{folded-word}
+use Rattle.check_words.proofs.fold.Statement.{statement}
+use Rattle.check_words.proofs.fold.Tie as tie
 
 returns : tie.Need-returns
 unfolding halves

@@ -1,7 +1,7 @@
 use borrow.Author.Needs.{needs}
-use Rattle.frame.proofs.Words.{pair-is}
-use Rattle.frame.proofs.pair.Statement.{statement}
-use Rattle.frame.proofs.pair.Tie as tie
+use Rattle.check_words.proofs.Words.{pair-is}
+use Rattle.check_words.proofs.pair.Statement.{statement}
+use Rattle.check_words.proofs.pair.Tie as tie
 
 pub pair-spec : {M : Type 1} → statement M
 pair-spec =

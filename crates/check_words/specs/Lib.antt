@@ -1,0 +1,2 @@
+-- What the functions that work the exclusive-or out by words promise.
+pub mod Words
