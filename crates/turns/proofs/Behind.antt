@@ -40,7 +40,7 @@ use Rattle.turns.proofs.OutOfStep.{nobody, BothSpeak}
 use Rattle.turns.proofs.Overlap as O
 use Rattle.turns.proofs.Overlap.{TailSends, TailTick, tail-tick, BothTick, both-tick}
 use Rattle.turns.proofs.NoBurst.{NoBurstIn, no-burst-fair}
-use Rattle.turns.proofs.Course.{BothIn, ReadyAfter, sent-ready, AllWait, InTime, all-none, all-cons, Ends, no-frame, frame-and, sent-framed, Behind, Overlapping, has-ended, goes-on}
+use Rattle.turns.proofs.LateTicks.{BothIn, ReadyAfter, sent-ready, AllWait, InTime, all-none, all-cons, Ends, no-frame, frame-and, sent-framed, Behind, Overlapping, has-ended, goes-on}
 use Rattle.turns.proofs.FrameEnds.{ends-from, ends-run, framed-run}
 
 pub all-fair : {ss : List LinkStep} → EachTick NoBurstIn ss → EachTick Fair ss

@@ -30,7 +30,7 @@ use Rattle.turns.proofs.AckBack.{AckTick, BackTick, ack-tick, back-tick
 use Rattle.turns.proofs.NoTwoSend as N
 use Rattle.turns.proofs.NoTwoSend.{Phase, heardTick, tick-is, phase-tick, silent-none, none-carried, most}
 use Rattle.turns.proofs.Readers.{reading, Reads, spoke, listened, tick-reads}
-use Rattle.turns.proofs.Course.{SharedBy, Ends, no-end, end-and, Framed, no-frame, frame-and}
+use Rattle.turns.proofs.LateTicks.{SharedBy, Ends, no-end, end-and, Framed, no-frame, frame-and}
 
 -- a device's character on the line has its sender
 carried-some : (ss : List DeviceStep) {c : ℕ} → carried ss ≡ Character c → deviceSenders ss ≡ 0 → ⊥

@@ -23,9 +23,9 @@ use Rattle.turns.proofs.KeptLink.{LinkKept, fresh-kept}
 use Rattle.turns.proofs.Tags.{AllOwe, all-tick, sole}
 use Rattle.turns.proofs.NoBurst.{NoBurstIn}
 use Rattle.turns.proofs.Readers.{Beside, primary-heard, secondary-heard}
-use Rattle.turns.proofs.Course.{Course, BeginFrom, at-most-one, two-send, ClaimedIn, both-sent, frame-ended, in-time, framed-in}
+use Rattle.turns.proofs.LateTicks.{LateTicks, BeginFrom, at-most-one, two-send, ClaimedIn, both-sent, frame-ended, in-time, framed-in}
 use Rattle.turns.proofs.NoneOn.{started-none, started-kept, started-owe}
-use Rattle.turns.proofs.Late.{common-start, late-course}
+use Rattle.turns.proofs.Late.{common-start, every-late-run}
 
 -- ---- the premises, tick by tick
 
@@ -57,7 +57,7 @@ at-most zero f = omega arith
 at-most (suc zero) f = omega arith
 at-most (suc (suc n)) f = absurd (f (omega arith))
 
-overlap-of : {limit : ℕ} {p : Profile} {retries a b : ℕ} {steps : List LinkStep} → Course limit p retries a b 0 steps → OneOverlap limit steps
+overlap-of : {limit : ℕ} {p : Profile} {retries a b : ℕ} {steps : List LinkStep} → LateTicks limit p retries a b 0 steps → OneOverlap limit steps
 overlap-of {limit} {p} {retries} {a} {b} {steps} c = record {
   at-most-one = one;
   two-send = two;
@@ -100,24 +100,24 @@ common-premises {limit} {p} {retries} {l} {ticks} k off = record {
     now none = none
     now (and s ss) = and (starts-now s) (now ss)
 
-pub course-of : (limit : ℕ) → 2 ≤ limit → limit ≤ 255 → (p : Profile) (retries a b : ℕ) (l : Link) (ticks : List Calls) → LatePremises limit p retries a b l ticks → Course limit p retries a b 0 (lateRun limit a b l ticks)
-course-of limit low high p retries a b l ticks k =
+pub late-ticks-of : (limit : ℕ) → 2 ≤ limit → limit ≤ 255 → (p : Profile) (retries a b : ℕ) (l : Link) (ticks : List Calls) → LatePremises limit p retries a b l ticks → LateTicks limit p retries a b 0 (lateRun limit a b l ticks)
+late-ticks-of limit low high p retries a b l ticks k =
     let v = valid p (k .made) in
     let kept : LinkKept limit retries l = record { primary = fresh-kept limit (k .primary); secondary = fresh-kept limit (k .secondary); devices = started-kept limit low p (l .line) (k .devices) } in
-    late-course limit low high p v retries a b l ticks kept (k .primary) (k .secondary) (k .distinct) (started-none limit low high p v (l .line) (k .devices))
+    every-late-run limit low high p v retries a b l ticks kept (k .primary) (k .secondary) (k .distinct) (started-none limit low high p v (l .line) (k .devices))
     (both (k .none-bursts) (late-tag limit a b (blanks (l .devices)) l ticks (started-owe limit low high p v (l .line) (k .devices)) (k .one-finds)))
 
 pub item-14 : (limit : ℕ) → 2 ≤ limit → limit ≤ 255 → Item14 limit
 item-14 limit low high p retries a b l ticks k = record {
-  one-overlap = overlap-of course;
-  waits = λ bit t s after q z. in-time course bit t s after q (claimed t z);
+  one-overlap = overlap-of late-ticks;
+  waits = λ bit t s after q z. in-time late-ticks bit t s after q (claimed t z);
   seen-is-shared = λ u t f. heard-is (sym (primary-heard limit high a b l ticks _ (start-beside (k .primary)) t)) (sym (secondary-heard limit high a b l ticks _ (start-beside (k .secondary)) t))
-      (framed-in course u t (omega (arith, f .primary-on)) (omega (arith, f .secondary-on)) (f .silent-before) (f .one-sends (suc u) (omega arith) (omega (arith, f .some))) (f .some)
+      (framed-in late-ticks u t (omega (arith, f .primary-on)) (omega (arith, f .secondary-on)) (f .silent-before) (f .one-sends (suc u) (omega arith) (omega (arith, f .some))) (f .some)
       (record { one-sends = f .one-sends t (f .some) (omega arith); silent-behind = f .silent-behind; in-the-run = f .in-the-run }));
 }
   where
-    course : Course limit p retries a b 0 (lateRun limit a b l ticks)
-    course = course-of limit low high p retries a b l ticks k
+    late-ticks : LateTicks limit p retries a b 0 (lateRun limit a b l ticks)
+    late-ticks = late-ticks-of limit low high p retries a b l ticks k
 
     claimed : (t : ℕ) → Claimed a b (lateRun limit a b l ticks) t → ClaimedIn (lateRun limit a b l ticks) t
     claimed t (behind-overlap u less z) = both-sent u less (z .primary-sends) (z .secondary-sends)

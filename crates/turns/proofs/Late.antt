@@ -1,4 +1,4 @@
--- Every run whose masters start at ticks of their own takes the course of proofs/Course: one walk over its stages, no master on, one on, both on.
+-- Every run whose masters start at ticks of their own goes as proofs/LateTicks says: one walk over its stages, no master on, one on, both on.
 use Prim.Native.Nat.{ℕ, zero, suc, _-_, _≤_}
 use native.Mathlib.Omega.{arith}
 use mathlib.Core.Path.{_≡_, refl, sym, ap, subst, _∙_}
@@ -39,7 +39,7 @@ use Rattle.turns.proofs.Passing.{MasterPasses, PassesOn, passes-on}
 use Rattle.turns.proofs.Idle.{free-tick}
 use Rattle.turns.proofs.NoBurst.{NoBurstIn, NoBurst, no-burst-silent, no-burst-stx, no-burst-ack, no-burst-fair}
 use Rattle.turns.proofs.Readers.{reading}
-use Rattle.turns.proofs.Course.{ReadyAfter, SharedBy, no-end, Begun, Course, ended, not-yet, in-step, overlaps}
+use Rattle.turns.proofs.LateTicks.{ReadyAfter, SharedBy, no-end, Begun, LateTicks, ended, not-yet, in-step, overlaps}
 use Rattle.turns.proofs.Behind.{both-in, enter-behind, enter-ends, overlap-run}
 use Rattle.turns.proofs.NoneOn.{NoneOn, rests-ready, none-tick, rests-none, first-line}
 use Rattle.turns.proofs.OneOn.{beside, OneOn, one-on, CameIn, BothOn, both-quiet, other-passes, both-on, any-step, fresh-came, passed-came}
@@ -122,15 +122,15 @@ common-start limit l (c ∷ cs) = ap (λ (ss : List LinkStep). linkTick limit l 
 module _ (limit : ℕ) (low : 2 ≤ limit) (high : limit ≤ 255) (p : Profile) (v : Valid p) (retries : ℕ) where
   -- from a tick on in which both masters are on; n parties sent in the tick before
   record Onward (n : ℕ) (l : Link) (ss : List LinkStep) : Type 0 where
-    course : Course limit p retries 0 0 n ss
+    late-ticks : LateTicks limit p retries 0 0 n ss
     begun : l .line ≡ Silence → Begun ss
 
-  yet : (s : LinkStep) (ss : List LinkStep) {n : ℕ} → NoTwoSend s → ReadyAfter s → (SharedBy s → ⊥) → Onward (senders s) (linkAfter s) ss → Course limit p retries 0 0 n (s ∷ ss)
-  yet s ss one ready unshared r = not-yet one ready unshared (λ a b z. r .begun (none-line s z)) (r .course)
+  yet : (s : LinkStep) (ss : List LinkStep) {n : ℕ} → NoTwoSend s → ReadyAfter s → (SharedBy s → ⊥) → Onward (senders s) (linkAfter s) ss → LateTicks limit p retries 0 0 n (s ∷ ss)
+  yet s ss one ready unshared r = not-yet one ready unshared (λ a b z. r .begun (none-line s z)) (r .late-ticks)
 
   -- the other one has come in, or passes over a character
   came : (bit : Bool) (s : LinkStep) (ss : List LinkStep) {n : ℕ} → OneOn p bit (linkAfter s) → otherStep bit s .sent ≡ Silent → CameIn p (not bit) (otherStep bit s .side)
-      → (BothOn p (linkAfter s) → Onward (senders s) (linkAfter s) ss) → Course limit p retries 0 0 n (s ∷ ss)
+      → (BothOn p (linkAfter s) → Onward (senders s) (linkAfter s) ss) → LateTicks limit p retries 0 0 n (s ∷ ss)
   came bit s ss one e x rec = yet s ss (one-sender s (one-plain one)) (one-ready bit s one (is-ready (x .passes .receiver-is))) (no-part bit s e (passes-unheard (one-plain one) (x .passes))) (rec (both-on p v bit (linkAfter s) one (after-other bit s (CameIn p (not bit)) x)))
 
   other-passed : (bit : Bool) (l : Link) (c : Calls) {ch : ℕ} → l .line ≡ Character ch → MasterPasses p (not bit) nobody (other bit l) → PassesOn p (not bit) nobody (other bit l) (otherStep bit (linkTick limit l c))
@@ -145,12 +145,12 @@ module _ (limit : ℕ) (low : 2 ≤ limit) (high : limit ≤ 255) (p : Profile) 
 
   both-run : (l : Link) (ticks : List Calls) (n : ℕ) → (l .line ≡ Silence → n ≡ 0) → LinkKept limit retries l → BothOn p l → EachTick NoBurstIn (run limit l ticks) → Onward n l (run limit l ticks)
   unfolding run heardTick inTick
-  both-run l [] n z kept b off = record { course = ended; begun = λ e o. no-end }
+  both-run l [] n z kept b off = record { late-ticks = ended; begun = λ e o. no-end }
   both-run l (c ∷ cs) n z kept (other-passes bit ch q h x) (tick-and f fs) =
       let s = linkTick limit l c in
       let t = other-passed bit l c q x in
       record {
-        course = came bit s (run limit (linkAfter s) cs) (one-ticks bit l c (t .silent) h f) (t .silent) (passed-came t) (λ b. both-run (linkAfter s) cs (senders s) (silent-none s) (settled-kept (link-kept limit retries low high l c kept)) b fs);
+        late-ticks = came bit s (run limit (linkAfter s) cs) (one-ticks bit l c (t .silent) h f) (t .silent) (passed-came t) (λ b. both-run (linkAfter s) cs (senders s) (silent-none s) (settled-kept (link-kept limit retries low high l c kept)) b fs);
         begun = λ e. absurd (character-silence (sym q ∙ e));
       }
   both-run l (c ∷ cs) n z kept (both-quiet q o) (tick-and f fs) =
@@ -165,14 +165,14 @@ module _ (limit : ℕ) (low : 2 ≤ limit) (high : limit ≤ 255) (p : Profile) 
       kept′ = settled-kept (link-kept limit retries low high l c kept)
 
       begins : Phase p 0 (linkAfter (linkTick limit l c)) → Onward n l (run limit l (c ∷ cs))
-      begins ph = record { course = in-step (enter-behind limit low high p v retries l c cs kept ph (tick-and f fs)); begun = λ e o. enter-ends limit low high p v retries l c cs ph (tick-and f fs) }
+      begins ph = record { late-ticks = in-step (enter-behind limit low high p v retries l c cs kept ph (tick-and f fs)); begun = λ e o. enter-ends limit low high p v retries l c cs ph (tick-and f fs) }
 
       go : OutOfStepTick p (l .primary) (l .secondary) (linkTick limit l c .for-primary) (linkTick limit l c .for-secondary) (linkTick limit l c .for-devices)
           → (BothOn p (linkAfter (linkTick limit l c)) → Onward (senders (linkTick limit l c)) (linkAfter (linkTick limit l c)) (run limit (linkAfter (linkTick limit l c)) cs)) → Onward n l (run limit l (c ∷ cs))
       go (alone (T.still-silent a b d m ra rb)) rec =
           let e = carries s a b d in
           record {
-            course = yet s (run limit (linkAfter s) cs) (plain-tick s e plain-silence)
+            late-ticks = yet s (run limit (linkAfter s) cs) (plain-tick s e plain-silence)
                 (record { primary = λ i. m .primary .ready; secondary = λ i. m .secondary .ready; devices = quiet-devices (m .devices) })
                 (no-part true s b (ready-unheard e (m .secondary .listens) (m .secondary .ready))) (rec (both-quiet e m));
             begun = λ i o. absurd (omega (arith, o, silent-none s e));
@@ -182,7 +182,7 @@ module _ (limit : ℕ) (low : 2 ≤ limit) (high : limit ≤ 255) (p : Profile) 
       go (alone (T.ack-begins w message u on a b d m ra rb)) rec = begins (N.ack-sent false nobody (nextAfter false true) 0 w message u on (carries s a b d) m)
       go (alone (T.back-begins i w message u a b d m ra rb)) rec = absurd (omega (arith, i))
       go (together w message w′ message′ a b d m) rec = record {
-        course = overlaps (z q) (both-in s a b d) (overlap-run limit low high p v retries 0 w message w′ message′ (linkAfter s) cs kept′ (carries s a b d) m fs);
+        late-ticks = overlaps (z q) (both-in s a b d) (overlap-run limit low high p v retries 0 w message w′ message′ (linkAfter s) cs kept′ (carries s a b d) m fs);
         begun = λ i o. absurd (omega (arith, o, ap count a, ap count b));
       }
 
@@ -209,13 +209,13 @@ module _ (limit : ℕ) (low : 2 ≤ limit) (high : limit ≤ 255) (p : Profile) 
 
   -- the other one stays off
   stays-off : (bit : Bool) (s : LinkStep) (ss : List LinkStep) (a b : ℕ) {n : ℕ} → OneOn p bit (linkAfter s) → otherStep bit s .sent ≡ Silent → MasterStarts p (not bit) retries (otherStep bit s .side) → (a ≡ 0 → b ≡ 0 → ⊥)
-      → Course limit p retries (a - 1) (b - 1) (senders s) ss → Course limit p retries a b n (s ∷ ss)
+      → LateTicks limit p retries (a - 1) (b - 1) (senders s) ss → LateTicks limit p retries a b n (s ∷ ss)
   stays-off bit s ss a b one e m f rest =
       not-yet (one-sender s (one-plain one)) (one-ready bit s one (start-ready m))
       (no-part bit s e (off-unheard (otherStep bit s .side) (linkAfter s .line) (start-deaf m))) (λ x y. absurd (f x y)) rest
 
   primary-on : (b : ℕ) (l : Link) (ticks : List Calls) {n : ℕ} → LinkKept limit retries l → OneOn p true l → MasterStarts p false retries (l .secondary) → EachTick NoBurstIn (lateRun limit 0 b l ticks)
-      → Course limit p retries 0 b n (lateRun limit 0 b l ticks)
+      → LateTicks limit p retries 0 b n (lateRun limit 0 b l ticks)
   unfolding lateRun lateTick if_then_else_
   primary-on b l [] kept h m off = ended
   primary-on zero l (c ∷ cs) kept h m (tick-and f fs) =
@@ -228,7 +228,7 @@ module _ (limit : ℕ) (low : 2 ≤ limit) (high : limit ≤ 255) (p : Profile) 
       stays-off true s (lateRun limit 0 (suc b - 1) (linkAfter s) cs) 0 (suc b) one refl m (λ x y. omega (arith, y)) (primary-on (suc b - 1) (linkAfter s) cs (late-kept 0 (suc b) l c kept) one m fs)
 
   secondary-on : (a : ℕ) (l : Link) (ticks : List Calls) {n : ℕ} → LinkKept limit retries l → OneOn p false l → MasterStarts p true retries (l .primary) → EachTick NoBurstIn (lateRun limit a 0 l ticks)
-      → Course limit p retries a 0 n (lateRun limit a 0 l ticks)
+      → LateTicks limit p retries a 0 n (lateRun limit a 0 l ticks)
   unfolding lateRun lateTick if_then_else_
   secondary-on a l [] kept h m off = ended
   secondary-on zero l (c ∷ cs) kept h m (tick-and f fs) =
@@ -245,20 +245,20 @@ module _ (limit : ℕ) (low : 2 ≤ limit) (high : limit ≤ 255) (p : Profile) 
   free-start : {primary : Bool} {x : MasterSide} → MasterStarts p primary retries x → x .master .message .stage ≡ Free
   free-start {primary} {x} s = ap (λ (m : Master). m .message .stage) (master-is p primary retries (x .master) (s .starts))
 
-  pub late-course : (a b : ℕ) (l : Link) (ticks : List Calls) {n : ℕ} → LinkKept limit retries l → MasterStarts p true retries (l .primary) → MasterStarts p false retries (l .secondary) → Distinct (l .devices)
+  pub every-late-run : (a b : ℕ) (l : Link) (ticks : List Calls) {n : ℕ} → LinkKept limit retries l → MasterStarts p true retries (l .primary) → MasterStarts p false retries (l .secondary) → Distinct (l .devices)
       → NoneOn limit p (l .line) (l .devices) → EachTick NoBurstIn (lateRun limit a b l ticks)
-      → Course limit p retries a b n (lateRun limit a b l ticks)
+      → LateTicks limit p retries a b n (lateRun limit a b l ticks)
   unfolding lateRun lateTick if_then_else_
-  late-course a b l [] kept sa sb d z off = ended
-  late-course (suc a) (suc b) l (c ∷ cs) kept sa sb d z (tick-and f fs) =
+  every-late-run a b l [] kept sa sb d z off = ended
+  every-late-run (suc a) (suc b) l (c ∷ cs) kept sa sb d z (tick-and f fs) =
       let s = lateTick limit (suc a) (suc b) l c in
       let q = none-tick limit p (l .line) (c .for-devices) z in
       let e = carries s refl refl (all-carried q) in
       not-yet {a = suc a} {b = suc b} (plain-tick s e plain-silence)
       (record { primary = λ i. start-ready sa; secondary = λ i. start-ready sb; devices = rests-ready (all-sides q) })
       (no-part true s refl (off-unheard (l .secondary) (linkAfter s .line) (start-deaf sb))) (λ x y. absurd (omega (arith, x)))
-      (late-course (suc a - 1) (suc b - 1) (linkAfter s) cs (late-kept (suc a) (suc b) l c kept) sa sb (all-distinct q d) (subst (λ (h : Heard). NoneOn limit p h (linkAfter s .devices)) (sym e) (rests-none limit low high p v (all-sides q))) fs)
-  late-course zero (suc b) l (c ∷ cs) kept sa sb d z (tick-and f fs) =
+      (every-late-run (suc a - 1) (suc b - 1) (linkAfter s) cs (late-kept (suc a) (suc b) l c kept) sa sb (all-distinct q d) (subst (λ (h : Heard). NoneOn limit p h (linkAfter s .devices)) (sym e) (rests-none limit low high p v (all-sides q))) fs)
+  every-late-run zero (suc b) l (c ∷ cs) kept sa sb d z (tick-and f fs) =
       let s = lateTick limit 0 (suc b) l c in
       let q = none-tick limit p (l .line) (c .for-devices) z in
       let fa = fresh-master limit high p true retries (l .primary) (l .line) (c .for-primary) sa in
@@ -269,7 +269,7 @@ module _ (limit : ℕ) (low : 2 ≤ limit) (high : limit ≤ 255) (p : Profile) 
         free = free-tick limit (l .secondary) (l .line) (free-start sb) .free;
       } in
       stays-off true s (lateRun limit 0 (suc b - 1) (linkAfter s) cs) 0 (suc b) one refl sb (λ x y. omega (arith, y)) (primary-on (suc b - 1) (linkAfter s) cs (late-kept 0 (suc b) l c kept) one sb fs)
-  late-course (suc a) zero l (c ∷ cs) kept sa sb d z (tick-and f fs) =
+  every-late-run (suc a) zero l (c ∷ cs) kept sa sb d z (tick-and f fs) =
       let s = lateTick limit (suc a) 0 l c in
       let q = none-tick limit p (l .line) (c .for-devices) z in
       let fb = fresh-master limit high p false retries (l .secondary) (l .line) (c .for-secondary) sb in
@@ -280,7 +280,7 @@ module _ (limit : ℕ) (low : 2 ≤ limit) (high : limit ≤ 255) (p : Profile) 
         free = free-tick limit (l .primary) (l .line) (free-start sa) .free;
       } in
       stays-off false s (lateRun limit (suc a - 1) 0 (linkAfter s) cs) (suc a) 0 one refl sa (λ x y. omega (arith, x)) (secondary-on (suc a - 1) (linkAfter s) cs (late-kept (suc a) 0 l c kept) one sa fs)
-  late-course zero zero l (c ∷ cs) kept sa sb d z (tick-and f fs) =
+  every-late-run zero zero l (c ∷ cs) kept sa sb d z (tick-and f fs) =
       let s = lateTick limit 0 0 l c in
       let q = none-tick limit p (l .line) (c .for-devices) z in
       let fa = fresh-master limit high p true retries (l .primary) (l .line) (c .for-primary) sa in

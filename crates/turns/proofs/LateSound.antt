@@ -18,9 +18,9 @@ use Rattle.turns.proofs.Windows.{Valid}
 use Rattle.turns.proofs.Phases.{Ready, passing-ready}
 use Rattle.turns.proofs.Fresh.{valid, master-is, device-is}
 use Rattle.turns.proofs.SoundPairs.{Same, AllOutside, master-same, devices-same, same-outside}
-use Rattle.turns.proofs.Course.{ReadyAfter, ready-in}
+use Rattle.turns.proofs.LateTicks.{ReadyAfter, ready-in}
 use Rattle.turns.proofs.NoneOn.{started-rests}
-use Rattle.turns.proofs.Item14.{course-of}
+use Rattle.turns.proofs.Item14.{late-ticks-of}
 
 -- ---- a tick
 
@@ -64,4 +64,4 @@ all-ready limit low high p v line (and s ss) = and (λ e. started-ready limit lo
 pub late-sound-pair : (limit : ℕ) → 2 ≤ limit → limit ≤ 255 → LateSoundPair limit
 late-sound-pair limit low high p retries a b l ticks k =
     runs-late limit a b l ticks (record { primary = λ e. start-ready (k .primary); secondary = λ e. start-ready (k .secondary); devices = all-ready limit low high p (valid p (k .made)) (l .line) (k .devices) })
-    (ready-in (course-of limit low high p retries a b l ticks k))
+    (ready-in (late-ticks-of limit low high p retries a b l ticks k))

@@ -15,7 +15,7 @@ pub mod Booked
 pub mod BurstLogs
 pub mod Bursting
 pub mod NoBurst
-pub mod Course
+pub mod LateTicks
 pub mod Credit
 pub mod CreditDevices
 pub mod CreditMasters

@@ -1,4 +1,4 @@
--- The course of a run whose masters start at ticks of their own, tick by tick: until one party begins alone, heard by both masters, or both masters begin together; and item 14's claims of every run that takes such a course.
+-- The ticks of a run whose masters start at ticks of their own, one by one: until one party begins alone, heard by both masters, or both masters begin together; and item 14's claims of every run that goes so.
 use Prim.Native.Nat.{ℕ, zero, suc, _+_, _-_, _≤_, _<_}
 use native.Mathlib.Omega.{arith}
 use mathlib.Core.Path.{_≡_, refl, sym, ap, subst}
@@ -132,7 +132,7 @@ module _ (limit : ℕ) (p : Profile) (retries : ℕ) where
   both-in-time b true acc long = sends-begins true (b .primary-sends)
   both-in-time b false acc long = sends-begins false (b .secondary-sends)
 
--- ---- the course
+-- ---- the ticks
 
 -- in step, or behind the overlap
 pub record Behind (limit : ℕ) (p : Profile) (retries : ℕ) (ss : List LinkStep) : Type 0 where
@@ -147,12 +147,12 @@ pub data Overlapping (limit : ℕ) (p : Profile) (retries : ℕ) : ℕ → List 
   goes-on : {k : ℕ} {s : LinkStep} {ss : List LinkStep} → BothIn s → suc k < longestFrame limit → Overlapping limit p retries (suc k) ss → Overlapping limit p retries k (s ∷ ss)
 
 -- the primary starts in a ticks, the secondary in b; n parties sent in the tick before
-pub data Course (limit : ℕ) (p : Profile) (retries : ℕ) : ℕ → ℕ → ℕ → List LinkStep → Type 0 where
-  ended : {a b n : ℕ} → Course limit p retries a b n []
-  not-yet : {a b n : ℕ} {s : LinkStep} {ss : List LinkStep} → NoTwoSend s → ReadyAfter s → (SharedBy s → ⊥) → (a ≡ 0 → b ≡ 0 → senders s ≡ 0 → Begun ss) → Course limit p retries (a - 1) (b - 1) (senders s) ss
-      → Course limit p retries a b n (s ∷ ss)
-  in-step : {a b n : ℕ} {ss : List LinkStep} → Behind limit p retries ss → Course limit p retries a b n ss
-  overlaps : {a b n : ℕ} {s : LinkStep} {ss : List LinkStep} → n ≡ 0 → BothIn s → Overlapping limit p retries 0 ss → Course limit p retries a b n (s ∷ ss)
+pub data LateTicks (limit : ℕ) (p : Profile) (retries : ℕ) : ℕ → ℕ → ℕ → List LinkStep → Type 0 where
+  ended : {a b n : ℕ} → LateTicks limit p retries a b n []
+  not-yet : {a b n : ℕ} {s : LinkStep} {ss : List LinkStep} → NoTwoSend s → ReadyAfter s → (SharedBy s → ⊥) → (a ≡ 0 → b ≡ 0 → senders s ≡ 0 → Begun ss) → LateTicks limit p retries (a - 1) (b - 1) (senders s) ss
+      → LateTicks limit p retries a b n (s ∷ ss)
+  in-step : {a b n : ℕ} {ss : List LinkStep} → Behind limit p retries ss → LateTicks limit p retries a b n ss
+  overlaps : {a b n : ℕ} {s : LinkStep} {ss : List LinkStep} → n ≡ 0 → BothIn s → Overlapping limit p retries 0 ss → LateTicks limit p retries a b n (s ∷ ss)
 
 -- ---- the overlap
 
@@ -239,7 +239,7 @@ module _ {limit : ℕ} {p : Profile} {retries : ℕ} where
   overlapping-at (goes-on b less o) zero z = (only-first b, omega (arith, less))
   overlapping-at (goes-on b less o) (suc t) z = let q = overlapping-at o t z in (all-both b (q .0), omega (arith, q .1))
 
-  pub two-send : {a b n : ℕ} {ss : List LinkStep} → Course limit p retries a b n ss → (x y : ℕ) → x + y ≤ n → (t : ℕ) → 2 ≤ sendersIn ss t → OverlapFrom limit x y ss t
+  pub two-send : {a b n : ℕ} {ss : List LinkStep} → LateTicks limit p retries a b n ss → (x y : ℕ) → x + y ≤ n → (t : ℕ) → 2 ≤ sendersIn ss t → OverlapFrom limit x y ss t
   unfolding inTick
   two-send ended x y few t z = absurd (omega (arith, z))
   two-send (not-yet one r not begun c) x y few zero z = absurd (omega (arith, one, z))
@@ -261,7 +261,7 @@ module _ {limit : ℕ} {p : Profile} {retries : ℕ} where
   overlapping-begins (goes-on b less o) x y e zero z = omega (arith, e, z .primary-did-not)
   overlapping-begins (goes-on b less o) x y e (suc t) z = overlapping-begins o _ _ (b .primary-sends) t (nearer t z)
 
-  pub at-most-one : {a b n : ℕ} {ss : List LinkStep} → Course limit p retries a b n ss → (x y : ℕ) → Only x y ss
+  pub at-most-one : {a b n : ℕ} {ss : List LinkStep} → LateTicks limit p retries a b n ss → (x y : ℕ) → Only x y ss
   unfolding inTick
   at-most-one ended x y = record { at = 0; is = λ t z. absurd (none t z) }
     where
@@ -285,7 +285,7 @@ module _ {limit : ℕ} {p : Profile} {retries : ℕ} where
   overlapping-waits (has-ended b) = b .waits
   overlapping-waits (goes-on b less o) = all-cons limit p retries (both-in-time limit p retries b) (overlapping-waits o)
 
-  pub in-time : {a b n : ℕ} {ss : List LinkStep} → Course limit p retries a b n ss → (bit : Bool) (t : ℕ) (s : LinkStep) (after : List LinkStep) → drop t ss ≡ s ∷ after → ClaimedIn ss t → InTime limit p retries bit s after
+  pub in-time : {a b n : ℕ} {ss : List LinkStep} → LateTicks limit p retries a b n ss → (bit : Bool) (t : ℕ) (s : LinkStep) (after : List LinkStep) → drop t ss ≡ s ∷ after → ClaimedIn ss t → InTime limit p retries bit s after
   unfolding inTick toldIn
   in-time ended bit t s after q z = absurd (none-behind t q)
   in-time (not-yet {s = h} {ss} one r not begun c) bit t s after q z = by t q z (λ i. in-time c bit i s after)
@@ -314,7 +314,7 @@ module _ {limit : ℕ} {p : Profile} {retries : ℕ} where
   overlapping-framed (has-ended b) = b .framed
   overlapping-framed (goes-on b less o) = sent-framed (omega (arith, b .primary-sends)) (overlapping-framed o)
 
-  pub framed-in : {a b n : ℕ} {ss : List LinkStep} → Course limit p retries a b n ss → (u t : ℕ) → a ≤ u → b ≤ u → sendersIn ss u ≡ 0 → sendersIn ss (suc u) ≡ 1 → u < t → Ending ss t → SharedIn ss t
+  pub framed-in : {a b n : ℕ} {ss : List LinkStep} → LateTicks limit p retries a b n ss → (u t : ℕ) → a ≤ u → b ≤ u → sendersIn ss u ≡ 0 → sendersIn ss (suc u) ≡ 1 → u < t → Ending ss t → SharedIn ss t
   unfolding inTick toldIn
   framed-in ended u t c d z o less e = absurd (omega (arith, e .in-the-run))
   framed-in (not-yet one r not begun c) u zero d f z o less e = absurd (omega (arith, less))
@@ -329,7 +329,7 @@ module _ {limit : ℕ} {p : Profile} {retries : ℕ} where
   overlapping-ready (has-ended b) = b .ready
   overlapping-ready (goes-on {s = s} b less o) = tick-and (sent-ready s (omega (arith, b .primary-sends))) (overlapping-ready o)
 
-  pub ready-in : {a b n : ℕ} {ss : List LinkStep} → Course limit p retries a b n ss → EachTick ReadyAfter ss
+  pub ready-in : {a b n : ℕ} {ss : List LinkStep} → LateTicks limit p retries a b n ss → EachTick ReadyAfter ss
   ready-in ended = no-tick
   ready-in (not-yet one r not begun c) = tick-and r (ready-in c)
   ready-in (in-step b) = b .ready
