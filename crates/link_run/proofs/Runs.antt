@@ -20,7 +20,7 @@ use Rattle.turns.specs.Device.{freshDevice, deviceTakes, deviceSends, answered,
 use Rattle.turns.specs.Link.{no-request, Calls, masterTick, deviceTick, deviceTicks, sides, carried, linkTick, run}
 use Rattle.turns.specs.Run.{none, Distinct, deviceSenders}
 use Rattle.turns.specs.Ledgers.{blanks}
-use Rattle.turns.specs.Credit.{EachCredited}
+use Rattle.turns.specs.Credit.{noneAsked, EachCredited}
 use Rattle.turns.specs.Backs.{noContents, foundBy, EachBack}
 use Rattle.turns.specs.declared.MasterTold.the-variants.{Answered}
 use Rattle.turns.proofs.CreditRuns.{linkBehind}
@@ -104,7 +104,7 @@ met = record {
 }
 
 -- so the contract speaks of them
-pub run-credited : EachCredited 255 (blanks (devicesBy (accepted link))) (lentFresh link) calls
+pub run-credited : EachCredited 255 noneAsked (blanks (devicesBy (accepted link))) (lentFresh link) calls
 run-credited = credit-kept short 3 one-slot bytes met link started
 
 pub run-backs : EachBack 255 (noContents (devicesBy (accepted link))) (lentFresh link) calls

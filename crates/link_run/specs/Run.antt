@@ -16,7 +16,7 @@ use Rattle.turns.specs.Link as L
 use Rattle.turns.specs.Run.{Distinct, EachTick, OneBursts, NoTwoSend, count, senders}
 use Rattle.turns.specs.Ledgers.{blanks, OneFinds}
 use Rattle.turns.specs.Demand3.{WaitIn}
-use Rattle.turns.specs.Credit.{EachCredited}
+use Rattle.turns.specs.Credit.{noneAsked, EachCredited}
 use Rattle.turns.specs.Backs.{noContents, EachBack}
 use Rattle.slots.specs.declared.Devices.{Devices}
 use Rattle.slots.specs.declared.Slot.{Slot}
@@ -135,7 +135,7 @@ Demand3Of p retries s ticks = EachTick NoTwoSend (stepsOf p retries s ticks) × 
 -- beyond demand 3, of the link l that was started: every answer that a master reports is credited
 abbrev pub CreditOf : Profile → ℕ → DevicesSettings → List ℕ → Type 0
 CreditOf p retries s ticks =
-    (l : Link) → linkStarts p retries s ≡ accepted l → EachCredited mostData (blanks (devicesBy (accepted l))) (lentFresh l) (callsBy (accepted l) ticks)
+    (l : Link) → linkStarts p retries s ≡ accepted l → EachCredited mostData noneAsked (blanks (devicesBy (accepted l))) (lentFresh l) (callsBy (accepted l) ticks)
 
 -- and every BACK that a master finds whole is as its device's host gave it
 abbrev pub BacksOf : Profile → ℕ → DevicesSettings → List ℕ → Type 0

@@ -134,6 +134,28 @@ interrupt-on-ready x r k =
     go true false = refl
     go false d = refl
 
+-- and clear otherwise
+pub interrupt-clear : (x : Chip) → (x .received ≡ true → (x .control / 64 % 2 =? 1) ≡ false) → (x .ready ≡ true → (x .control / 32 % 2 =? 1) ≡ false) → interrupt x ≡ false
+unfolding if_then_else_
+interrupt-clear x f g = go (x .received) refl
+  where
+    not-ready : (b : Bool) → x .ready ≡ b → (if b then x .control / 32 % 2 =? 1 else false) ≡ false
+    not-ready true e = g e
+    not-ready false e = refl
+
+    go : (b : Bool) → x .received ≡ b → (if b then (if x .control / 64 % 2 =? 1 then true else interruptReady x) else interruptReady x) ≡ false
+    go true e = if-is-false (x .control / 64 % 2 =? 1) true (interruptReady x) (f e) ∙ not-ready (x .ready) refl
+    go false e = not-ready (x .ready) refl
+
+-- "4 ready (none written this tick)": behind a write it is clear, and in the next tick set
+pub ready-cleared : (x : Chip) (v : ℕ) → (puts x 2 v .ready ≡ false) × (chipAfter (puts x 2 v) .ready ≡ true)
+unfolding if_then_else_ puts
+ready-cleared x v = (go (x .ready), refl)
+  where
+    go : (b : Bool) → (if b then loaded x (x .control / 128 % 2 =? 1) v else loaded x (x .sending) (x .outgoing)) .ready ≡ false
+    go true = refl
+    go false = refl
+
 -- ---- "Bytes 4 to 7 are a free-running tick count, most significant first, going from the largest value back to 0."
 
 digit : (n : ℕ) → n ≡ n / 256 * 256 + n % 256

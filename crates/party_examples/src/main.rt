@@ -20,7 +20,7 @@ use master::MasterStarted;
 use master::MasterTicked;
 use master::RequestFields;
 use party::CallStatus;
-use show::Ear;
+use show::Reception;
 use turns::Device;
 use turns::DeviceTold;
 use turns::Master;
@@ -53,8 +53,8 @@ struct DeviceSide {
 struct Both {
     m: MasterSide,
     d: DeviceSide,
-    to_m: Ear,
-    to_d: Ear,
+    to_m: Reception,
+    to_d: Reception,
     log: [u16; 3000],
 }
 
@@ -128,9 +128,9 @@ fn carried(a: Sent, b: Sent) -> Heard {
 }
 
 // What a party hears of this tick in the next one.
-fn hears(script: &[u8], tick: u16, whom: u8, a: Sent, b: Sent) -> Ear {
+fn hears(script: &[u8], tick: u16, whom: u8, a: Sent, b: Sent) -> Reception {
     let o = look(script, tick, whom);
-    Ear {
+    Reception {
         heard: altered(carried(a, b), o),
         changed: o.what != 0,
     }
@@ -184,11 +184,11 @@ fn data_count(o: Order) -> usize {
     0
 }
 
-fn master_ticks(side: MasterSide, ear: Ear, script: &[u8], tick: u16) -> MasterSide {
+fn master_ticks(side: MasterSide, reception: Reception, script: &[u8], tick: u16) -> MasterSide {
     let t = side.ticked;
     let mut frame = side.frame;
     let mut bytes = side.bytes;
-    let heard = ear.heard;
+    let heard = reception.heard;
     let o = look(script, tick, b'm');
     let fives = [5u8; 6];
     let put = front(&fives, data_count(o));
@@ -211,12 +211,12 @@ fn device_call(o: Order) -> device_tick::DeviceHostCall {
     }
 }
 
-fn device_ticks(side: DeviceSide, ear: Ear, script: &[u8], tick: u16) -> DeviceSide {
+fn device_ticks(side: DeviceSide, reception: Reception, script: &[u8], tick: u16) -> DeviceSide {
     let t = side.ticked;
     let mut contents = side.contents;
     let mut frame = side.frame;
     let mut bytes = side.bytes;
-    let heard = ear.heard;
+    let heard = reception.heard;
     let o = look(script, tick, b'd');
     let zeros = [0u8; 255];
     let put = front(&zeros, o.number as usize);
@@ -273,7 +273,7 @@ fn behind(m: MasterSide, d: DeviceSide, log: [u16; 3000], script: &[u8], tick: u
     }
 }
 
-fn show_both(tick: u16, to_m: Ear, to_d: Ear, b: Both) {
+fn show_both(tick: u16, to_m: Reception, to_d: Reception, b: Both) {
     let m = b.m;
     let d = b.d;
     let log = b.log;
@@ -336,15 +336,15 @@ fn device_side(d: Device) -> DeviceSide {
 }
 
 fn both_of(m: Master, d: Device) -> Both {
-    let ear = Ear {
+    let reception = Reception {
         heard: Heard::Silence,
         changed: false,
     };
     Both {
         m: master_side(m),
         d: device_side(d),
-        to_m: ear,
-        to_d: ear,
+        to_m: reception,
+        to_d: reception,
         log: [0; 3000],
     }
 }

@@ -13,7 +13,7 @@ ghost use mathlib.Core.Path.{_≡_};
 ghost use Rattle.party_examples.specs.Lines.{eventShows, tellsHost, refusedBy, hasLine};
 
 // What a party hears in a tick, and whether the script changed it.
-pub struct Ear {
+pub struct Reception {
     pub heard: Heard,
     pub changed: bool,
 }
@@ -107,9 +107,9 @@ fn damage_name(kind: Damage) {
     }
 }
 
-fn show_heard(ear: Ear) {
-    let heard = ear.heard;
-    if ear.changed {
+fn show_heard(reception: Reception) {
+    let heard = reception.heard;
+    if reception.changed {
         text(b" hears ");
         match heard {
             Heard::Silence => text(b"silence"),
@@ -202,10 +202,10 @@ fn tells(told: MasterTold) -> bool
 }
 
 // Whether a party has a line in this tick. A device tells its host only of a frame that it found.
-fn has_line(ear: Ear, event: Event, refused: u32) -> bool
-    ensures { λ r. ⌜ r ≡ hasLine (ear .changed) event refused ⌝ }
+fn has_line(reception: Reception, event: Event, refused: u32) -> bool
+    ensures { λ r. ⌜ r ≡ hasLine (reception .changed) event refused ⌝ }
 {
-    if ear.changed {
+    if reception.changed {
         return true;
     }
     if event_shows(event) {
@@ -215,45 +215,45 @@ fn has_line(ear: Ear, event: Event, refused: u32) -> bool
 }
 
 // What a line of a party begins with.
-fn show_begin(tick: u16, name: &[u8], ear: Ear, event: Event) {
+fn show_begin(tick: u16, name: &[u8], reception: Reception, event: Event) {
     field(b"  ", tick as u64);
     text(name);
-    show_heard(ear);
+    show_heard(reception);
     show_event(event);
 }
 
 fn master_line(
     tick: u16,
-    ear: Ear,
+    reception: Reception,
     event: Event,
     told: MasterTold,
     refused: u32,
     bytes: &[u8; 255],
 ) {
-    show_begin(tick, b" master", ear, event);
+    show_begin(tick, b" master", reception, event);
     show_master_told(told, bytes);
     show_end(refused);
 }
 
-fn show_master(tick: u16, ear: Ear, t: MasterTicked, bytes: &[u8; 255]) {
+fn show_master(tick: u16, reception: Reception, t: MasterTicked, bytes: &[u8; 255]) {
     let told = t.told;
     let event = t.event;
     let result = t.result;
     let refused = refused_by(result);
-    if has_line(ear, event, refused) {
-        master_line(tick, ear, event, told, refused, bytes);
+    if has_line(reception, event, refused) {
+        master_line(tick, reception, event, told, refused, bytes);
     } else if tells(told) {
-        master_line(tick, ear, event, told, refused, bytes);
+        master_line(tick, reception, event, told, refused, bytes);
     }
 }
 
-fn show_device(tick: u16, ear: Ear, t: DeviceTicked, bytes: &[u8; 255]) {
+fn show_device(tick: u16, reception: Reception, t: DeviceTicked, bytes: &[u8; 255]) {
     let told = t.told;
     let event = t.event;
     let result = t.result;
     let refused = refused_by(result);
-    if has_line(ear, event, refused) {
-        show_begin(tick, b" device", ear, event);
+    if has_line(reception, event, refused) {
+        show_begin(tick, b" device", reception, event);
         show_device_told(told, bytes);
         show_end(refused);
     }
@@ -262,8 +262,8 @@ fn show_device(tick: u16, ear: Ear, t: DeviceTicked, bytes: &[u8; 255]) {
 // The lines of a tick. The log has a row of 1000 ticks for each of master, device and a third party: 0 where it is silent, and 256 more than the character that it sends.
 pub fn show_tick(
     tick: u16,
-    to_m: Ear,
-    to_d: Ear,
+    to_m: Reception,
+    to_d: Reception,
     m: MasterTicked,
     d: DeviceTicked,
     log: [u16; 3000],

@@ -35,7 +35,7 @@ use Rattle.turns.specs.declared.DeviceSent.{DeviceSent}
 use Rattle.turns.specs.declared.Wish.{Wish}
 use Rattle.turns.proofs.Devices as D
 use Rattle.turns.proofs.Devices.{ContentView, content-view}
-use Rattle.turns.proofs.Bursting.{if-both}
+use Rattle.turns.proofs.Bursting.{if-both, takes-kept}
 use Rattle.turns.specs.declared.Change.{Change}
 
 -- ---- the content that it holds
@@ -47,20 +47,8 @@ pub record Known (g : ContentLog) (x : DeviceSide) : Type 0 where
   pub room : 255 ≤ length (x .contents)
   pub known : x .device .content .given ≡ true → g .last ≡ content (x .device .content .command) (take (x .device .content .count) (x .contents))
 
-if-content : {c : Content} (t : Bool) (a b : DeviceTaken) → a .device .content ≡ c → b .device .content ≡ c → (if t then a else b) .device .content ≡ c
-if-content {c} t a b p q = if-both (λ (x : DeviceTaken). x .device .content ≡ c) t a b p q
-
-silence-content : (d : Device) (r : Receiver) → onSilence d r .device .content ≡ d .content
-silence-content d r = if-content (insideFrame (d .receiver .place)) _ _ (if-content (d .receiver .gap) _ _ refl refl) refl
-
-heard-content : (d : Device) (heard : Heard) → onHeard d heard .device .content ≡ d .content
-heard-content d Silence = silence-content d (taken (d .receiver) Silence .receiver)
-heard-content d (Character c) = refl
-heard-content d (Heard.Damaged c kind) = refl
-
 takes-content : (d : Device) (heard : Heard) → deviceTakes d heard .device .content ≡ d .content
-unfolding deviceTakes
-takes-content d heard = if-content (d .deaf) _ _ refl (heard-content d heard)
+takes-content = takes-kept (λ (d : Device). d .content) (λ d r turn request wish length due. refl)
 
 -- sending leaves it
 sent-content : (d : Device) (frame : List ℕ) (turn : Turn) → sendsBy d frame turn .device .content ≡ d .content

@@ -31,8 +31,7 @@ use Rattle.turns.specs.Master.{rt1Ends, afterBreak, counts, onSilence, o
 use Rattle.turns.specs.Link.{MasterCall, DeviceCall, no-call, MasterSide, masterData, masterTick, DeviceSide, DeviceStep, deviceTick, deviceTicks, sides, Link, LinkStep, Calls, linkTick, linkAfter, run}
 use Rattle.turns.specs.Run.{All, none, and, EachTick}
 use Rattle.turns.specs.Run as R1
-use Rattle.turns.specs.Credit.{masterOf}
-use Rattle.turns.specs.Backs.{no-content, content, ContentLog, givenBy, sentBy, contentLogAfter, contentLogsAfter, noContents, foundBy, SentBack, this-one, another, BackFound, EachBack, no-tick, tick-and, BacksInARun}
+use Rattle.turns.specs.Backs.{no-content, content, ContentLog, givenBy, sentBy, contentLogAfter, contentLogsAfter, noContents, masterOf, foundBy, SentBack, this-one, another, BackFound, EachBack, no-tick, tick-and, BacksInARun}
 use Rattle.turns.specs.declared.Noted.{Noted}
 use Rattle.turns.specs.declared.Master.{Master}
 use Rattle.turns.specs.declared.MasterTaken.{MasterTaken}

@@ -29,7 +29,9 @@ use Rattle.line.proofs.Leads.{readerAfter, dataAfter, leads-to, leads-data}
 use Rattle.turns.specs.Device.{answerHeader}
 use Rattle.turns.specs.Link.{DeviceCall, no-call, DeviceSide, deviceTick, deviceTicks, sides}
 use Rattle.turns.specs.Run.{All, none, and}
-use Rattle.turns.specs.Credit.{Ledger, ledgerAfter, ledgersAfter, closed, closedAfter, toldBy, Gave, another}
+use Rattle.turns.specs.Credit.{Ledger, ledgerAfter, ledgersAfter, closed, closedBy, closedAfter, toldBy, Gave, another}
+use Rattle.turns.specs.declared.MasterTold.{MasterTold}
+use Rattle.turns.specs.declared.MasterTold.the-variants.{Answered, GivenUp, BroadcastSent}
 use Rattle.turns.specs.declared.Sent.{Sent}
 use Rattle.turns.specs.declared.Sent.the-variants.{Silent}
 use Rattle.turns.specs.declared.Turn.the-variants.{Asked}
@@ -67,10 +69,34 @@ unfolding closed
 closed-ledgers no-ledger = no-ledger
 closed-ledgers (ledger-and a) = ledger-and (closed-ledgers a)
 
+none-closed : {h : Header} {put : List ℕ} {xs : List DeviceSide} (gs : List Ledger) → Gave h put xs (closed gs) → ⊥
+unfolding closed
+none-closed (g ∷ gs) (another q) = none-closed gs q
+
 -- behind a tick in which a master sends no answer stands in them, so that one that does was given behind the last STX
 pub none-stands : (c : ℕ) {h : Header} {put : List ℕ} {xs : List DeviceSide} (gs : List Ledger) → Gave h put xs (closedAfter (Sent.Character c) gs) → ⊥
-unfolding closed
-none-stands c (g ∷ gs) (another q) = none-stands c gs q
+none-stands c gs q = none-closed gs q
+
+-- and none behind a report, so that one that does was given to a message that is not over
+pub none-outlasts : (t : MasterTold) {h : Header} {put : List ℕ} {xs : List DeviceSide} (gs : List Ledger) → (t ≡ MasterTold.Nothing → ⊥) → Gave h put xs (closedBy t gs) → ⊥
+none-outlasts MasterTold.Nothing gs f q = f refl
+none-outlasts (Answered w) gs f q = none-closed gs q
+none-outlasts (GivenUp n) gs f q = none-closed gs q
+none-outlasts BroadcastSent gs f q = none-closed gs q
+
+-- behind what masters report
+pub report-ledgers : (a b : MasterTold) {gs : List Ledger} {xs : List DeviceSide} → Ledgers gs xs → Ledgers (closedBy a (closedBy b gs)) xs
+report-ledgers a b g = go a (go b g)
+  where
+    go : (t : MasterTold) {gs : List Ledger} {xs : List DeviceSide} → Ledgers gs xs → Ledgers (closedBy t gs) xs
+    go MasterTold.Nothing g = g
+    go (Answered w) g = closed-ledgers g
+    go (GivenUp n) g = closed-ledgers g
+    go BroadcastSent g = closed-ledgers g
+
+-- where none reports they stay open
+pub report-same : (a b : MasterTold) (gs : List Ledger) → a ≡ MasterTold.Nothing → b ≡ MasterTold.Nothing → closedBy a (closedBy b gs) ≡ gs
+report-same a b gs e f = λ i. closedBy (e i) (closedBy (f i) gs)
 
 -- behind what masters send
 pub sent-ledgers : (a b : Sent) {gs : List Ledger} {xs : List DeviceSide} → Ledgers gs xs → Ledgers (closedAfter a (closedAfter b gs)) xs
@@ -177,16 +203,21 @@ speaker-free an-ack {d = d} (finished last t due) n e = go (d .burst) (sym t ∙
     go false q = listens-asked n q
 speaker-free a-back (finished last t due) n e = listens-asked n (sym t ∙ e)
 
--- behind its last character nothing is owed any more
-pub finished-owes : (f : Frames) {k : ℕ} {w : List ℕ} {d : Device} {g : Ledger} {frame : List ℕ} → suc k ≡ length w → DevicePlace f k w d → DeviceOwes g d frame
+-- nothing is owed by a device that sends its BACK
+pub back-owes : {k : ℕ} {w : List ℕ} {d : Device} {g : Ledger} {frame : List ℕ} → DevicePlace a-back k w d → DeviceOwes g d frame
 unfolding if_then_else_
-finished-owes f last (inside below t) = absurd (omega arith)
-finished-owes an-ack {d = d} {g = g} {frame = frame} last (finished z t due) = go (d .burst) t
+back-owes {k} (inside below t) = none-owed (λ n e. bursts-asked (suc k) n (sym t ∙ e)) (ap answering t)
+back-owes (finished last t due) = none-owed (λ n e. listens-asked n (sym t ∙ e)) (ap answering t)
+
+-- and behind the last character of its ACK
+pub finished-owes : {k : ℕ} {w : List ℕ} {d : Device} {g : Ledger} {frame : List ℕ} → suc k ≡ length w → DevicePlace an-ack k w d → DeviceOwes g d frame
+unfolding if_then_else_
+finished-owes last (inside below t) = absurd (omega arith)
+finished-owes {d = d} {g = g} {frame = frame} last (finished z t due) = go (d .burst) t
   where
     go : (b : Bool) → d .turn ≡ turnBehind an-ack b → DeviceOwes g d frame
     go true q = none-owed (λ n e. follows-asked n (sym q ∙ e)) (ap answering q)
     go false q = none-owed (λ n e. listens-asked n (sym q ∙ e)) (ap answering q)
-finished-owes a-back last (finished z t due) = none-owed (λ n e. listens-asked n (sym t ∙ e)) (ap answering t)
 
 -- ---- the ACK that a device sends, told from its ledger
 

@@ -1,5 +1,5 @@
 -- Of "A device bursts from the first character of an ACK whose answer turned burst on until the first character of one whose answer turned it off": the field `burst` changes only in a tick in which the device sends the first character of the frame in its buffer, in any state, whatever is heard and called. That this frame is an ACK with the wished flag is said, for the states of a run, in Devices.antt (`Goes`, `answers`).
-use Prim.Native.Nat.{ℕ, _-_, _+_}
+use Prim.Native.Nat.{ℕ, _+_}
 use mathlib.Core.Path.{_≡_, refl}
 use mathlib.Core.Bool.{Bool, true, false}
 use mathlib.Core.List.{List}
@@ -8,13 +8,14 @@ use Rattle.base.specs.Refusal.{Called}
 use Rattle.base.specs.Choice.{if_then_else_, _<?_, _outside_to_}
 use Rattle.base.specs.Store.{stored}
 use Rattle.frame.specs.Address.{byteAt}
-use Rattle.line.specs.Reader.{taken, insideFrame}
+use Rattle.frame.specs.declared.Header.{Header}
+use Rattle.line.specs.Reader.{insideFrame}
 use Rattle.line.specs.declared.Event.the-variants.{Damaged}
 use Rattle.line.specs.declared.Heard.{Heard}
 use Rattle.line.specs.declared.Heard.the-variants.{Silence, Character}
 use Rattle.line.specs.declared.Receiver.{Receiver}
 use Rattle.turns.specs.Party.{CallResult, none, was-taken}
-use Rattle.turns.specs.Device.{onSilence, onHeard, deviceTakes, wishRefused, answeredBy, answered, answerFrame, contentGiven, backLength, sendsBy, deviceSends, begunFrame}
+use Rattle.turns.specs.Device.{deviceWith, onHeard, deviceTakes, wishRefused, answeredBy, answered, answerFrame, contentGiven, backLength, sendsBy, deviceSends, begunFrame}
 use Rattle.turns.specs.Link.{DeviceCall, no-call, gives-answer, gives-content, DeviceSide, DeviceStep, deviceSent, answerCalled, contentCalled, deviceTick}
 use Rattle.turns.specs.declared.Sent.{Sent}
 use Rattle.turns.specs.declared.Turn.{Turn}
@@ -32,20 +33,22 @@ unfolding if_then_else_
 if-both P true a b p q = p
 if-both P false a b p q = q
 
-if-taken : {v : Bool} (t : Bool) (a b : DeviceTaken) → a .device .burst ≡ v → b .device .burst ≡ v → (if t then a else b) .device .burst ≡ v
-if-taken {v} t a b p q = if-both (λ (x : DeviceTaken). x .device .burst ≡ v) t a b p q
-
-silence-burst : (d : Device) (r : Receiver) → onSilence d r .device .burst ≡ d .burst
-silence-burst d r = if-taken (insideFrame (d .receiver .place)) _ _ (if-taken (d .receiver .gap) _ _ refl refl) refl
-
-heard-burst : (d : Device) (heard : Heard) → onHeard d heard .device .burst ≡ d .burst
-heard-burst d Silence = silence-burst d (taken (d .receiver) Silence .receiver)
-heard-burst d (Character c) = refl
-heard-burst d (Heard.Damaged c kind) = refl
-
-pub takes-burst : (d : Device) (heard : Heard) → deviceTakes d heard .device .burst ≡ d .burst
+-- and every field that `deviceWith` leaves
+pub takes-kept : {A : Type 0} (field : Device → A) → ((d : Device) (r : Receiver) (turn : Turn) (request : Header) (wish : Wish) (length due : ℕ) → field (deviceWith d r turn request wish length due) ≡ field d)
+    → (d : Device) (heard : Heard) → field (deviceTakes d heard .device) ≡ field d
 unfolding deviceTakes
-takes-burst d heard = if-taken (d .deaf) _ _ refl (heard-burst d heard)
+takes-kept field same d heard = if-both P (d .deaf) _ _ refl (on heard)
+  where
+    P : DeviceTaken → Type 0
+    P t = field (t .device) ≡ field d
+
+    on : (h : Heard) → P (onHeard d h)
+    on Silence = if-both P (insideFrame (d .receiver .place)) _ _ (if-both P (d .receiver .gap) _ _ (same d _ _ _ _ _ _) (same d _ _ _ _ _ _)) (same d _ _ _ _ _ _)
+    on (Character c) = same d _ _ _ _ _ _
+    on (Heard.Damaged c kind) = same d _ _ _ _ _ _
+
+takes-burst : (d : Device) (heard : Heard) → deviceTakes d heard .device .burst ≡ d .burst
+takes-burst = takes-kept (λ (d : Device). d .burst) (λ d r turn request wish length due. refl)
 
 -- ---- sending changes it with the first character of an ACK
 

@@ -19,13 +19,14 @@ use Rattle.line.specs.declared.Receiver.{Receiver}
 use Rattle.line.specs.declared.Taken.{Taken}
 use Rattle.line.specs.declared.Whole.{Whole}
 use Rattle.line.proofs.Leads.{readerAfter, dataAfter}
-use Rattle.turns.specs.Master.{toItself, isAnswer}
+use Rattle.turns.specs.Master.{toItself, isAnswer, rt1Ends, ownRt1, freshMaster}
 use Rattle.turns.specs.Device.{mayAnswer, answerHeader}
 use Rattle.turns.specs.Link.{MasterCall, DeviceCall, no-call, MasterSide, MasterStep, DeviceSide, DeviceStep, Link, LinkStep, Calls, masterTick, deviceTick, deviceTicks, linkTick, linkAfter, run, sides}
 use Rattle.turns.specs.Run.{All, none, and, EachTick}
 use Rattle.turns.specs.Run as R1
 use Rattle.turns.specs.Demand3.{masterIn}
-use Rattle.turns.specs.Credit.{Ledger, given, closedBy, closedAfter, ledgerAfter, ledgersAfter, bookedBy, Gave, this-one, another, masterOf, Credited, EachCredited, no-tick, tick-and, blanks, CreditInARun}
+use Rattle.turns.specs.Credit.{Ledger, given, closedBy, closedAfter, ledgerAfter, ledgersAfter, bookedBy, askedBy, askedAfter, noneAsked, Gave, this-one, another, Credited, EachCredited, no-tick, tick-and, blanks, CreditInARun}
+use Rattle.turns.specs.Backs.{masterOf}
 use Rattle.turns.specs.declared.Noted.{Noted}
 use Rattle.turns.specs.declared.Master.{Master}
 use Rattle.turns.specs.declared.Device.{Device}
@@ -35,8 +36,7 @@ use Rattle.turns.proofs.Finders.{Within, within-blanks, within-tick, fi
 use Rattle.turns.proofs.Fair.{answering, Fair}
 use Rattle.turns.proofs.Tags.{fair-run}
 use Rattle.turns.proofs.Turns.{listens-asked}
-use Rattle.turns.specs.declared.MasterTold.{MasterTold}
-use Rattle.turns.specs.declared.MasterTold.the-variants.{Answered, GivenUp, BroadcastSent}
+use Rattle.turns.specs.declared.MasterTold.the-variants.{Answered}
 use Rattle.turns.specs.declared.Sent.the-variants.{Silent}
 use Rattle.turns.specs.declared.Turn.the-variants.{Listens, Answers}
 use Rattle.turns.proofs.Sentences.{answer-repeats}
@@ -45,10 +45,11 @@ use Rattle.turns.proofs.Masters.{Holds, left}
 use Rattle.turns.proofs.Devices.{own-kept}
 use Rattle.turns.proofs.DeviceSpeaking.{Frames, an-ack, a-back, device-speaks}
 use Rattle.turns.proofs.Windows.{Valid}
-use Rattle.turns.proofs.Phases.{OneOf, here, further, DeviceQuiet, Ready}
+use Rattle.turns.proofs.Listening.{hand-listens}
+use Rattle.turns.proofs.Phases.{OneOf, here, further, MasterListens, DeviceQuiet, Ready}
 use Rattle.turns.proofs.Beginning as B
 use Rattle.turns.proofs.Beginning.{DevicePlace, inside, finished, DeviceSpeaks, DeviceHears, device-does}
-use Rattle.turns.proofs.Quiet.{Asked, SilentLine, clear, set}
+use Rattle.turns.proofs.Quiet.{Asked, ClearLine, SetLine, SilentLine, clear, set}
 use Rattle.turns.proofs.Stx as X
 use Rattle.turns.proofs.Stx.{OneMasterSends, StxTick, stx-tick, device-hears-on}
 use Rattle.turns.proofs.SilentTick as T
@@ -58,19 +59,12 @@ use Rattle.turns.proofs.AckBack as A
 use Rattle.turns.proofs.AckBack.{AckEnded, AckTick, BackTick, ack-tick, back-tick, place-of, spoken-of}
 use Rattle.turns.proofs.NoTwoSend.{carries, heardTick, tick-is, stx-line, stx-line-secondary}
 use Rattle.turns.proofs.Fresh.{valid, first-tick, master-is, device-is}
-use Rattle.turns.proofs.Kept.{header-kept}
-use Rattle.turns.proofs.CreditMasters.{reports, tick-bytes, bytes-length, data-next, hears-data}
+use Rattle.turns.proofs.Kept.{header-kept, MasterTimed, tick-asks}
+use Rattle.turns.proofs.CreditMasters.{reports, mid-told, silent-told, rt1-left, tick-bytes, bytes-length, data-next, hears-data}
 use Rattle.turns.proofs.CreditDevices.{DeviceOwes, Gives, none-owed, ledger-same, same-gives}
-use Rattle.turns.proofs.Booked.{AllOwe, no-more, owe-and, Ledgers, no-ledger, ledger-and, owe-ledgers, closed-ledgers, sent-ledgers, sent-same, owe-after, owe-anew, one-all, silent-owes, mid-owes, end-owes, speaks-owes, speaker-free, finished-owes, same-frame, frame-sent, message-sent, data-heard}
+use Rattle.turns.proofs.Booked.{AllOwe, no-more, owe-and, Ledgers, no-ledger, ledger-and, owe-ledgers, report-ledgers, report-same, sent-ledgers, sent-same, owe-after, owe-anew, one-all, silent-owes, mid-owes, end-owes, speaks-owes, speaker-free, back-owes, finished-owes, same-frame, frame-sent, message-sent, data-heard}
 
 -- ---- who reports an answer
-
--- nobody: the ledgers stay open
-closed-same : (t : MasterTold) (gs : List Ledger) → ((w : Whole) → t ≡ Answered w → ⊥) → closedBy t gs ≡ gs
-closed-same MasterTold.Nothing gs f = refl
-closed-same (Answered w) gs f = absurd (f w refl)
-closed-same (GivenUp n) gs f = refl
-closed-same BroadcastSent gs f = refl
 
 nothing-frame : {w : Whole} → Nothing ≡ Frame w → ⊥
 nothing-frame e = let z : _≡_ {A = ℕ} 0 1 = cc in omega arith
@@ -134,9 +128,12 @@ pub record HearsData (k : ℕ) (w : List ℕ) (x : MasterSide) : Type 0 where
   pub bytes-are : x .bytes ≡ dataAfter idle (take k w) before
   pub room : 255 ≤ length before
 
-record Rooms (l : Link) : Type 0 where
+-- what holds of the masters in every phase
+record MastersKept (l : Link) : Type 0 where
   primary-room : 255 ≤ length (l .primary .bytes)
   secondary-room : 255 ≤ length (l .secondary .bytes)
+  primary-timed : MasterTimed true (l .primary .master)
+  secondary-timed : MasterTimed false (l .secondary .master)
 
 -- the phases, with the ledgers
 data Booked (p : Profile) (gs : List Ledger) (l : Link) : Type 0 where
@@ -149,31 +146,31 @@ data Booked (p : Profile) (gs : List Ledger) (l : Link) : Type 0 where
       → OneDeviceSends p an-ack burst noted next k w message u on (l .primary) (l .secondary) (l .devices) → AllOwe gs (l .devices)
       → SenderGives u (l .primary) (l .secondary) gs (l .devices) → HearsData k w (l .primary) → HearsData k w (l .secondary) → Booked p gs l
   in-back : (burst : Bool) (noted : Noted) (next : Bool) (k : ℕ) (w : List ℕ) (message : Whole) (u : ℕ) → l .line ≡ Character (getD w k 0)
-      → OneDeviceSends p a-back burst noted next k w message u true (l .primary) (l .secondary) (l .devices) → AllOwe gs (l .devices) → Booked p gs l
+      → OneDeviceSends p a-back burst noted next k w message u true (l .primary) (l .secondary) (l .devices) → Ledgers gs (l .devices) → Booked p gs l
 
 -- what a tick gives: every report is credited, and the ledgers go on
 record Ticked (p : Profile) (gs : List Ledger) (l : Link) (c : Calls) (s : LinkStep) : Type 0 where
-  credited : finders gs ≤ 1 → (primary : Bool) (w : Whole) → masterIn primary s .told ≡ Answered w → Credited primary gs l s w
+  credited : finders gs ≤ 1 → (primary : Bool) (w : Whole) → masterIn primary s .told ≡ Answered w → Credited primary (masterOf primary l .master .message .header) gs l s w
   next : Booked p (bookedBy c s gs) (linkAfter s)
 
--- the ledgers behind a tick in which nobody reports
+-- the ledgers behind the reports of a tick
+abbrev reportedBy : LinkStep → List Ledger → List Ledger
+reportedBy s gs = closedBy (s .for-primary .told) (closedBy (s .for-secondary .told) gs)
+
+-- and behind the rest of it
 abbrev sentBy : Calls → LinkStep → List Ledger → List Ledger
 sentBy c s gs = closedAfter (s .for-primary .sent) (closedAfter (s .for-secondary .sent) (ledgersAfter (c .for-devices) (s .for-devices) gs))
 
--- and no master sends
+-- where no master sends
 none-sent : (c : Calls) (s : LinkStep) (gs : List Ledger) → s .for-primary .sent ≡ Silent → s .for-secondary .sent ≡ Silent → sentBy c s gs ≡ ledgersAfter (c .for-devices) (s .for-devices) gs
 none-sent c s gs a b = sent-same (s .for-primary .sent) (s .for-secondary .sent) (ledgersAfter (c .for-devices) (s .for-devices) gs) a b
 
--- a tick in which nobody reports
-unreported : (p : Profile) (gs : List Ledger) (l : Link) (c : Calls) (s : LinkStep) → NoReport (s .for-primary) → NoReport (s .for-secondary) → Booked p (sentBy c s gs) (linkAfter s) → Ticked p gs l c s
+-- a tick in which no answer is reported
+unreported : (p : Profile) (gs : List Ledger) (l : Link) (c : Calls) (s : LinkStep) → NoReport (s .for-primary) → NoReport (s .for-secondary) → Booked p (bookedBy c s gs) (linkAfter s) → Ticked p gs l c s
 unfolding NoReport
-unreported p gs l c s na nb n = record {
-  credited = λ one. none-credited;
-  next = subst (λ (z : List Ledger). Booked p (sentBy c s z) (linkAfter s))
-      (sym (closed-same (s .for-primary .told) (closedBy (s .for-secondary .told) gs) na ∙ closed-same (s .for-secondary .told) gs nb)) n;
-}
+unreported p gs l c s na nb n = record { credited = λ one. none-credited; next = n }
   where
-    none-credited : (primary : Bool) (w : Whole) → masterIn primary s .told ≡ Answered w → Credited primary gs l s w
+    none-credited : (primary : Bool) (w : Whole) → masterIn primary s .told ≡ Answered w → Credited primary (masterOf primary l .master .message .header) gs l s w
     none-credited true w e = absurd (na w e)
     none-credited false w e = absurd (nb w e)
 
@@ -235,7 +232,7 @@ module _ (limit : ℕ) (low : 2 ≤ limit) (high : limit ≤ 255) (p : Profile) 
   begins-gives g h n w message u on r a b (c ∷ cs) long ha hb (and {x = x} q qs) (owe-and o os) (and s ss) =
       sender-and (sender-begins g h n w message u on r a b x c long ha hb q o s) (begins-gives g h n w message u on r a b cs long ha hb qs os ss)
 
-  module _ (l : Link) (c : Calls) (gs : List Ledger) (rooms : Rooms l) where
+  module _ (l : Link) (c : Calls) (gs : List Ledger) (kept : MastersKept l) where
     abbrev quiet : LinkStep
     quiet = heardTick limit l Silence c
 
@@ -243,8 +240,8 @@ module _ (limit : ℕ) (low : 2 ≤ limit) (high : limit ≤ 255) (p : Profile) 
     begins-data : (w : List ℕ) → HearsData 0 w (linkAfter (heardTick limit l Silence c) .primary) × HearsData 0 w (linkAfter (heardTick limit l Silence c) .secondary)
     unfolding heardTick dataAfter
     begins-data w = (
-      record { before = quiet .for-primary .side .bytes; bytes-are = refl; room = omega (arith, rooms .primary-room, bytes-length limit (l .primary) Silence (c .for-primary)) },
-      record { before = quiet .for-secondary .side .bytes; bytes-are = refl; room = omega (arith, rooms .secondary-room, bytes-length limit (l .secondary) Silence (c .for-secondary)) },
+      record { before = quiet .for-primary .side .bytes; bytes-are = refl; room = omega (arith, kept .primary-room, bytes-length limit (l .primary) Silence (c .for-primary)) },
+      record { before = quiet .for-secondary .side .bytes; bytes-are = refl; room = omega (arith, kept .secondary-room, bytes-length limit (l .secondary) Silence (c .for-secondary)) },
     )
 
     spoken-long : {f : Frames} {k : ℕ} {w : List ℕ} {message : Whole} {u : ℕ} {on : Bool} {Q : DeviceSide → Type 0} {xs : List DeviceSide} → OneOf (DeviceSpeaks p f k w message u on) Q xs → 2 ≤ length w
@@ -259,36 +256,93 @@ module _ (limit : ℕ) (low : 2 ≤ limit) (high : limit ≤ 255) (p : Profile) 
       same-secondary z e = asked .secondary-header z e ∙ sym (rb .same-header (omega (arith, rb .one-less, asked .by-secondary z e)))
 
     -- no master sends
-    unsent : quiet .for-primary .sent ≡ Silent → quiet .for-secondary .sent ≡ Silent → Booked p (ledgersAfter (c .for-devices) (quiet .for-devices) gs) (linkAfter quiet) → Booked p (sentBy c quiet gs) (linkAfter quiet)
-    unsent a b k = subst (λ (z : List Ledger). Booked p z (linkAfter quiet)) (sym (none-sent c quiet gs a b)) k
+    unsent : (hs : List Ledger) → quiet .for-primary .sent ≡ Silent → quiet .for-secondary .sent ≡ Silent → Booked p (ledgersAfter (c .for-devices) (quiet .for-devices) hs) (linkAfter quiet) → Booked p (sentBy c quiet hs) (linkAfter quiet)
+    unsent hs a b k = subst (λ (z : List Ledger). Booked p z (linkAfter quiet)) (sym (none-sent c quiet hs a b)) k
 
     -- what comes of a silent tick
-    behind-silence : (g : ℕ) (h : Header) (n : ℕ) (burst : Bool) (noted : Noted) (next : Bool) (L : Type 0) → (linkAfter (heardTick limit l Silence c) .line ≡ Silence → L → Booked p (ledgersAfter (c .for-devices) (heardTick limit l Silence c .for-devices) gs) (linkAfter (heardTick limit l Silence c)))
-        → Asked g h (l .primary) (l .secondary) → All (DeviceQuiet p g h n) (l .devices) → AllOwe (ledgersAfter (c .for-devices) (heardTick limit l Silence c .for-devices) gs) (linkAfter (heardTick limit l Silence c) .devices)
+    behind-silence : (hs : List Ledger) (g : ℕ) (h : Header) (n : ℕ) (burst : Bool) (noted : Noted) (next : Bool) (L : Type 0)
+        → (linkAfter (heardTick limit l Silence c) .line ≡ Silence → L → Booked p (ledgersAfter (c .for-devices) (heardTick limit l Silence c .for-devices) hs) (linkAfter (heardTick limit l Silence c)))
+        → Asked g h (l .primary) (l .secondary) → All (DeviceQuiet p g h n) (l .devices) → AllOwe (ledgersAfter (c .for-devices) (heardTick limit l Silence c .for-devices) hs) (linkAfter (heardTick limit l Silence c) .devices)
         → SilentTick p n burst noted next (l .primary) (l .secondary) (heardTick limit l Silence c .for-primary) (heardTick limit l Silence c .for-secondary) (heardTick limit l Silence c .for-devices) L
-        → Booked p (sentBy c (heardTick limit l Silence c) gs) (linkAfter (heardTick limit l Silence c))
+        → Booked p (sentBy c (heardTick limit l Silence c) hs) (linkAfter (heardTick limit l Silence c))
     unfolding heardTick
-    behind-silence g h n burst noted next L f asked qs os (T.still-silent a b line k ra rb) = unsent a b (f (carries quiet a b line) k)
-    behind-silence g h n burst noted next L f asked qs os (T.primary-begins w message a b line o ra rb) = in-primary burst noted next 0 w message (carries quiet a b line) o (sent-ledgers (quiet .for-primary .sent) (quiet .for-secondary .sent) (owe-ledgers os))
-    behind-silence g h n burst noted next L f asked qs os (T.secondary-begins w message a b line o ra rb) = in-secondary burst noted next 0 w message (carries quiet a b line) o (sent-ledgers (quiet .for-primary .sent) (quiet .for-secondary .sent) (owe-ledgers os))
-    behind-silence g h n burst noted next L f asked qs os (T.ack-begins w message u on a b line o ra rb) =
-        unsent a b
+    behind-silence hs g h n burst noted next L f asked qs os (T.still-silent a b line k ra rb) = unsent hs a b (f (carries quiet a b line) k)
+    behind-silence hs g h n burst noted next L f asked qs os (T.primary-begins w message a b line o ra rb) =
+        in-primary burst noted next 0 w message (carries quiet a b line) o (sent-ledgers (quiet .for-primary .sent) (quiet .for-secondary .sent) (owe-ledgers os))
+    behind-silence hs g h n burst noted next L f asked qs os (T.secondary-begins w message a b line o ra rb) =
+        in-secondary burst noted next 0 w message (carries quiet a b line) o (sent-ledgers (quiet .for-primary .sent) (quiet .for-secondary .sent) (owe-ledgers os))
+    behind-silence hs g h n burst noted next L f asked qs os (T.ack-begins w message u on a b line o ra rb) =
+        unsent hs a b
         (in-ack burst noted _ 0 w message u on (carries quiet a b line) o os
         (begins-gives g h n w message u on _ _ _ (c .for-devices) (spoken-long (o .devices)) (same-primary g h asked ra rb) (same-secondary g h asked ra rb) qs os (one-all (o .devices)))
         (begins-data w .0) (begins-data w .1))
-    behind-silence g h n burst noted next L f asked qs os (T.back-begins z w message u a b line o ra rb) = unsent a b (in-back burst noted _ 0 w message u (carries quiet a b line) o os)
+    behind-silence hs g h n burst noted next L f asked qs os (T.back-begins z w message u a b line o ra rb) = unsent hs a b (in-back burst noted _ 0 w message u (carries quiet a b line) o (owe-ledgers os))
+
+    -- a report closes all ledgers: where an answer may still begin, RT1 ends for no master, and elsewhere no device has anything in hand
+    quiet-owes : (g : ℕ) (h : Header) (n : ℕ) → (1 ≤ g → (rt1Ends (l .primary .master .message .stage) ≡ false) × (rt1Ends (l .secondary .master .message .stage) ≡ false))
+        → MasterListens p true (l .primary) → Ready (l .primary .master .receiver) → MasterListens p false (l .secondary) → Ready (l .secondary .master .receiver) → All (DeviceQuiet p g h n) (l .devices) → AllOwe gs (l .devices)
+        → AllOwe (ledgersAfter (c .for-devices) (heardTick limit l Silence c .for-devices) (reportedBy (heardTick limit l Silence c) gs)) (linkAfter (heardTick limit l Silence c) .devices)
+    unfolding heardTick Ready
+    quiet-owes g h n on la ra lb rb qs os = go (native.Mathlib.Decide.decLe 1 g)
+      where
+        after : List Ledger → Type 0
+        after hs = AllOwe (ledgersAfter (c .for-devices) (quiet .for-devices) hs) (linkAfter quiet .devices)
+
+        no-hand : {gl : Ledger} (x : DeviceSide) → g ≤ 0 → DeviceQuiet p g h n x → DeviceOwes gl (x .device) (x .frame)
+        no-hand x z q =
+            let e = hand-listens (x .device) (x .frame) (q .listens .hand) (omega (arith, q .in-time)) in
+            none-owed (λ k y. listens-asked k (sym e ∙ y)) (ap answering e)
+
+        go : Dec (1 ≤ g) → after (reportedBy quiet gs)
+        go (yes z) =
+            let r = on z in
+            subst after (sym (report-same (quiet .for-primary .told) (quiet .for-secondary .told) gs (silent-told limit (l .primary) (c .for-primary) (la .hears) ra (r .0)) (silent-told limit (l .secondary) (c .for-secondary) (lb .hears) rb (r .1))))
+            (owe-after limit Silence (c .for-devices) (λ x d g q o. silent-owes limit high p (v .some-sto) x d g (q .listens) (q .ready) o) qs os)
+        go (no z) =
+            owe-anew limit Silence (c .for-devices) (λ x d g q. silent-owes limit high p (v .some-sto) x d g (q .listens) (q .ready) (no-hand x (omega arith) q)) qs
+            (report-ledgers (quiet .for-primary .told) (quiet .for-secondary .told) (owe-ledgers os))
+
+    -- a master for which more than a tick, or none, is left
+    not-ending : {primary : Bool} (x : MasterSide) → MasterTimed primary (x .master) → (left (x .master .message .stage) ≡ 1 → ⊥) → rt1Ends (x .master .message .stage) ≡ false
+    not-ending x t f = go (rt1Ends (x .master .message .stage)) refl
+      where
+        go : (b : Bool) → rt1Ends (x .master .message .stage) ≡ b → rt1Ends (x .master .message .stage) ≡ false
+        go true e = absurd (f (omega (arith, t .timed e, rt1-left (x .master .message .stage) e)))
+        go false e = e
+
+    clear-ends : (e : ℕ) (k : ClearLine p e (l .primary) (l .secondary) (l .devices)) → 1 ≤ k .g → (rt1Ends (l .primary .master .message .stage) ≡ false) × (rt1Ends (l .secondary .master .message .stage) ≡ false)
+    clear-ends e k z = (
+      not-ending (l .primary) (kept .primary-timed) (λ q. omega (arith, k .primary-awaits (omega (arith, q)), k .primary-shut .later z)),
+      not-ending (l .secondary) (kept .secondary-timed) (λ q. omega (arith, k .secondary-awaits (omega (arith, q)), k .secondary-shut .later z)),
+    )
+
+    -- with BURST set one master awaits its ACK, which is the one that asked
+    set-ends : (n : ℕ) (next : Bool) (k : SetLine p n next (l .primary) (l .secondary) (l .devices)) → 1 ≤ k .g → (rt1Ends (l .primary .master .message .stage) ≡ false) × (rt1Ends (l .secondary .master .message .stage) ≡ false)
+    set-ends n next k z = go (k .h .primary) refl
+      where
+        go : (b : Bool) → k .h .primary ≡ b → (rt1Ends (l .primary .master .message .stage) ≡ false) × (rt1Ends (l .secondary .master .message .stage) ≡ false)
+        go true e =
+            let more = k .asked .by-primary z e in (
+              not-ending (l .primary) (kept .primary-timed) (λ q. omega (arith, q, more)),
+              not-ending (l .secondary) (kept .secondary-timed) (λ q. true-false (sym (k .primary-awaits (omega (arith, more)) .0) ∙ k .secondary-awaits (omega (arith, q)) .0)),
+            )
+        go false e =
+            let more = k .asked .by-secondary z e in (
+              not-ending (l .primary) (kept .primary-timed) (λ q. true-false (sym (k .primary-awaits (omega (arith, q)) .0) ∙ k .secondary-awaits (omega (arith, more)) .0)),
+              not-ending (l .secondary) (kept .secondary-timed) (λ q. omega (arith, q, more)),
+            )
 
     silence-books : (e : ℕ) → Fair (heardTick limit l Silence c) → SilentLine p e (l .primary) (l .secondary) (l .devices) → AllOwe gs (l .devices) → Ticked p gs l c (heardTick limit l Silence c)
     unfolding heardTick
     silence-books e sole (clear k) os =
-        let after = owe-after limit Silence (c .for-devices) (λ x d g q o. silent-owes limit high p (v .some-sto) x d g (q .listens) (q .ready) o) (k .devices) os in
+        let after = quiet-owes (k .g) (k .h) 0 (clear-ends e k) (k .primary .listens) (k .primary .ready) (k .secondary .listens) (k .secondary .ready) (k .devices) os in
         unreported p gs l c quiet (quiet-reports limit (l .primary) (c .for-primary) (k .primary .ready)) (quiet-reports limit (l .secondary) (c .for-secondary) (k .secondary .ready))
-        (behind-silence (k .g) (k .h) 0 false (k .noted) true _ (λ line m. in-silence (e - 1) line (clear m) after) (k .asked) (k .devices) after
+        (behind-silence (reportedBy quiet gs) (k .g) (k .h) 0 false (k .noted) true _ (λ line m. in-silence (e - 1) line (clear m) after) (k .asked) (k .devices) after
         (clear-tick limit low high p v (l .primary) (l .secondary) (l .devices) (c .for-primary) (c .for-secondary) (c .for-devices) e k sole))
     silence-books e sole (set n next k) os =
-        let after = owe-after limit Silence (c .for-devices) (λ x d g q o. silent-owes limit high p (v .some-sto) x d g (q .listens) (q .ready) o) (k .devices) os in
+        let after = quiet-owes (k .g) (k .h) n (set-ends n next k) (k .primary .listens) (k .primary .ready) (k .secondary .listens) (k .secondary .ready) (k .devices) os in
         unreported p gs l c quiet (quiet-reports limit (l .primary) (c .for-primary) (k .primary .ready)) (quiet-reports limit (l .secondary) (c .for-secondary) (k .secondary .ready))
-        (behind-silence (k .g) (k .h) n true (k .noted) next _ (λ line m. in-silence (e - 1) line (set (n - 1) next m) after) (k .asked) (k .devices) after
+        (behind-silence (reportedBy quiet gs) (k .g) (k .h) n true (k .noted) next _ (λ line m. in-silence (e - 1) line (set (n - 1) next m) after) (k .asked) (k .devices) after
         (set-tick limit low high p v (l .primary) (l .secondary) (l .devices) (c .for-primary) (c .for-secondary) (c .for-devices) n next k sole))
 
     -- ---- a master sends
@@ -296,15 +350,20 @@ module _ (limit : ℕ) (low : 2 ≤ limit) (high : limit ≤ 255) (p : Profile) 
     abbrev heard : List ℕ → ℕ → LinkStep
     heard w k = heardTick limit l (Character (getD w k 0)) c
 
-    silently : (w : List ℕ) (k : ℕ) → heard w k .for-primary .sent ≡ Silent → heard w k .for-secondary .sent ≡ Silent → Booked p (ledgersAfter (c .for-devices) (heard w k .for-devices) gs) (linkAfter (heard w k)) → Booked p (sentBy c (heard w k) gs) (linkAfter (heard w k))
-    silently w k a b n = subst (λ (z : List Ledger). Booked p z (linkAfter (heard w k))) (sym (none-sent c (heard w k) gs a b)) n
+    silently : (hs : List Ledger) (w : List ℕ) (k : ℕ) → heard w k .for-primary .sent ≡ Silent → heard w k .for-secondary .sent ≡ Silent
+        → Booked p (ledgersAfter (c .for-devices) (heard w k .for-devices) hs) (linkAfter (heard w k)) → Booked p (sentBy c (heard w k) hs) (linkAfter (heard w k))
+    silently hs w k a b n = subst (λ (z : List Ledger). Booked p z (linkAfter (heard w k))) (sym (none-sent c (heard w k) hs a b)) n
+
+    -- a ledger for each device, whatever is reported
+    told-ledgers : (w : List ℕ) (k : ℕ) → Ledgers gs (l .devices) → Ledgers (reportedBy (heard w k) gs) (l .devices)
+    told-ledgers w k gl = report-ledgers (heard w k .for-primary .told) (heard w k .for-secondary .told) gl
 
     -- the devices that hear a frame
-    hear-books : (w : List ℕ) (message : Whole) (k u : ℕ) → Spoken w message → (suc k < length w) ⊎ (suc k ≡ length w) → message .expansion ≡ 0 → All (DeviceHears p (readerAfter idle (take k w)) u) (l .devices) → Ledgers gs (l .devices)
-        → AllOwe (ledgersAfter (c .for-devices) (heardTick limit l (Character (getD w k 0)) c .for-devices) gs) (linkAfter (heardTick limit l (Character (getD w k 0)) c) .devices)
+    hear-books : (w : List ℕ) (message : Whole) (k u : ℕ) → Spoken w message → (suc k < length w) ⊎ (suc k ≡ length w) → message .expansion ≡ 0 → All (DeviceHears p (readerAfter idle (take k w)) u) (l .devices) → {hs : List Ledger} → Ledgers hs (l .devices)
+        → AllOwe (ledgersAfter (c .for-devices) (heardTick limit l (Character (getD w k 0)) c .for-devices) hs) (linkAfter (heardTick limit l (Character (getD w k 0)) c) .devices)
     unfolding heardTick
-    hear-books w message k u s (inl below) plain hs gl = owe-anew limit (Character (getD w k 0)) (c .for-devices) (λ x d g q. mid-owes limit high p (v .some-sto) x d g (q .listens) w message k s below (q .receiver-is)) hs gl
-    hear-books w message k u s (inr last) plain hs gl = owe-anew limit (Character (getD w k 0)) (c .for-devices) (λ x d g q. end-owes limit high p (v .some-sto) x d g (q .listens) w message k s last (q .receiver-is) plain) hs gl
+    hear-books w message k u s (inl below) plain qs gl = owe-anew limit (Character (getD w k 0)) (c .for-devices) (λ x d g q. mid-owes limit high p (v .some-sto) x d g (q .listens) w message k s below (q .receiver-is)) qs gl
+    hear-books w message k u s (inr last) plain qs gl = owe-anew limit (Character (getD w k 0)) (c .for-devices) (λ x d g q. end-owes limit high p (v .some-sto) x d g (q .listens) w message k s last (q .receiver-is) plain) qs gl
 
     -- and a listening master: nothing to report of a frame that is no ACK
     hears-reports : (x : MasterSide) (d : MasterCall) (w : List ℕ) (message : Whole) (k : ℕ) → Spoken w message → (suc k < length w) ⊎ (suc k ≡ length w) → x .master .receiver ≡ readerAfter idle (take k w) → (message .header .frame ≡ ack → ⊥) → NoReport (masterTick limit x (Character (getD w k 0)) d)
@@ -328,12 +387,12 @@ module _ (limit : ℕ) (low : 2 ≤ limit) (high : limit ≤ 255) (p : Profile) 
         let s = o .speaks .held .speaks in
         let place = stx-where (o .speaks .place) in
         unreported p gs l c (heard w k) (deaf-reports limit (l .primary) (c .for-primary) (Character (getD w k 0)) (o .speaks .deaf-is)) (hears-reports (l .secondary) (c .for-secondary) w message k s place (o .hears .receiver-is) (stx-ack (o .speaks .type-is)))
-        (go (stx-tick limit low high p v true false burst noted next k w message (l .primary) (l .secondary) (l .devices) (c .for-primary) (c .for-secondary) (c .for-devices) o) (hear-books w message k 0 s place (o .speaks .no-expansion) (o .devices) os))
+        (go (stx-tick limit low high p v true false burst noted next k w message (l .primary) (l .secondary) (l .devices) (c .for-primary) (c .for-secondary) (c .for-devices) o) (hear-books w message k 0 s place (o .speaks .no-expansion) (o .devices) (told-ledgers w k os)))
       where
         go : StxTick p true false burst noted next k w message (l .primary) (l .secondary) (heard w k .for-primary) (heard w k .for-secondary) (heard w k .for-devices)
-            → AllOwe (ledgersAfter (c .for-devices) (heard w k .for-devices) gs) (linkAfter (heard w k) .devices) → Booked p (sentBy c (heard w k) gs) (linkAfter (heard w k))
+            → AllOwe (ledgersAfter (c .for-devices) (heard w k .for-devices) (reportedBy (heard w k) gs)) (linkAfter (heard w k) .devices) → Booked p (bookedBy c (heard w k) gs) (linkAfter (heard w k))
         go (X.goes-on below a b line m n y) after = in-primary burst noted next (suc k) w message (carries (heard w k) a b line) m (sent-ledgers (heard w k .for-primary .sent) (heard w k .for-secondary .sent) (owe-ledgers after))
-        go (X.ends last a b line m n y) after = silently w k a b (in-silence 0 (carries (heard w k) a b line) (stx-line p v 0 burst m) after)
+        go (X.ends last a b line m n y) after = silently (reportedBy (heard w k) gs) w k a b (in-silence 0 (carries (heard w k) a b line) (stx-line p v 0 burst m) after)
 
     secondary-books : (burst : Bool) (noted : Noted) (next : Bool) (k : ℕ) (w : List ℕ) (message : Whole) → OneMasterSends p false true burst noted next k w message (l .secondary) (l .primary) (l .devices) → Ledgers gs (l .devices)
         → Ticked p gs l c (heardTick limit l (Character (getD w k 0)) c)
@@ -342,56 +401,61 @@ module _ (limit : ℕ) (low : 2 ≤ limit) (high : limit ≤ 255) (p : Profile) 
         let s = o .speaks .held .speaks in
         let place = stx-where (o .speaks .place) in
         unreported p gs l c (heard w k) (hears-reports (l .primary) (c .for-primary) w message k s place (o .hears .receiver-is) (stx-ack (o .speaks .type-is))) (deaf-reports limit (l .secondary) (c .for-secondary) (Character (getD w k 0)) (o .speaks .deaf-is))
-        (go (stx-tick limit low high p v false true burst noted next k w message (l .secondary) (l .primary) (l .devices) (c .for-secondary) (c .for-primary) (c .for-devices) o) (hear-books w message k 0 s place (o .speaks .no-expansion) (o .devices) os))
+        (go (stx-tick limit low high p v false true burst noted next k w message (l .secondary) (l .primary) (l .devices) (c .for-secondary) (c .for-primary) (c .for-devices) o) (hear-books w message k 0 s place (o .speaks .no-expansion) (o .devices) (told-ledgers w k os)))
       where
         go : StxTick p false true burst noted next k w message (l .secondary) (l .primary) (heard w k .for-secondary) (heard w k .for-primary) (heard w k .for-devices)
-            → AllOwe (ledgersAfter (c .for-devices) (heard w k .for-devices) gs) (linkAfter (heard w k) .devices) → Booked p (sentBy c (heard w k) gs) (linkAfter (heard w k))
+            → AllOwe (ledgersAfter (c .for-devices) (heard w k .for-devices) (reportedBy (heard w k) gs)) (linkAfter (heard w k) .devices) → Booked p (bookedBy c (heard w k) gs) (linkAfter (heard w k))
         go (X.goes-on below a b line m n y) after = in-secondary burst noted next (suc k) w message (carries (heard w k) b a line) m (sent-ledgers (heard w k .for-primary .sent) (heard w k .for-secondary .sent) (owe-ledgers after))
-        go (X.ends last a b line m n y) after = silently w k b a (in-silence 0 (carries (heard w k) b a line) (stx-line-secondary p v 0 burst m) after)
+        go (X.ends last a b line m n y) after = silently (reportedBy (heard w k) gs) w k b a (in-silence 0 (carries (heard w k) b a line) (stx-line-secondary p v 0 burst m) after)
 
     -- ---- a device sends
+
+    -- a device that hears the one that sends
+    listens-owes : (w : List ℕ) (message : Whole) (k u : ℕ) → Spoken w message → message .expansion ≡ 0 → (suc k < length w) ⊎ (suc k ≡ length w) → (x : DeviceSide) (d : DeviceCall) (g : Ledger) → DeviceHears p (readerAfter idle (take k w)) u x
+        → DeviceOwes (ledgerAfter d (deviceTick limit x (Character (getD w k 0)) d) g) (deviceTick limit x (Character (getD w k 0)) d .side .device) (deviceTick limit x (Character (getD w k 0)) d .side .frame)
+    listens-owes w message k u s plain (inl below) x d g q = mid-owes limit high p (v .some-sto) x d g (q .listens) w message k s below (q .receiver-is)
+    listens-owes w message k u s plain (inr last) x d g q = end-owes limit high p (v .some-sto) x d g (q .listens) w message k s last (q .receiver-is) plain
 
     -- the one that sends, and those that hear it
     send-books : (f : Frames) (w : List ℕ) (message : Whole) (k u : ℕ) (on : Bool) → Spoken w message → (suc k < length w) ⊎ (suc k ≡ length w) → message .expansion ≡ 0
         → OneOf (DeviceSpeaks p f k w message u on) (DeviceHears p (readerAfter idle (take k w)) u) (l .devices) → AllOwe gs (l .devices)
         → AllOwe (ledgersAfter (c .for-devices) (heardTick limit l (Character (getD w k 0)) c .for-devices) gs) (linkAfter (heardTick limit l (Character (getD w k 0)) c) .devices)
     unfolding heardTick
-    send-books f w message k u on s place plain o os = owe-after limit (Character (getD w k 0)) (c .for-devices) (λ x d g q k. by x d g q k place) (one-all o) os
+    send-books f w message k u on s place plain o os = owe-after limit (Character (getD w k 0)) (c .for-devices) by (one-all o) os
       where
-        by : (x : DeviceSide) (d : DeviceCall) (g : Ledger) → DeviceSpeaks p f k w message u on x ⊎ DeviceHears p (readerAfter idle (take k w)) u x → DeviceOwes g (x .device) (x .frame) → (suc k < length w) ⊎ (suc k ≡ length w)
+        by : (x : DeviceSide) (d : DeviceCall) (g : Ledger) → DeviceSpeaks p f k w message u on x ⊎ DeviceHears p (readerAfter idle (take k w)) u x → DeviceOwes g (x .device) (x .frame)
             → DeviceOwes (ledgerAfter d (deviceTick limit x (Character (getD w k 0)) d) g) (deviceTick limit x (Character (getD w k 0)) d .side .device) (deviceTick limit x (Character (getD w k 0)) d .side .frame)
-        by x d g (inl q) o z = speaks-owes limit high x (Character (getD w k 0)) d g (q .deaf-is) (speaker-free f (q .place)) o
-        by x d g (inr q) o (inl below) = mid-owes limit high p (v .some-sto) x d g (q .listens) w message k s below (q .receiver-is)
-        by x d g (inr q) o (inr last) = end-owes limit high p (v .some-sto) x d g (q .listens) w message k s last (q .receiver-is) plain
+        by x d g (inl q) o = speaks-owes limit high x (Character (getD w k 0)) d g (q .deaf-is) (speaker-free f (q .place)) o
+        by x d g (inr q) o = listens-owes w message k u s plain place x d g q
 
-    -- behind the last character, whatever was reported
-    end-books : (f : Frames) (w : List ℕ) (message : Whole) (k u : ℕ) (on : Bool) (hs : List Ledger) → Spoken w message → suc k ≡ length w → message .expansion ≡ 0
-        → OneOf (DeviceSpeaks p f k w message u on) (DeviceHears p (readerAfter idle (take k w)) u) (l .devices) → Ledgers hs (l .devices)
-        → AllOwe (ledgersAfter (c .for-devices) (heardTick limit l (Character (getD w k 0)) c .for-devices) hs) (linkAfter (heardTick limit l (Character (getD w k 0)) c) .devices)
+    -- where the one that sends owes nothing, whatever is reported
+    end-books : (f : Frames) (w : List ℕ) (message : Whole) (k u : ℕ) (on : Bool) → Spoken w message → (suc k < length w) ⊎ (suc k ≡ length w) → message .expansion ≡ 0 → ((x : DeviceSide) (g : Ledger) → DevicePlace f k w (x .device) → DeviceOwes g (x .device) (x .frame))
+        → OneOf (DeviceSpeaks p f k w message u on) (DeviceHears p (readerAfter idle (take k w)) u) (l .devices) → Ledgers gs (l .devices)
+        → AllOwe (ledgersAfter (c .for-devices) (heardTick limit l (Character (getD w k 0)) c .for-devices) (reportedBy (heardTick limit l (Character (getD w k 0)) c) gs)) (linkAfter (heardTick limit l (Character (getD w k 0)) c) .devices)
     unfolding heardTick
-    end-books f w message k u on hs s last plain o gl = owe-anew limit (Character (getD w k 0)) (c .for-devices) by (one-all o) gl
+    end-books f w message k u on s place plain over o gl = owe-anew limit (Character (getD w k 0)) (c .for-devices) by (one-all o) (told-ledgers w k gl)
       where
         by : (x : DeviceSide) (d : DeviceCall) (g : Ledger) → DeviceSpeaks p f k w message u on x ⊎ DeviceHears p (readerAfter idle (take k w)) u x
             → DeviceOwes (ledgerAfter d (deviceTick limit x (Character (getD w k 0)) d) g) (deviceTick limit x (Character (getD w k 0)) d .side .device) (deviceTick limit x (Character (getD w k 0)) d .side .frame)
-        by x d g (inl q) = speaks-owes limit high x (Character (getD w k 0)) d g (q .deaf-is) (speaker-free f (q .place)) (finished-owes f last (q .place))
-        by x d g (inr q) = end-owes limit high p (v .some-sto) x d g (q .listens) w message k s last (q .receiver-is) plain
+        by x d g (inl q) = speaks-owes limit high x (Character (getD w k 0)) d g (q .deaf-is) (speaker-free f (q .place)) (over x g (q .place))
+        by x d g (inr q) = listens-owes w message k u s plain place x d g q
 
-    back-books : (burst : Bool) (noted : Noted) (next : Bool) (k : ℕ) (w : List ℕ) (message : Whole) (u : ℕ) → OneDeviceSends p a-back burst noted next k w message u true (l .primary) (l .secondary) (l .devices) → AllOwe gs (l .devices)
+    back-books : (burst : Bool) (noted : Noted) (next : Bool) (k : ℕ) (w : List ℕ) (message : Whole) (u : ℕ) → OneDeviceSends p a-back burst noted next k w message u true (l .primary) (l .secondary) (l .devices) → Ledgers gs (l .devices)
         → Ticked p gs l c (heardTick limit l (Character (getD w k 0)) c)
     unfolding heardTick
     back-books burst noted next k w message u o os =
         let s = spoken-of (o .devices) in
         let place = place-of (o .devices) in
         unreported p gs l c (heard w k) (hears-reports (l .primary) (c .for-primary) w message k s place (o .primary .receiver-is) (back-ack (is-it (o .frame-is)))) (hears-reports (l .secondary) (c .for-secondary) w message k s place (o .secondary .receiver-is) (back-ack (is-it (o .frame-is))))
-        (go (back-tick limit low high p v burst noted next k w message u (l .primary) (l .secondary) (l .devices) (c .for-primary) (c .for-secondary) (c .for-devices) o) (send-books a-back w message k u true s place (o .no-expansion) (o .devices) os))
+        (go (back-tick limit low high p v burst noted next k w message u (l .primary) (l .secondary) (l .devices) (c .for-primary) (c .for-secondary) (c .for-devices) o) (end-books a-back w message k u true s place (o .no-expansion) (λ x g q. back-owes q) (o .devices) os))
       where
         is-it : FrameIs true burst next (message .header) (l .primary) (l .secondary) a-back → message .header .frame ≡ back
         is-it (is-back type z b e) = type
 
         go : BackTick p burst noted next k w message u (l .primary) (l .secondary) (heard w k .for-primary) (heard w k .for-secondary) (heard w k .for-devices)
-            → AllOwe (ledgersAfter (c .for-devices) (heard w k .for-devices) gs) (linkAfter (heard w k) .devices) → Booked p (sentBy c (heard w k) gs) (linkAfter (heard w k))
-        go (A.back-goes-on below a b line m x y) after = silently w k a b (in-back burst noted next (suc k) w message u (carries (heard w k) a b line) m after)
-        go (A.back-ends last a b line m ta tb n x y) after = silently w k a b (in-silence 0 (carries (heard w k) a b line) (set (p .rt2) next m) after)
+            → AllOwe (ledgersAfter (c .for-devices) (heard w k .for-devices) (reportedBy (heard w k) gs)) (linkAfter (heard w k) .devices) → Booked p (bookedBy c (heard w k) gs) (linkAfter (heard w k))
+        go (A.back-goes-on below a b line m x y) after = silently (reportedBy (heard w k) gs) w k a b (in-back burst noted next (suc k) w message u (carries (heard w k) a b line) m (owe-ledgers after))
+        go (A.back-ends last a b line m ta tb n x y) after = silently (reportedBy (heard w k) gs) w k a b (in-silence 0 (carries (heard w k) a b line) (set (p .rt2) next m) after)
 
     -- ---- an ACK
 
@@ -517,12 +581,6 @@ module _ (limit : ℕ) (low : 2 ≤ limit) (high : limit ≤ 255) (p : Profile) 
               ∙ data-heard (f .x .device .preamble) (answerHeader (f .x .device .request) (o .gives .flag)) (o .gives .put) (hd .before) k (o .gives .fits) (last ∙ ap length w-is) (hd .room);
         }
 
-    closed-any : (t : MasterTold) {hs : List Ledger} → Ledgers hs (l .devices) → Ledgers (closedBy t hs) (l .devices)
-    closed-any MasterTold.Nothing a = a
-    closed-any (Answered w) a = closed-ledgers a
-    closed-any (GivenUp n) a = a
-    closed-any BroadcastSent a = a
-
     ack-books : (burst : Bool) (noted : Noted) (next : Bool) (k : ℕ) (w : List ℕ) (message : Whole) (u : ℕ) (on : Bool) → OneDeviceSends p an-ack burst noted next k w message u on (l .primary) (l .secondary) (l .devices) → AllOwe gs (l .devices)
         → SenderGives u (l .primary) (l .secondary) gs (l .devices) → HearsData k w (l .primary) → HearsData k w (l .secondary) → Ticked p gs l c (heardTick limit l (Character (getD w k 0)) c)
     unfolding heardTick
@@ -538,18 +596,25 @@ module _ (limit : ℕ) (low : 2 ≤ limit) (high : limit ≤ 255) (p : Profile) 
         lefts (is-ack type pa pb) = (pa, pb)
 
         -- a report at the end of the ACK
-        reported : suc k ≡ length w → finders gs ≤ 1 → (primary : Bool) (v : Whole) → masterIn primary s .told ≡ Answered v → Credited primary gs l s v
+        reported : suc k ≡ length w → finders gs ≤ 1 → (primary : Bool) (v : Whole) → masterIn primary s .told ≡ Answered v → Credited primary (masterOf primary l .master .message .header) gs l s v
         reported last one true v e =
             let r = credit true k w message u on (l .primary) (c .for-primary) last (found (o .devices) sg) (o .primary .listens .is-it .primary-is) (o .primary .receiver-is) ha v e in
-            record { awaited = reports limit (l .primary) (Character (getD w k 0)) (c .for-primary) v e .awaits; put = r .put; gave = r .gave; form-is = r .form-is; bit-is = r .bit-is; address-is = r .address-is; command-is = r .command-is; data-is = r .data-is; no-other = λ tag. omega (arith, one, gave-found tag (r .gave)) }
+            record { put = r .put; gave = r .gave; form-is = r .form-is; bit-is = r .bit-is; address-is = r .address-is; command-is = r .command-is; data-is = r .data-is; no-other = λ tag. omega (arith, one, gave-found tag (r .gave)) }
         reported last one false v e =
             let r = credit false k w message u on (l .secondary) (c .for-secondary) last (found (o .devices) sg) (o .secondary .listens .is-it .primary-is) (o .secondary .receiver-is) hb v e in
-            record { awaited = reports limit (l .secondary) (Character (getD w k 0)) (c .for-secondary) v e .awaits; put = r .put; gave = r .gave; form-is = r .form-is; bit-is = r .bit-is; address-is = r .address-is; command-is = r .command-is; data-is = r .data-is; no-other = λ tag. omega (arith, one, gave-found tag (r .gave)) }
+            record { put = r .put; gave = r .gave; form-is = r .form-is; bit-is = r .bit-is; address-is = r .address-is; command-is = r .command-is; data-is = r .data-is; no-other = λ tag. omega (arith, one, gave-found tag (r .gave)) }
 
         ends-owe : suc k ≡ length w → s .for-primary .sent ≡ Silent → s .for-secondary .sent ≡ Silent → AllOwe (bookedBy c s gs) (linkAfter s .devices)
         ends-owe last a b =
             subst (λ (z : List Ledger). AllOwe z (linkAfter s .devices)) (sym (sent-same (s .for-primary .sent) (s .for-secondary .sent) _ a b))
-            (end-books an-ack w message k u on (closedBy (s .for-primary .told) (closedBy (s .for-secondary .told) gs)) sp last (o .no-expansion) (o .devices) (closed-any (s .for-primary .told) (closed-any (s .for-secondary .told) (owe-ledgers os))))
+            (end-books an-ack w message k u on sp (inr last) (o .no-expansion) (λ x g q. finished-owes last q) (o .devices) (owe-ledgers os))
+
+        -- inside the ACK nothing is reported
+        none-told : suc k < length w → reportedBy s gs ≡ gs
+        none-told below =
+            report-same (s .for-primary .told) (s .for-secondary .told) gs
+            (mid-told limit (l .primary) (c .for-primary) (getD w k 0) (readerAfter idle (take (suc k) w)) (subst (λ (z : Receiver). taken z (Character (getD w k 0)) ≡ tells (readerAfter idle (take (suc k) w)) Nothing) (sym (o .primary .receiver-is)) (sp .mid k below)))
+            (mid-told limit (l .secondary) (c .for-secondary) (getD w k 0) (readerAfter idle (take (suc k) w)) (subst (λ (z : Receiver). taken z (Character (getD w k 0)) ≡ tells (readerAfter idle (take (suc k) w)) Nothing) (sym (o .secondary .receiver-is)) (sp .mid k below)))
 
         ended : linkAfter s .line ≡ Silence → AckEnded p 0 (Rattle.turns.specs.Master.burstAfter burst noted (message .header)) next (message .header) (s .for-primary .side) (s .for-secondary .side) (sides (s .for-devices)) → SilentLine p 0 (s .for-primary .side) (s .for-secondary .side) (sides (s .for-devices))
         ended line (A.ended-clear z n m ta tb) = clear m
@@ -559,48 +624,72 @@ module _ (limit : ℕ) (low : 2 ≤ limit) (high : limit ≤ 255) (p : Profile) 
         go (A.ack-goes-on below a b line m x y) =
             let z = lefts (m .frame-is) in
             unreported p gs l c s (mid-reports limit (l .primary) (c .for-primary) w message k sp below (o .primary .receiver-is)) (mid-reports limit (l .secondary) (c .for-secondary) w message k sp below (o .secondary .receiver-is))
-            (silently w k a b (in-ack burst noted next (suc k) w message u on (carries s a b line) m (send-books an-ack w message k u on sp (inl below) (o .no-expansion) (o .devices) os)
+            (subst (λ (z : List Ledger). Booked p (sentBy c s z) (linkAfter s)) (sym (none-told below))
+            (silently gs w k a b (in-ack burst noted next (suc k) w message u on (carries s a b line) m (send-books an-ack w message k u on sp (inl below) (o .no-expansion) (o .devices) os)
             (sender-after w message k u on sp below (z .0) (z .1) (c .for-devices) (one-all (o .devices)) sg)
             (hears-on-data (l .primary) (c .for-primary) w k (omega arith) (o .primary .listens .hears) (o .primary .receiver-is) ha)
-            (hears-on-data (l .secondary) (c .for-secondary) w k (omega arith) (o .secondary .listens .hears) (o .secondary .receiver-is) hb)))
+            (hears-on-data (l .secondary) (c .for-secondary) w k (omega arith) (o .secondary .listens .hears) (o .secondary .receiver-is) hb))))
         go (A.ack-ends last off a b line m x y) = record { credited = reported last; next = in-silence 0 (carries s a b line) (ended (carries s a b line) m) (ends-owe last a b) }
-        go (A.back-follows-it last z who w′ message′ a b line m x y) = record { credited = reported last; next = in-back true who (if next then false else true) 0 w′ message′ u (carries s a b line) m (ends-owe last a b) }
+        go (A.back-follows-it last z who w′ message′ a b line m x y) = record { credited = reported last; next = in-back true who (if next then false else true) 0 w′ message′ u (carries s a b line) m (owe-ledgers (ends-owe last a b)) }
 
 -- ---- the theorem
 
 module _ (limit : ℕ) (low : 2 ≤ limit) (high : limit ≤ 255) (p : Profile) (v : Valid p) where
-  book-tick : (l : Link) (c : Calls) (gs : List Ledger) → Rooms l → Fair (linkTick limit l c) → Booked p gs l → Ticked p gs l c (linkTick limit l c)
-  book-tick l c gs rooms sole (in-silence e line o os) =
+  book-tick : (l : Link) (c : Calls) (gs : List Ledger) → MastersKept l → Fair (linkTick limit l c) → Booked p gs l → Ticked p gs l c (linkTick limit l c)
+  book-tick l c gs kept sole (in-silence e line o os) =
       let q = tick-is limit l Silence c line in
-      subst (Ticked p gs l c) (sym q) (silence-books limit low high p v l c gs rooms e (subst Fair q sole) o os)
-  book-tick l c gs rooms sole (in-primary burst noted next k w message line o os) =
-      subst (Ticked p gs l c) (sym (tick-is limit l (Character (getD w k 0)) c line)) (primary-books limit low high p v l c gs rooms burst noted next k w message o os)
-  book-tick l c gs rooms sole (in-secondary burst noted next k w message line o os) =
-      subst (Ticked p gs l c) (sym (tick-is limit l (Character (getD w k 0)) c line)) (secondary-books limit low high p v l c gs rooms burst noted next k w message o os)
-  book-tick l c gs rooms sole (in-ack burst noted next k w message u on line o os sg ha hb) =
-      subst (Ticked p gs l c) (sym (tick-is limit l (Character (getD w k 0)) c line)) (ack-books limit low high p v l c gs rooms burst noted next k w message u on o os sg ha hb)
-  book-tick l c gs rooms sole (in-back burst noted next k w message u line o os) =
-      subst (Ticked p gs l c) (sym (tick-is limit l (Character (getD w k 0)) c line)) (back-books limit low high p v l c gs rooms burst noted next k w message u o os)
+      subst (Ticked p gs l c) (sym q) (silence-books limit low high p v l c gs kept e (subst Fair q sole) o os)
+  book-tick l c gs kept sole (in-primary burst noted next k w message line o os) =
+      subst (Ticked p gs l c) (sym (tick-is limit l (Character (getD w k 0)) c line)) (primary-books limit low high p v l c gs kept burst noted next k w message o os)
+  book-tick l c gs kept sole (in-secondary burst noted next k w message line o os) =
+      subst (Ticked p gs l c) (sym (tick-is limit l (Character (getD w k 0)) c line)) (secondary-books limit low high p v l c gs kept burst noted next k w message o os)
+  book-tick l c gs kept sole (in-ack burst noted next k w message u on line o os sg ha hb) =
+      subst (Ticked p gs l c) (sym (tick-is limit l (Character (getD w k 0)) c line)) (ack-books limit low high p v l c gs kept burst noted next k w message u on o os sg ha hb)
+  book-tick l c gs kept sole (in-back burst noted next k w message u line o os) =
+      subst (Ticked p gs l c) (sym (tick-is limit l (Character (getD w k 0)) c line)) (back-books limit low high p v l c gs kept burst noted next k w message u o os)
 
-  rooms-after : (l : Link) (c : Calls) → Rooms l → Rooms (linkAfter (linkTick limit l c))
+  masters-after : (l : Link) (c : Calls) → MastersKept l → MastersKept (linkAfter (linkTick limit l c))
   unfolding linkTick
-  rooms-after l c r = record {
+  masters-after l c r = record {
     primary-room = omega (arith, r .primary-room, bytes-length limit (l .primary) (l .line) (c .for-primary));
     secondary-room = omega (arith, r .secondary-room, bytes-length limit (l .secondary) (l .line) (c .for-secondary));
+    primary-timed = tick-asks limit high true (l .primary) (l .line) (c .for-primary) (r .primary-timed) .still-timed;
+    secondary-timed = tick-asks limit high false (l .secondary) (l .line) (c .for-secondary) (r .secondary-timed) .still-timed;
   }
 
+  -- what each master was asked last is its message
+  asked-after : (l : Link) (c : Calls) (asked : Bool → Header) → MastersKept l → ((primary : Bool) → asked primary ≡ masterOf primary l .master .message .header)
+      → (primary : Bool) → askedAfter c (linkTick limit l c) asked primary ≡ masterOf primary (linkAfter (linkTick limit l c)) .master .message .header
+  unfolding linkTick
+  asked-after l c asked r e true =
+      ap (askedBy true (c .for-primary) (masterTick limit (l .primary) (l .line) (c .for-primary) .result)) (e true) ∙ sym (tick-asks limit high true (l .primary) (l .line) (c .for-primary) (r .primary-timed) .header-is)
+  asked-after l c asked r e false =
+      ap (askedBy false (c .for-secondary) (masterTick limit (l .secondary) (l .line) (c .for-secondary) .result)) (e false) ∙ sym (tick-asks limit high false (l .secondary) (l .line) (c .for-secondary) (r .secondary-timed) .header-is)
+
+  -- so a report is credited to it
+  credits : {gs : List Ledger} {l : Link} {c : Calls} {s : LinkStep} {asked : Bool → Header} → ((primary : Bool) → asked primary ≡ masterOf primary l .master .message .header) → finders gs ≤ 1 → Ticked p gs l c s
+      → (primary : Bool) (w : Whole) → masterIn primary s .told ≡ Answered w → Credited primary (asked primary) gs l s w
+  credits {gs} {l} {c} {s} e one t primary w told = subst (λ (h : Header). Credited primary h gs l s w) (sym (e primary)) (t .credited one primary w told)
+
   -- `fs` are the ledgers of the premise on command 11
-  booked-run : (l : Link) (ticks : List Calls) (gs fs : List Ledger) → Rooms l → Booked p gs l → Within gs fs → finders fs ≤ 1 → EachTick Fair (run limit l ticks) → OneFinds fs ticks (run limit l ticks) → EachCredited limit gs l ticks
+  booked-run : (l : Link) (ticks : List Calls) (asked : Bool → Header) (gs fs : List Ledger) → ((primary : Bool) → asked primary ≡ masterOf primary l .master .message .header) → MastersKept l → Booked p gs l → Within gs fs → finders fs ≤ 1
+      → EachTick Fair (run limit l ticks) → OneFinds fs ticks (run limit l ticks) → EachCredited limit asked gs l ticks
   unfolding run
-  booked-run l [] gs fs rooms k w few b o = no-tick
-  booked-run l (c ∷ cs) gs fs rooms k w few (R1.EachTick.tick-and one b) (G.OneFinds.tick-and q o) =
-      let t = book-tick l c gs rooms one k in
-      tick-and (t .credited (omega (arith, few, finders-within w))) (booked-run (linkAfter (linkTick limit l c)) cs (bookedBy c (linkTick limit l c) gs) _ (rooms-after l c rooms) (t .next) (within-tick c (linkTick limit l c) w) q b o)
+  booked-run l [] asked gs fs e kept k w few b o = no-tick
+  booked-run l (c ∷ cs) asked gs fs e kept k w few (R1.EachTick.tick-and one b) (G.OneFinds.tick-and q o) =
+      let t = book-tick l c gs kept one k in
+      tick-and (credits e (omega (arith, few, finders-within w)) t)
+      (booked-run (linkAfter (linkTick limit l c)) cs (askedAfter c (linkTick limit l c) asked) (bookedBy c (linkTick limit l c) gs) _ (asked-after l c asked kept e) (masters-after l c kept) (t .next) (within-tick c (linkTick limit l c) w) q b o)
 
 blank-ledgers : (xs : List DeviceSide) → Ledgers (blanks xs) xs
 unfolding blanks
 blank-ledgers [] = no-ledger
 blank-ledgers (x ∷ xs) = ledger-and (blank-ledgers xs)
+
+some-rt1 : (p : Profile) → Valid p → (primary : Bool) → 1 ≤ ownRt1 p primary
+unfolding if_then_else_
+some-rt1 p v true = omega (arith, v .rt2-short)
+some-rt1 p v false = omega (arith, v .rt2-short, v .secondary)
 
 pub credit-in-a-run : (limit : ℕ) → 2 ≤ limit → limit ≤ 255 → CreditInARun limit
 unfolding run linkTick
@@ -613,8 +702,26 @@ credit-in-a-run limit low high p retries l (c ∷ cs) k ra rb = go (fair-run lim
     s : LinkStep
     s = linkTick limit l c
 
-    rooms : Rooms l
-    rooms = record { primary-room = ra; secondary-room = rb }
+    primary-is : l .primary .master ≡ freshMaster p true retries
+    primary-is = master-is p true retries (l .primary .master) (k .starts .primary .starts)
+
+    secondary-is : l .secondary .master ≡ freshMaster p false retries
+    secondary-is = master-is p false retries (l .secondary .master) (k .starts .secondary .starts)
+
+    fresh-timed : (primary : Bool) → 1 ≤ ownRt1 p primary → MasterTimed primary (freshMaster p primary retries)
+    fresh-timed primary some = record { bit-is = refl; some-rt1 = some; timed = λ z. absurd (true-false (sym z)) }
+
+    kept : MastersKept l
+    kept = record {
+      primary-room = ra;
+      secondary-room = rb;
+      primary-timed = subst (MasterTimed true) (sym primary-is) (fresh-timed true (some-rt1 p v true));
+      secondary-timed = subst (MasterTimed false) (sym secondary-is) (fresh-timed false (some-rt1 p v false));
+    }
+
+    nothing-asked : (primary : Bool) → noneAsked primary ≡ masterOf primary l .master .message .header
+    nothing-asked true = ap (λ (m : Master). m .message .header) (sym primary-is)
+    nothing-asked false = ap (λ (m : Master). m .message .header) (sym secondary-is)
 
     -- a fresh device has nothing in hand
     fresh : (x : DeviceSide) (d : DeviceCall) (g : Ledger) → R1.DeviceStarts p x → DeviceOwes (ledgerAfter d (deviceTick limit x (l .line) d) g) (deviceTick limit x (l .line) d .side .device) (deviceTick limit x (l .line) d .side .frame)
@@ -627,13 +734,14 @@ credit-in-a-run limit low high p retries l (c ∷ cs) k ra rb = go (fair-run lim
     first =
         let f = first-tick limit low high p v retries (l .primary) (l .secondary) (l .devices) (l .line) (c .for-primary) (c .for-secondary) (c .for-devices) (k .starts .primary) (k .starts .secondary) (k .starts .devices) (k .starts .distinct) in
         unreported p (blanks (l .devices)) l c (linkTick limit l c)
-        (deaf-reports limit (l .primary) (c .for-primary) (l .line) (ap (λ (m : Master). m .deaf) (master-is p true retries (l .primary .master) (k .starts .primary .starts))))
-        (deaf-reports limit (l .secondary) (c .for-secondary) (l .line) (ap (λ (m : Master). m .deaf) (master-is p false retries (l .secondary .master) (k .starts .secondary .starts))))
-        (subst (λ (z : List Ledger). Booked p z (linkAfter (linkTick limit l c))) (sym (none-sent c (linkTick limit l c) (blanks (l .devices)) (f .primary-silent) (f .secondary-silent)))
+        (deaf-reports limit (l .primary) (c .for-primary) (l .line) (ap (λ (m : Master). m .deaf) primary-is))
+        (deaf-reports limit (l .secondary) (c .for-secondary) (l .line) (ap (λ (m : Master). m .deaf) secondary-is))
+        (subst (λ (z : List Ledger). Booked p z (linkAfter (linkTick limit l c))) (sym (none-sent c (linkTick limit l c) (reportedBy s (blanks (l .devices))) (f .primary-silent) (f .secondary-silent)))
         (in-silence (p .rt1s) (carries (linkTick limit l c) (f .primary-silent) (f .secondary-silent) (f .devices-silent)) (clear (f .silent-line))
-        (owe-anew limit (l .line) (c .for-devices) fresh (k .starts .devices) (blank-ledgers (l .devices)))))
+        (owe-anew limit (l .line) (c .for-devices) fresh (k .starts .devices) (report-ledgers (s .for-primary .told) (s .for-secondary .told) (blank-ledgers (l .devices))))))
 
-    go : EachTick Fair (run limit l (c ∷ cs)) → OneFinds (blanks (l .devices)) (c ∷ cs) (run limit l (c ∷ cs)) → EachCredited limit (blanks (l .devices)) l (c ∷ cs)
+    go : EachTick Fair (run limit l (c ∷ cs)) → OneFinds (blanks (l .devices)) (c ∷ cs) (run limit l (c ∷ cs)) → EachCredited limit noneAsked (blanks (l .devices)) l (c ∷ cs)
     go (R1.EachTick.tick-and one b) (G.OneFinds.tick-and q o) =
-        tick-and (first .credited (no-finder (l .devices)))
-        (booked-run limit low high p v (linkAfter s) cs (bookedBy c s (blanks (l .devices))) _ (rooms-after limit low high p v l c rooms) (first .next) (within-tick c s (within-blanks (l .devices))) q b o)
+        tick-and (credits limit low high p v nothing-asked (no-finder (l .devices)) first)
+        (booked-run limit low high p v (linkAfter s) cs (askedAfter c s noneAsked) (bookedBy c s (blanks (l .devices))) _ (asked-after limit low high p v l c noneAsked kept nothing-asked) (masters-after limit low high p v l c kept) (first .next)
+        (within-tick c s (within-blanks (l .devices))) q b o)

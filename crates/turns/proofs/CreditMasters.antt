@@ -1,16 +1,17 @@
 -- When a master reports its message as answered, and what then stands in its data buffer.
-use Prim.Native.Nat.{ℕ, zero, suc, _/_, _<_}
+use Prim.Native.Nat.{ℕ, zero, suc, _/_, _≤_, _<_}
 use native.Mathlib.Omega.{arith}
 use mathlib.Core.Path.{_≡_, refl, sym, ap, _∙_}
 use mathlib.Core.Bool.{Bool, true, false}
 use mathlib.Core.List.{List, [], _∷_, _++_}
 use lib.ListN.{length, take, getD}
+use borrow.Author.Tests.{leb-true}
 use Rattle.base.specs.Refusal.{Called, accepted, refused}
 use Rattle.base.specs.Choice.{if_then_else_, _<?_, _≤?_, _=?_}
 use Rattle.base.proofs.Choices.{if-is-false}
 use Rattle.base.proofs.Stores.{length-stored}
 use Rattle.frame.specs.Address.{byteAt}
-use Rattle.line.specs.Reader.{taken, takenData, kept, insideFrame}
+use Rattle.line.specs.Reader.{idle, taken, takenData, kept, insideFrame}
 use Rattle.line.specs.declared.Event.{Event}
 use Rattle.line.specs.declared.Event.the-variants.{Nothing, PassedOver, Broken, Frame, Damaged}
 use Rattle.line.specs.declared.Heard.{Heard}
@@ -18,12 +19,12 @@ use Rattle.line.specs.declared.Heard.the-variants.{Silence, Character}
 use Rattle.line.specs.declared.Place.{Place}
 use Rattle.line.specs.declared.Place.the-variants.{Passing, Idle, Preamble, First, Address, Expansion, Command, Count, Data, Check}
 use Rattle.line.specs.declared.Receiver.{Receiver}
+use Rattle.line.specs.declared.Taken.{Taken}
 use Rattle.line.specs.declared.Whole.{Whole}
 use Rattle.line.proofs.Leads.{readerAfter, dataAfter}
 use Rattle.turns.specs.Party.{isBroadcast}
 use Rattle.turns.specs.Master.{Ending, requested, requestHeader, isAnswer, answersMessage, fails, ends, atFrame, atBreak, ifAwaiting, rt1Ends, counts, afterBreak, onSilence, onCharacter, onHeard, masterTakes, withReader}
 use Rattle.turns.specs.Link.{MasterCall, no-request, requests, MasterSide, masterCalled, masterTick, masterData}
-use Rattle.turns.specs.Credit.{awaitsAck}
 use Rattle.turns.specs.declared.Stage.{Stage}
 use Rattle.turns.specs.declared.Stage.the-variants.{Free, Waiting, Sending, Awaiting}
 use Rattle.turns.specs.declared.Message.{Message}
@@ -32,6 +33,8 @@ use Rattle.turns.specs.declared.MasterTold.{MasterTold}
 use Rattle.turns.specs.declared.MasterTold.the-variants.{Answered, GivenUp, BroadcastSent}
 use Rattle.turns.specs.declared.MasterTaken.{MasterTaken}
 use Rattle.turns.proofs.Bursting.{if-both}
+use Rattle.turns.proofs.Masters.{left}
+use Rattle.turns.proofs.Silent.{ready-outside, master-outside}
 use Rattle.turns.proofs.TagSentences.{answer-is-ack}
 
 -- ---- what is reported
@@ -41,7 +44,6 @@ pub record Reports (m : Master) (heard : Heard) (w : Whole) : Type 0 where
   pub hears : m .deaf ≡ false
   pub event-is : taken (m .receiver) heard .event ≡ Frame w
   pub answer-is : isAnswer m (w .header) ≡ true
-  pub awaits : awaitsAck (m .message .stage) ≡ true
 
 NotAnswered : MasterTold → Type 0
 NotAnswered t = (w : Whole) → t ≡ Answered w → ⊥
@@ -101,24 +103,24 @@ frame-reports m v bytes w e = go (answersMessage m (v .header)) refl (byteAt byt
     go true q false z = (answered-same z, answer-is-ack m (v .header) q)
     go false q c z = absurd (break-not m w z)
 
-stage-reports : (s : Stage) (m : Master) (v : Whole) (bytes : List ℕ) (w : Whole) → ifAwaiting s (m .message) (atFrame m v bytes) .told ≡ Answered w → (v ≡ w) × (isAnswer m (v .header) ≡ true) × (awaitsAck s ≡ true)
+stage-reports : (s : Stage) (m : Master) (v : Whole) (bytes : List ℕ) (w : Whole) → ifAwaiting s (m .message) (atFrame m v bytes) .told ≡ Answered w → (v ≡ w) × (isAnswer m (v .header) ≡ true)
 unfolding NotAnswered
 stage-reports Free m v bytes w e = absurd (nothing-not w e)
 stage-reports Waiting m v bytes w e = absurd (nothing-not w e)
 stage-reports (Sending n) m v bytes w e = absurd (nothing-not w e)
-stage-reports (Awaiting n) m v bytes w e = let r = frame-reports m v bytes w e in (r .0, r .1, refl)
+stage-reports (Awaiting n) m v bytes w e = frame-reports m v bytes w e
 
-character-reports : (m : Master) (r : Receiver) (event : Event) (bytes : List ℕ) (w : Whole) → onCharacter m r event bytes .told ≡ Answered w → (event ≡ Frame w) × (isAnswer m (w .header) ≡ true) × (awaitsAck (m .message .stage) ≡ true)
+character-reports : (m : Master) (r : Receiver) (event : Event) (bytes : List ℕ) (w : Whole) → onCharacter m r event bytes .told ≡ Answered w → (event ≡ Frame w) × (isAnswer m (w .header) ≡ true)
 unfolding NotAnswered
 character-reports m r Nothing bytes w e = absurd (nothing-not w e)
 character-reports m r PassedOver bytes w e = absurd (after-break-not m r PassedOver w e)
 character-reports m r Broken bytes w e = absurd (after-break-not m r Broken w e)
 character-reports m r (Frame v) bytes w e =
     let q = stage-reports (m .message .stage) m v bytes w e in
-    (ap Frame (q .0), ap (λ (z : Whole). isAnswer m (z .header)) (sym (q .0)) ∙ q .1, q .2)
+    (ap Frame (q .0), ap (λ (z : Whole). isAnswer m (z .header)) (sym (q .0)) ∙ q .1)
 character-reports m r (Damaged v h) bytes w e = absurd (after-break-not m r (Damaged v h) w e)
 
-heard-reports : (m : Master) (heard : Heard) (bytes : List ℕ) (w : Whole) → onHeard m heard bytes .told ≡ Answered w → (taken (m .receiver) heard .event ≡ Frame w) × (isAnswer m (w .header) ≡ true) × (awaitsAck (m .message .stage) ≡ true)
+heard-reports : (m : Master) (heard : Heard) (bytes : List ℕ) (w : Whole) → onHeard m heard bytes .told ≡ Answered w → (taken (m .receiver) heard .event ≡ Frame w) × (isAnswer m (w .header) ≡ true)
 unfolding NotAnswered
 heard-reports m Silence bytes w e = absurd (silence-not m (taken (m .receiver) Silence .receiver) w e)
 heard-reports m (Character c) bytes w e = character-reports m _ (taken (m .receiver) (Character c) .event) bytes w e
@@ -133,7 +135,7 @@ takes-reports m heard bytes w e = go (m .deaf) refl e
 
     go : (b : Bool) → m .deaf ≡ b → by b .told ≡ Answered w → Reports m heard w
     go true q z = absurd (nothing-not w z)
-    go false q z = let r = heard-reports m heard bytes w z in record { hears = q; event-is = r .0; answer-is = r .1; awaits = r .2 }
+    go false q z = let r = heard-reports m heard bytes w z in record { hears = q; event-is = r .0; answer-is = r .1 }
 
 -- the call of its host changes neither what it tells nor its data buffer
 tick-told : (limit : ℕ) (x : MasterSide) (heard : Heard) (call : MasterCall) → masterTick limit x heard call .told ≡ masterTakes (x .master) heard (masterData x heard) .told
@@ -158,6 +160,30 @@ tick-bytes limit x heard (requests q put) = go (requested limit _ q (length put)
 
 pub reports : (limit : ℕ) (x : MasterSide) (heard : Heard) (call : MasterCall) (w : Whole) → masterTick limit x heard call .told ≡ Answered w → Reports (x .master) heard w
 reports limit x heard call w e = takes-reports (x .master) heard (masterData x heard) w (sym (tick-told limit x heard call) ∙ e)
+
+-- ---- where nothing is reported
+
+-- inside a frame
+pub mid-told : (limit : ℕ) (x : MasterSide) (call : MasterCall) (c : ℕ) (r : Receiver) → taken (x .master .receiver) (Character c) ≡ Rattle.line.specs.Reader.tells r Nothing → masterTick limit x (Character c) call .told ≡ MasterTold.Nothing
+unfolding masterTakes
+mid-told limit x call c r e =
+    tick-told limit x (Character c) call
+    ∙ if-both (λ (t : MasterTaken). t .told ≡ MasterTold.Nothing) (x .master .deaf) _ _ refl (ap (λ (t : Taken). onCharacter (x .master) (t .receiver) (t .event) (masterData x (Character c)) .told) e)
+
+-- in a silent tick, but where RT1 ends
+pub silent-told : (limit : ℕ) (x : MasterSide) (call : MasterCall) → x .master .deaf ≡ false → taken (x .master .receiver) Silence ≡ Rattle.line.specs.Reader.tells idle Nothing → rt1Ends (x .master .message .stage) ≡ false
+    → masterTick limit x Silence call .told ≡ MasterTold.Nothing
+unfolding masterTakes
+silent-told limit x call hears ready on =
+    tick-told limit x Silence call
+    ∙ ap (λ (t : MasterTaken). t .told) (if-is-false (x .master .deaf) _ _ hears ∙ master-outside (x .master) (ready-outside (x .master .receiver) ready) ∙ if-is-false (rt1Ends (x .master .message .stage)) _ _ on)
+
+-- one tick is left where it ends
+pub rt1-left : (s : Stage) → rt1Ends s ≡ true → left s ≤ 1
+rt1-left Free e = omega arith
+rt1-left Waiting e = omega arith
+rt1-left (Sending n) e = omega arith
+rt1-left (Awaiting n) e = leb-true n 1 e
 
 -- ---- the data buffer
 

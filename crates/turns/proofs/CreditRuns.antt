@@ -1,4 +1,4 @@
--- The credited answer in runs, computed: a report with the ledger that it rests on; and a message with the header of one that was given up, which ledgers closed at reports alone would cover with the old answer before its STX is out.
+-- The credited answer in runs, computed: a report with the ledger that it rests on; a message that is sent again, which ledgers closed at reports alone would cover with the answer to its first STX; and a message with the header of one that was given up, which ledgers closed where a master sends and at answers alone would cover with the old answer before its STX is out.
 use Prim.Native.Nat.{ℕ}
 use native.Mathlib.Omega.{arith}
 use mathlib.Core.Path.{_≡_, refl}
@@ -13,11 +13,13 @@ use Rattle.frame.specs.Frame.{frameBytes, preambleBytes, bodyBytes, protectedBy
 use Rattle.frame.specs.Write.{writeBuffer, writeAnswer}
 use Rattle.frame.specs.declared.Header.{Header}
 use Rattle.line.specs.Reader.{taken, takenData, atIdle, atPreamble, atFirst, atAddress, atExpansion, atCommand, atCount, atData, atCheck}
+use Rattle.turns.specs.Party.{was-taken}
 use Rattle.turns.specs.Master.{requested, requestedUpTo, masterTakes, masterSends}
 use Rattle.turns.specs.Device.{deviceTakes, deviceSends, answered, contentGiven}
 use Rattle.turns.specs.Link.{no-request, gives-answer, Link, LinkStep, Calls, masterTick, deviceTick, deviceTicks, sides, carried, linkTick, linkAfter}
-use Rattle.turns.specs.Credit.{Ledger, blank, given, ledgersAfter, blanks, closed, closedBy, bookedBy, EachCredited}
-use Rattle.turns.specs.declared.MasterTold.the-variants.{Answered, GivenUp}
+use Rattle.turns.specs.Credit.{Ledger, blank, given, ledgersAfter, blanks, closed, closedBy, closedAfter, bookedBy, noneAsked, EachCredited}
+use Rattle.turns.specs.declared.MasterTold.{MasterTold}
+use Rattle.turns.specs.declared.MasterTold.the-variants.{Answered, GivenUp, BroadcastSent}
 use Rattle.turns.specs.declared.Wish.the-variants.{Same}
 use Rattle.turns.proofs.Example.{quiet}
 use Rattle.turns.proofs.Premises.{short, short-taken, ask, one-device, one-device-starts, lone, lone-finds}
@@ -37,6 +39,19 @@ ledgersBehind rule limit gs l (c ∷ cs) = ledgersBehind rule limit (rule c (lin
 -- closed at reports alone
 abbrev pub reportsClose : Calls → LinkStep → List Ledger → List Ledger
 reportsClose c s gs = ledgersAfter (c .for-devices) (s .for-devices) (closedBy (s .for-primary .told) (closedBy (s .for-secondary .told) gs))
+
+-- closed where a master sends, and at the reports of answers alone
+abbrev pub answerCloses : MasterTold → List Ledger → List Ledger
+answerCloses MasterTold.Nothing gs = gs
+answerCloses (Answered w) gs = closed gs
+answerCloses (GivenUp n) gs = gs
+answerCloses BroadcastSent gs = gs
+
+abbrev pub answersClose : Calls → LinkStep → List Ledger → List Ledger
+answersClose c s gs =
+    closedAfter (s .for-primary .sent)
+    (closedAfter (s .for-secondary .sent)
+    (ledgersAfter (c .for-devices) (s .for-devices) (answerCloses (s .for-primary .told) (answerCloses (s .for-secondary .told) gs))))
 
 unfoldable pub answers : List ℕ → Calls
 answers put = record { for-primary = no-request; for-secondary = no-request; for-devices = gives-answer Same put ∷ [] }
@@ -67,18 +82,34 @@ unfolding linkBehind answered-run answers ask short one-device quiet linkTick de
 reported-data = refl
 
 -- the run meets the premises, so each report of it is credited
-pub answered-credited : EachCredited 255 (blanks (one-device .devices)) one-device (answered-run ++ (quiet ∷ []))
+pub answered-credited : EachCredited 255 noneAsked (blanks (one-device .devices)) one-device (answered-run ++ (quiet ∷ []))
 unfolding one-device blanks
 answered-credited =
     credit-in-a-run 255 (omega arith) (omega arith) short 3 one-device (answered-run ++ (quiet ∷ []))
     (record { made = short-taken; starts = one-device-starts; one-bursts = lone 255 one-device _ (answered-run ++ (quiet ∷ [])) refl; one-finds = lone-finds 255 _ one-device (answered-run ++ (quiet ∷ [])) (omega arith) })
     (omega arith) (omega arith)
 
--- ---- a message with the header of one that was given up
+-- ---- a message that is sent again
 
 -- bit 7 of the first data byte fails the attempt
 unfoldable pub failing : Calls
 failing = answers (0x80 ∷ 0 ∷ [])
+
+-- the first STX, from tick 4 on, is answered so; the second goes out from tick 37 on
+unfoldable pub sent-again : List Calls
+sent-again = ask 2 [] ∷ (replicate 18 quiet ++ (failing ∷ replicate 20 quiet))
+
+-- while it goes out, ledgers that are closed at reports alone hold the answer to the first
+pub first-stands : ledgersBehind reportsClose 255 (blanks (one-device .devices)) one-device sent-again ≡ given asked (0x80 ∷ 0 ∷ []) ∷ []
+unfolding ledgersBehind ledgersAfter blanks closed sent-again failing answers ask short one-device quiet linkTick deviceTicks sides carried masterTick deviceTick requested requestedUpTo masterTakes masterSends deviceTakes deviceSends answered contentGiven taken takenData atIdle atPreamble atFirst atAddress atExpansion atCommand atCount atData atCheck writeBuffer writeAnswer frameBytes preambleBytes bodyBytes protectedBytes headerBytes xorFrom delimiterOf stored if_then_else_
+first-stands = refl
+
+-- in the credit's ledgers nothing stands
+pub first-closed : ledgersBehind bookedBy 255 (blanks (one-device .devices)) one-device sent-again ≡ blank ∷ []
+unfolding ledgersBehind ledgersAfter blanks closed sent-again failing answers ask short one-device quiet linkTick deviceTicks sides carried masterTick deviceTick requested requestedUpTo masterTakes masterSends deviceTakes deviceSends answered contentGiven taken takenData atIdle atPreamble atFirst atAddress atExpansion atCommand atCount atData atCheck writeBuffer writeAnswer frameBytes preambleBytes bodyBytes protectedBytes headerBytes xorFrom delimiterOf stored if_then_else_
+first-closed = refl
+
+-- ---- a message with the header of one that was given up
 
 -- the four STX go out from ticks 4, 37, 70 and 103 on, each is answered so
 unfoldable pub failed-run : List Calls
@@ -99,21 +130,20 @@ pub given-up : linkTick 255 (linkBehind 255 one-device failed-run) quiet .for-pr
 unfolding linkBehind failed-run failing answers ask short one-device quiet linkTick deviceTicks sides carried masterTick deviceTick requested requestedUpTo masterTakes masterSends deviceTakes deviceSends answered contentGiven taken takenData atIdle atPreamble atFirst atAddress atExpansion atCommand atCount atData atCheck writeBuffer writeAnswer frameBytes preambleBytes bodyBytes protectedBytes headerBytes xorFrom delimiterOf stored if_then_else_
 given-up = refl
 
--- in tick 135 the host requests the same again, and its first STX goes out from tick 136 on
-unfoldable pub asked-again : List Calls
-asked-again = failed-run ++ (quiet ∷ (ask 2 [] ∷ replicate 4 quiet))
+-- in tick 135 the host requests the same again, which is taken; its first STX goes out from tick 136 on
+pub asked-again : linkTick 255 (linkBehind 255 one-device (failed-run ++ (quiet ∷ []))) (ask 2 []) .for-primary .result ≡ was-taken
+unfolding linkBehind failed-run failing answers ask short one-device quiet linkTick deviceTicks sides carried masterTick deviceTick requested requestedUpTo masterTakes masterSends deviceTakes deviceSends answered contentGiven taken takenData atIdle atPreamble atFirst atAddress atExpansion atCommand atCount atData atCheck writeBuffer writeAnswer frameBytes preambleBytes bodyBytes protectedBytes headerBytes xorFrom delimiterOf stored if_then_else_
+asked-again = refl
 
--- while it goes out, ledgers that are closed at reports alone hold the old answer
-pub stale-stands : ledgersBehind reportsClose 255 (blanks (one-device .devices)) one-device asked-again ≡ given asked (0x80 ∷ 0 ∷ []) ∷ []
-unfolding ledgersBehind ledgersAfter blanks closed asked-again failed-run failing answers ask short one-device quiet linkTick deviceTicks sides carried masterTick deviceTick requested requestedUpTo masterTakes masterSends deviceTakes deviceSends answered contentGiven taken takenData atIdle atPreamble atFirst atAddress atExpansion atCommand atCount atData atCheck writeBuffer writeAnswer frameBytes preambleBytes bodyBytes protectedBytes headerBytes xorFrom delimiterOf stored if_then_else_
+unfoldable pub taken-again : List Calls
+taken-again = failed-run ++ (quiet ∷ (ask 2 [] ∷ []))
+
+-- before it goes out, ledgers that are closed where a master sends and at answers alone hold the old answer, with the new message's header
+pub stale-stands : ledgersBehind answersClose 255 (blanks (one-device .devices)) one-device taken-again ≡ given asked (0x80 ∷ 0 ∷ []) ∷ []
+unfolding ledgersBehind ledgersAfter blanks closed taken-again failed-run failing answers ask short one-device quiet linkTick deviceTicks sides carried masterTick deviceTick requested requestedUpTo masterTakes masterSends deviceTakes deviceSends answered contentGiven taken takenData atIdle atPreamble atFirst atAddress atExpansion atCommand atCount atData atCheck writeBuffer writeAnswer frameBytes preambleBytes bodyBytes protectedBytes headerBytes xorFrom delimiterOf stored if_then_else_
 stale-stands = refl
 
--- with the new message's header, so that they would let it pass as the answer to it
-pub stale-asked : linkBehind 255 one-device asked-again .primary .master .message .header ≡ asked
-unfolding linkBehind asked-again failed-run failing answers ask short one-device quiet linkTick deviceTicks sides carried masterTick deviceTick requested requestedUpTo masterTakes masterSends deviceTakes deviceSends answered contentGiven taken takenData atIdle atPreamble atFirst atAddress atExpansion atCommand atCount atData atCheck writeBuffer writeAnswer frameBytes preambleBytes bodyBytes protectedBytes headerBytes xorFrom delimiterOf stored if_then_else_
-stale-asked = refl
-
 -- in the credit's ledgers nothing stands
-pub stale-closed : ledgersBehind bookedBy 255 (blanks (one-device .devices)) one-device asked-again ≡ blank ∷ []
-unfolding ledgersBehind ledgersAfter blanks closed asked-again failed-run failing answers ask short one-device quiet linkTick deviceTicks sides carried masterTick deviceTick requested requestedUpTo masterTakes masterSends deviceTakes deviceSends answered contentGiven taken takenData atIdle atPreamble atFirst atAddress atExpansion atCommand atCount atData atCheck writeBuffer writeAnswer frameBytes preambleBytes bodyBytes protectedBytes headerBytes xorFrom delimiterOf stored if_then_else_
+pub stale-closed : ledgersBehind bookedBy 255 (blanks (one-device .devices)) one-device taken-again ≡ blank ∷ []
+unfolding ledgersBehind ledgersAfter blanks closed taken-again failed-run failing answers ask short one-device quiet linkTick deviceTicks sides carried masterTick deviceTick requested requestedUpTo masterTakes masterSends deviceTakes deviceSends answered contentGiven taken takenData atIdle atPreamble atFirst atAddress atExpansion atCommand atCount atData atCheck writeBuffer writeAnswer frameBytes preambleBytes bodyBytes protectedBytes headerBytes xorFrom delimiterOf stored if_then_else_
 stale-closed = refl

@@ -40,6 +40,20 @@ use Rattle.turns.proofs.Turns.{listens-follows, listens-begins, listens
 use Rattle.turns.proofs.Writing.{length-written}
 use Rattle.turns.proofs.Masters.{Holds, holds-written, if-cases}
 
+-- ---- item 1, "Senders still leave no gap": behind a character that is not the frame's last the next goes out in the next tick
+
+pub ack-goes-on : (d : Device) (frame : List ℕ) (n : ℕ) (burst primary : Bool) → (n + 1 <? d .length) ≡ true → deviceSends (answersFrom d frame n burst primary .device) frame .sent ≡ Character (byteAt frame (n + 1))
+unfolding deviceSends
+ack-goes-on d frame n burst primary e =
+    ap (λ (s : DeviceSent). sendsBy (s .device) frame (s .device .turn) .sent) (if-is-true (n + 1 <? d .length) _ _ e)
+    ∙ if-cases (λ (s : DeviceSent). s .sent ≡ Character (byteAt frame (n + 1))) (n + 1 + 1 <? d .length) _ _ (λ z. refl) (λ z. refl)
+
+pub back-goes-on : (d : Device) (frame : List ℕ) (n length : ℕ) (primary : Bool) → (n + 1 <? length) ≡ true → deviceSends (burstsFrom d frame n length primary .device) frame .sent ≡ Character (byteAt frame (n + 1))
+unfolding deviceSends
+back-goes-on d frame n length primary e =
+    ap (λ (s : DeviceSent). sendsBy (s .device) frame (s .device .turn) .sent) (if-is-true (n + 1 <? length) _ _ e)
+    ∙ if-cases (λ (s : DeviceSent). s .sent ≡ Character (byteAt frame (n + 1))) (n + 1 + 1 <? length) _ _ (λ z. refl) (λ z. refl)
+
 -- ---- what holds of a device at any time
 
 pub record Sound (d : Device) (frame contents : List ℕ) : Type 0 where

@@ -37,8 +37,8 @@ within-closed (closed-and w) = closed-and (within-closed w)
 within-report : (t : MasterTold) {gs fs : List Ledger} → Within gs fs → Within (closedBy t gs) fs
 within-report MasterTold.Nothing w = w
 within-report (Answered v) w = within-closed w
-within-report (GivenUp n) w = w
-within-report BroadcastSent w = w
+within-report (GivenUp n) w = within-closed w
+within-report BroadcastSent w = within-closed w
 
 within-sent : (t : Sent) {gs fs : List Ledger} → Within gs fs → Within (closedAfter t gs) fs
 within-sent Silent w = w

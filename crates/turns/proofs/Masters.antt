@@ -141,6 +141,13 @@ unfolding if_then_else_
 if-cases P true a b f g = f refl
 if-cases P false a b f g = g refl
 
+-- item 1, "Senders still leave no gap": behind a character that is not the last of its STX the next goes out in the next tick
+pub stx-goes-on : (m : Master) (frame : List ℕ) (n attempts : ℕ) → (n + 1 <? m .message .length) ≡ true → masterSends (sendsAt m frame n attempts .master) frame .sent ≡ Character (byteAt frame (n + 1))
+unfolding masterSends
+stx-goes-on m frame n attempts e =
+    ap (λ (s : MasterSent). sendsBy (s .master) frame (s .master .message .stage) .sent) (if-is-true (n + 1 <? m .message .length) _ _ e)
+    ∙ if-cases (λ (s : MasterSent). s .sent ≡ Character (byteAt frame (n + 1))) (n + 1 + 1 <? m .message .length) _ _ (λ z. refl) (λ z. refl)
+
 still-at : {s t : Stage} → s ≡ t → Still t → Still s
 still-at e v = subst Still (sym e) v
 

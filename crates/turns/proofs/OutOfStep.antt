@@ -1,12 +1,11 @@
 -- The silent line whose masters' windows are not in step: a tick of it leaves it so, or one party begins, heard whole by all others, or both masters begin together.
 use Prim.Native.Nat.{ℕ, _-_, _≤_}
 use native.Mathlib.Omega.{arith}
-use mathlib.Core.Path.{_≡_, refl, sym, _∙_}
+use mathlib.Core.Path.{_≡_, sym, _∙_}
 use mathlib.Core.Bool.{true, false}
 use mathlib.Core.List.{List}
-use mathlib.Core.Logic.{_⊎_, inl, inr}
+use mathlib.Core.Logic.{_⊎_, inl}
 use lib.ListN.{getD}
-use Rattle.base.proofs.Choices.{true-false, if-is-false}
 use Rattle.frame.specs.declared.Header.{Header}
 use Rattle.line.specs.Reader.{idle, passing}
 use Rattle.line.specs.declared.Heard.the-variants.{Silence}
@@ -16,7 +15,6 @@ use Rattle.turns.specs.Link.{MasterCall, DeviceCall, MasterSide, MasterS
 use Rattle.turns.specs.Run.{All, Distinct, Sole}
 use Rattle.turns.specs.declared.Sent.{Sent}
 use Rattle.turns.specs.declared.Noted.{Noted}
-use Rattle.turns.specs.declared.Timer.{Timer}
 use Rattle.turns.proofs.Windows.{Valid, Counted}
 use Rattle.turns.proofs.Fair.{SoleTag}
 use Rattle.turns.proofs.Lists.{AllQuiet, no-more, quiet-and, all-carried, all-sides, all-distinct, agreed-same}
@@ -24,8 +22,8 @@ use Rattle.turns.proofs.Phases.{Agreed, MasterQuiet, DeviceListens, Dev
 use Rattle.turns.proofs.Beginning.{AllStill, nothing-still, still-and, SilentDevices, all-still, one-answers, one-bursts, silent-devices}
 use Rattle.turns.proofs.Sending.{MasterSpeaks}
 use Rattle.turns.proofs.Quiet.{Asked, none-due}
-use Rattle.turns.proofs.SilentTick.{MasterTick, rests, begins, SilentTick, master-tick, silent-tick, still-all}
-use Rattle.turns.proofs.Silences.{clear-counts, shut-on, shut-for, asked-next}
+use Rattle.turns.proofs.SilentTick.{MasterTick, rests, begins, SilentTick, still-all}
+use Rattle.turns.proofs.Silences.{shut-on, shut-for, asked-next, clear-master, clear-silent}
 
 -- whom a master has noted that never heard of burst
 abbrev pub nobody : Noted
@@ -85,8 +83,8 @@ module _ (limit : ℕ) (low : 2 ≤ limit) (high : limit ≤ 255) (p : Profile) 
       → OutOfStepTick p a b (masterTick limit a Silence ca) (masterTick limit b Silence cb) (deviceTicks limit Silence xs cs)
   out-of-step-tick l sole =
       go
-      (master-tick limit high p true false nobody (Counted p (a .master .timer)) a ca (l .primary) (if-is-false (a .master .burst) _ _ (l .primary .burst-is)) (λ t n k m. clear-counts p a (l .primary .listens .is-it .profile-is) (l .primary .burst-is) t n m))
-      (master-tick limit high p false false nobody (Counted p (b .master .timer)) b cb (l .secondary) (if-is-false (b .master .burst) _ _ (l .secondary .burst-is)) (λ t n k m. clear-counts p b (l .secondary .listens .is-it .profile-is) (l .secondary .burst-is) t n m))
+      (clear-master limit high p true nobody a ca (l .primary))
+      (clear-master limit high p false nobody b cb (l .secondary))
       (silent-devices limit low high p (v .some-sto) (l .g) (l .h) 0 (λ x e. omega (arith, e)) false nobody true cs (l .devices) (l .distinct) (l .agreed .each) (sole .1))
     where
       s : MasterStep
@@ -98,21 +96,13 @@ module _ (limit : ℕ) (low : 2 ≤ limit) (high : limit ≤ 255) (p : Profile) 
       ss : List DeviceStep
       ss = deviceTicks limit Silence xs cs
 
-      shut-now : (1 ≤ l .g) ⊎ (_≡_ {A = ℕ} 0 1) → (c : Timer) → (1 ≤ l .g → c .window ≡ 0) → c .window ≡ 0
-      shut-now (inl z) c f = f z
-      shut-now (inr e) c f = absurd (omega (arith, e))
-
       -- where not both begin
       one : ((i j : ℕ) → s .sent ≡ Sent.Character i → t .sent ≡ Sent.Character j → ⊥) → MasterTick p true false nobody (Counted p (a .master .timer)) a s → MasterTick p false false nobody (Counted p (b .master .timer)) b t
           → SilentDevices p (l .g) (l .h) 0 xs ss → OutOfStepTick p a b s t ss
       one not ma mb d =
-          alone (silent-tick p (l .g) (l .h) 0 false nobody true (Counted p (a .master .timer)) (Counted p (b .master .timer)) _ (l .distinct) (l .agreed) (sole .0) (l .asked)
+          alone (clear-silent p (l .g) (l .h) nobody _ (l .distinct) (l .agreed) (sole .0) (l .asked) (l .primary-shut) (l .secondary-shut)
           (λ x y i j cx cy wx wy ea eb. not i j ea eb)
-          (λ z c x. shut-now z c (shut-on p (l .g) (a .master .timer) c x (l .primary-shut)))
-          (λ z c x. shut-now z c (shut-on p (l .g) (b .master .timer) c x (l .secondary-shut)))
-          (λ c x z off. refl)
-          (λ c x z off. absurd (true-false (sym off)))
-          (λ x y na nb no ra rb still.
+          (λ x y na nb ra rb still.
           let all = still-all still in
           let ag = agreed-same all (l .agreed) in
           record {

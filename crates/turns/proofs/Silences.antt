@@ -12,17 +12,19 @@ use Rattle.frame.specs.declared.Header.{Header}
 use Rattle.line.specs.declared.Heard.the-variants.{Silence}
 use Rattle.line.specs.declared.Profile.{Profile}
 use Rattle.turns.specs.Master.{countClear, countBurst, timerCounted, burstCounted}
-use Rattle.turns.specs.Link.{MasterCall, DeviceCall, MasterSide, MasterStep, DeviceSide, masterTick, deviceTicks, sides}
-use Rattle.turns.specs.Run.{Sole}
+use Rattle.turns.specs.Link.{MasterCall, DeviceCall, MasterSide, MasterStep, DeviceSide, DeviceStep, masterTick, deviceTicks, sides}
+use Rattle.turns.specs.Run.{Distinct, Sole}
 use Rattle.turns.proofs.Fair.{SoleTag}
+use Rattle.turns.specs.declared.Noted.{Noted}
+use Rattle.turns.specs.declared.Sent.{Sent}
 use Rattle.turns.specs.declared.Timer.{Timer}
 use Rattle.turns.proofs.Windows as W
 use Rattle.turns.proofs.Windows.{Valid, Counted, CountedBurst, counted, counted-burst, apart-next, one-window, Slot, OneSlot, one-slot-next, one-slot-window, slot-last, shut-next, running}
 use Rattle.turns.proofs.Lists.{all-sides, all-distinct, agreed-same}
-use Rattle.turns.proofs.Phases.{ClearWindows, primary-first, secondary-first, ShutFor}
-use Rattle.turns.proofs.Beginning.{silent-devices}
+use Rattle.turns.proofs.Phases.{Agreed, MasterQuiet, ClearWindows, primary-first, secondary-first, ShutFor}
+use Rattle.turns.proofs.Beginning.{AllStill, SilentDevices, silent-devices}
 use Rattle.turns.proofs.Quiet.{Asked, ClearLine, SetLine, none-due, NoSlot}
-use Rattle.turns.proofs.SilentTick.{MasterRests, SilentTick, master-tick, silent-tick, still-all}
+use Rattle.turns.proofs.SilentTick.{MasterRests, MasterTick, SilentTick, master-tick, silent-tick, still-all}
 
 -- ---- BURST clear
 
@@ -156,19 +158,39 @@ asked-next k ra rb = record {
   secondary-header = λ z e. k .secondary-header (omega arith) e ∙ sym (rb .same-header (omega (arith, rb .one-less, k .by-secondary (omega arith) e)));
 }
 
+-- a master's silent tick with BURST clear
+pub clear-master : (limit : ℕ) → limit ≤ 255 → (p : Profile) (primary : Bool) (noted : Noted) (x : MasterSide) (c : MasterCall) → MasterQuiet p primary false noted x → MasterTick p primary false noted (Counted p (x .master .timer)) x (masterTick limit x Silence c)
+clear-master limit high p primary noted x c q =
+    master-tick limit high p primary false noted (Counted p (x .master .timer)) x c q (if-is-false (x .master .burst) _ _ (q .burst-is)) (λ t n k m. clear-counts p x (q .listens .is-it .profile-is) (q .burst-is) t n m)
+
+-- and of the link, whether the masters' windows are in step or not: while an answer may begin no window is open, and no BACK is due
+pub clear-silent : (p : Profile) (g : ℕ) (h : Header) (noted : Noted) (L : Type 0) {a b : MasterSide} {s t : MasterStep} {xs : List DeviceSide} {ss : List DeviceStep} → Distinct xs → Agreed false noted true xs → Sole (sides ss) → Asked g h a b
+    → ShutFor g (a .master .timer) → ShutFor g (b .master .timer)
+    → ((x y : Timer) (i j : ℕ) → Counted p (a .master .timer) x → Counted p (b .master .timer) y → 0 < x .window → 0 < y .window → s .sent ≡ Sent.Character i → t .sent ≡ Sent.Character j → ⊥)
+    → (Counted p (a .master .timer) (s .side .master .timer) → Counted p (b .master .timer) (t .side .master .timer) → MasterQuiet p true false noted (s .side) → MasterQuiet p false false noted (t .side) → MasterRests a s → MasterRests b t → AllStill p g h 0 xs ss → L)
+    → MasterTick p true false noted (Counted p (a .master .timer)) a s → MasterTick p false false noted (Counted p (b .master .timer)) b t → SilentDevices p g h 0 xs ss → SilentTick p 0 false noted true a b s t ss L
+clear-silent p g h noted L {a} {b} distinct agreed sole asked sa sb two stay ma mb d =
+    silent-tick p g h 0 false noted true (Counted p (a .master .timer)) (Counted p (b .master .timer)) L distinct agreed sole asked two
+    (λ z c x. shut-now z c (shut-on p g (a .master .timer) c x sa))
+    (λ z c x. shut-now z c (shut-on p g (b .master .timer) c x sb))
+    (λ c x z off. refl)
+    (λ c x z off. absurd (true-false (sym off)))
+    (λ x y na nb no ra rb still. stay x y na nb ra rb still)
+    ma mb d
+  where
+    shut-now : (1 ≤ g) ⊎ (_≡_ {A = ℕ} 0 1) → (c : Timer) → (1 ≤ g → c .window ≡ 0) → c .window ≡ 0
+    shut-now (inl z) c f = f z
+    shut-now (inr e) c f = absurd (omega (arith, e))
+
 module _ (limit : ℕ) (low : 2 ≤ limit) (high : limit ≤ 255) (p : Profile) (v : Valid p) (a b : MasterSide) (xs : List DeviceSide) (ca cb : MasterCall) (cs : List DeviceCall) where
   pub clear-tick : (e : ℕ) (l : ClearLine p e a b xs) → Sole (sides (deviceTicks limit Silence xs cs)) × SoleTag (sides (deviceTicks limit Silence xs cs))
       → SilentTick p 0 false (l .noted) true a b (masterTick limit a Silence ca) (masterTick limit b Silence cb) (deviceTicks limit Silence xs cs)
       (ClearLine p (e - 1) (masterTick limit a Silence ca .side) (masterTick limit b Silence cb .side) (sides (deviceTicks limit Silence xs cs)))
   clear-tick e l sole =
       let w = l .windows in
-      silent-tick p (l .g) (l .h) 0 false (l .noted) true (Counted p (a .master .timer)) (Counted p (b .master .timer)) _ (l .distinct) (l .agreed) (sole .0) (l .asked)
+      clear-silent p (l .g) (l .h) (l .noted) _ (l .distinct) (l .agreed) (sole .0) (l .asked) (l .primary-shut) (l .secondary-shut)
       (λ c d i j x y k m ec ed. not-both p c d (windows-next p v (a .master .timer) (b .master .timer) c d x y w) k m)
-      (λ z c x. shut-now z c (shut-on p (l .g) (a .master .timer) c x (l .primary-shut)))
-      (λ z c x. shut-now z c (shut-on p (l .g) (b .master .timer) c x (l .secondary-shut)))
-      (λ c x z off. refl)
-      (λ c x z off. absurd (true-false (sym off)))
-      (λ x y na nb no ra rb still.
+      (λ x y na nb ra rb still.
       let all = still-all still in
       let ag = agreed-same all (l .agreed) in
       record {
@@ -191,13 +213,9 @@ module _ (limit : ℕ) (low : 2 ≤ limit) (high : limit ≤ 255) (p : Profile) 
         secondary-most = omega (arith, rb .one-less, l .secondary-most);
         near = λ j k. near-both p v e _ _ _ _ _ _ x y w (l .primary-awaits) (l .secondary-awaits) (l .near) (sym (ra .one-less) ∙ j) (sym (rb .one-less) ∙ k);
       })
-      (master-tick limit high p true false (l .noted) (Counted p (a .master .timer)) a ca (l .primary) (if-is-false (a .master .burst) _ _ (l .primary .burst-is)) (λ t n k m. clear-counts p a (l .primary .listens .is-it .profile-is) (l .primary .burst-is) t n m))
-      (master-tick limit high p false false (l .noted) (Counted p (b .master .timer)) b cb (l .secondary) (if-is-false (b .master .burst) _ _ (l .secondary .burst-is)) (λ t n k m. clear-counts p b (l .secondary .listens .is-it .profile-is) (l .secondary .burst-is) t n m))
+      (clear-master limit high p true (l .noted) a ca (l .primary))
+      (clear-master limit high p false (l .noted) b cb (l .secondary))
       (silent-devices limit low high p (v .some-sto) (l .g) (l .h) 0 (λ x e. omega (arith, e)) false (l .noted) true cs (l .devices) (l .distinct) (l .agreed .each) (sole .1))
-    where
-      shut-now : (1 ≤ l .g) ⊎ (_≡_ {A = ℕ} 0 1) → (c : Timer) → (1 ≤ l .g → c .window ≡ 0) → c .window ≡ 0
-      shut-now (inl z) c f = f z
-      shut-now (inr e) c f = absurd (omega (arith, e))
 
   -- ---- and with BURST set
 

@@ -2,7 +2,7 @@
 -- Of BACKs, as Credit says it of ACKs: each BACK that a master finds whole has the unique address of the device that sent it, and the command and data that its host gave last before its first character. For each device a log is kept of what its host gave and what it sent, from what a run shows.
 use Prim.Native.Nat.{ℕ, _-_, _≤_}
 use mathlib.Core.Path.{_≡_}
-use mathlib.Core.Bool.{Bool, true}
+use mathlib.Core.Bool.{Bool, true, false}
 use mathlib.Core.List.{List, [], _∷_}
 use lib.ListN.{length, take, getD}
 use Rattle.frame.specs.Limits.{mostData}
@@ -17,7 +17,6 @@ use Rattle.turns.specs.Master.{masterTakes}
 use Rattle.turns.specs.Party.{CallResult, none, was-taken, was-refused}
 use Rattle.turns.specs.Link.{DeviceCall, no-call, gives-answer, gives-content, MasterSide, masterData, DeviceSide, DeviceStep, Link, LinkStep, Calls, linkTick, linkAfter}
 use Rattle.turns.specs.Demand3.{Premises, masterIn}
-use Rattle.turns.specs.Credit.{masterOf}
 use Rattle.turns.specs.declared.Sent.{Sent}
 use Rattle.turns.specs.declared.Sent.the-variants.{Silent, Character}
 
@@ -65,6 +64,11 @@ noContents [] = []
 noContents (x ∷ xs) = record { last = no-content; sent-with = [] } ∷ noContents xs
 
 -- ---- a BACK that a master finds whole
+
+-- the primary, or the secondary
+abbrev pub masterOf : Bool → Link → MasterSide
+masterOf true l = l .primary
+masterOf false l = l .secondary
 
 -- what the master's reader tells in the tick
 abbrev pub foundBy : MasterSide → Heard → Event
