@@ -17,12 +17,12 @@ pub struct Header {
     pub address: u64,
     // the frame type: STX, ACK or BACK
     pub frame: u8,
-    // a unique address of 38 bits, or a polling address of 6
-    pub long: bool,
     // the master bit
     pub primary: bool,
     // the burst flag
     pub burst: bool,
+    // a unique address of 38 bits, or a polling address of 6
+    pub long: bool,
     pub command: u8,
 }
 

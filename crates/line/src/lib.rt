@@ -64,8 +64,8 @@ pub struct FrameDamage {
     pub parity: bool,
     pub overrun: bool,
     pub framing: bool,
-    pub check: bool,
     pub address: bool,
+    pub check: bool,
 }
 
 // What the tick reader holds from tick to tick: its place, and what it has heard of the frame so far.

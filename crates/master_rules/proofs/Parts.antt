@@ -25,6 +25,10 @@ timer-of t m n e p = p ∙ ap timer e
 pub ending-same : (g h : Message) (t u : MasterTold) → g ≡ h → t ≡ u → _≡_ {A = Ending} (record { message = g; told = t }) (record { message = h; told = u })
 ending-same g h t u a b = λ i. record { message = a i; told = b i }
 
+pub message-same : (stage : Stage) (h g : Header) (length attempts : ℕ) → h ≡ g
+    → _≡_ {A = Message} (record { stage = stage; header = h; length = length; attempts = attempts }) (record { stage = stage; header = g; length = length; attempts = attempts })
+message-same stage h g length attempts p = λ i. record { stage = stage; header = p i; length = length; attempts = attempts }
+
 -- a definition by the message's stage, at a stage that a `match` has told
 pub if-awaiting-at : (s t : Stage) (g : Message) (e x : Ending) → s ≡ t → x ≡ ifAwaiting t g e → x ≡ ifAwaiting s g e
 if-awaiting-at s t g e x p q = q ∙ ap (λ (y : Stage). ifAwaiting y g e) (sym p)

@@ -65,7 +65,8 @@ pub fn with_parts(m: Master, r: Receiver, burst: bool, noted: Noted, t: Timer, g
 pub fn at_stage(g: Message, stage: Stage) -> Message
     ensures { λ r. ⌜ r ≡ messageAt g stage ⌝ }
 {
-    let header = g.header;
+    let h = g.header;
+    let header = tick_reader::same_header(h);
     Message {
         stage: stage,
         header: header,

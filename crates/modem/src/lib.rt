@@ -25,16 +25,12 @@ pub enum Carried {
     Nine(u8, bool, Mark),
 }
 
-// The chip.
+// The chip. The fields' order is chosen for speed: docs/BENCHMARKS.md, "Behind a modem chip".
 pub struct Chip {
-    // bytes 4 to 7
-    pub count: u32,
     // byte 1
     pub control: u8,
     // byte 2, read: the last character received
     pub latest: u8,
-    // byte 3: how it was damaged
-    pub kind: u8,
     // status bits 7, 5 and 4
     pub carrier: bool,
     pub received: bool,
@@ -44,6 +40,10 @@ pub struct Chip {
     pub outgoing: u8,
     // it sent in the tick before, and hears nothing in this one
     pub deaf: bool,
+    // bytes 4 to 7
+    pub count: u32,
+    // byte 3: how it was damaged
+    pub kind: u8,
 }
 
 // What reading a register answers: its value, and the chip behind the read.

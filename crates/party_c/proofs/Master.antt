@@ -3,7 +3,7 @@ use Prim.Native.Nat.{ℕ, _+_, _-_, _≤_, _<_, _/_, _%_}
 use mathlib.Core.Bool.{true}
 use mathlib.Core.Path.{_≡_, refl, sym, ap, subst, _∙_}
 use mathlib.Core.List.{List, [], _∷_}
-use lib.ListN.{length, getD, set, replicate}
+use lib.ListN.{length, getD, set, take, replicate}
 use Rattle.base.specs.Refusal.{Called}
 use Rattle.base.specs.declared.Refusal.{Refusal}
 use Rattle.base.proofs.Choices.{if-equal, if-unequal}
@@ -33,18 +33,17 @@ step-is m frame bytes frame-after bytes-after first c h call put t p q r e = rec
       ∙ ap (λ (x : List ℕ). masterTick 255 (sideOf m frame bytes) (heardOf (first / 32) c) (callOf (requestAt (first % 32)) x)) r;
 }
 
--- with command 11's tag, and without data
-pub step-tag : (m : Master) (frame bytes frame-after bytes-after : List ℕ) (first c : ℕ) (h : Heard) (call : MasterHostCall) (t : MasterTicked)
-    → first % 32 ≡ 2 → h ≡ heardOf (first / 32) c → call ≡ requestAt (first % 32) → MasterTickIs m h call (0 ∷ 0 ∷ 0 ∷ 0 ∷ 0 ∷ 0 ∷ []) frame bytes t frame-after bytes-after
-    → MasterStepIs m frame bytes first c t frame-after bytes-after
-step-tag m frame bytes frame-after bytes-after first c h call t n p q e =
-    step-is m frame bytes frame-after bytes-after first c h call (0 ∷ 0 ∷ 0 ∷ 0 ∷ 0 ∷ 0 ∷ []) t p q (if-equal (first % 32) 2 (0 ∷ 0 ∷ 0 ∷ 0 ∷ 0 ∷ 0 ∷ []) (replicate 6 0) [] n refl) e
+-- so many bytes of the tag are the request's data
+pub tag-is : (low : ℕ) → low ≡ 2 → take 6 (replicate 6 0) ≡ tagAt low
+tag-is low e = if-equal low 2 (take 6 (replicate 6 0)) (replicate 6 0) [] e refl
 
-pub step-plain : (m : Master) (frame bytes frame-after bytes-after : List ℕ) (first c : ℕ) (h : Heard) (call : MasterHostCall) (t : MasterTicked)
-    → (first % 32 ≡ 2 → ⊥) → h ≡ heardOf (first / 32) c → call ≡ requestAt (first % 32) → MasterTickIs m h call [] frame bytes t frame-after bytes-after
-    → MasterStepIs m frame bytes first c t frame-after bytes-after
-step-plain m frame bytes frame-after bytes-after first c h call t n p q e =
-    step-is m frame bytes frame-after bytes-after first c h call [] t p q (if-unequal (first % 32) 2 [] (replicate 6 0) [] n refl) e
+pub tag-none : (low : ℕ) → (low ≡ 2 → ⊥) → take 0 (replicate 6 0) ≡ tagAt low
+tag-none low e = if-unequal low 2 (take 0 (replicate 6 0)) (replicate 6 0) [] e refl
+
+pub step-tag : (m : Master) (frame bytes frame-after bytes-after : List ℕ) (first c : ℕ) (h : Heard) (call : MasterHostCall) (n : ℕ) (t : MasterTicked)
+    → take n (replicate 6 0) ≡ tagAt (first % 32) → h ≡ heardOf (first / 32) c → call ≡ requestAt (first % 32)
+    → MasterTickIs m h call (take n (replicate 6 0)) frame bytes t frame-after bytes-after → MasterStepIs m frame bytes first c t frame-after bytes-after
+step-tag m frame bytes frame-after bytes-after first c h call n t r p q e = step-is m frame bytes frame-after bytes-after first c h call (take n (replicate 6 0)) t p q r e
 
 pub run-start : (recording before : List ℕ) (m : Master) (frame bytes : List ℕ) → Running ticked (trace ticked (sideOf m frame bytes) recording) recording before (sideOf m frame bytes) before 0 0
 run-start recording before m frame bytes = begun ticked recording before (sideOf m frame bytes)

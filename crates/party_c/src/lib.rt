@@ -12,10 +12,12 @@ use turns::MasterTold;
 use turns::Sent;
 use turns::Wish;
 ghost use mathlib.Core.Path.{_≡_};
+ghost use Prim.Native.Nat.{_≤_};
+ghost use lib.ListN.{take, replicate};
 ghost use Rattle.line_c.specs.Recording.{trace, RunIs};
 ghost use Rattle.master.specs.Tick as M;
 ghost use Rattle.device_tick.specs.Tick as D;
-ghost use Rattle.party_c.specs.Master.{requestAt, masterNumber, masterNumbers};
+ghost use Rattle.party_c.specs.Master.{requestAt, tagAt, masterNumber, masterNumbers};
 ghost use Rattle.party_c.specs.Master as SM;
 ghost use Rattle.party_c.specs.Device.{answerAt, deviceNumber, deviceNumbers};
 ghost use Rattle.party_c.specs.Device as SD;
@@ -66,6 +68,16 @@ fn master_number(sent: Sent, told: MasterTold) -> u8
     }
 }
 
+// How many bytes the tag of a request has: six with command 11, else none.
+fn tag_length(low: u8) -> usize
+    ensures { λ r. ⌜ (take r (replicate 6 0) ≡ tagAt low) × (r ≤ 6) ⌝ }
+{
+    if low == 2 {
+        return 6;
+    }
+    0
+}
+
 // A tick of a master, by the two bytes of a recording.
 fn master_stepped(
     m: Master,
@@ -78,10 +90,9 @@ fn master_stepped(
 {
     let heard = line_c::heard_of(first / 32, c);
     let call = request_at(first % 32);
-    if first % 32 == 2 {
-        return master::tick(m, heard, call, &[0, 0, 0, 0, 0, 0], frame, bytes);
-    }
-    master::tick(m, heard, call, &[], frame, bytes)
+    let tag = [0u8; 6];
+    let length = tag_length(first % 32);
+    master::tick(m, heard, call, &tag[..length], frame, bytes)
 }
 
 // A master over a recording, from this state on.

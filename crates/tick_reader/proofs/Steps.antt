@@ -38,15 +38,15 @@ unfolding atCheck
 check-same r c s wrong h e p q g f =
     λ i. record { receiver = p i; event = (f ∙ (λ j. ended (record { header = g j; expansion = r .expansion; count = r .count }) (withCheck (r .damage) (q j)))) i }
 
-pub header-same : (place : Place) (h g : Header) (expansion count sum : ℕ) (m : FrameDamage) (gap : Bool) → h ≡ g
+pub parts-same : (place : Place) (h g : Header) (expansion count sum : ℕ) (m n : FrameDamage) (gap : Bool) → h ≡ g → m ≡ n
     → _≡_ {A = Receiver} (record { place = place; header = h; expansion = expansion; count = count; sum = sum; damage = m; gap = gap })
-    (record { place = place; header = g; expansion = expansion; count = count; sum = sum; damage = m; gap = gap })
-header-same place h g expansion count sum m gap p = λ i. record { place = place; header = p i; expansion = expansion; count = count; sum = sum; damage = m; gap = gap }
+    (record { place = place; header = g; expansion = expansion; count = count; sum = sum; damage = n; gap = gap })
+parts-same place h g expansion count sum m n gap p q = λ i. record { place = place; header = p i; expansion = expansion; count = count; sum = sum; damage = q i; gap = gap }
 
 -- a receiver is what its fields make of it
-pub receiver-same : (r : Receiver) (h : Header) → h ≡ r .header
-    → _≡_ {A = Receiver} (record { place = r .place; header = h; expansion = r .expansion; count = r .count; sum = r .sum; damage = r .damage; gap = r .gap }) r
-receiver-same r h e = header-same (r .place) h (r .header) (r .expansion) (r .count) (r .sum) (r .damage) (r .gap) e
+pub receiver-same : (r : Receiver) (h : Header) (m : FrameDamage) → h ≡ r .header → m ≡ r .damage
+    → _≡_ {A = Receiver} (record { place = r .place; header = h; expansion = r .expansion; count = r .count; sum = r .sum; damage = m; gap = r .gap }) r
+receiver-same r h m e f = parts-same (r .place) h (r .header) (r .expansion) (r .count) (r .sum) m (r .damage) (r .gap) e f
 
 pub blank-same : (place : Place) (m : FrameDamage) → m ≡ noDamage → _≡_ {A = Receiver} (record { place = place; header = noHeader; expansion = 0; count = 0; sum = 0; damage = m; gap = false }) (blank place)
 blank-same place m p = ap (λ (x : FrameDamage). record { place = place; header = noHeader; expansion = 0; count = 0; sum = 0; damage = x; gap = false }) p
@@ -88,6 +88,9 @@ damaged-at p q r c k t e f = f ∙ ap (λ (x : Place). damaged x r c k) (sym e)
 
 pub marked-same : (r s : Receiver) (m n : FrameDamage) → m ≡ n → s ≡ marked r m → s ≡ marked r n
 marked-same r s m n e f = f ∙ ap (marked r) e
+
+pub marked-kind : (r s : Receiver) (k : Damage) (m n : FrameDamage) → m ≡ r .damage → n ≡ kindDamaged k m → s ≡ marked r n → s ≡ marked r (kindDamaged k (r .damage))
+marked-kind r s k m n p q e = marked-same r s n (kindDamaged k (r .damage)) (q ∙ ap (kindDamaged k) p) e
 
 -- a step of a reader that a call answered
 module _ (r s : Receiver) (e : s ≡ r) (c : ℕ) (t : Taken) where
@@ -143,9 +146,9 @@ pub ruleset steps = (refl, tells-same, goes-on-same, next-same, begins-same, che
 
 pub ruleset insides = (refl, tells-same, goes-on-same, inside-first, inside-second, inside-at, silence-inside, silence-outside)
 
-pub ruleset headers = (refl, goes-on-same, header-same, receiver-same)
+pub ruleset headers = (refl, goes-on-same, parts-same, receiver-same)
 
-pub ruleset places = (refl, kind-at, kept-at, character-at, damaged-at, marked-same)
+pub ruleset places = (refl, kind-at, kept-at, character-at, damaged-at, marked-same, marked-kind)
 
 pub ruleset damages = (refl, damaged-at, first-same, address-same, expansion-same, command-same, data-same, check-byte-same)
 

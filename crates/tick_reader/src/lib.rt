@@ -14,7 +14,7 @@ ghost use mathlib.Core.Bool.{true, false};
 ghost use Rattle.base.specs.Choice.{if_then_else_, _=?_};
 ghost use Rattle.line.specs.Reader.{noDamage, blank, idle, passing, breaks, gapped, silentInside, insideFrame, silence, tells, next, atIdle, begins, atPreamble, behindAddress, firstHeader, atFirst, addressHeader, atAddress, atExpansion, commandHeader, atCommand, counted, atCount, atData, isDamaged, ended, atCheck, character, addressDamaged, kindDamaged, marked, damaged, keptByte, kept, ReaderTakeIs};
 
-// The next two give what they take, field by field. Copied as a block, with the unused bytes between its fields, a struct stays in memory; made anew, its fields can stay in registers.
+// The next three give what they take, field by field. Copied as a block, with the unused bytes between its fields, a struct stays in memory; made anew, its fields can stay in registers.
 pub fn same_header(h: Header) -> Header
     ensures { λ r. ⌜ r ≡ h ⌝ }
 {
@@ -28,13 +28,26 @@ pub fn same_header(h: Header) -> Header
     }
 }
 
+fn same_damage(m: FrameDamage) -> FrameDamage
+    ensures { λ r. ⌜ r ≡ m ⌝ }
+{
+    FrameDamage {
+        parity: m.parity,
+        overrun: m.overrun,
+        framing: m.framing,
+        check: m.check,
+        address: m.address,
+    }
+}
+
 pub fn same_receiver(r: Receiver) -> Receiver
     ensures { λ s. ⌜ s ≡ r ⌝ }
 {
     let place = r.place;
     let h = r.header;
     let header = same_header(h);
-    let damage = r.damage;
+    let m = r.damage;
+    let damage = same_damage(m);
     Receiver {
         place: place,
         header: header,
@@ -124,7 +137,8 @@ pub fn gapped_reader(r: Receiver) -> Receiver
     let place = r.place;
     let h = r.header;
     let header = same_header(h);
-    let damage = r.damage;
+    let m = r.damage;
+    let damage = same_damage(m);
     Receiver {
         place: place,
         header: header,
@@ -191,7 +205,8 @@ fn silent(r: Receiver) -> Taken
 fn to_next(r: Receiver, h: Header, place: Place, c: u8) -> Taken
     ensures { λ t. ⌜ t ≡ next r h place c ⌝ }
 {
-    let damage = r.damage;
+    let m = r.damage;
+    let damage = same_damage(m);
     let header = same_header(h);
     let receiver = Receiver {
         place: place,
@@ -353,7 +368,8 @@ fn with_count(r: Receiver, c: u8, place: Place) -> Taken
     ensures { λ t. ⌜ t ≡ counted r c place ⌝ }
 {
     let h = r.header;
-    let damage = r.damage;
+    let m = r.damage;
+    let damage = same_damage(m);
     let header = same_header(h);
     let receiver = Receiver {
         place: place,
@@ -532,7 +548,8 @@ fn of_kind(kind: Damage, m: FrameDamage) -> FrameDamage
 fn in_contents(r: Receiver, kind: Damage) -> Receiver
     ensures { λ s. ⌜ s ≡ marked r (kindDamaged kind (r .damage)) ⌝ }
 {
-    let damage = r.damage;
+    let m = r.damage;
+    let damage = same_damage(m);
     with_damage(r, of_kind(kind, damage))
 }
 

@@ -1,5 +1,7 @@
-use Rattle.party_c.proofs.Master.{step-tag, step-plain}
+use native.Mathlib.Omega.{arith}
 use borrow.Author.Needs.{needs}
+use Rattle.base.proofs.Stores.{take-length-is}
+use Rattle.party_c.proofs.Master.{step-tag}
 use Rattle.party_c.proofs.master_stepped.Statement.{statement}
 use Rattle.party_c.proofs.master_stepped.Tie as tie
 
@@ -9,9 +11,8 @@ master-stepped-spec =
     (tie.spec
     (λ c κs. search needs)
     (λ c κs. search needs)
-    (λ c. search needs)
     (λ c κs. search needs)
-    (λ c. search (needs, step-tag))
-    (λ c. search needs)
+    (λ c. omega arith)
+    (λ c. take-length-is _ _ (omega arith))
     (λ c κs. search needs)
-    (λ c. search (needs, step-plain)))
+    (λ c. search (needs, step-tag)))

@@ -8,4 +8,5 @@ gapped-reader-spec =
     tie.close
     (tie.spec
     (λ c κs. search needs)
+    (λ c κs. search needs)
     (λ c. search (needs, headers)))

@@ -9,4 +9,5 @@ in-contents-spec =
     (tie.spec
     (λ c κs. search (needs, places))
     (λ c κs. search (needs, places))
+    (λ c κs. search (needs, places))
     (λ c. search (needs, places)))
