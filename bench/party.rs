@@ -1,5 +1,5 @@
-//! Ticks per second of a master and of a device over long recordings, through the archive and by
-//! the oracles in plain Rust.
+//! Ticks per second of a master and of a device over long recordings, through the archives, by the
+//! oracles in plain Rust and, one call a tick, by a master in plain C.
 
 #[path = "../tests/called.rs"]
 mod called;
@@ -12,8 +12,18 @@ mod party_archive;
 mod recordings;
 mod rounds;
 
+use called::over;
 use oracles::{device_oracle, master_oracle};
 use recordings::{compare, frame, head, noise, silent, Run, SILENCE};
+
+#[link(name = "plain_master", kind = "static")]
+extern "C" {
+    fn plain_master_ticks(from: *const u8, size: usize, to: *mut u8, room: usize) -> usize;
+}
+
+fn plain_c(recording: &[u8], events: &mut [u8]) -> usize {
+    over(plain_master_ticks, recording, events)
+}
 
 const TICKS: usize = 200_000;
 const CALLS: usize = 1;
@@ -87,6 +97,10 @@ fn main() {
     devices("device", party_archive::device, device_oracle::ticks);
     println!("one call a tick, against the oracles");
     masters("master", engine_archive::master, master_oracle::ticks);
+    devices("device", engine_archive::device, device_oracle::ticks);
     println!("one call a tick, against the functions by value");
     masters("master", engine_archive::master, party_archive::master);
+    devices("device", engine_archive::device, party_archive::device);
+    println!("one call a tick, against plain C");
+    masters("master", engine_archive::master, plain_c);
 }

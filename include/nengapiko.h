@@ -1,21 +1,40 @@
 /*
- * nengapiko.h - HART frames (HCF_SPEC-081 revision 9.0), written and read, and
- * recordings of the line, read tick by tick.
+ * nengapiko.h - a HART link engine (HCF_SPEC-081 revision 9.0) for programs in C: frames written and
+ * read, and, one call a tick, a tick reader, a master and a device. Its functions are in
+ * libnengapiko.a. Those for tests and measurements stand in nengapiko_tests.h.
  *
- * nengapiko_write and nengapiko_read are in the archive of the crate frame_c,
- * nengapiko_ticks is in that of the crate line_c. The functions take every
- * argument that the rules below allow, stay inside the buffers that they are
- * lent, and return. They keep no state, allocate nothing and may be called
- * from several threads at once.
+ * Document 01 is the scope paper, which condenses the standard; its numbers are the refusals below.
  *
- * Buffers. Each buffer belongs to the caller before, during and after the
- * call; nothing is kept of it. A pointer is never NULL, also where its length
- * is 0, and points to as many elements as its length says. A buffer that is
- * written does not overlap another argument of the same call.
+ * Target. The archive is for x86-64 Linux (System V calling convention, any x86-64 processor) and
+ * needs of the C library memcpy and memset at most. What is proved does not name a processor,
+ * but has 64 bits for a size_t. Another target with 64 bits needs a back end of the compiler for it
+ * and nothing of this repository; one with fewer also needs the proofs made again, with its size_t.
  *
- * Refusals. nengapiko_write and nengapiko_read return 0, or the number of the
- * lowest condition below that applies. After a refusal every buffer is as it
- * was. nengapiko_ticks refuses nothing.
+ * Calls. The functions take every argument that the rules below allow, stay inside the buffers that
+ * they are lent, and return. They keep nothing between calls, allocate nothing, lock nothing and
+ * write no errno. Calls with different buffers may run at once, in threads and in signal handlers;
+ * a state and its buffers belong to one call at a time.
+ *
+ * Pointers. A buffer belongs to the caller before, during and after a call; nothing is kept of its
+ * address. It has as many elements as its length says, or as its parameter's name of a size says. No
+ * pointer is NULL, also where its length is 0: NENGAPIKO_NO_BYTES is there for that. No argument of
+ * a call overlaps another that the call writes.
+ *
+ * Refusals. What is refused returns its number, the lowest that applies (of a request the first in
+ * its function's list), and changes nothing; a tick whose call is refused is that of no call.
+ *
+ * Stack. What a function takes with all that it calls, in bytes, the return address included
+ * (tests/stack works it out from the archive). On top come the arguments that are passed on the stack,
+ * 64 bytes at most, and the two functions of the C library.
+ *
+ *   nengapiko_write                192
+ *   nengapiko_read                  72
+ *   nengapiko_reader_start           8
+ *   nengapiko_reader_tick          440
+ *   nengapiko_master_start         328
+ *   nengapiko_master_tick          776
+ *   nengapiko_device_start         288
+ *   nengapiko_device_tick          824
  */
 #ifndef NENGAPIKO_H
 #define NENGAPIKO_H
@@ -24,61 +43,88 @@
 #include <stddef.h>
 #include <stdint.h>
 
+/* The interface's number: another where a function, a size or a number below is another. */
+#define NENGAPIKO_VERSION 1
+
+/* No data, with length 0. */
+#define NENGAPIKO_NO_BYTES ((const uint8_t *)"")
+
+#if defined(__GNUC__)
+#define NENGAPIKO_RESTRICT __restrict__
+#define NENGAPIKO_NONNULL __attribute__((nonnull))
+#elif defined(__cplusplus)
+#define NENGAPIKO_RESTRICT
+#define NENGAPIKO_NONNULL
+#else
+#define NENGAPIKO_RESTRICT restrict
+#define NENGAPIKO_NONNULL
+#endif
+
 #ifdef __cplusplus
 extern "C" {
 #endif
 
+/* How many elements the buffers have. */
+enum nengapiko_size {
+    NENGAPIKO_SIZE_FRAME = 284,  /* bytes of the longest frame: 20 preambles, a long address, 255 data bytes */
+    NENGAPIKO_SIZE_DATA = 255,   /* bytes of the most data that a frame has */
+    NENGAPIKO_SIZE_FIELDS = 11,  /* words of enum nengapiko_field */
+    NENGAPIKO_SIZE_RESULTS = 17, /* words of enum nengapiko_result */
+    NENGAPIKO_SIZE_READER = 16,  /* words of a tick reader's state */
+    NENGAPIKO_SIZE_MASTER = 39,  /* words of a master's */
+    NENGAPIKO_SIZE_DEVICE = 40   /* words of a device's */
+};
+
+/* What a write, a read, a start and a tick return. */
+enum nengapiko_refusal {
+    NENGAPIKO_REFUSAL_NONE = 0,           /* written, read, started; or the tick's call was taken, or there was none */
+    NENGAPIKO_REFUSAL_PROFILE = 1,        /* start: a profile that document 01 does not allow */
+    NENGAPIKO_REFUSAL_RETRIES = 2,        /* master start: retries outside 3 to 15 */
+    NENGAPIKO_REFUSAL_PREAMBLE = 3,       /* write, request, device start: preamble outside 5 to 20 */
+    NENGAPIKO_REFUSAL_ADDRESS = 4,        /* write, request, device start: polling address above 63, of a request to revision 5 or lower above 15; unique address above 38 bits, or of a device 0 */
+    NENGAPIKO_REFUSAL_COMMAND = 5,        /* request: command 254, or a short address with a command but 0; burst content: command 254 */
+    NENGAPIKO_REFUSAL_DATA_LONG = 6,      /* write, request: more than 255 data bytes */
+    NENGAPIKO_REFUSAL_IN_HAND = 7,        /* request: a message is in hand */
+    NENGAPIKO_REFUSAL_NO_REQUEST = 8,     /* answer: no request is in hand, or its time is over */
+    NENGAPIKO_REFUSAL_DATA_LENGTH = 9,    /* write: an ACK or BACK with fewer than 2 data bytes; answer, burst content: data outside 2 to 255 */
+    NENGAPIKO_REFUSAL_WISH = 10,          /* answer: burst on without burst content; on or off in answer to command 0, or to command 11 by broadcast */
+    NENGAPIKO_REFUSAL_FEW_PREAMBLES = 11, /* read: fewer than two 0xFF in front */
+    NENGAPIKO_REFUSAL_NO_DELIMITER = 12,  /* write: type not 2, 6 or 1; read: the byte behind the preamble is no delimiter */
+    NENGAPIKO_REFUSAL_ENDS_EARLY = 13,    /* read: the bytes end before the frame does */
+    NENGAPIKO_REFUSAL_UNSOUND = 14,       /* read: an ACK or BACK with count below 2, else a wrong check byte */
+    NENGAPIKO_REFUSAL_BUFFER_SHORT = 15,  /* write: the frame does not fit from the place named */
+    NENGAPIKO_REFUSAL_REVISION = 17       /* request: revision outside 3 to 7 */
+};
+
+/* ------------------------------------------------------------------------ frames */
+
 /* The frame types, as the delimiter's bits 2 to 0 carry them. */
 enum nengapiko_type {
-    NENGAPIKO_BACK = 1, /* burst */
-    NENGAPIKO_STX = 2,  /* a master's request */
-    NENGAPIKO_ACK = 6   /* a device's answer */
+    NENGAPIKO_TYPE_BACK = 1, /* burst */
+    NENGAPIKO_TYPE_STX = 2,  /* a master's request */
+    NENGAPIKO_TYPE_ACK = 6   /* a device's answer */
 };
-
-/* What a write, a read, a master's start and its tick return: document 01's numbers; and the refusal of the modem chip. */
-enum nengapiko_answer {
-    NENGAPIKO_TAKEN = 0,                  /* written, read, started; or the request was taken, or there was none */
-    NENGAPIKO_REFUSED_PROFILE = 1,        /* start: a profile that document 01 does not allow */
-    NENGAPIKO_REFUSED_RETRIES = 2,        /* start: retries outside 3 to 15 */
-    NENGAPIKO_REFUSED_PREAMBLE = 3,       /* write, request: preamble outside 5 to 20 */
-    NENGAPIKO_REFUSED_ADDRESS = 4,        /* write, request: polling address above 63, of a request to revision 5 or lower above 15; or unique address above 38 bits */
-    NENGAPIKO_REFUSED_COMMAND = 5,        /* request: command 254, or a short address with a command but 0 */
-    NENGAPIKO_REFUSED_DATA_LONG = 6,      /* write, request: more than 255 data bytes */
-    NENGAPIKO_REFUSED_IN_HAND = 7,        /* request: a message is in hand */
-    NENGAPIKO_REFUSED_DATA_LENGTH = 9,    /* write: an ACK or BACK with fewer than 2 data bytes */
-    NENGAPIKO_REFUSED_FEW_PREAMBLES = 11, /* read: fewer than two 0xFF in front */
-    NENGAPIKO_REFUSED_NO_DELIMITER = 12,  /* write: type not 2, 6 or 1; read: the byte behind the preamble is no delimiter */
-    NENGAPIKO_REFUSED_ENDS_EARLY = 13,    /* read: the bytes end before the frame does */
-    NENGAPIKO_REFUSED_UNSOUND = 14,       /* read: an ACK or BACK with count below 2, else a wrong check byte */
-    NENGAPIKO_REFUSED_BUFFER_SHORT = 15,  /* write: the frame does not fit from the place named */
-    NENGAPIKO_REFUSED_REVISION = 17,      /* request: revision outside 3 to 7 */
-    NENGAPIKO_REFUSED_REGISTER = 19       /* modem chip: a write to byte 0 or 3 to 7, or any byte above 7 */
-};
-
-/* The longest frame, in bytes: 20 preambles, a long address, 255 data bytes. */
-enum { NENGAPIKO_LONGEST_FRAME = 284 };
 
 /* Where each number of a frame stands in the array that a read fills. */
 enum nengapiko_field {
-    NENGAPIKO_PREAMBLE = 0,  /* how many 0xFF stand in front of the delimiter, 2 or more */
-    NENGAPIKO_TYPE = 1,      /* an enum nengapiko_type */
-    NENGAPIKO_LONG = 2,      /* 1 for a unique address, 0 for a polling address */
-    NENGAPIKO_PRIMARY = 3,   /* the master bit: 1 for the primary master */
-    NENGAPIKO_BURST = 4,     /* the burst flag */
-    NENGAPIKO_ADDRESS = 5,   /* the polling address, 6 bits, or the unique address, 38 bits */
-    NENGAPIKO_EXPANSION = 6, /* how many expansion bytes stand behind the address, 0 to 3 */
-    NENGAPIKO_COMMAND = 7,   /* the command, 0 to 255 */
-    NENGAPIKO_START = 8,     /* where the data begins in the bytes that were read */
-    NENGAPIKO_COUNT = 9,     /* how many data bytes there are, 0 to 255 */
-    NENGAPIKO_END = 10,      /* the place behind the check byte, where another frame may begin */
-    NENGAPIKO_FIELDS = 11    /* how many numbers there are */
+    NENGAPIKO_FIELD_PREAMBLE = 0,  /* how many 0xFF stand in front of the delimiter, 2 or more */
+    NENGAPIKO_FIELD_TYPE = 1,      /* an enum nengapiko_type */
+    NENGAPIKO_FIELD_LONG = 2,      /* 1 for a unique address, 0 for a polling address */
+    NENGAPIKO_FIELD_PRIMARY = 3,   /* the master bit: 1 for the primary master */
+    NENGAPIKO_FIELD_BURST = 4,     /* the burst flag */
+    NENGAPIKO_FIELD_ADDRESS = 5,   /* the polling address, 6 bits, or the unique address, 38 bits */
+    NENGAPIKO_FIELD_EXPANSION = 6, /* how many expansion bytes stand behind the address, 0 to 3 */
+    NENGAPIKO_FIELD_COMMAND = 7,   /* the command, 0 to 255 */
+    NENGAPIKO_FIELD_START = 8,     /* where the data begins in the bytes that were read */
+    NENGAPIKO_FIELD_COUNT = 9,     /* how many data bytes there are, 0 to 255 */
+    NENGAPIKO_FIELD_END = 10       /* the place behind the check byte, where another frame may begin */
 };
 
 /*
  * Writes a frame into buffer[place] and the bytes behind it, and no other.
  *
  *   preamble      how many 0xFF go in front, 5 to 20
- *   type          NENGAPIKO_STX, NENGAPIKO_ACK or NENGAPIKO_BACK
+ *   type          an enum nengapiko_type
  *   long_address  true for a unique address (5 bytes), false for a polling address (1 byte)
  *   primary       the master bit: true for the primary master
  *   burst         the burst flag
@@ -91,120 +137,81 @@ enum nengapiko_field {
  *
  * Returns 0, 3, 4, 6, 9, 12 or 15.
  */
-uint32_t nengapiko_write(size_t preamble, uint8_t type, bool long_address,
-                         bool primary, bool burst, uint64_t address,
-                         uint8_t command, const uint8_t *data, size_t count,
-                         uint8_t *buffer, size_t size, size_t place,
-                         size_t *end);
+uint32_t nengapiko_write(size_t preamble, uint8_t type, bool long_address, bool primary, bool burst,
+                         uint64_t address, uint8_t command,
+                         const uint8_t *NENGAPIKO_RESTRICT data, size_t count,
+                         uint8_t *NENGAPIKO_RESTRICT buffer, size_t size, size_t place,
+                         size_t *NENGAPIKO_RESTRICT end) NENGAPIKO_NONNULL;
 
 /*
  * Reads the frame at the front of some bytes. Bytes behind its end are not looked at.
  *
  *   bytes, size   what was received, from the preamble on
- *   fields        NENGAPIKO_FIELDS numbers, filled as enum nengapiko_field says;
- *                 left as they were by a refusal
+ *   fields        NENGAPIKO_SIZE_FIELDS words, filled as enum nengapiko_field says; left as they
+ *                 were by a refusal
  *
- * The data are bytes[fields[NENGAPIKO_START]] and the fields[NENGAPIKO_COUNT] - 1 bytes behind it.
+ * The data are bytes[fields[NENGAPIKO_FIELD_START]] and the fields[NENGAPIKO_FIELD_COUNT] - 1 bytes
+ * behind it.
  *
- * Returns 0, 11, 12, 13 or 14.
+ * Returns 0, 11, 12, 13 or 14. For one who reads from a growing buffer: 13, and 11 while there are
+ * fewer than two bytes and each is 0xFF, mean that more bytes are wanted. Behind the preamble 267
+ * bytes are always enough. Every other answer is final: it stays the same whatever follows. Bytes
+ * carry no silence, so where the next frame begins behind a final refusal is the caller's to know; the
+ * tick reader knows it from the line.
  */
-uint32_t nengapiko_read(const uint8_t *bytes, size_t size,
-                        uint64_t fields[NENGAPIKO_FIELDS]);
+uint32_t nengapiko_read(const uint8_t *NENGAPIKO_RESTRICT bytes, size_t size,
+                        uint64_t *NENGAPIKO_RESTRICT fields) NENGAPIKO_NONNULL;
 
-/*
- * The exclusive-or of x and of count bytes from start on; x where these would run past the end. The
- * first works it out by words, as nengapiko_read does, the second byte by byte; they give the same.
- * They are for tests and measurements, in the archive of the crate check_c.
+/* ------------------------------------------------------------------------ one call a tick
+ *
+ * A tick is the time of one character. A state is an array of 64-bit words, and beside it stand the
+ * byte buffers of the sizes above; all of them belong to the caller. A start fills the state; what a
+ * buffer holds before the start does not matter. Every content of the words and of the buffers is
+ * some state, so every call takes them, whatever they hold. They are to be kept as a call has left
+ * them, and the words have no meaning but this.
  */
-uint8_t nengapiko_check_words(uint8_t x, const uint8_t *bytes, size_t size, size_t start, size_t count);
-uint8_t nengapiko_check_bytes(uint8_t x, const uint8_t *bytes, size_t size, size_t start, size_t count);
 
-/* What was heard in a tick of a recording: bits 7 to 5 of the tick's first byte. */
+/* What was heard in a tick. Any other number is heard as silence. */
 enum nengapiko_heard {
-    NENGAPIKO_SILENCE = 0,
-    NENGAPIKO_CHARACTER = 1,
-    NENGAPIKO_PARITY = 2,  /* a character with parity damage */
-    NENGAPIKO_OVERRUN = 3, /* a character with overrun damage */
-    NENGAPIKO_FRAMING = 4  /* a character with framing damage */
+    NENGAPIKO_HEARD_SILENCE = 0,
+    NENGAPIKO_HEARD_CHARACTER = 1,
+    NENGAPIKO_HEARD_PARITY = 2,  /* a character with parity damage */
+    NENGAPIKO_HEARD_OVERRUN = 3, /* a character with overrun damage */
+    NENGAPIKO_HEARD_FRAMING = 4  /* a character with framing damage; so are those of two senders in one tick */
 };
 
-/* What the reader tells in a tick. */
+/* What a reader tells in a tick. A master and a device each have a reader. */
 enum nengapiko_event {
-    NENGAPIKO_NOTHING = 0,     /* silence outside a frame, a silent tick inside one that is passed over, or a character of a frame that goes on */
-    NENGAPIKO_PASSED_OVER = 1, /* a character that is passed over until a silent tick */
-    NENGAPIKO_BROKEN = 2,      /* a frame broke in this tick: by its character, or by the second silent tick in a row */
-    NENGAPIKO_WHOLE = 3,       /* this tick's character ends a frame, which is whole and undamaged */
-    NENGAPIKO_DAMAGED = 4      /* this tick's character ends a frame in which a character is damaged or the check byte is wrong */
+    NENGAPIKO_EVENT_NOTHING = 0,     /* silence outside a frame, a silent tick inside one that is passed over, or a character of a frame that goes on */
+    NENGAPIKO_EVENT_PASSED_OVER = 1, /* a character that is passed over until a silent tick */
+    NENGAPIKO_EVENT_BROKEN = 2,      /* a frame broke in this tick: by its character, or by the second silent tick in a row */
+    NENGAPIKO_EVENT_WHOLE = 3,       /* this tick's character ends a frame, which is whole and undamaged */
+    NENGAPIKO_EVENT_DAMAGED = 4      /* this tick's character ends a frame in which a character is damaged or the check byte is wrong */
 };
 
 /*
- * Reads a recording of the line, one tick after the other, and tells of each
- * what became of a frame in it. The reader begins at its start: it passes over
- * characters until the first silent tick.
- *
- * Inside a frame, from behind its first 0xFF up to its check byte, one silent
- * tick is passed over: what follows is taken as if the tick had not been. The
- * second in a row breaks the frame, and the next character may start another.
- *
- *   recording, size  two bytes for each tick: 32 times an enum nengapiko_heard, then the
- *                    character. The kinds 5 to 7 are heard as silence; the first byte's bits
- *                    4 to 0, the character of a silent tick and a last odd byte are not looked at
- *   events, room     set to an enum nengapiko_event for each tick, from events[0] on, for as
- *                    many ticks as both the recording and the room hold; the events behind
- *                    them are left as they were
- *
- * Returns how many ticks these are: size / 2 or room, whichever is less.
- */
-size_t nengapiko_ticks(const uint8_t *recording, size_t size,
-                       uint8_t *events, size_t room);
-
-/* ------------------------------------------------------------------------
- * The tick reader and a master, one call a tick: crate nengapiko.
- *
- * A state is an array of 64-bit words, and beside it stand the byte buffers of the sizes below;
- * all of them belong to the caller. A start fills the state. Every content of the words and of the
- * buffers is some state, so every call takes them, whatever they hold; words are to be kept as a
- * call has left them, and have no meaning but this. A buffer's content before the start does not
- * matter. No two arguments of a call may overlap. Calls on different states may run at once.
- */
-
-#if defined(__cplusplus)
-#define NENGAPIKO_RESTRICT
-#else
-#define NENGAPIKO_RESTRICT restrict
-#endif
-
-enum nengapiko_size {
-    NENGAPIKO_READER_WORDS = 16,
-    NENGAPIKO_MASTER_WORDS = 39,
-    NENGAPIKO_FRAME_BYTES = 284, /* the frame that is being sent */
-    NENGAPIKO_DATA_BYTES = 255,  /* the data of the frame that is being heard */
-    NENGAPIKO_RESULTS = 17
-};
-
-/*
- * What a tick tells: the numbers that each of the two tick functions sets, all of them in every
- * call. The frame that the reader found stands in them where the event is NENGAPIKO_WHOLE or
- * NENGAPIKO_DAMAGED, and its data at the front of the data buffer; else its numbers are 0. An
- * answer to a master is the frame of that same tick.
+ * What a tick tells: the numbers that each of the three tick functions sets, all of them in every
+ * call. The frame that the reader found stands in them where the event is NENGAPIKO_EVENT_WHOLE or
+ * NENGAPIKO_EVENT_DAMAGED, and its data at the front of the data buffer; else its numbers are 0. An
+ * answer to a master, and a request or a broadcast to a device, is the frame of that same tick.
  */
 enum nengapiko_result {
-    NENGAPIKO_RESULT_SENT = 0,     /* 0, or 256 and the character to be sent in this tick */
-    NENGAPIKO_RESULT_TOLD = 1,     /* an enum nengapiko_master_told; 0 of a reader */
-    NENGAPIKO_RESULT_ATTEMPTS = 2, /* the STX frames sent for a message that was given up */
-    NENGAPIKO_RESULT_EVENT = 3,    /* an enum nengapiko_event */
-    NENGAPIKO_RESULT_TYPE = 4,     /* of the frame: an enum nengapiko_type */
-    NENGAPIKO_RESULT_LONG = 5,
+    NENGAPIKO_RESULT_SENT = 0,      /* 0, or 256 and the character to be sent in this tick */
+    NENGAPIKO_RESULT_TOLD = 1,      /* an enum nengapiko_master_told or nengapiko_device_told; 0 of a reader */
+    NENGAPIKO_RESULT_ATTEMPTS = 2,  /* of a master: the STX frames sent for a message that was given up */
+    NENGAPIKO_RESULT_EVENT = 3,     /* an enum nengapiko_event */
+    NENGAPIKO_RESULT_TYPE = 4,      /* of the frame: an enum nengapiko_type */
+    NENGAPIKO_RESULT_LONG = 5,      /* this and the next six as in enum nengapiko_field */
     NENGAPIKO_RESULT_PRIMARY = 6,
     NENGAPIKO_RESULT_BURST = 7,
     NENGAPIKO_RESULT_ADDRESS = 8,
     NENGAPIKO_RESULT_EXPANSION = 9,
     NENGAPIKO_RESULT_COMMAND = 10,
     NENGAPIKO_RESULT_COUNT = 11,
-    NENGAPIKO_RESULT_PARITY = 12, /* damage in command, data or check byte, by its kind */
+    NENGAPIKO_RESULT_PARITY = 12,   /* damage in command, data or check byte, by its kind: 1 or 0 */
     NENGAPIKO_RESULT_OVERRUN = 13,
     NENGAPIKO_RESULT_FRAMING = 14,
-    NENGAPIKO_RESULT_CHECK = 15,          /* a wrong check byte */
+    NENGAPIKO_RESULT_CHECK = 15,    /* a wrong check byte */
     NENGAPIKO_RESULT_ADDRESS_DAMAGED = 16 /* damage in address or expansion bytes */
 };
 
@@ -216,144 +223,115 @@ enum nengapiko_master_told {
     NENGAPIKO_MASTER_BROADCAST_SENT = 3
 };
 
-/* Starts a reader: it passes over characters until the first silent tick. */
-void nengapiko_reader_start(uint64_t *state);
+/* What a device tells its host. */
+enum nengapiko_device_told {
+    NENGAPIKO_DEVICE_NOTHING = 0,
+    NENGAPIKO_DEVICE_REQUEST = 1,  /* the frame of this tick, which the host may answer */
+    NENGAPIKO_DEVICE_BROADCAST = 2 /* the frame of this tick, which is never answered */
+};
+
+/* What a device's host gives in a tick; any other number is nothing. */
+enum nengapiko_device_call {
+    NENGAPIKO_CALL_NOTHING = 0,
+    NENGAPIKO_CALL_ANSWER = 1,           /* the answer to the request in hand */
+    NENGAPIKO_CALL_ANSWER_BURST_ON = 2,  /* the answer, with the wish that burst is on from its ACK on */
+    NENGAPIKO_CALL_ANSWER_BURST_OFF = 3, /* the answer, with the wish that it is off */
+    NENGAPIKO_CALL_BURST_CONTENT = 4     /* command and data of the BACKs from the next on */
+};
+
+/* Starts a tick reader: it passes over characters until the first silent tick. */
+void nengapiko_reader_start(uint64_t *state) NENGAPIKO_NONNULL;
 
 /*
- * A tick of a reader.
+ * A tick of a tick reader. Inside a frame, from behind its first 0xFF up to its check byte, one silent
+ * tick is passed over: what follows is taken as if the tick had not been. The second in a row breaks
+ * the frame, and the next character may start another.
  *
- *   state      NENGAPIKO_READER_WORDS words
- *   data       NENGAPIKO_DATA_BYTES bytes
- *   heard      an enum nengapiko_heard; any other number is silence
+ *   state      NENGAPIKO_SIZE_READER words
+ *   data       NENGAPIKO_SIZE_DATA bytes
+ *   heard      an enum nengapiko_heard
  *   character  the character, where one was heard
- *   results    NENGAPIKO_RESULTS numbers
+ *   results    NENGAPIKO_SIZE_RESULTS words
  */
 void nengapiko_reader_tick(uint64_t *NENGAPIKO_RESTRICT state, uint8_t *NENGAPIKO_RESTRICT data,
                            uint8_t heard, uint8_t character,
-                           uint64_t *NENGAPIKO_RESTRICT results);
+                           uint64_t *NENGAPIKO_RESTRICT results) NENGAPIKO_NONNULL;
 
 /*
  * Starts a master.
  *
- *   sto .. rt1_secondary  the profile's five numbers, in ticks
+ *   sto .. rt1_secondary  the profile's five numbers, in ticks; FSK is 28, 2, 8, 33, 41 and C8PSK
+ *                         is 32, 3, 14, 42, 56
  *   primary               true for the primary master
  *   retries               R, 3 to 15
- *   state                 NENGAPIKO_MASTER_WORDS words; left as they were by a refusal
+ *   state                 NENGAPIKO_SIZE_MASTER words; left as they were by a refusal
  *
- * Returns 0, 1 or 2 of enum nengapiko_answer.
+ * Returns 0, 1 or 2.
  */
 uint32_t nengapiko_master_start(uint16_t sto, uint16_t hold, uint16_t rt2, uint16_t rt1_primary,
                                 uint16_t rt1_secondary, bool primary, uint8_t retries,
-                                uint64_t *state);
+                                uint64_t *state) NENGAPIKO_NONNULL;
 
 /*
  * A tick of a master: it takes what the line carried in the tick before, then its host's request,
- * then sends a character or none.
+ * then sends a character or none. What is heard in a tick in which it sent is not looked at.
  *
- *   state, frame, data  NENGAPIKO_MASTER_WORDS words, NENGAPIKO_FRAME_BYTES and
- *                       NENGAPIKO_DATA_BYTES bytes
+ *   state, frame, data  NENGAPIKO_SIZE_MASTER words, NENGAPIKO_SIZE_FRAME bytes for the frame that is
+ *                       being sent, NENGAPIKO_SIZE_DATA bytes for the data that are being heard
  *   heard, character    as for nengapiko_reader_tick
- *   requests            whether the host requests in this tick; the next seven are of the request
+ *   requests            whether the host requests in this tick; the next seven are of the request,
+ *                       and are not looked at where there is none
  *   preamble            how many 0xFF go in front, 5 to 20
  *   revision            the device's HART revision, 3 to 7
  *   long_address, address, command, bytes, count   as for nengapiko_write
- *   results             NENGAPIKO_RESULTS numbers
+ *   results             NENGAPIKO_SIZE_RESULTS words
  *
- * Returns 0, or the request's refusal of enum nengapiko_answer, the first that applies of 3, 17, 4,
- * 5, 6 and 7; the tick is then that of no request.
+ * Returns 0, or the request's refusal, the first that applies of 3, 17, 4, 5, 6 and 7.
  */
 uint32_t nengapiko_master_tick(uint64_t *NENGAPIKO_RESTRICT state,
-                               uint8_t *NENGAPIKO_RESTRICT frame,
-                               uint8_t *NENGAPIKO_RESTRICT data, uint8_t heard, uint8_t character,
-                               bool requests, size_t preamble, uint8_t revision,
-                               bool long_address, uint64_t address, uint8_t command,
+                               uint8_t *NENGAPIKO_RESTRICT frame, uint8_t *NENGAPIKO_RESTRICT data,
+                               uint8_t heard, uint8_t character, bool requests, size_t preamble,
+                               uint8_t revision, bool long_address, uint64_t address,
+                               uint8_t command, const uint8_t *NENGAPIKO_RESTRICT bytes,
+                               size_t count,
+                               uint64_t *NENGAPIKO_RESTRICT results) NENGAPIKO_NONNULL;
+
+/*
+ * Starts a device, with burst off and without burst content.
+ *
+ *   sto .. rt1_secondary  as for nengapiko_master_start
+ *   preamble              how many 0xFF go in front of its frames, 5 to 20
+ *   polling_address       0 to 63
+ *   unique_address        1 to 2^38 - 1
+ *   state                 NENGAPIKO_SIZE_DEVICE words; left as they were by a refusal
+ *
+ * Returns 0, 1, 3 or 4.
+ */
+uint32_t nengapiko_device_start(uint16_t sto, uint16_t hold, uint16_t rt2, uint16_t rt1_primary,
+                                uint16_t rt1_secondary, size_t preamble, uint8_t polling_address,
+                                uint64_t unique_address, uint64_t *state) NENGAPIKO_NONNULL;
+
+/*
+ * A tick of a device: it takes what the line carried in the tick before, then its host's answer or
+ * burst content, then sends a character or none. What is heard in a tick in which it sent is not
+ * looked at.
+ *
+ *   state, frame, data  NENGAPIKO_SIZE_DEVICE words; frame and data as for nengapiko_master_tick
+ *   content             NENGAPIKO_SIZE_DATA bytes: the data of its burst content
+ *   heard, character    as for nengapiko_reader_tick
+ *   call                an enum nengapiko_device_call
+ *   command             of a burst content; else it is not looked at
+ *   bytes, count        the data of an answer or of a burst content, 2 to 255
+ *   results             NENGAPIKO_SIZE_RESULTS words
+ *
+ * Returns 0, or the call's refusal: 8, 9 or 10 for an answer, 5 or 9 for a burst content.
+ */
+uint32_t nengapiko_device_tick(uint64_t *NENGAPIKO_RESTRICT state,
+                               uint8_t *NENGAPIKO_RESTRICT frame, uint8_t *NENGAPIKO_RESTRICT data,
+                               uint8_t *NENGAPIKO_RESTRICT content, uint8_t heard,
+                               uint8_t character, uint8_t call, uint8_t command,
                                const uint8_t *NENGAPIKO_RESTRICT bytes, size_t count,
-                               uint64_t *NENGAPIKO_RESTRICT results);
-
-/* What a master does in a tick. */
-enum nengapiko_step {
-    NENGAPIKO_SILENT = 0,
-    NENGAPIKO_ANSWERED = 1,
-    NENGAPIKO_GIVEN_UP = 2,
-    NENGAPIKO_BROADCAST_SENT = 3,
-    NENGAPIKO_SENDS = 4 /* it sends a character, whatever it tells */
-};
-
-/*
- * Runs a primary of the FSK profile with 3 retries over a recording of what it hears,
- * for tests and measurements. A silent tick that its reader passes over inside a frame
- * counts in no timer; if a second follows and breaks the frame, both count then.
- *
- *   recording, size  as for nengapiko_ticks, but for the first byte's bits 4 to 0, the host's
- *                    request in this tick: 1 command 3 of unique address 2, 2 command 11 by
- *                    broadcast with a tag of six zero bytes, any other value none
- *   events, room     as for nengapiko_ticks, with an enum nengapiko_step for each tick
- *
- * Returns how many ticks these are: size / 2 or room, whichever is less.
- */
-size_t nengapiko_master(const uint8_t *recording, size_t size,
-                        uint8_t *events, size_t room);
-
-/* What a device does in a tick. */
-enum nengapiko_device_step {
-    NENGAPIKO_DEVICE_SILENT = 0,
-    NENGAPIKO_REQUEST_TOLD = 1,
-    NENGAPIKO_BROADCAST_TOLD = 2,
-    NENGAPIKO_DEVICE_SENDS = 4 /* it sends a character, whatever it tells */
-};
-
-/*
- * Runs a device of the FSK profile with 5 preamble characters, polling address 0 and unique
- * address 2 over a recording of what it hears, for tests and measurements. Silent ticks
- * inside a frame are as for nengapiko_master.
- *
- *   recording, size  as for nengapiko_ticks, but for the first byte's bits 4 to 0, the host's
- *                    call in this tick, with two zero bytes: 1 its answer, 2 and 3 its answer
- *                    with burst on and off, 4 burst content of command 3, any other value none
- *   events, room     as for nengapiko_ticks, with an enum nengapiko_device_step for each tick
- *
- * Returns how many ticks these are: size / 2 or room, whichever is less.
- */
-size_t nengapiko_device(const uint8_t *recording, size_t size,
-                        uint8_t *events, size_t room);
-
-/* The most that the player prints for any script. */
-#define NENGAPIKO_LONGEST_LISTING 1638405
-
-/*
- * Plays a script, as the program play does, for tests and measurements.
- *
- *   script, size  records of 4 bytes
- *   out, room     what is printed, at the front of out; with less than
- *                 NENGAPIKO_LONGEST_LISTING bytes of room it may be cut
- *
- * Returns how many bytes were printed.
- */
-size_t nengapiko_play(const uint8_t *script, size_t size,
-                      uint8_t *out, size_t room);
-
-/*
- * Runs a link of a primary, a secondary and up to six devices over a list of ticks, for
- * tests. The devices start in tick 0, each master in the tick that is named for it.
- *
- *   sto .. rt1_secondary  the profile's five numbers
- *   retries               R
- *   preambles, polling_addresses, unique_addresses
- *                         six numbers each, one for each slot; a preamble of 0 is a slot
- *                         without a device
- *   ticks, size           the list, encoded as crates/tick_list/specs/Ticks.antt says
- *   events, room          for each tick how many send, plus 16 for a request of the primary
- *                         that was taken and 32 for one of the secondary, plus 64 if the
- *                         primary sends and 128 if the secondary does
- *
- * Returns how many ticks these are; 0 where a start is refused.
- */
-size_t nengapiko_run(uint16_t sto, uint16_t hold, uint16_t rt2, uint16_t rt1_primary,
-                     uint16_t rt1_secondary, uint8_t retries,
-                     const uint8_t preambles[6], const uint8_t polling_addresses[6],
-                     const uint64_t unique_addresses[6],
-                     uint64_t primary_start, uint64_t secondary_start,
-                     const uint8_t *ticks, size_t size, uint8_t *events, size_t room);
+                               uint64_t *NENGAPIKO_RESTRICT results) NENGAPIKO_NONNULL;
 
 #ifdef __cplusplus
 }

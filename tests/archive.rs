@@ -1,6 +1,6 @@
-//! The two functions of include/nengapiko.h, called with slices.
+//! The frame writer and reader of include/nengapiko.h, called with slices.
 
-#[link(name = "frame_c", kind = "static")]
+#[link(name = "nengapiko", kind = "static")]
 extern "C" {
     fn nengapiko_write(
         preamble: usize,

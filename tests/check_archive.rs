@@ -1,7 +1,7 @@
-//! The two functions that libcheck_c.a exports, called with slices: the exclusive-or of a number and
-//! of so many bytes from a start on, or of the number alone where they would run past the end.
+//! nengapiko_check_words and nengapiko_check_bytes, called with slices: the exclusive-or of a number
+//! and of so many bytes from a start on, or of the number alone where they would run past the end.
 
-#[link(name = "check_c", kind = "static")]
+#[link(name = "nengapiko_tests", kind = "static")]
 extern "C" {
     fn nengapiko_check_words(
         x: u8,

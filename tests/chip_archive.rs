@@ -1,8 +1,8 @@
-//! The functions that libmodem_party_c.a exports, called with slices.
+//! nengapiko_chip_master and nengapiko_chip_device, called with slices.
 
 use crate::called::over;
 
-#[link(name = "modem_party_c", kind = "static")]
+#[link(name = "nengapiko_tests", kind = "static")]
 extern "C" {
     fn nengapiko_chip_master(from: *const u8, size: usize, to: *mut u8, room: usize) -> usize;
     fn nengapiko_chip_device(from: *const u8, size: usize, to: *mut u8, room: usize) -> usize;

@@ -43,6 +43,18 @@ struct Content {
     data: Vec<u8>,
 }
 
+/// What it holds from tick to tick, in numbers.
+#[derive(Debug, PartialEq)]
+pub struct State {
+    pub place: (u64, bool),
+    pub deaf: bool,
+    /// By the numbers of `turnWord` in crates/device_c/specs/Words.antt.
+    pub turn: u64,
+    pub content: Option<(u64, u64)>,
+    /// While it bursts: whether the next BACK is for the primary, and the silent ticks until it.
+    pub bursts: Option<(bool, u64)>,
+}
+
 pub struct Device {
     profile: Profile,
     preambles: usize,
@@ -92,6 +104,29 @@ impl Device {
     /// What it sends, or sent last.
     pub fn out(&self) -> &Outgoing {
         &self.out
+    }
+
+    pub fn state(&self) -> State {
+        let sent = self.out.sent() as u64;
+        let next_back = (self.back_to_primary, u64::from(self.back_in));
+        State {
+            place: self.reader.place(),
+            deaf: self.deaf,
+            turn: match self.turn {
+                Turn::Listening => 0,
+                Turn::Asked(left) => 1 + 16 * u64::from(left),
+                Turn::Ready(_) => 2,
+                Turn::Beginning(_) => 3,
+                Turn::SendingAck => 4 + 16 * sent,
+                Turn::BackDue => 5,
+                Turn::SendingBack => 6 + 16 * sent,
+            },
+            content: self
+                .content
+                .as_ref()
+                .map(|content| (content.command.into(), content.data.len() as u64)),
+            bursts: self.bursting.then_some(next_back),
+        }
     }
 
     pub fn reader(&self) -> &Reader {
@@ -330,9 +365,14 @@ impl Device {
     }
 }
 
+/// The device that recordings are for.
+pub fn recorded() -> Device {
+    Device::start(POLLING_ADDRESS, UNIQUE_ADDRESS)
+}
+
 /// The number of what a device does in each tick.
 #[inline(never)]
 pub fn ticks(recording: &[u8], events: &mut [u8]) -> usize {
-    let mut device = Device::start(POLLING_ADDRESS, UNIQUE_ADDRESS);
+    let mut device = recorded();
     over(recording, events, |tick| device.tick(tick))
 }

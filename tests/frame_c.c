@@ -26,11 +26,11 @@ struct frame {
     size_t count; /* how many bytes of data[] it carries */
 };
 
-static const uint8_t types[] = {NENGAPIKO_STX, NENGAPIKO_ACK, NENGAPIKO_BACK};
+static const uint8_t types[] = {NENGAPIKO_TYPE_STX, NENGAPIKO_TYPE_ACK, NENGAPIKO_TYPE_BACK};
 enum { TYPES = sizeof types };
 
 static const struct frame usual = {
-    .preamble = 5, .type = NENGAPIKO_STX, .primary = true, .address = 3, .command = 9, .count = 4};
+    .preamble = 5, .type = NENGAPIKO_TYPE_STX, .primary = true, .address = 3, .command = 9, .count = 4};
 
 static uint8_t data[1000];
 static uint8_t arena[ARENA];
@@ -109,7 +109,7 @@ static void write_taken(struct frame f, size_t size, size_t place, int line)
     const size_t length = compose(f, 0, expected + first);
     const size_t behind = first + length;
     size_t end = (size_t)UNTOUCHED;
-    check(write_frame(f, size, place, &end) == NENGAPIKO_TAKEN, "the write is taken", line);
+    check(write_frame(f, size, place, &end) == NENGAPIKO_REFUSAL_NONE, "the write is taken", line);
     check(end == place + length, "end is the place behind the check byte", line);
     check(memcmp(arena + first, expected + first, length) == 0, "the frame is written", line);
     check(memcmp(arena, expected, first) == 0 &&
@@ -136,14 +136,14 @@ static void write_refused(uint32_t answer, struct frame f, size_t size, size_t p
 struct reading {
     uint32_t answer;
     uint64_t before;
-    uint64_t fields[NENGAPIKO_FIELDS];
+    uint64_t fields[NENGAPIKO_SIZE_FIELDS];
     uint64_t behind;
 };
 
 static struct reading read_bytes(const uint8_t *bytes, size_t size)
 {
     struct reading r = {.before = UNTOUCHED, .behind = UNTOUCHED};
-    for (size_t i = 0; i < NENGAPIKO_FIELDS; i++)
+    for (size_t i = 0; i < NENGAPIKO_SIZE_FIELDS; i++)
         r.fields[i] = UNTOUCHED;
     r.answer = nengapiko_read(bytes, size, r.fields);
     return r;
@@ -155,18 +155,18 @@ static void read_taken(struct frame f, size_t expansion, const uint8_t *bytes, s
     const struct reading r = read_bytes(bytes, size);
     const size_t end = length_of(f) + expansion;
     const size_t start = end - 1 - f.count;
-    check(r.answer == NENGAPIKO_TAKEN, "the read is taken", line);
-    check(r.fields[NENGAPIKO_PREAMBLE] == f.preamble, "preamble", line);
-    check(r.fields[NENGAPIKO_TYPE] == f.type, "type", line);
-    check(r.fields[NENGAPIKO_LONG] == f.long_address, "long address", line);
-    check(r.fields[NENGAPIKO_PRIMARY] == f.primary, "master bit", line);
-    check(r.fields[NENGAPIKO_BURST] == f.burst, "burst flag", line);
-    check(r.fields[NENGAPIKO_ADDRESS] == f.address, "address", line);
-    check(r.fields[NENGAPIKO_EXPANSION] == expansion, "expansion bytes", line);
-    check(r.fields[NENGAPIKO_COMMAND] == f.command, "command", line);
-    check(r.fields[NENGAPIKO_START] == start, "start of the data", line);
-    check(r.fields[NENGAPIKO_COUNT] == f.count, "count", line);
-    check(r.fields[NENGAPIKO_END] == end, "end", line);
+    check(r.answer == NENGAPIKO_REFUSAL_NONE, "the read is taken", line);
+    check(r.fields[NENGAPIKO_FIELD_PREAMBLE] == f.preamble, "preamble", line);
+    check(r.fields[NENGAPIKO_FIELD_TYPE] == f.type, "type", line);
+    check(r.fields[NENGAPIKO_FIELD_LONG] == f.long_address, "long address", line);
+    check(r.fields[NENGAPIKO_FIELD_PRIMARY] == f.primary, "master bit", line);
+    check(r.fields[NENGAPIKO_FIELD_BURST] == f.burst, "burst flag", line);
+    check(r.fields[NENGAPIKO_FIELD_ADDRESS] == f.address, "address", line);
+    check(r.fields[NENGAPIKO_FIELD_EXPANSION] == expansion, "expansion bytes", line);
+    check(r.fields[NENGAPIKO_FIELD_COMMAND] == f.command, "command", line);
+    check(r.fields[NENGAPIKO_FIELD_START] == start, "start of the data", line);
+    check(r.fields[NENGAPIKO_FIELD_COUNT] == f.count, "count", line);
+    check(r.fields[NENGAPIKO_FIELD_END] == end, "end", line);
     check(r.before == UNTOUCHED && r.behind == UNTOUCHED, "a read fills the fields alone", line);
 }
 
@@ -174,7 +174,7 @@ static void read_refused(uint32_t answer, const uint8_t *bytes, size_t size, int
 {
     const struct reading r = read_bytes(bytes, size);
     bool untouched = r.before == UNTOUCHED && r.behind == UNTOUCHED;
-    for (size_t i = 0; i < NENGAPIKO_FIELDS; i++)
+    for (size_t i = 0; i < NENGAPIKO_SIZE_FIELDS; i++)
         untouched = untouched && r.fields[i] == UNTOUCHED;
     check(r.answer == answer, "the read is refused as expected", line);
     check(untouched, "a refused read leaves the fields", line);
@@ -192,7 +192,7 @@ static void write_preambles(void)
     const size_t outside[] = {0, 1, 4, 21, 256 + 5, SIZE_MAX};
     for (size_t i = 0; i < sizeof outside / sizeof *outside; i++) {
         f.preamble = outside[i];
-        WRITE_REFUSED(NENGAPIKO_REFUSED_PREAMBLE, f, ROOM, 0);
+        WRITE_REFUSED(NENGAPIKO_REFUSAL_PREAMBLE, f, ROOM, 0);
     }
 }
 
@@ -202,16 +202,16 @@ static void write_addresses(void)
     for (f.address = 0; f.address <= POLLING_LARGEST; f.address++)
         WRITE_TAKEN(f, ROOM, 0);
     f.address = POLLING_LARGEST + 1;
-    WRITE_REFUSED(NENGAPIKO_REFUSED_ADDRESS, f, ROOM, 0);
+    WRITE_REFUSED(NENGAPIKO_REFUSAL_ADDRESS, f, ROOM, 0);
     f.address = UINT64_C(1) << 32;
-    WRITE_REFUSED(NENGAPIKO_REFUSED_ADDRESS, f, ROOM, 0);
+    WRITE_REFUSED(NENGAPIKO_REFUSAL_ADDRESS, f, ROOM, 0);
     f.address = UINT64_MAX;
-    WRITE_REFUSED(NENGAPIKO_REFUSED_ADDRESS, f, ROOM, 0);
+    WRITE_REFUSED(NENGAPIKO_REFUSAL_ADDRESS, f, ROOM, 0);
 
     f.long_address = true;
-    WRITE_REFUSED(NENGAPIKO_REFUSED_ADDRESS, f, ROOM, 0);
+    WRITE_REFUSED(NENGAPIKO_REFUSAL_ADDRESS, f, ROOM, 0);
     f.address = UNIQUE_LARGEST + 1;
-    WRITE_REFUSED(NENGAPIKO_REFUSED_ADDRESS, f, ROOM, 0);
+    WRITE_REFUSED(NENGAPIKO_REFUSAL_ADDRESS, f, ROOM, 0);
     const uint64_t unique[] = {0, POLLING_LARGEST + 1, UINT64_C(0x1234567890), UNIQUE_LARGEST};
     for (size_t i = 0; i < sizeof unique / sizeof *unique; i++) {
         f.address = unique[i];
@@ -224,21 +224,21 @@ static void write_data_lengths(void)
     struct frame f = usual;
     for (size_t i = 0; i < TYPES; i++) {
         f.type = types[i];
-        const size_t least = f.type == NENGAPIKO_STX ? 0 : 2;
+        const size_t least = f.type == NENGAPIKO_TYPE_STX ? 0 : 2;
         for (f.count = 0; f.count < least; f.count++)
-            WRITE_REFUSED(NENGAPIKO_REFUSED_DATA_LENGTH, f, ROOM, 0);
+            WRITE_REFUSED(NENGAPIKO_REFUSAL_DATA_LENGTH, f, ROOM, 0);
         for (f.count = least; f.count <= 255; f.count++)
             WRITE_TAKEN(f, ROOM, 0);
         f.count = 256;
-        WRITE_REFUSED(NENGAPIKO_REFUSED_DATA_LONG, f, ROOM, 0);
+        WRITE_REFUSED(NENGAPIKO_REFUSAL_DATA_LONG, f, ROOM, 0);
         f.count = sizeof data;
-        WRITE_REFUSED(NENGAPIKO_REFUSED_DATA_LONG, f, ROOM, 0);
+        WRITE_REFUSED(NENGAPIKO_REFUSAL_DATA_LONG, f, ROOM, 0);
     }
 }
 
 static bool is_type(unsigned number)
 {
-    return number == NENGAPIKO_STX || number == NENGAPIKO_ACK || number == NENGAPIKO_BACK;
+    return number == NENGAPIKO_TYPE_STX || number == NENGAPIKO_TYPE_ACK || number == NENGAPIKO_TYPE_BACK;
 }
 
 static void write_types(void)
@@ -249,7 +249,7 @@ static void write_types(void)
         if (is_type(type))
             WRITE_TAKEN(f, ROOM, 0);
         else
-            WRITE_REFUSED(NENGAPIKO_REFUSED_NO_DELIMITER, f, ROOM, 0);
+            WRITE_REFUSED(NENGAPIKO_REFUSAL_NO_DELIMITER, f, ROOM, 0);
     }
 }
 
@@ -260,51 +260,51 @@ static void write_places(void)
     for (size_t place = 0; place <= 40; place++) {
         WRITE_TAKEN(f, place + length + 1, place);
         WRITE_TAKEN(f, place + length, place);
-        WRITE_REFUSED(NENGAPIKO_REFUSED_BUFFER_SHORT, f, place + length - 1, place);
+        WRITE_REFUSED(NENGAPIKO_REFUSAL_BUFFER_SHORT, f, place + length - 1, place);
     }
     const size_t sizes[] = {0, 1, length - 1, length, ROOM};
     for (size_t i = 0; i < sizeof sizes / sizeof *sizes; i++) {
         const size_t size = sizes[i];
         if (size > 0)
-            WRITE_REFUSED(NENGAPIKO_REFUSED_BUFFER_SHORT, f, size, size - 1);
-        WRITE_REFUSED(NENGAPIKO_REFUSED_BUFFER_SHORT, f, size, size);
-        WRITE_REFUSED(NENGAPIKO_REFUSED_BUFFER_SHORT, f, size, size + 1);
-        WRITE_REFUSED(NENGAPIKO_REFUSED_BUFFER_SHORT, f, size, SIZE_MAX - length + 1);
-        WRITE_REFUSED(NENGAPIKO_REFUSED_BUFFER_SHORT, f, size, SIZE_MAX);
+            WRITE_REFUSED(NENGAPIKO_REFUSAL_BUFFER_SHORT, f, size, size - 1);
+        WRITE_REFUSED(NENGAPIKO_REFUSAL_BUFFER_SHORT, f, size, size);
+        WRITE_REFUSED(NENGAPIKO_REFUSAL_BUFFER_SHORT, f, size, size + 1);
+        WRITE_REFUSED(NENGAPIKO_REFUSAL_BUFFER_SHORT, f, size, SIZE_MAX - length + 1);
+        WRITE_REFUSED(NENGAPIKO_REFUSAL_BUFFER_SHORT, f, size, SIZE_MAX);
     }
 }
 
 static void write_longest(void)
 {
-    const struct frame f = {20, NENGAPIKO_ACK, true, true, true, UNIQUE_LARGEST, 0xFF, 255};
-    CHECK(length_of(f) == NENGAPIKO_LONGEST_FRAME);
-    CHECK(NENGAPIKO_LONGEST_FRAME == 284);
+    const struct frame f = {20, NENGAPIKO_TYPE_ACK, true, true, true, UNIQUE_LARGEST, 0xFF, 255};
+    CHECK(length_of(f) == NENGAPIKO_SIZE_FRAME);
+    CHECK(NENGAPIKO_SIZE_FRAME == 284);
     WRITE_TAKEN(f, 284, 0);
     WRITE_TAKEN(f, 285, 1);
-    WRITE_REFUSED(NENGAPIKO_REFUSED_BUFFER_SHORT, f, 283, 0);
-    WRITE_REFUSED(NENGAPIKO_REFUSED_BUFFER_SHORT, f, 284, 1);
+    WRITE_REFUSED(NENGAPIKO_REFUSAL_BUFFER_SHORT, f, 283, 0);
+    WRITE_REFUSED(NENGAPIKO_REFUSAL_BUFFER_SHORT, f, 284, 1);
 }
 
 static uint32_t lowest_refusal(struct frame f, bool fits)
 {
     if (f.preamble < 5 || f.preamble > 20)
-        return NENGAPIKO_REFUSED_PREAMBLE;
+        return NENGAPIKO_REFUSAL_PREAMBLE;
     if (f.address > POLLING_LARGEST)
-        return NENGAPIKO_REFUSED_ADDRESS;
+        return NENGAPIKO_REFUSAL_ADDRESS;
     if (f.count > 255)
-        return NENGAPIKO_REFUSED_DATA_LONG;
-    if (f.count < 2 && (f.type == NENGAPIKO_ACK || f.type == NENGAPIKO_BACK))
-        return NENGAPIKO_REFUSED_DATA_LENGTH;
+        return NENGAPIKO_REFUSAL_DATA_LONG;
+    if (f.count < 2 && (f.type == NENGAPIKO_TYPE_ACK || f.type == NENGAPIKO_TYPE_BACK))
+        return NENGAPIKO_REFUSAL_DATA_LENGTH;
     if (!is_type(f.type))
-        return NENGAPIKO_REFUSED_NO_DELIMITER;
-    return fits ? NENGAPIKO_TAKEN : NENGAPIKO_REFUSED_BUFFER_SHORT;
+        return NENGAPIKO_REFUSAL_NO_DELIMITER;
+    return fits ? NENGAPIKO_REFUSAL_NONE : NENGAPIKO_REFUSAL_BUFFER_SHORT;
 }
 
 /* All combinations of one right and one or two wrong values for each argument. */
 static void write_lowest_refusal(void)
 {
     const size_t counts[] = {1, 4, 256};
-    const uint8_t numbers[] = {NENGAPIKO_STX, NENGAPIKO_ACK, NENGAPIKO_BACK, 0};
+    const uint8_t numbers[] = {NENGAPIKO_TYPE_STX, NENGAPIKO_TYPE_ACK, NENGAPIKO_TYPE_BACK, 0};
     for (unsigned n = 0; n < 2 * 2 * 2 * 3 * 4; n++) {
         struct frame f = usual;
         f.preamble = n & 1 ? 4 : 5;
@@ -314,7 +314,7 @@ static void write_lowest_refusal(void)
         const bool fits = n & 4;
         const size_t size = fits ? ROOM : 0;
         const uint32_t answer = lowest_refusal(f, fits);
-        if (answer == NENGAPIKO_TAKEN)
+        if (answer == NENGAPIKO_REFUSAL_NONE)
             WRITE_TAKEN(f, size, 0);
         else
             WRITE_REFUSED(answer, f, size, 0);
@@ -328,7 +328,7 @@ static void worked_example(struct frame f, const uint8_t *bytes, size_t length, 
     memcpy(whole + 5, bytes, length);
     size_t end = 0;
     f.preamble = 5;
-    check(write_frame(f, ROOM, 0, &end) == NENGAPIKO_TAKEN, "the example is written", line);
+    check(write_frame(f, ROOM, 0, &end) == NENGAPIKO_REFUSAL_NONE, "the example is written", line);
     check(end == 5 + length, "the example's length", line);
     check(memcmp(arena + GUARD, whole, 5 + length) == 0, "the example's bytes", line);
     read_taken(f, 0, whole, 5 + length, line);
@@ -336,7 +336,7 @@ static void worked_example(struct frame f, const uint8_t *bytes, size_t length, 
     read_taken(f, 0, whole + 3, 2 + length, line);
     for (unsigned wrong = 1; wrong <= UINT8_MAX; wrong++) {
         whole[4 + length] = (uint8_t)(bytes[length - 1] ^ wrong);
-        read_refused(NENGAPIKO_REFUSED_UNSOUND, whole, 5 + length, line);
+        read_refused(NENGAPIKO_REFUSAL_UNSOUND, whole, 5 + length, line);
     }
 }
 
@@ -345,10 +345,10 @@ static void worked_check_bytes(void)
     const uint8_t m1[] = {0x02, 0x80, 0x00, 0x00, 0x82};
     const uint8_t m2[] = {0x82, 0x80, 0x00, 0x00, 0x00, 0x02, 0x03, 0x00, 0x03};
     const uint8_t m3[] = {0x06, 0x80, 0x00, 0x02, 0x00, 0x00, 0x84};
-    const struct frame f1 = {.type = NENGAPIKO_STX, .primary = true};
+    const struct frame f1 = {.type = NENGAPIKO_TYPE_STX, .primary = true};
     const struct frame f2 = {
-        .type = NENGAPIKO_STX, .long_address = true, .primary = true, .address = 2, .command = 3};
-    const struct frame f3 = {.type = NENGAPIKO_ACK, .primary = true, .count = 2};
+        .type = NENGAPIKO_TYPE_STX, .long_address = true, .primary = true, .address = 2, .command = 3};
+    const struct frame f3 = {.type = NENGAPIKO_TYPE_ACK, .primary = true, .count = 2};
     data[0] = data[1] = 0;
     worked_example(f1, m1, sizeof m1, __LINE__);
     worked_example(f2, m2, sizeof m2, __LINE__);
@@ -368,7 +368,7 @@ static void round_trips(void)
             f.address = f.long_address ? UNIQUE_LARGEST - f.count * 7919 : f.count % 64;
             const size_t place = f.count % 32;
             size_t end = 0;
-            CHECK(write_frame(f, ROOM, place, &end) == NENGAPIKO_TAKEN);
+            CHECK(write_frame(f, ROOM, place, &end) == NENGAPIKO_REFUSAL_NONE);
             const uint8_t *bytes = arena + GUARD + place;
             READ_TAKEN(f, 0, bytes, end - place);
             CHECK(memcmp(bytes + length_of(f) - 1 - f.count, data, f.count) == 0);
@@ -380,16 +380,16 @@ static void read_preambles(void)
 {
     uint8_t bytes[1024];
     memset(bytes, 0xFF, sizeof bytes);
-    READ_REFUSED(NENGAPIKO_REFUSED_FEW_PREAMBLES, bytes, 0);
-    READ_REFUSED(NENGAPIKO_REFUSED_FEW_PREAMBLES, bytes, 1);
+    READ_REFUSED(NENGAPIKO_REFUSAL_FEW_PREAMBLES, bytes, 0);
+    READ_REFUSED(NENGAPIKO_REFUSAL_FEW_PREAMBLES, bytes, 1);
     for (size_t size = 2; size <= sizeof bytes; size++)
-        READ_REFUSED(NENGAPIKO_REFUSED_ENDS_EARLY, bytes, size);
+        READ_REFUSED(NENGAPIKO_REFUSAL_ENDS_EARLY, bytes, size);
 
     struct frame f = usual;
     for (f.preamble = 0; f.preamble <= 600; f.preamble++) {
         const size_t size = compose(f, 0, bytes);
         if (f.preamble < 2)
-            READ_REFUSED(NENGAPIKO_REFUSED_FEW_PREAMBLES, bytes, size);
+            READ_REFUSED(NENGAPIKO_REFUSAL_FEW_PREAMBLES, bytes, size);
         else
             READ_TAKEN(f, 0, bytes, size);
     }
@@ -409,10 +409,10 @@ static void read_delimiters(void)
         bytes[f.preamble] = (uint8_t)delimiter;
         if (known) {
             READ_TAKEN(f, expansion, bytes, size);
-            READ_REFUSED(NENGAPIKO_REFUSED_ENDS_EARLY, bytes, f.preamble + 1);
+            READ_REFUSED(NENGAPIKO_REFUSAL_ENDS_EARLY, bytes, f.preamble + 1);
         } else {
-            READ_REFUSED(NENGAPIKO_REFUSED_NO_DELIMITER, bytes, size);
-            READ_REFUSED(NENGAPIKO_REFUSED_NO_DELIMITER, bytes, f.preamble + 1);
+            READ_REFUSED(NENGAPIKO_REFUSAL_NO_DELIMITER, bytes, size);
+            READ_REFUSED(NENGAPIKO_REFUSAL_NO_DELIMITER, bytes, f.preamble + 1);
         }
     }
 }
@@ -429,9 +429,9 @@ static void read_early_ends(void)
         const size_t expansion = n % 4;
         const size_t whole = compose(f, expansion, bytes);
         for (size_t size = 0; size < 2; size++)
-            READ_REFUSED(NENGAPIKO_REFUSED_FEW_PREAMBLES, bytes, size);
+            READ_REFUSED(NENGAPIKO_REFUSAL_FEW_PREAMBLES, bytes, size);
         for (size_t size = 2; size < whole; size++)
-            READ_REFUSED(NENGAPIKO_REFUSED_ENDS_EARLY, bytes, size);
+            READ_REFUSED(NENGAPIKO_REFUSAL_ENDS_EARLY, bytes, size);
         READ_TAKEN(f, expansion, bytes, whole);
     }
 }
@@ -446,13 +446,13 @@ static void read_counts(void)
         f.type = types[i / 4];
         f.count = counts[i % 4];
         const size_t size = compose(f, 0, bytes);
-        if (f.type != NENGAPIKO_STX && f.count < 2)
-            READ_REFUSED(NENGAPIKO_REFUSED_UNSOUND, bytes, size);
+        if (f.type != NENGAPIKO_TYPE_STX && f.count < 2)
+            READ_REFUSED(NENGAPIKO_REFUSAL_UNSOUND, bytes, size);
         else
             READ_TAKEN(f, 0, bytes, size);
-        READ_REFUSED(NENGAPIKO_REFUSED_ENDS_EARLY, bytes, size - 1);
+        READ_REFUSED(NENGAPIKO_REFUSAL_ENDS_EARLY, bytes, size - 1);
         bytes[size - 1] ^= 1;
-        READ_REFUSED(NENGAPIKO_REFUSED_UNSOUND, bytes, size);
+        READ_REFUSED(NENGAPIKO_REFUSAL_UNSOUND, bytes, size);
     }
 }
 
@@ -468,7 +468,7 @@ static void read_damage(void)
         if (bit / 8 == count_at)
             continue;
         bytes[bit / 8] ^= (uint8_t)(1 << bit % 8);
-        READ_REFUSED(NENGAPIKO_REFUSED_UNSOUND, bytes, size);
+        READ_REFUSED(NENGAPIKO_REFUSAL_UNSOUND, bytes, size);
         bytes[bit / 8] ^= (uint8_t)(1 << bit % 8);
     }
     READ_TAKEN(f, 0, bytes, size);
@@ -481,14 +481,50 @@ static void read_lowest_refusal(void)
     const uint8_t no_delimiter_and_ends[] = {0xFF, 0xFF, 0x03};
     const uint8_t ack_without_data_ends[] = {0xFF, 0xFF, 0x06, 0x80, 0x00, 0x00};
     const uint8_t back_with_one_ends[] = {0xFF, 0xFF, 0x01, 0x80, 0x00, 0x01, 0x00};
-    READ_REFUSED(NENGAPIKO_REFUSED_FEW_PREAMBLES, few_and_no_delimiter,
+    READ_REFUSED(NENGAPIKO_REFUSAL_FEW_PREAMBLES, few_and_no_delimiter,
                  sizeof few_and_no_delimiter);
-    READ_REFUSED(NENGAPIKO_REFUSED_FEW_PREAMBLES, few_and_ends, sizeof few_and_ends);
-    READ_REFUSED(NENGAPIKO_REFUSED_NO_DELIMITER, no_delimiter_and_ends,
+    READ_REFUSED(NENGAPIKO_REFUSAL_FEW_PREAMBLES, few_and_ends, sizeof few_and_ends);
+    READ_REFUSED(NENGAPIKO_REFUSAL_NO_DELIMITER, no_delimiter_and_ends,
                  sizeof no_delimiter_and_ends);
-    READ_REFUSED(NENGAPIKO_REFUSED_ENDS_EARLY, ack_without_data_ends,
+    READ_REFUSED(NENGAPIKO_REFUSAL_ENDS_EARLY, ack_without_data_ends,
                  sizeof ack_without_data_ends);
-    READ_REFUSED(NENGAPIKO_REFUSED_ENDS_EARLY, back_with_one_ends, sizeof back_with_one_ends);
+    READ_REFUSED(NENGAPIKO_REFUSAL_ENDS_EARLY, back_with_one_ends, sizeof back_with_one_ends);
+}
+
+/* Whether more bytes are wanted, as the header says it. */
+static bool wants_more(uint32_t answer, const uint8_t *bytes, size_t size)
+{
+    return answer == NENGAPIKO_REFUSAL_ENDS_EARLY ||
+           (answer == NENGAPIKO_REFUSAL_FEW_PREAMBLES && (size == 0 || (size == 1 && bytes[0] == 0xFF)));
+}
+
+/* A buffer that grows byte by byte: more are wanted up to some byte, and from it on the answer stays. */
+static void read_growing(void)
+{
+    uint8_t bytes[ROOM];
+    const uint64_t none[NENGAPIKO_SIZE_FIELDS] = {0};
+    uint64_t last[NENGAPIKO_SIZE_FIELDS], fields[NENGAPIKO_SIZE_FIELDS];
+    for (unsigned n = 0; n < 64 * TYPES; n++) {
+        struct frame f = usual;
+        f.preamble = n % 4;
+        f.type = types[n / 64];
+        f.long_address = n & 4;
+        f.count = n & 8 ? 255 : n % 3;
+        const size_t whole = compose(f, n % 4, bytes);
+        bytes[whole - 1] ^= n & 16;
+        bytes[n & 32 ? f.preamble : whole - 1] ^= n & 32;
+        memset(bytes + whole, 0xFF, sizeof bytes - whole);
+        uint32_t answer = NENGAPIKO_REFUSAL_FEW_PREAMBLES;
+        for (size_t size = 0; size <= sizeof bytes; size++) {
+            memcpy(fields, none, sizeof fields);
+            const uint32_t now = nengapiko_read(bytes, size, fields);
+            if (size > 0 && !wants_more(answer, bytes, size - 1))
+                CHECK(now == answer && memcmp(fields, last, sizeof last) == 0);
+            answer = now;
+            memcpy(last, fields, sizeof last);
+        }
+        CHECK(!wants_more(answer, bytes, sizeof bytes));
+    }
 }
 
 /* Bytes behind a frame are not looked at, and a second frame is found at the first one's end. */
@@ -498,7 +534,7 @@ static void read_trailing_bytes(void)
     struct frame second = usual;
     second.long_address = true;
     second.address = UINT64_C(0x3FFFFFFFFF);
-    second.type = NENGAPIKO_BACK;
+    second.type = NENGAPIKO_TYPE_BACK;
     const size_t size = compose(usual, 0, bytes);
     for (unsigned trailing = 0; trailing <= UINT8_MAX; trailing++) {
         memset(bytes + size, (int)trailing, 40);
@@ -521,7 +557,7 @@ static void read_frame_in_data(void)
     WRITE_TAKEN(f, ROOM, 0);
     const size_t size = compose(f, 0, bytes);
     READ_TAKEN(f, 0, bytes, size);
-    READ_REFUSED(NENGAPIKO_REFUSED_ENDS_EARLY, bytes, size - 1);
+    READ_REFUSED(NENGAPIKO_REFUSAL_ENDS_EARLY, bytes, size - 1);
     fill_with_pattern(data, sizeof data);
 }
 
@@ -543,6 +579,7 @@ int main(void)
     read_counts();
     read_damage();
     read_lowest_refusal();
+    read_growing();
     read_trailing_bytes();
     read_frame_in_data();
     printf("frame_c: %lu checks passed", passed);

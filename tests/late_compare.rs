@@ -1,9 +1,13 @@
 //! Runs of the link in which each master starts at a tick of its own: the archive over the scenarios
 //! of tests/data/item-14, and beside the link in plain Rust over random ones. Compared are how many
-//! ticks were run, and the whole lent buffer of their numbers. The runs are the same each time.
+//! ticks were run, and the whole lent buffer of their numbers; of masters and devices that are called
+//! once a tick each tick's number, and in the scenarios what the hosts are told. The runs are the same
+//! each time.
 
+mod engine_archive;
 #[allow(dead_code)]
 mod frames;
+mod late_engine;
 mod late_oracle;
 mod late_scenarios;
 #[path = "oracles.rs"]
@@ -102,11 +106,19 @@ fn as_expected(scenario: &Scenario) -> bool {
         && messages(&numbers) == expected_messages
         && scenario.claimed.iter().all(in_time)
         && !breaks_item_14(&numbers)
+        && engine_as_expected(scenario)
+}
+
+/// The same of masters and devices that are called once a tick, with what the hosts are told where
+/// the scenario says it.
+fn engine_as_expected(scenario: &Scenario) -> bool {
+    let run = late_engine::run(&scenario.setup, &scenario.ticks);
+    run.numbers == scenario.events && (scenario.told.is_empty() || run.told == scenario.told)
 }
 
 fn scenarios_agree() -> bool {
     let mut differences = 0;
-    let (mut count, mut overlaps, mut claimed) = (0, 0, 0);
+    let (mut count, mut overlaps, mut claimed, mut told) = (0, 0, 0, 0);
     for (file, scenarios) in late_scenarios::all() {
         for scenario in &scenarios {
             if !as_expected(scenario) {
@@ -116,13 +128,14 @@ fn scenarios_agree() -> bool {
             count += 1;
             overlaps += usize::from(scenario.together.is_some());
             claimed += scenario.claimed.len();
+            told += scenario.told.len();
         }
     }
     println!(
         "late_compare: {count} scenarios, {overlaps} with an overlap, {claimed} messages with a \
-         wait claimed, {differences} differences"
+         wait claimed, {told} times a host told or refused, {differences} differences"
     );
-    differences == 0 && overlaps > 0 && overlaps < count && claimed > 0
+    differences == 0 && overlaps > 0 && overlaps < count && claimed > 0 && told > 0
 }
 
 /// Both masters ask, and the hosts answer, at random ticks. Often both are asked in one tick, soon
@@ -188,7 +201,9 @@ fn random_runs_agree() -> bool {
         };
         let by_oracle = late_oracle::numbers(starts, &[(0, 2), (1, 3)], &ticks);
         let by_archive = archive_numbers(&setup, &ticks);
-        if by_archive.as_ref() != Some(&by_oracle) || breaks_item_14(&by_oracle) {
+        let by_engine = late_engine::run(&setup, &ticks).numbers;
+        let same = by_archive.as_ref() == Some(&by_oracle) && by_engine == by_oracle;
+        if !same || breaks_item_14(&by_oracle) {
             differences += 1;
             println!("late_compare: run {at} differs");
         }

@@ -32,6 +32,8 @@ pub struct Scenario {
     pub bound: usize,
     pub messages: Vec<Message>,
     pub claimed: Vec<Message>,
+    /// What hosts are told, and calls that are refused: tick, party and what.
+    pub told: Vec<String>,
 }
 
 fn number<T: TryFrom<u64>>(word: &str) -> T {
@@ -112,8 +114,9 @@ impl Scenario {
                     self.claimed.push(message);
                 }
             }
+            ["told", ref rest @ ..] => self.told.push(rest.join(" ")),
             // what no tick's number shows
-            ["told", ..] | ["frame", ..] | ["in-touch", _] => {}
+            ["frame", ..] | ["in-touch", _] => {}
             _ => panic!("no line of a scenario: {line}"),
         }
     }

@@ -1,8 +1,8 @@
-//! The function that libline_c.a exports, called with slices.
+//! nengapiko_ticks, called with slices.
 
 use crate::called::over;
 
-#[link(name = "line_c", kind = "static")]
+#[link(name = "nengapiko_tests", kind = "static")]
 extern "C" {
     fn nengapiko_ticks(from: *const u8, size: usize, to: *mut u8, room: usize) -> usize;
 }

@@ -1,8 +1,8 @@
-//! The function that libplayer_c.a exports, called with slices.
+//! nengapiko_play, called with slices.
 
 use crate::called::over;
 
-#[link(name = "player_c", kind = "static")]
+#[link(name = "nengapiko_tests", kind = "static")]
 extern "C" {
     fn nengapiko_play(script: *const u8, length: usize, out: *mut u8, room: usize) -> usize;
 }

@@ -47,6 +47,21 @@ pub struct Master {
     out: Outgoing,
 }
 
+/// What it holds from tick to tick, in numbers.
+#[derive(Debug, PartialEq)]
+pub struct State {
+    pub place: (u64, bool),
+    pub deaf: bool,
+    /// By the numbers of `stageWord` in crates/master_c/specs/Words.antt.
+    pub stage: u64,
+    /// Of the message in hand.
+    pub attempts: Option<u64>,
+    /// Silent ticks until the next window, left of the open one, and left of the quiet time.
+    pub timers: [u64; 3],
+    /// While BURST is set: the address that set it.
+    pub burst: Option<(bool, u64)>,
+}
+
 impl Master {
     pub fn start(primary: bool) -> Master {
         Master::start_with(FSK, RETRIES, primary)
@@ -83,6 +98,22 @@ impl Master {
     /// What it sends, or sent last.
     pub fn out(&self) -> &Outgoing {
         &self.out
+    }
+
+    pub fn state(&self) -> State {
+        State {
+            place: self.reader.place(),
+            deaf: self.deaf,
+            stage: match self.stage {
+                Stage::Free => 0,
+                Stage::Waiting => 1,
+                Stage::Sending => 2 + 16 * self.out.sent() as u64,
+                Stage::Awaiting(left) => 3 + 16 * u64::from(left),
+            },
+            attempts: (self.stage != Stage::Free).then_some(self.attempts.into()),
+            timers: [self.next, self.window, self.quiet].map(u64::from),
+            burst: self.burst.then_some(self.noted),
+        }
     }
 
     pub fn reader(&self) -> &Reader {

@@ -1,8 +1,8 @@
-//! The function that libmodem_c.a exports, called with slices.
+//! nengapiko_modem, called with slices.
 
 use crate::called::over;
 
-#[link(name = "modem_c", kind = "static")]
+#[link(name = "nengapiko_tests", kind = "static")]
 extern "C" {
     fn nengapiko_modem(from: *const u8, size: usize, to: *mut u8, room: usize) -> usize;
 }

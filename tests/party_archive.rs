@@ -1,8 +1,8 @@
-//! The functions that libparty_c.a exports, called with slices.
+//! nengapiko_master and nengapiko_device, called with slices.
 
 use crate::called::over;
 
-#[link(name = "party_c", kind = "static")]
+#[link(name = "nengapiko_tests", kind = "static")]
 extern "C" {
     fn nengapiko_master(from: *const u8, size: usize, to: *mut u8, room: usize) -> usize;
     fn nengapiko_device(from: *const u8, size: usize, to: *mut u8, room: usize) -> usize;

@@ -1,5 +1,6 @@
 //! Compares the archives' masters and devices with the oracles: the number of ticks, and the whole
-//! buffer of events. The recordings are the same in every run.
+//! buffer of events; and what a master and a device that are called once a tick hold behind each
+//! tick. The recordings are the same in every run.
 
 mod called;
 mod engine_archive;
@@ -21,7 +22,10 @@ const RECORDINGS: usize = 5_000;
 const TICKS: usize = 1_000;
 
 const KIND: u8 = 0x20;
-const CALLS: u8 = 1;
+
+/// The hosts' calls: a request; an answer, with burst on, with burst off, and burst content.
+const REQUESTS: [u8; 1] = [1];
+const GIVEN: [u8; 4] = [1, 2, 3, 4];
 
 type Run = fn(&[u8], &mut [u8]) -> usize;
 /// The two bytes of a tick.
@@ -67,6 +71,13 @@ const MASTER_TICKS: Party = Party {
     name: "master tick by tick",
     archive: engine_archive::master,
     ..MASTER
+};
+
+/// The same device.
+const DEVICE_TICKS: Party = Party {
+    name: "device tick by tick",
+    archive: engine_archive::device,
+    ..DEVICE
 };
 
 /// The answer that the master waits for, from delimiter to the last data byte.
@@ -130,9 +141,9 @@ impl Rates {
         ticks
     }
 
-    fn with_call(&self, random: &mut Xorshift, mut tick: Tick) -> Tick {
+    fn with_call(&self, random: &mut Xorshift, mut tick: Tick, calls: &[u8]) -> Tick {
         if random.below(self.call) == 0 {
-            tick[0] |= CALLS;
+            tick[0] |= random.pick(calls);
         }
         tick
     }
@@ -144,7 +155,7 @@ fn silent(ticks: usize) -> Vec<Tick> {
 
 /// Frames with silence between them, now and then damaged, cut or with silent ticks inside, and the
 /// host's calls.
-fn frames(random: &mut Xorshift, frame: fn(&mut Xorshift) -> Vec<u8>) -> Vec<u8> {
+fn frames(random: &mut Xorshift, frame: fn(&mut Xorshift) -> Vec<u8>, calls: &[u8]) -> Vec<u8> {
     let rates = Rates::pick(random);
     let pauses = random.pick(&[[0, 1, 2, 9], [9, 17, 34, 35], [30, 40, 67, 80]]);
     let mut ticks = Vec::new();
@@ -156,7 +167,9 @@ fn frames(random: &mut Xorshift, frame: fn(&mut Xorshift) -> Vec<u8>) -> Vec<u8>
         };
         ticks.extend(rates.frame(random, &frame));
     }
-    let called = ticks.into_iter().map(|tick| rates.with_call(random, tick));
+    let called = ticks
+        .into_iter()
+        .map(|tick| rates.with_call(random, tick, calls));
     called.collect::<Vec<Tick>>().concat()
 }
 
@@ -169,7 +182,8 @@ fn answers(random: &mut Xorshift) -> Vec<u8> {
     let mut coming = VecDeque::new();
     let mut ticks = Vec::new();
     for _ in 0..TICKS {
-        let tick = rates.with_call(random, coming.pop_front().unwrap_or([0, 0]));
+        let tick = coming.pop_front().unwrap_or([0, 0]);
+        let tick = rates.with_call(random, tick, &REQUESTS);
         let sends = master.tick(Recorded::of(&tick)) == SENDS;
         if was_sending && !sends && random.below(8) > 0 {
             let frame = match random.flag() {
@@ -187,13 +201,13 @@ fn answers(random: &mut Xorshift) -> Vec<u8> {
 
 fn master_recording(random: &mut Xorshift) -> Vec<u8> {
     match random.flag() {
-        true => frames(random, answer),
+        true => frames(random, answer, &REQUESTS),
         false => answers(random),
     }
 }
 
 fn device_recording(random: &mut Xorshift) -> Vec<u8> {
-    frames(random, request)
+    frames(random, request, &GIVEN)
 }
 
 /// Whether both give the same in every recording, and each number and both silences occur.
@@ -237,13 +251,90 @@ fn agrees(party: &Party) -> bool {
     differences == 0 && all_occur && party.numbers.iter().all(occurs)
 }
 
+/// The place where a reader's words say that it stands, and whether a silent tick was passed over.
+fn place(reader: &[u64]) -> (u64, bool) {
+    (reader[6], reader[10] == 1)
+}
+
+/// What a master's words say, in the order of crates/master_c/specs/Words.antt.
+fn master_state(words: &[u64; 39]) -> master_oracle::State {
+    master_oracle::State {
+        place: place(&words[12..28]),
+        deaf: words[7] == 1,
+        stage: words[36],
+        attempts: (words[36] != 0).then_some(words[38]),
+        timers: [words[9], words[10], words[11]],
+        burst: (words[8] == 1).then_some((words[28] == 1, words[29])),
+    }
+}
+
+/// What a device's words say, in the order of crates/device_c/specs/Words.antt.
+fn device_state(words: &[u64; 40]) -> device_oracle::State {
+    device_oracle::State {
+        place: place(&words[8..24]),
+        deaf: words[24] == 1,
+        turn: words[25],
+        content: (words[37] == 1).then_some((words[38], words[39])),
+        bursts: (words[34] == 1).then_some((words[35] == 1, words[36])),
+    }
+}
+
+/// The first tick of a recording behind which the two masters hold different things; counts those
+/// behind which BURST is set.
+fn masters_differ(recording: &[u8], burst: &mut usize) -> Option<usize> {
+    let mut by_archive = engine_archive::primary();
+    let mut by_oracle = Master::start(true);
+    recording.chunks_exact(2).position(|tick| {
+        by_archive.record(tick);
+        by_oracle.tick(Recorded::of(tick));
+        let state = by_oracle.state();
+        *burst += usize::from(state.burst.is_some());
+        master_state(&by_archive.state) != state
+    })
+}
+
+/// The same of the two devices, and of those behind which burst is on.
+fn devices_differ(recording: &[u8], burst: &mut usize) -> Option<usize> {
+    let mut by_archive = engine_archive::device_2();
+    let mut by_oracle = device_oracle::recorded();
+    recording.chunks_exact(2).position(|tick| {
+        by_archive.record(tick);
+        by_oracle.tick(Recorded::of(tick));
+        let state = by_oracle.state();
+        *burst += usize::from(state.bursts.is_some());
+        device_state(&by_archive.state) != state
+    })
+}
+
+/// Whether what is held is the same behind every tick of every recording.
+fn states_agree(party: &Party, differ: fn(&[u8], &mut usize) -> Option<usize>) -> bool {
+    let mut random = Xorshift(0x2545_F491_4F6C_DD1D);
+    let (mut ticks, mut burst) = (0, 0);
+    let mut differences = 0;
+    for _ in 0..RECORDINGS {
+        let recording = (party.recording)(&mut random);
+        ticks += recording.len() / 2;
+        if let Some(at) = differ(&recording, &mut burst) {
+            differences += 1;
+            println!("{}: another state behind tick {at}", party.name);
+        }
+    }
+    println!(
+        "party_compare: {}, {ticks} states, {burst} in burst, {differences} differences",
+        party.name
+    );
+    burst > 0 && differences == 0
+}
+
 fn main() -> ExitCode {
-    match [MASTER, MASTER_TICKS, DEVICE]
-        .iter()
-        .filter(|party| !agrees(party))
-        .count()
-    {
-        0 => ExitCode::SUCCESS,
-        _ => ExitCode::FAILURE,
+    let parties = [MASTER, MASTER_TICKS, DEVICE, DEVICE_TICKS];
+    let agree = parties.iter().filter(|party| agrees(party)).count();
+    let same_states = [
+        states_agree(&MASTER_TICKS, masters_differ),
+        states_agree(&DEVICE_TICKS, devices_differ),
+    ];
+    match agree == parties.len() && same_states == [true, true] {
+        true => ExitCode::SUCCESS,
+        false => ExitCode::FAILURE,
     }
 }

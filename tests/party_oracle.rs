@@ -80,6 +80,10 @@ impl Outgoing {
         written
     }
 
+    pub fn sent(&self) -> usize {
+        self.sent
+    }
+
     pub fn again(&mut self) {
         self.sent = 0;
     }

@@ -1,6 +1,6 @@
-//! The function that librequest_c.a exports, called with a slice.
+//! nengapiko_request, called with a slice.
 
-#[link(name = "request_c", kind = "static")]
+#[link(name = "nengapiko_tests", kind = "static")]
 extern "C" {
     fn nengapiko_request(
         preamble: usize,

@@ -1,8 +1,8 @@
-//! The function that librun_c.a exports, called with slices.
+//! nengapiko_run, called with slices.
 
 const SLOTS: usize = 6;
 
-#[link(name = "run_c", kind = "static")]
+#[link(name = "nengapiko_tests", kind = "static")]
 extern "C" {
     fn nengapiko_run(
         sto: u16,

@@ -1,13 +1,17 @@
-//! Runs the link in plain Rust through the scenarios of document 02's item 6 and compares what every
-//! party does in each tick with what is stored beside them.
+//! Runs the link in plain Rust, and the masters and devices of libnengapiko.a on a line of a few lines
+//! of this file, through the scenarios of document 02's item 6, and compares what every party does in
+//! each tick with what is stored beside them.
 
+mod engine_archive;
 #[path = "oracles.rs"]
 mod oracles;
 mod scenarios;
 
+use oracles::device_oracle::Wish;
 use oracles::frame_oracle::TAKEN;
 use oracles::link_oracle::{Link, MASTERS, PARTIES};
-use oracles::tick_oracle::Frame;
+use oracles::party_oracle::Profile;
+use oracles::tick_oracle::{Damage, Frame, Heard};
 use oracles::{device_oracle, master_oracle};
 use scenarios::{Call, Scenario};
 use std::process::ExitCode;
@@ -68,46 +72,104 @@ impl Record {
     }
 }
 
-/// What a master takes of the line and tells its host.
-fn master_told(link: &mut Link, party: usize) -> Option<String> {
-    let master = &mut link.masters[party];
-    let told = master.take(link.heard);
+/// What a party did in a tick: what it told its host, what became of the call, the character that it
+/// sent and whether it is a frame's first.
+struct Done {
+    told: Option<String>,
+    answer: Option<u32>,
+    sent: Option<u8>,
+    begins: bool,
+}
+
+/// The parties of a link; a tick of one of them, by what it hears and its host's call.
+trait Parties {
+    fn started(scenario: &Scenario) -> Self;
+    fn tick(&mut self, party: usize, heard: Heard, call: Option<&Call>) -> Done;
+}
+
+/// What the hosts are told, in the words of the scenarios.
+fn answered(command: u64, count: u64, first: u8) -> String {
+    format!("answered cmd={command} count={count} first={first:02X}")
+}
+
+fn given_up(attempts: u64) -> String {
+    format!("given-up attempts={attempts}")
+}
+
+fn stx(what: &str, primary: bool, command: u64, count: u64) -> String {
+    let master = if primary { "primary" } else { "secondary" };
+    format!("{what} from {master} cmd={command} count={count}")
+}
+
+const BROADCAST_SENT: &str = "broadcast-sent";
+const BROADCAST: &str = "broadcast";
+
+fn request(long_address: bool) -> &'static str {
+    match long_address {
+        true => "request long",
+        false => "request short",
+    }
+}
+
+impl Parties for Link {
+    fn started(scenario: &Scenario) -> Link {
+        Link::start_with(scenario.profile, scenario.retries, scenario.preambles)
+    }
+
+    fn tick(&mut self, party: usize, heard: Heard, call: Option<&Call>) -> Done {
+        let (told, answer, sent) = match party.checked_sub(MASTERS) {
+            None => {
+                let master = &mut self.masters[party];
+                let told = oracle_master_told(master, heard);
+                let answer = call.map(|call| oracle_asks(master, call));
+                (told, answer, master.send())
+            }
+            Some(device) => {
+                let device = &mut self.devices[device];
+                let told = oracle_device_told(device, heard);
+                let answer = call.map(|call| oracle_gives(device, call));
+                (told, answer, device.send())
+            }
+        };
+        let begins = self.out(party).at_first();
+        Done {
+            told,
+            answer,
+            sent,
+            begins,
+        }
+    }
+}
+
+fn oracle_master_told(master: &mut master_oracle::Master, heard: Heard) -> Option<String> {
+    let told = master.take(heard);
     let Frame { command, count, .. } = *master.reader().frame();
     match told {
         master_oracle::Told::Nothing => None,
         master_oracle::Told::Answered => {
             let first = master.reader().first_data_byte();
-            Some(format!(
-                "answered cmd={command} count={count} first={first:02X}"
-            ))
+            Some(answered(command.into(), count.into(), first))
         }
-        master_oracle::Told::GivenUp => Some(format!("given-up attempts={}", master.attempts())),
-        master_oracle::Told::BroadcastSent => Some("broadcast-sent".to_string()),
+        master_oracle::Told::GivenUp => Some(given_up(master.attempts().into())),
+        master_oracle::Told::BroadcastSent => Some(BROADCAST_SENT.to_string()),
     }
 }
 
-/// The same of a device.
-fn device_told(link: &mut Link, party: usize) -> Option<String> {
-    let device = &mut link.devices[party - MASTERS];
-    let told = device.take(link.heard);
+fn oracle_device_told(device: &mut device_oracle::Device, heard: Heard) -> Option<String> {
+    let told = device.take(heard);
     let frame = device.reader().frame();
-    let what = match (told, frame.long_address) {
-        (device_oracle::Told::Nothing, _) => return None,
-        (device_oracle::Told::Request, true) => "request long",
-        (device_oracle::Told::Request, false) => "request short",
-        (device_oracle::Told::Broadcast, _) => "broadcast",
-    };
-    let master = if frame.primary {
-        "primary"
-    } else {
-        "secondary"
+    let what = match told {
+        device_oracle::Told::Nothing => return None,
+        device_oracle::Told::Request => request(frame.long_address),
+        device_oracle::Told::Broadcast => BROADCAST,
     };
     let Frame { command, count, .. } = *frame;
-    Some(format!("{what} from {master} cmd={command} count={count}"))
+    Some(stx(what, frame.primary, command.into(), count.into()))
 }
 
-/// A call, taken or refused with its number.
-fn called(link: &mut Link, party: usize, call: &Call) -> u32 {
+const NO_SUCH_CALL: &str = "a master asks, and a device answers or gives burst content";
+
+fn oracle_asks(master: &mut master_oracle::Master, call: &Call) -> u32 {
     match call {
         Call::Request {
             long_address,
@@ -115,42 +177,180 @@ fn called(link: &mut Link, party: usize, call: &Call) -> u32 {
             command,
             preambles,
             data,
-        } => link.masters[party].ask(*preambles, *long_address, *address, *command, data),
-        Call::Answer { data, wish } => link.devices[party - MASTERS].answer(data, *wish),
-        Call::Content { command, data } => {
-            link.devices[party - MASTERS].burst_content(*command, data)
+        } => master.ask(*preambles, *long_address, *address, *command, data),
+        _ => panic!("{NO_SUCH_CALL}"),
+    }
+}
+
+fn oracle_gives(device: &mut device_oracle::Device, call: &Call) -> u32 {
+    match call {
+        Call::Answer { data, wish } => device.answer(data, *wish),
+        Call::Content { command, data } => device.burst_content(*command, data),
+        _ => panic!("{NO_SUCH_CALL}"),
+    }
+}
+
+/// The masters and devices of libnengapiko.a.
+struct Archive {
+    masters: Vec<engine_archive::Master>,
+    devices: Vec<engine_archive::Device>,
+}
+
+impl Parties for Archive {
+    fn started(scenario: &Scenario) -> Archive {
+        let Profile {
+            sto,
+            hold,
+            rt2,
+            rt1_primary,
+            rt1_secondary,
+        } = scenario.profile;
+        let profile = [sto, hold, rt2, rt1_primary, rt1_secondary].map(|ticks| ticks as u16);
+        let retries = scenario.retries as u8;
+        let master = |primary| engine_archive::Master::start(profile, primary, retries);
+        let device = |(at, &preambles): (usize, &usize)| {
+            engine_archive::Device::start(profile, preambles, at as u8, (at + MASTERS) as u64)
+        };
+        let devices = scenario.preambles.iter().enumerate().map(device);
+        Archive {
+            masters: [true, false]
+                .map(|primary| master(primary).expect("a master"))
+                .into(),
+            devices: devices.map(|device| device.expect("a device")).collect(),
+        }
+    }
+
+    fn tick(&mut self, party: usize, heard: Heard, call: Option<&Call>) -> Done {
+        match party.checked_sub(MASTERS) {
+            None => archive_master(&mut self.masters[party], heard, call),
+            Some(device) => archive_device(&mut self.devices[device], heard, call),
         }
     }
 }
 
-/// What the link does in a scenario, one line an event.
-fn run(scenario: &Scenario) -> Vec<String> {
-    let mut link = Link::start_with(scenario.profile, scenario.retries, scenario.preambles);
+fn numbers(heard: Heard) -> engine_archive::Heard {
+    match heard {
+        Heard::Silence => (0, 0),
+        Heard::Character(character) => (1, character),
+        Heard::Damaged(character, Damage::Parity) => (2, character),
+        Heard::Damaged(character, Damage::Overrun) => (3, character),
+        Heard::Damaged(character, Damage::Framing) => (4, character),
+    }
+}
+
+/// A master's stage and a device's turns in which its frame's first character was sent, as
+/// crates/master_c/specs/Words.antt and crates/device_c/specs/Words.antt number them.
+const STX_BEGUN: u64 = 2 + 16;
+const ACK_BEGUN: u64 = 4 + 16;
+const BACK_BEGUN: u64 = 6 + 16;
+
+fn archive_master(master: &mut engine_archive::Master, heard: Heard, call: Option<&Call>) -> Done {
+    let asked = call.map(|call| match call {
+        Call::Request {
+            long_address,
+            address,
+            command,
+            preambles,
+            data,
+        } => engine_archive::Request {
+            preamble: *preambles,
+            long_address: *long_address,
+            address: *address,
+            command: *command,
+            data,
+        },
+        _ => panic!("{NO_SUCH_CALL}"),
+    });
+    let answer = master.tick(numbers(heard), asked);
+    let results = &master.results;
+    let told = match results.told() {
+        0 => None,
+        1 => Some(answered(results.command(), results.count(), master.data[0])),
+        2 => Some(given_up(results.attempts())),
+        _ => Some(BROADCAST_SENT.to_string()),
+    };
+    Done {
+        told,
+        answer: call.map(|_| answer),
+        sent: results.sent(),
+        begins: master.state[36] == STX_BEGUN,
+    }
+}
+
+fn archive_device(device: &mut engine_archive::Device, heard: Heard, call: Option<&Call>) -> Done {
+    let given = match call {
+        None => engine_archive::NOTHING,
+        Some(Call::Answer { data, wish }) => engine_archive::Given {
+            call: match wish {
+                Wish::AsItIs => 1,
+                Wish::On => 2,
+                Wish::Off => 3,
+            },
+            command: 0,
+            data,
+        },
+        Some(Call::Content { command, data }) => engine_archive::Given {
+            call: 4,
+            command: *command,
+            data,
+        },
+        Some(Call::Request { .. }) => panic!("{NO_SUCH_CALL}"),
+    };
+    let answer = device.tick(numbers(heard), given);
+    let results = &device.results;
+    let what = match results.told() {
+        0 => None,
+        1 => Some(request(results.long_address())),
+        _ => Some(BROADCAST),
+    };
+    let told = what.map(|what| stx(what, results.primary(), results.command(), results.count()));
+    Done {
+        told,
+        answer: call.map(|_| answer),
+        sent: results.sent(),
+        begins: [ACK_BEGUN, BACK_BEGUN].contains(&device.state[25]),
+    }
+}
+
+/// What a line carries of what its parties send.
+fn carried(sent: &[Option<u8>]) -> Heard {
+    let mut characters = sent.iter().flatten();
+    match (characters.next(), characters.next()) {
+        (None, _) => Heard::Silence,
+        (Some(&character), None) => Heard::Character(character),
+        (Some(_), Some(_)) => Heard::Damaged(0, Damage::Framing),
+    }
+}
+
+/// What the parties do in a scenario, one line an event.
+fn run<P: Parties>(scenario: &Scenario) -> Vec<String> {
+    let mut parties = P::started(scenario);
     let mut record = Record::default();
+    let mut heard = Heard::Silence;
     for tick in 0..scenario.stop {
+        let mut sent = [None; PARTIES];
+        let mut begins = [false; PARTIES];
         for party in 0..PARTIES {
-            let told = match party < MASTERS {
-                true => master_told(&mut link, party),
-                false => device_told(&mut link, party),
-            };
-            if let Some(told) = told {
+            let done = parties.tick(party, heard, scenario.calls.get(&(tick, party)));
+            if let Some(told) = done.told {
                 record.add(tick, party, format!("tell {party} {told}"));
             }
-            if let Some(call) = scenario.calls.get(&(tick, party)) {
-                let answer = match called(&mut link, party, call) {
+            if let Some(answer) = done.answer {
+                let answer = match answer {
                     TAKEN => format!("taken {party}"),
                     number => format!("refused {party} {number}"),
                 };
                 record.add(tick, party, answer);
             }
+            sent[party] = done.sent;
+            begins[party] = done.begins;
         }
-        let sent = link.send();
         let collides = sent.iter().flatten().count() > 1;
         for (party, character) in sent.iter().enumerate() {
             let Some(character) = *character else {
                 continue;
             };
-            if link.out(party).at_first() {
+            if begins[party] {
                 record.speeches[party] = record.events.len();
                 record.add(tick, party, format!("send {party} "));
             }
@@ -159,16 +359,17 @@ fn run(scenario: &Scenario) -> Vec<String> {
                 record.add_collision(party);
             }
         }
-        if let Some(&heard) = scenario.injected.get(&tick) {
-            link.heard = heard;
+        heard = carried(&sent);
+        if let Some(&injected) = scenario.injected.get(&tick) {
+            heard = injected;
         }
     }
     record.lines()
 }
 
-/// Whether the link does what is expected; the first difference is printed.
-fn agrees(scenario: &Scenario) -> bool {
-    let lines = run(scenario);
+/// Whether the parties do what is expected; the first difference is printed.
+fn agrees<P: Parties>(scenario: &Scenario) -> bool {
+    let lines = run::<P>(scenario);
     let expected = &scenario.expected;
     let Some(at) =
         (0..lines.len().max(expected.len())).find(|&at| lines.get(at) != expected.get(at))
@@ -177,7 +378,7 @@ fn agrees(scenario: &Scenario) -> bool {
     };
     println!("{}: line {at}", scenario.name);
     println!("  expected {:?}", expected.get(at));
-    println!("  the link {:?}", lines.get(at));
+    println!("  the parties {:?}", lines.get(at));
     false
 }
 
@@ -192,13 +393,20 @@ fn main() -> ExitCode {
         .iter()
         .map(|scenario| scenario.expected.len())
         .sum();
-    let differences = scenarios
-        .iter()
-        .filter(|scenario| !agrees(scenario))
-        .count();
     let count = scenarios.len();
-    println!("tag_scenarios: {count} scenarios, {lines} events, {differences} differences");
-    match differences == 0 && count > 0 {
+    let differences = |agrees: fn(&Scenario) -> bool| {
+        scenarios
+            .iter()
+            .filter(|&scenario| !agrees(scenario))
+            .count()
+    };
+    let of_oracle = differences(agrees::<Link>);
+    let of_archive = differences(agrees::<Archive>);
+    println!(
+        "tag_scenarios: {count} scenarios, {lines} events, {of_oracle} differences in plain Rust, \
+         {of_archive} through master and device of the archive"
+    );
+    match of_oracle + of_archive == 0 && count > 0 {
         true => ExitCode::SUCCESS,
         false => ExitCode::FAILURE,
     }

@@ -110,9 +110,32 @@ impl Reader {
         }
     }
 
+    /// Where it stands, by the numbers of `placeWord` in crates/words/specs/Reader.antt, and whether
+    /// the tick before was passed over.
+    pub fn place(&self) -> (u64, bool) {
+        let (number, held) = match self.next {
+            Next::PassedOver => (0, 0),
+            Next::Preamble { heard: 0 } => (1, 0),
+            Next::Preamble { heard } => (2, heard),
+            Next::Address { first: true, .. } => (3, 0),
+            Next::Address { first: false, left } => (4, left),
+            Next::Expansion { left } => (5, left),
+            Next::Command => (6, 0),
+            Next::Count => (7, 0),
+            Next::Data { at } => (8, at),
+            Next::Check => (9, 0),
+        };
+        (number + 16 * u64::from(held), self.gap)
+    }
+
     /// The frame that it is in, or that it found last.
     pub fn frame(&self) -> &Frame {
         &self.frame
+    }
+
+    /// The data of that frame, as far as they were heard, at the front.
+    pub fn data(&self) -> &[u8; 255] {
+        &self.data
     }
 
     /// The first data byte of a whole ACK.
@@ -261,7 +284,7 @@ impl Reader {
 }
 
 impl Event {
-    fn number(&self) -> u8 {
+    pub fn number(&self) -> u8 {
         match self {
             Event::Nothing => 0,
             Event::PassedOver => 1,

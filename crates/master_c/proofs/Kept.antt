@@ -1,10 +1,12 @@
 -- `unpacked (packed m)` is m, for every master whose numbers are values of their types.
 use Prim.Native.Nat.{ℕ}
 use mathlib.Core.Bool.{Bool}
-use mathlib.Core.List.{List}
-use mathlib.Core.Path.{_≡_, refl, sym, subst, _∙_}
+use mathlib.Core.List.{List, _++_}
+use mathlib.Core.Path.{_≡_, refl, sym, ap, subst, _∙_}
+use lib.ListN.{length}
 use native.Mathlib.Omega.{arith}
 use Rattle.base.specs.Choice.{if_then_else_}
+use Rattle.base.specs.Store.{stored}
 use Rattle.line.specs.declared.Profile.{Profile}
 use Rattle.line.specs.declared.Receiver.{Receiver}
 use Rattle.turns.specs.declared.Master.{Master}
@@ -14,9 +16,10 @@ use Rattle.turns.specs.declared.Stage.{Stage}
 use Rattle.turns.specs.declared.Stage.the-variants.{Free, Waiting, Sending, Awaiting}
 use Rattle.turns.specs.declared.Timer.{Timer}
 use Rattle.words.specs.Fields.{numberAt, flagAt}
-use Rattle.words.specs.Reader.{placeWord, profileAt, receiverAt}
+use Rattle.words.specs.Reader.{profileAt, receiverWords, receiverAt}
+use Rattle.words.proofs.Puts.{part-behind, all-put}
 use Rattle.words.proofs.Kept.{flag-kept, number-kept, case-kept, header-kept, profile-kept, receiver-kept}
-use Rattle.master_c.specs.Words.{stageWord, stageBy, stageOf, messageWords, messageAt, timerAt, notedAt, wordsOf, packed, unpacked, StageFits, MessageFits, TimerFits, MasterFits}
+use Rattle.master_c.specs.Words.{stageWord, stageBy, stageOf, messageWords, messageAt, timerAt, notedAt, frontWords, endWords, packed, unpacked, StageFits, MessageFits, TimerFits, MasterFits}
 
 pub stage-kept : (s : Stage) → StageFits s → stageOf (stageWord s) ≡ s
 unfolding if_then_else_
@@ -54,9 +57,18 @@ master-kept m f = λ i. record {
 pub stage-shown : (s q : Stage) → s ≡ q → StageFits q → StageFits s
 stage-shown s q e f = subst StageFits (sym e) f
 
--- packed, with what the functions of place and stage gave
-pub packed-is : (m : Master) (words : List ℕ) (place stage : ℕ) → words ≡ wordsOf m place stage → place ≡ placeWord (m .receiver .place) → stage ≡ stageWord (m .message .stage) → words ≡ packed m
-packed-is m words place stage w p q = w ∙ (λ i. wordsOf m (p i) (q i))
+-- packed, part by part
+pub packed-is : (m : Master) (before first second words front reader end : List ℕ)
+    → front ≡ frontWords m → reader ≡ receiverWords (m .receiver) → end ≡ endWords m
+    → first ≡ stored before 0 front → second ≡ stored first 12 reader → words ≡ stored second 28 end → length before ≡ 39
+    → words ≡ packed m
+packed-is m before first second words front reader end f r e p q t n =
+    let one : first ≡ stored before 0 (frontWords m) = p ∙ ap (λ (l : List ℕ). stored before 0 l) f in
+    let two : second ≡ stored before 0 (frontWords m ++ receiverWords (m .receiver)) =
+    part-behind 12 before first second (frontWords m) (receiverWords (m .receiver)) one refl (q ∙ ap (λ (l : List ℕ). stored first 12 l) r) in
+    let three : words ≡ stored before 0 ((frontWords m ++ receiverWords (m .receiver)) ++ endWords m) =
+    part-behind 28 before second words (frontWords m ++ receiverWords (m .receiver)) (endWords m) two refl (t ∙ ap (λ (l : List ℕ). stored second 28 l) e) in
+    all-put before words (packed m) three (sym n)
 
 -- unpacked, part by part
 pub unpacked-is : (words : List ℕ) (primary deaf burst : Bool) (profile : Profile) (retries : ℕ) (timer : Timer) (receiver : Receiver) (noted : Noted) (message : Message)

@@ -21,28 +21,30 @@ use Rattle.master.specs.declared.MasterHostCall.{MasterHostCall}
 use Rattle.master.specs.declared.MasterStarted.{MasterStarted}
 use Rattle.master.specs.declared.MasterTicked.{MasterTicked}
 use Rattle.words.specs.Numbers.{tickNumbers, sentNumber, callNumber}
+use Rattle.words.specs.Start.{StartIs}
+use Rattle.words.proofs.Starts.{taken, not-taken}
 use Rattle.master_c.specs.Words.{packed, unpacked, MasterFits}
-use Rattle.master_c.specs.Tick.{startsBy, StartIs, toldAttempts, MasterTicks}
+use Rattle.master_c.specs.Tick.{startsBy, toldAttempts, StepIs}
 use Rattle.master_c.proofs.Kept.{master-kept}
 
 -- the fresh master's words, or the refusal
-pub start-taken : (x : MasterStarted) (m : Master) (before after : List ℕ) → x ≡ MasterStarted.Started m → after ≡ packed m → StartIs (started x) before after 0
-start-taken x m before after e p = subst (λ (y : MasterStarted). StartIs (started y) before after 0) (sym e) (record { returned = refl; words-are = p })
+pub start-taken : (x : MasterStarted) (m : Master) (before after : List ℕ) → x ≡ MasterStarted.Started m → after ≡ packed m → StartIs packed (started x) before after 0
+start-taken x m before after e p = subst (λ (y : MasterStarted). StartIs packed (started y) before after 0) (sym e) (taken packed m before after p)
 
-pub start-refused : (x : MasterStarted) (why : Refusal) (before : List ℕ) (r : ℕ) → x ≡ MasterStarted.Refused why → r ≡ number why → StartIs (started x) before before r
-start-refused x why before r e p = subst (λ (y : MasterStarted). StartIs (started y) before before r) (sym e) (record { returned = p; words-are = refl })
+pub start-refused : (x : MasterStarted) (why : Refusal) (before : List ℕ) (r : ℕ) → x ≡ MasterStarted.Refused why → r ≡ number why → StartIs packed (started x) before before r
+start-refused x why before r e p = subst (λ (y : MasterStarted). StartIs packed (started y) before before r) (sym e) (not-taken packed (number why) before r p)
 
 pub profile-taken : (p q : Profile) (made : MadeProfile) (primary : Bool) (retries : ℕ) (x : MasterStarted) (before after : List ℕ) (r : ℕ)
-    → madeAs made ≡ profileMade p → made ≡ MadeProfile.Made q → started x ≡ masterStarts q primary retries → StartIs (started x) before after r
-    → StartIs (startsBy (profileMade p) primary retries) before after r
+    → madeAs made ≡ profileMade p → made ≡ MadeProfile.Made q → started x ≡ masterStarts q primary retries → StartIs packed (started x) before after r
+    → StartIs packed (startsBy (profileMade p) primary retries) before after r
 profile-taken p q made primary retries x before after r d e s v =
-    subst (λ (c : Called Master). StartIs c before after r) (s ∙ ap (λ (y : Called Profile). startsBy y primary retries) (sym (ap madeAs e) ∙ d)) v
+    subst (λ (c : Called Master). StartIs packed c before after r) (s ∙ ap (λ (y : Called Profile). startsBy y primary retries) (sym (ap madeAs e) ∙ d)) v
 
 pub profile-refused : (p : Profile) (why : Refusal) (made : MadeProfile) (primary : Bool) (retries : ℕ) (before : List ℕ) (r : ℕ)
     → madeAs made ≡ profileMade p → made ≡ MadeProfile.Refused why → r ≡ number why
-    → StartIs (startsBy (profileMade p) primary retries) before before r
+    → StartIs packed (startsBy (profileMade p) primary retries) before before r
 profile-refused p why made primary retries before r d e n =
-    subst (λ (y : Called Profile). StartIs (startsBy y primary retries) before before r) (sym (ap madeAs e) ∙ d) (record { returned = n; words-are = refl })
+    subst (λ (y : Called Profile). StartIs packed (startsBy y primary retries) before before r) (sym (ap madeAs e) ∙ d) (not-taken packed (number why) before r n)
 
 pub ruleset starts = (refl, start-taken, start-refused, profile-taken, profile-refused)
 
@@ -51,7 +53,7 @@ pub tick-is : (before frame bytes : List ℕ) (m : Master) (heard : Heard) (call
     → m ≡ unpacked before → MasterTickIs m heard call put frame bytes t frame-after bytes-after → MasterFits (t .master) → words ≡ packed (t .master)
     → results ≡ tickNumbers sent told attempts (t .event) → sent ≡ sentNumber (t .sent) → told ≡ masterTells (t .told) .number → attempts ≡ toldAttempts (t .told)
     → r ≡ callNumber (resultOf (t .result))
-    → MasterTicks before frame bytes heard call put words frame-after bytes-after results r
+    → StepIs (masterTick mostData (sideOf (unpacked before) frame bytes) heard (callOf call put)) (masterTakes (unpacked before) heard bytes-after .event) words frame-after bytes-after results r
 tick-is before frame bytes m heard call put t frame-after bytes-after words results sent told attempts r d v f w n a b e q =
     let step : _ = v .step ∙ ap (λ (x : Master). masterTick mostData (sideOf x frame bytes) heard (callOf call put)) d in
     record {

@@ -4,8 +4,10 @@ use Prim.Native.Nat.{ℕ}
 use mathlib.Core.Bool.{Bool}
 use mathlib.Core.List.{List}
 use mathlib.Core.Path.{_≡_}
+use Rattle.base.specs.Lent.{Lent, before, after}
 use Rattle.base.specs.Refusal.{Called, accepted, refused}
 use Rattle.frame.specs.Limits.{mostData}
+use Rattle.line.specs.Profile.{profileMade}
 use Rattle.line.specs.declared.Event.{Event}
 use Rattle.line.specs.declared.Heard.{Heard}
 use Rattle.line.specs.declared.Profile.{Profile}
@@ -18,6 +20,7 @@ use Rattle.turns.specs.declared.MasterTold.the-variants.{Nothing, Answered, Giv
 use Rattle.master.specs.Tick.{callOf, sideOf}
 use Rattle.master.specs.declared.MasterHostCall.{MasterHostCall}
 use Rattle.words.specs.Numbers.{tickNumbers, sentNumber, callNumber}
+use Rattle.words.specs.Start.{StartIs}
 use Rattle.master_c.specs.Words.{packed, unpacked}
 
 -- ---- the start: 1 for the profile, then 2
@@ -26,19 +29,8 @@ abbrev pub startsBy : Called Profile → Bool → ℕ → Called Master
 startsBy (accepted p) primary retries = masterStarts p primary retries
 startsBy (refused why) primary retries = refused why
 
--- what it returns: 0, or the refusal's number
-abbrev pub startNumber : Called Master → ℕ
-startNumber (accepted m) = 0
-startNumber (refused why) = why
-
--- the words: those of the fresh master, or what was there
-abbrev pub startWords : Called Master → List ℕ → List ℕ
-startWords (accepted m) before = packed m
-startWords (refused why) before = before
-
-pub record StartIs (started : Called Master) (before after : List ℕ) (r : ℕ) : Type 0 where
-  pub returned : r ≡ startNumber started
-  pub words-are : after ≡ startWords started before
+abbrev pub MasterStarts : Profile → Bool → ℕ → Lent (List ℕ) → ℕ → Type 0
+MasterStarts p primary retries words r = StartIs packed (startsBy (profileMade p) primary retries) (before words) (after words) r
 
 -- ---- the tick
 
@@ -58,10 +50,10 @@ pub record StepIs (s : MasterStep) (event : Event) (words frame bytes results : 
   pub results-are : results ≡ tickNumbers (sentNumber (s .sent)) (masterTells (s .told) .number) (toldAttempts (s .told)) event
   pub returned : r ≡ callNumber (s .result)
 
--- the step of the master that the words before were, and what its reader found
-abbrev pub MasterTicks : List ℕ → List ℕ → List ℕ → Heard → MasterHostCall → List ℕ → List ℕ → List ℕ → List ℕ → List ℕ → ℕ → Type 0
-MasterTicks before frame bytes heard call put words frame-after bytes-after results r =
+-- the step of the master that the words before were, and what its reader found; the data of the host's request are `put`
+abbrev pub MasterTicks : Lent (List ℕ) → Lent (List ℕ) → Lent (List ℕ) → Heard → MasterHostCall → List ℕ → Lent (List ℕ) → ℕ → Type 0
+MasterTicks words frame bytes heard call put results r =
     StepIs
-    (masterTick mostData (sideOf (unpacked before) frame bytes) heard (callOf call put))
-    (masterTakes (unpacked before) heard bytes-after .event)
-    words frame-after bytes-after results r
+    (masterTick mostData (sideOf (unpacked (before words)) (before frame) (before bytes)) heard (callOf call put))
+    (masterTakes (unpacked (before words)) heard (after bytes) .event)
+    (after words) (after frame) (after bytes) (after results) r

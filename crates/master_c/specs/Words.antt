@@ -47,8 +47,9 @@ timerAt words i = record { next = numberAt 32 words i; window = numberAt 32 word
 abbrev pub notedAt : List ℕ → ℕ → Noted
 notedAt words i = record { long = flagAt words i; address = wordAt words (i + 1) }
 
-abbrev pub packed : Master → List ℕ
-packed m =
+-- what it was started with, BURST and the timers: 12 words
+abbrev pub frontWords : Master → List ℕ
+frontWords m =
     flagWord (m .primary) ∷
     profileWords (m .profile) ++ (
     m .retries ∷
@@ -57,54 +58,14 @@ packed m =
     m .timer .next ∷
     m .timer .window ∷
     m .timer .quiet ∷
-    receiverWords (m .receiver) ++ (
-    flagWord (m .noted .long) ∷
-    m .noted .address ∷
-    messageWords (m .message)))
+    [])
 
--- the same words one by one, with those of the reader's place and of the message's stage
-abbrev pub wordsOf : Master → ℕ → ℕ → List ℕ
-wordsOf m place stage =
-    flagWord (m .primary) ∷
-    m .profile .sto ∷
-    m .profile .hold ∷
-    m .profile .rt2 ∷
-    m .profile .rt1p ∷
-    m .profile .rt1s ∷
-    m .retries ∷
-    flagWord (m .deaf) ∷
-    flagWord (m .burst) ∷
-    m .timer .next ∷
-    m .timer .window ∷
-    m .timer .quiet ∷
-    m .receiver .header .frame ∷
-    flagWord (m .receiver .header .long) ∷
-    flagWord (m .receiver .header .primary) ∷
-    flagWord (m .receiver .header .burst) ∷
-    m .receiver .header .address ∷
-    m .receiver .header .command ∷
-    place ∷
-    m .receiver .expansion ∷
-    m .receiver .count ∷
-    m .receiver .sum ∷
-    flagWord (m .receiver .gap) ∷
-    flagWord (m .receiver .damage .parity) ∷
-    flagWord (m .receiver .damage .overrun) ∷
-    flagWord (m .receiver .damage .framing) ∷
-    flagWord (m .receiver .damage .check) ∷
-    flagWord (m .receiver .damage .address) ∷
-    flagWord (m .noted .long) ∷
-    m .noted .address ∷
-    m .message .header .frame ∷
-    flagWord (m .message .header .long) ∷
-    flagWord (m .message .header .primary) ∷
-    flagWord (m .message .header .burst) ∷
-    m .message .header .address ∷
-    m .message .header .command ∷
-    stage ∷
-    m .message .length ∷
-    m .message .attempts ∷
-    []
+-- the address that BURST was set by, and the message: 11 words, behind the reader's 16
+abbrev pub endWords : Master → List ℕ
+endWords m = flagWord (m .noted .long) ∷ m .noted .address ∷ messageWords (m .message)
+
+abbrev pub packed : Master → List ℕ
+packed m = frontWords m ++ (receiverWords (m .receiver) ++ endWords m)
 
 abbrev pub unpacked : List ℕ → Master
 unpacked words = record {

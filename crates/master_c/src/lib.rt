@@ -12,11 +12,13 @@ use turns::Stage;
 use turns::Timer;
 ghost use Prim.Native.Nat.{_<_, _^_};
 ghost use mathlib.Core.Path.{_≡_};
-ghost use Rattle.line.specs.Profile.{profileMade};
+ghost use Rattle.base.specs.Lent.{before, after};
 ghost use Rattle.turns.specs.Told.{masterTells};
 ghost use Rattle.master.specs.Answers.{started};
-ghost use Rattle.master_c.specs.Words.{stageWord, stageBy, stageOf, messageAt, timerAt, notedAt, wordsOf, packed, unpacked, StageFits, MessageFits, TimerFits, MasterFits};
-ghost use Rattle.master_c.specs.Tick.{startsBy, StartIs, toldAttempts, MasterTicks};
+ghost use Rattle.words.specs.Start.{StartIs};
+ghost use Rattle.master_c.specs.Words.{stageWord, stageBy, stageOf, messageAt, timerAt, notedAt, frontWords, endWords, packed, unpacked};
+ghost use Rattle.master_c.specs.Words.{StageFits, MessageFits, TimerFits, MasterFits};
+ghost use Rattle.master_c.specs.Tick.{MasterStarts, toldAttempts, MasterTicks};
 
 fn stage_word(stage: Stage) -> u64
     ensures { λ r. ⌜ r ≡ stageWord stage ⌝ }
@@ -51,7 +53,7 @@ fn stage_of(word: u64) -> Stage
 }
 
 fn message_at(words: &[u64], place: u16) -> Message
-    ensures { λ r. ⌜ r ≡ messageAt (now (words .entry)) place ⌝ }
+    ensures { λ r. ⌜ r ≡ messageAt (before words) place ⌝ }
 {
     let i = place as usize;
     let header = words::header_at(words, place);
@@ -65,7 +67,7 @@ fn message_at(words: &[u64], place: u16) -> Message
 }
 
 fn timer_at(words: &[u64], place: u16) -> Timer
-    ensures { λ r. ⌜ r ≡ timerAt (now (words .entry)) place ⌝ }
+    ensures { λ r. ⌜ r ≡ timerAt (before words) place ⌝ }
 {
     let i = place as usize;
     Timer {
@@ -76,7 +78,7 @@ fn timer_at(words: &[u64], place: u16) -> Timer
 }
 
 fn noted_at(words: &[u64], place: u16) -> Noted
-    ensures { λ r. ⌜ r ≡ notedAt (now (words .entry)) place ⌝ }
+    ensures { λ r. ⌜ r ≡ notedAt (before words) place ⌝ }
 {
     let i = place as usize;
     Noted {
@@ -87,7 +89,7 @@ fn noted_at(words: &[u64], place: u16) -> Noted
 
 // The master that some words are.
 pub fn unpack(words: &[u64; 39]) -> Master
-    ensures { λ m. ⌜ m ≡ unpacked (now (words .entry)) ⌝ }
+    ensures { λ m. ⌜ m ≡ unpacked (before words) ⌝ }
 {
     let profile = words::profile_at(words, 1);
     let timer = timer_at(words, 9);
@@ -107,18 +109,11 @@ pub fn unpack(words: &[u64; 39]) -> Master
     }
 }
 
-// The words of a master, with those of the reader's place and of the message's stage.
-fn words_of(m: Master, place: u64, stage: u64) -> [u64; 39]
-    ensures { λ r. ⌜ r ≡ wordsOf m place stage ⌝ }
+fn front_words(m: Master) -> [u64; 12]
+    ensures { λ r. ⌜ r ≡ frontWords m ⌝ }
 {
     let p = m.profile;
     let t = m.timer;
-    let r = m.receiver;
-    let rh = r.header;
-    let damage = r.damage;
-    let n = m.noted;
-    let g = m.message;
-    let h = g.header;
     [
         m.primary as u64,
         p.sto as u64,
@@ -132,22 +127,17 @@ fn words_of(m: Master, place: u64, stage: u64) -> [u64; 39]
         t.next as u64,
         t.window as u64,
         t.quiet as u64,
-        rh.frame as u64,
-        rh.long as u64,
-        rh.primary as u64,
-        rh.burst as u64,
-        rh.address,
-        rh.command as u64,
-        place,
-        r.expansion as u64,
-        r.count as u64,
-        r.sum as u64,
-        r.gap as u64,
-        damage.parity as u64,
-        damage.overrun as u64,
-        damage.framing as u64,
-        damage.check as u64,
-        damage.address as u64,
+    ]
+}
+
+fn end_words(m: Master) -> [u64; 11]
+    ensures { λ r. ⌜ r ≡ endWords m ⌝ }
+{
+    let n = m.noted;
+    let g = m.message;
+    let h = g.header;
+    let stage = g.stage;
+    [
         n.long as u64,
         n.address,
         h.frame as u64,
@@ -156,21 +146,23 @@ fn words_of(m: Master, place: u64, stage: u64) -> [u64; 39]
         h.burst as u64,
         h.address,
         h.command as u64,
-        stage,
+        stage_word(stage),
         g.length as u64,
         g.attempts as u64,
     ]
 }
 
 // The words of a master.
-pub fn pack(m: Master) -> [u64; 39]
-    ensures { λ r. ⌜ r ≡ packed m ⌝ }
+pub fn pack(words: &mut [u64; 39], m: Master)
+    ensures { λ _. ⌜ after words ≡ packed m ⌝ }
 {
     let r = m.receiver;
-    let place = r.place;
-    let g = m.message;
-    let stage = g.stage;
-    words_of(m, words::place_word(place), stage_word(stage))
+    let front = front_words(m);
+    let reader = words::receiver_words(r);
+    let end = end_words(m);
+    words::put(words, 0, &front);
+    words::put(words, 12, &reader);
+    words::put(words, 28, &end);
 }
 
 // The next four do nothing: what the code holds are values of their types.
@@ -216,11 +208,11 @@ fn master_fits(m: Master)
 }
 
 fn started_by(result: MasterStarted, words: &mut [u64; 39]) -> u32
-    ensures { λ r. ⌜ StartIs (started result) (now (words .entry)) (now (words .exit)) r ⌝ }
+    ensures { λ r. ⌜ StartIs packed (started result) (before words) (after words) r ⌝ }
 {
     match result {
         MasterStarted::Started(m) => {
-            *words = pack(m);
+            pack(words, m);
             0
         }
         MasterStarted::Refused(why) => why.number(),
@@ -229,7 +221,7 @@ fn started_by(result: MasterStarted, words: &mut [u64; 39]) -> u32
 
 // The words of a fresh master, or refusal 1 or 2 and the words as they were.
 pub fn start(profile: Profile, primary: bool, retries: u8, words: &mut [u64; 39]) -> u32
-    ensures { λ r. ⌜ StartIs (startsBy (profileMade profile) primary retries) (now (words .entry)) (now (words .exit)) r ⌝ }
+    ensures { λ r. ⌜ MasterStarts profile primary retries words r ⌝ }
 {
     let made = profile.checked();
     match made {
@@ -270,7 +262,7 @@ pub fn tick(
     put: &[u8],
     results: &mut [u64; 17],
 ) -> u32
-    ensures { λ r. ⌜ MasterTicks (now (words .entry)) (now (frame .entry)) (now (bytes .entry)) heard call (now (put .entry)) (now (words .exit)) (now (frame .exit)) (now (bytes .exit)) (now (results .exit)) r ⌝ }
+    ensures { λ r. ⌜ MasterTicks words frame bytes heard call (before put) results r ⌝ }
 {
     let m = unpack(words);
     let t = master::tick(m, heard, call, put, frame, bytes);
@@ -280,7 +272,7 @@ pub fn tick(
     let event = t.event;
     let result = t.result;
     master_fits(next);
-    *words = pack(next);
+    pack(words, next);
     *results = words::tick_numbers(
         words::sent_number(sent),
         told_number(told),

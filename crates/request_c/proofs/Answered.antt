@@ -19,6 +19,9 @@ use Rattle.master.specs.declared.MasterRequested.{MasterRequested}
 use Rattle.master.specs.declared.MasterStarted.{MasterStarted}
 use Rattle.request_c.specs.Request.{fields, numberOf, behindRequest, withMessage, answers, answersBy, requestNumber}
 
+pub number-refused : (r : MasterRequested) (k : ℕ) (why : Refusal) → r ≡ MasterRequested.Refused why → k ≡ number why → k ≡ numberOf (asked r)
+number-refused r k why e n = n ∙ sym (ap (λ (x : MasterRequested). numberOf (asked x)) e)
+
 pub behind-accepted : (r : MasterRequested) (m n : Master) → r ≡ MasterRequested.Accepted n → n ≡ behindRequest (asked r) m
 behind-accepted r m n e = sym (ap (λ (x : MasterRequested). behindRequest (asked x) m) e)
 
@@ -47,4 +50,4 @@ module _ (p : Profile) (s : MasterStarted) (fsk : p ≡ fskProfile) (starts : st
   unfolding by
   not-started why e n = n ∙ sym (ap (λ (x : MasterStarted). by (started x)) e) ∙ ap by starts ∙ ap (λ (x : Profile). by (masterStarts x true 3)) fsk
 
-pub ruleset answered = (refl, behind-accepted, behind-refused, with-one, with-none, answered-so, from-start, not-started)
+pub ruleset answered = (refl, number-refused, behind-accepted, behind-refused, with-one, with-none, answered-so, from-start, not-started)

@@ -2,3 +2,5 @@
 pub mod Fields
 pub mod Kept
 pub mod Numbers
+pub mod Puts
+pub mod Starts

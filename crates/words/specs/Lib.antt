@@ -3,3 +3,4 @@ pub mod Fields
 pub mod Reader
 pub mod Fits
 pub mod Numbers
+pub mod Start

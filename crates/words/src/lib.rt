@@ -11,6 +11,8 @@ use turns::Sent;
 ghost use Prim.Native.Nat.{_<_, _^_};
 ghost use mathlib.Core.Path.{_≡_};
 ghost use mathlib.Core.List.{_∷_};
+ghost use Rattle.base.specs.Lent.{before, after};
+ghost use Rattle.base.specs.Store.{stored};
 ghost use Rattle.party.specs.Calls.{resultOf};
 ghost use Rattle.words.specs.Fields.{wordAt, numberAt, flagAt};
 ghost use Rattle.words.specs.Reader.{headerAt, profileAt, placeWord, placeBy, placeOf, damageAt, receiverWords, receiverAt};
@@ -51,6 +53,22 @@ pub fn flag_at(words: &[u64], place: usize) -> bool
     ensures { λ r. ⌜ r ≡ flagAt (now (words .entry)) place ⌝ }
 {
     word_at(words, place) == 1
+}
+
+// Some words from a place on, as many as there is room for.
+pub fn put(words: &mut [u64], place: u8, part: &[u64])
+    ensures { λ _. ⌜ after words ≡ stored (before words) place (before part) ⌝ }
+{
+    let mut at = place as usize;
+    let mut i = 0;
+    while i < part.len() {
+        if words.len() <= at {
+            return;
+        }
+        words[at] = part[i];
+        at += 1;
+        i += 1;
+    }
 }
 
 // The header from a place on; a place is at most 65,535, so that no sum wraps.

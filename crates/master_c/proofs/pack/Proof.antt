@@ -3,6 +3,17 @@ use borrow.Author.Needs.{needs}
 use Rattle.master_c.proofs.pack.Statement.{statement}
 use Rattle.master_c.proofs.pack.Tie as tie
 
+returns : tie.Need-returns
+returns c =
+    packed-is (c .before .before .before .before .before .before .before .before .before .before .before .before .before .args .m) _ _ _ _ _ _ _
+    (c .before .before .before .before .before .before .before .before .before .before .before .front-words .ensures)
+    (c .before .before .before .before .before .before .before .before .before .before .receiver-words .ensures)
+    (c .before .before .before .before .before .before .before .before .before .end-words .ensures)
+    (c .before .before .before .before .before .before .put .ensures)
+    (c .before .before .before .put2 .ensures)
+    (c .put3 .ensures)
+    (search needs)
+
 pub pack-spec : {M : Type 1} → statement M
 pack-spec =
     tie.close
@@ -10,4 +21,10 @@ pack-spec =
     (λ c κs. search needs)
     (λ c κs. search needs)
     (λ c κs. search needs)
-    (λ c. search (needs, packed-is)))
+    (λ c. search needs)
+    (λ c κs. search needs)
+    (λ c. search needs)
+    (λ c κs. search needs)
+    (λ c. search needs)
+    (λ c κs. search needs)
+    returns)

@@ -1,0 +1,5 @@
+-- The laws by which a device's words are packed and unpacked, started and ticked.
+pub mod Kept
+pub mod Packs
+pub mod Ticks
+pub mod Found

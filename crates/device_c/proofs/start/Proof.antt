@@ -1,0 +1,17 @@
+use Rattle.device_c.proofs.Ticks.{starts}
+use borrow.Author.Needs.{needs}
+use Rattle.device_c.proofs.start.Statement.{statement}
+use Rattle.device_c.proofs.start.Tie as tie
+
+pub start-spec : {M : Type 1} → statement M
+start-spec =
+    tie.close
+    (tie.spec
+    (λ c κs. search needs)
+    (λ c. search needs)
+    (λ c κs. search needs)
+    (λ c κs. search needs)
+    (λ c. search needs)
+    (λ c κs. search needs)
+    (λ c. search (needs, starts))
+    (λ c. search (needs, starts)))

@@ -1,0 +1,374 @@
+// A device for programs in C: its state as words that the caller lends, its start and its tick.
+use device::DeviceStarted;
+use device_tick::DeviceHostCall;
+use frame::Header;
+use line::Heard;
+use line::MadeProfile;
+use line::Profile;
+use line::Receiver;
+use turns::Content;
+use turns::Device;
+use turns::DeviceTold;
+use turns::Turn;
+use turns::Wish;
+ghost use Prim.Native.Nat.{_<_, _^_};
+ghost use mathlib.Core.Path.{_≡_};
+ghost use Rattle.base.specs.Lent.{before, after};
+ghost use Rattle.turns.specs.Told.{deviceTells};
+ghost use Rattle.device.specs.Calls.{startedAs};
+ghost use Rattle.words.specs.Start.{StartIs};
+ghost use Rattle.device_c.specs.Words.{turnWord, turnBy, turnOf, wishWord, wishOf, settingsWords, settingsAt};
+ghost use Rattle.device_c.specs.Words.{answeringWords, answeringAt, burstingWords, contentAt, burstingAt, packed, joined, unpacked};
+ghost use Rattle.device_c.specs.Fits.{TurnFits, ContentFits, NumbersFit, DeviceFits};
+ghost use Rattle.device_c.specs.Tick.{DeviceStarts, DeviceTicks};
+
+// What a device was started with.
+pub struct Settings {
+    pub profile: Profile,
+    pub preamble: u8,
+    pub polling: u8,
+    pub unique: u64,
+}
+
+// The request that it has in hand, and its answer.
+pub struct Answering {
+    pub deaf: bool,
+    pub turn: Turn,
+    pub wish: Wish,
+    pub length: u16,
+    pub request: Header,
+}
+
+// Its burst mode.
+pub struct Bursting {
+    pub burst: bool,
+    pub primary: bool,
+    pub due: u32,
+    pub content: Content,
+}
+
+fn turn_word(turn: Turn) -> u64
+    ensures { λ r. ⌜ r ≡ turnWord turn ⌝ }
+{
+    match turn {
+        Turn::Listens => 0,
+        Turn::Asked(n) => 1 + 16 * (n as u64),
+        Turn::AnswerWaits => 2,
+        Turn::Begins => 3,
+        Turn::Answers(n) => 4 + 16 * (n as u64),
+        Turn::Follows => 5,
+        Turn::Bursts(n) => 6 + 16 * (n as u64),
+    }
+}
+
+fn turn_by(number: u64, n: u16) -> Turn
+    ensures { λ r. ⌜ r ≡ turnBy number n ⌝ }
+{
+    if number == 1 {
+        return Turn::Asked(n);
+    }
+    if number == 2 {
+        return Turn::AnswerWaits;
+    }
+    if number == 3 {
+        return Turn::Begins;
+    }
+    if number == 4 {
+        return Turn::Answers(n);
+    }
+    if number == 5 {
+        return Turn::Follows;
+    }
+    if number == 6 {
+        return Turn::Bursts(n);
+    }
+    Turn::Listens
+}
+
+fn turn_of(word: u64) -> Turn
+    ensures { λ r. ⌜ r ≡ turnOf word ⌝ }
+{
+    turn_by(word % 16, (word / 16 % 0x10000) as u16)
+}
+
+fn wish_word(wish: Wish) -> u64
+    ensures { λ r. ⌜ r ≡ wishWord wish ⌝ }
+{
+    match wish {
+        Wish::Same => 0,
+        Wish::On => 1,
+        Wish::Off => 2,
+    }
+}
+
+fn wish_of(word: u64) -> Wish
+    ensures { λ r. ⌜ r ≡ wishOf word ⌝ }
+{
+    if word == 1 {
+        return Wish::On;
+    }
+    if word == 2 {
+        return Wish::Off;
+    }
+    Wish::Same
+}
+
+fn settings_at(words: &[u64; 40]) -> Settings
+    ensures { λ r. ⌜ r ≡ settingsAt (before words) ⌝ }
+{
+    let profile = words::profile_at(words, 0);
+    Settings {
+        profile: profile,
+        preamble: words::u8_at(words, 5),
+        polling: words::u8_at(words, 6),
+        unique: words::word_at(words, 7),
+    }
+}
+
+fn answering_at(words: &[u64; 40]) -> Answering
+    ensures { λ r. ⌜ r ≡ answeringAt (before words) ⌝ }
+{
+    let turn = turn_of(words::word_at(words, 25));
+    let wish = wish_of(words::word_at(words, 26));
+    let request = words::header_at(words, 28);
+    Answering {
+        deaf: words::flag_at(words, 24),
+        turn: turn,
+        wish: wish,
+        length: words::u16_at(words, 27),
+        request: request,
+    }
+}
+
+fn content_at(words: &[u64], place: u16) -> Content
+    ensures { λ r. ⌜ r ≡ contentAt (before words) place ⌝ }
+{
+    let i = place as usize;
+    Content {
+        given: words::flag_at(words, i),
+        command: words::u8_at(words, i + 1),
+        count: words::u8_at(words, i + 2),
+    }
+}
+
+fn bursting_at(words: &[u64; 40]) -> Bursting
+    ensures { λ r. ⌜ r ≡ burstingAt (before words) ⌝ }
+{
+    let content = content_at(words, 37);
+    Bursting {
+        burst: words::flag_at(words, 34),
+        primary: words::flag_at(words, 35),
+        due: words::u32_at(words, 36),
+        content: content,
+    }
+}
+
+fn join(s: Settings, r: Receiver, a: Answering, b: Bursting) -> Device
+    ensures { λ d. ⌜ d ≡ joined s r a b ⌝ }
+{
+    let profile = s.profile;
+    let turn = a.turn;
+    let request = a.request;
+    let wish = a.wish;
+    let content = b.content;
+    Device {
+        unique: s.unique,
+        receiver: r,
+        request: request,
+        profile: profile,
+        length: a.length,
+        due: b.due,
+        turn: turn,
+        preamble: s.preamble,
+        polling: s.polling,
+        deaf: a.deaf,
+        wish: wish,
+        burst: b.burst,
+        primary: b.primary,
+        content: content,
+    }
+}
+
+// The device that some words are.
+pub fn unpack(words: &[u64; 40]) -> Device
+    ensures { λ d. ⌜ d ≡ unpacked (before words) ⌝ }
+{
+    let settings = settings_at(words);
+    let receiver = words::receiver_at(words, 8);
+    let answering = answering_at(words);
+    let bursting = bursting_at(words);
+    join(settings, receiver, answering, bursting)
+}
+
+fn settings_words(p: Profile, preamble: u8, polling: u8, unique: u64) -> [u64; 8]
+    ensures { λ r. ⌜ r ≡ settingsWords p preamble polling unique ⌝ }
+{
+    [
+        p.sto as u64,
+        p.hold as u64,
+        p.rt2 as u64,
+        p.rt1p as u64,
+        p.rt1s as u64,
+        preamble as u64,
+        polling as u64,
+        unique,
+    ]
+}
+
+fn answering_words(d: Device) -> [u64; 10]
+    ensures { λ r. ⌜ r ≡ answeringWords d ⌝ }
+{
+    let turn = d.turn;
+    let wish = d.wish;
+    let h = d.request;
+    [
+        d.deaf as u64,
+        turn_word(turn),
+        wish_word(wish),
+        d.length as u64,
+        h.frame as u64,
+        h.long as u64,
+        h.primary as u64,
+        h.burst as u64,
+        h.address,
+        h.command as u64,
+    ]
+}
+
+fn bursting_words(d: Device) -> [u64; 6]
+    ensures { λ r. ⌜ r ≡ burstingWords d ⌝ }
+{
+    let c = d.content;
+    [
+        d.burst as u64,
+        d.primary as u64,
+        d.due as u64,
+        c.given as u64,
+        c.command as u64,
+        c.count as u64,
+    ]
+}
+
+// The words of a device.
+pub fn pack(words: &mut [u64; 40], d: Device)
+    ensures { λ _. ⌜ after words ≡ packed d ⌝ }
+{
+    let p = d.profile;
+    let r = d.receiver;
+    let settings = settings_words(p, d.preamble, d.polling, d.unique);
+    let reader = words::receiver_words(r);
+    let answering = answering_words(d);
+    let bursting = bursting_words(d);
+    words::put(words, 0, &settings);
+    words::put(words, 8, &reader);
+    words::put(words, 24, &answering);
+    words::put(words, 34, &bursting);
+}
+
+// The next five do nothing: what the code holds are values of their types.
+fn u16_fits(n: u16)
+    ensures { λ _. ⌜ n < 2 ^ 16 ⌝ }
+{}
+
+fn turn_fits(turn: Turn)
+    ensures { λ _. ⌜ TurnFits turn ⌝ }
+{
+    match turn {
+        Turn::Listens => {}
+        Turn::Asked(n) => u16_fits(n),
+        Turn::AnswerWaits => {}
+        Turn::Begins => {}
+        Turn::Answers(n) => u16_fits(n),
+        Turn::Follows => {}
+        Turn::Bursts(n) => u16_fits(n),
+    }
+}
+
+fn content_fits(c: Content)
+    ensures { λ _. ⌜ ContentFits c ⌝ }
+{}
+
+fn numbers_fit(preamble: u8, polling: u8, length: u16, due: u32)
+    ensures { λ _. ⌜ NumbersFit preamble polling length due ⌝ }
+{}
+
+fn device_fits(d: Device)
+    ensures { λ _. ⌜ DeviceFits d ⌝ }
+{
+    let profile = d.profile;
+    let receiver = d.receiver;
+    let turn = d.turn;
+    let request = d.request;
+    let content = d.content;
+    words::profile_fits(profile);
+    words::receiver_fits(receiver);
+    turn_fits(turn);
+    words::header_fits(request);
+    content_fits(content);
+    numbers_fit(d.preamble, d.polling, d.length, d.due);
+}
+
+fn started_by(result: DeviceStarted, words: &mut [u64; 40]) -> u32
+    ensures { λ r. ⌜ StartIs packed (startedAs result) (before words) (after words) r ⌝ }
+{
+    match result {
+        DeviceStarted::Started(d) => {
+            pack(words, d);
+            0
+        }
+        DeviceStarted::Refused(why) => why.number(),
+    }
+}
+
+// The words of a fresh device, or refusal 1, 3 or 4 and the words as they were.
+pub fn start(
+    profile: Profile,
+    preamble: usize,
+    polling: u8,
+    unique: u64,
+    words: &mut [u64; 40],
+) -> u32
+    ensures { λ r. ⌜ DeviceStarts profile preamble polling unique words r ⌝ }
+{
+    let made = profile.checked();
+    match made {
+        MadeProfile::Made(p) => started_by(device::start(p, preamble, polling, unique), words),
+        MadeProfile::Refused(why) => why.number(),
+    }
+}
+
+fn told_number(told: DeviceTold) -> u64
+    ensures { λ r. ⌜ r ≡ deviceTells told .number ⌝ }
+{
+    match told {
+        DeviceTold::Nothing => 0,
+        DeviceTold::Request(_) => 1,
+        DeviceTold::Broadcast(_) => 2,
+    }
+}
+
+// A tick of the device that the words are. Lent are the data of an answer or of a burst content, the burst content, the buffer that holds the device's ACK or BACK and the one for the data of the frame that it hears.
+pub fn tick(
+    words: &mut [u64; 40],
+    frame: &mut [u8; 284],
+    bytes: &mut [u8; 255],
+    contents: &mut [u8; 255],
+    heard: Heard,
+    call: DeviceHostCall,
+    put: &[u8],
+    results: &mut [u64; 17],
+) -> u32
+    ensures { λ r. ⌜ DeviceTicks words frame bytes contents heard call (before put) results r ⌝ }
+{
+    let d = unpack(words);
+    let t = device_tick::tick(d, heard, call, put, contents, frame, bytes);
+    let next = t.device;
+    let sent = t.sent;
+    let told = t.told;
+    let event = t.event;
+    let result = t.result;
+    device_fits(next);
+    pack(words, next);
+    *results = words::tick_numbers(words::sent_number(sent), told_number(told), 0, event);
+    words::call_number(result)
+}

@@ -1,0 +1,14 @@
+use Rattle.request_c.proofs.Answered.{answered}
+use borrow.Author.Needs.{needs}
+use Rattle.request_c.proofs.number_of.Statement.{statement}
+use Rattle.request_c.proofs.number_of.Tie as tie
+
+pub number-of-spec : {M : Type 1} → statement M
+number-of-spec =
+    tie.close
+    (tie.spec
+    (λ c. search needs)
+    (λ c. search needs)
+    (λ c κs. search needs)
+    (λ c. search needs)
+    (λ c. search (needs, answered)))

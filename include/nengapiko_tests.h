@@ -1,0 +1,141 @@
+/*
+ * nengapiko_tests.h - functions for tests and measurements. They are in libnengapiko_tests.a, which
+ * tests/archives builds; no product links it. The rules of nengapiko.h on pointers hold here too.
+ */
+#ifndef NENGAPIKO_TESTS_H
+#define NENGAPIKO_TESTS_H
+
+#include "nengapiko.h"
+
+#ifdef __cplusplus
+extern "C" {
+#endif
+
+/*
+ * The exclusive-or of x and of count bytes from start on; x where these would run past the end. The
+ * first works it out by words, as nengapiko_read does, the second byte by byte; they give the same.
+ */
+uint8_t nengapiko_check_words(uint8_t x, const uint8_t *bytes, size_t size, size_t start,
+                              size_t count) NENGAPIKO_NONNULL;
+uint8_t nengapiko_check_bytes(uint8_t x, const uint8_t *bytes, size_t size, size_t start,
+                              size_t count) NENGAPIKO_NONNULL;
+
+/*
+ * What a master answers to a request: 0, or the number of its refusal.
+ *
+ *   preamble .. count  as for nengapiko_master_tick
+ *   message_in_hand    whether the master has a message already
+ */
+uint32_t nengapiko_request(size_t preamble, uint8_t revision, bool long_address, uint64_t address,
+                           uint8_t command, const uint8_t *bytes, size_t count,
+                           bool message_in_hand) NENGAPIKO_NONNULL;
+
+/* ------------------------------------------------------------------------ recordings
+ *
+ * Each of these runs over a recording, two bytes for each tick: 32 times an enum nengapiko_heard and
+ * the host's call, 0 to 31, in the first, the character in the second. The kinds 5 to 7 are heard as
+ * silence; the character of a silent tick and a last odd byte are not looked at. A number is set for
+ * each tick, from events[0] on, for as many ticks as both the recording and the room hold; the events
+ * behind them are left as they were. Returned is how many ticks these are: size / 2 or room, whichever
+ * is less.
+ */
+
+/* The tick reader from its start on, with an enum nengapiko_event for each tick. There are no calls. */
+size_t nengapiko_ticks(const uint8_t *NENGAPIKO_RESTRICT recording, size_t size,
+                       uint8_t *NENGAPIKO_RESTRICT events, size_t room) NENGAPIKO_NONNULL;
+
+/* What a master does in a tick: it sends, whatever it tells, or tells what enum nengapiko_master_told says. */
+enum nengapiko_step {
+    NENGAPIKO_STEP_NOTHING = 0,
+    NENGAPIKO_STEP_ANSWERED = 1,
+    NENGAPIKO_STEP_GIVEN_UP = 2,
+    NENGAPIKO_STEP_BROADCAST_SENT = 3,
+    NENGAPIKO_STEP_SENDS = 4
+};
+
+/*
+ * A primary of the FSK profile with 3 retries, with an enum nengapiko_step for each tick. The calls
+ * are 1 command 3 of unique address 2, and 2 command 11 by broadcast with a tag of six zero bytes; any
+ * other is none.
+ */
+size_t nengapiko_master(const uint8_t *NENGAPIKO_RESTRICT recording, size_t size,
+                        uint8_t *NENGAPIKO_RESTRICT events, size_t room) NENGAPIKO_NONNULL;
+
+/* What a device does in a tick: it sends, whatever it tells, or tells what enum nengapiko_device_told says. */
+enum nengapiko_device_step {
+    NENGAPIKO_DEVICE_STEP_NOTHING = 0,
+    NENGAPIKO_DEVICE_STEP_REQUEST = 1,
+    NENGAPIKO_DEVICE_STEP_BROADCAST = 2,
+    NENGAPIKO_DEVICE_STEP_SENDS = 4
+};
+
+/*
+ * A device of the FSK profile with 5 preamble characters, polling address 0 and unique address 2, with
+ * an enum nengapiko_device_step for each tick. The calls are those of enum nengapiko_device_call, with
+ * two zero bytes, a burst content being of command 3; any other is none.
+ */
+size_t nengapiko_device(const uint8_t *NENGAPIKO_RESTRICT recording, size_t size,
+                        uint8_t *NENGAPIKO_RESTRICT events, size_t room) NENGAPIKO_NONNULL;
+
+/*
+ * Such a primary and such a device behind a modem chip. The first byte of a tick is 32 times an enum
+ * nengapiko_heard, 4 times the call, 0 to 7, and which number is wanted, as
+ * crates/modem_party_c/specs/Wanted.antt, Master.antt and Device.antt say.
+ */
+size_t nengapiko_chip_master(const uint8_t *NENGAPIKO_RESTRICT recording, size_t size,
+                             uint8_t *NENGAPIKO_RESTRICT events, size_t room) NENGAPIKO_NONNULL;
+size_t nengapiko_chip_device(const uint8_t *NENGAPIKO_RESTRICT recording, size_t size,
+                             uint8_t *NENGAPIKO_RESTRICT events, size_t room) NENGAPIKO_NONNULL;
+
+/* ------------------------------------------------------------------------ the rest */
+
+/*
+ * The modem chip over a script of accesses of two bytes each, encoded as
+ * crates/modem_c/specs/Script.antt says, with a number for each.
+ */
+size_t nengapiko_modem(const uint8_t *NENGAPIKO_RESTRICT script, size_t size,
+                       uint8_t *NENGAPIKO_RESTRICT events, size_t room) NENGAPIKO_NONNULL;
+
+/* The most that the player prints for any script. */
+#define NENGAPIKO_LONGEST_LISTING 1638405
+
+/*
+ * Plays a script, as the program play does.
+ *
+ *   script, size  records of 4 bytes
+ *   out, room     what is printed, at the front of out; with less than NENGAPIKO_LONGEST_LISTING
+ *                 bytes of room it may be cut
+ *
+ * Returns how many bytes were printed.
+ */
+size_t nengapiko_play(const uint8_t *NENGAPIKO_RESTRICT script, size_t size,
+                      uint8_t *NENGAPIKO_RESTRICT out, size_t room) NENGAPIKO_NONNULL;
+
+/*
+ * Runs a link of a primary, a secondary and up to six devices over a list of ticks. The devices start
+ * in tick 0, each master in the tick that is named for it.
+ *
+ *   sto .. rt1_secondary  the profile's five numbers
+ *   retries               R
+ *   preambles, polling_addresses, unique_addresses
+ *                         six numbers each, one for each slot; a preamble of 0 is a slot without a
+ *                         device
+ *   ticks, size           the list, encoded as crates/tick_list/specs/Ticks.antt says
+ *   events, room          for each tick how many send, plus 16 for a request of the primary that was
+ *                         taken and 32 for one of the secondary, plus 64 if the primary sends and 128
+ *                         if the secondary does
+ *
+ * Returns how many ticks these are; 0 where a start is refused.
+ */
+size_t nengapiko_run(uint16_t sto, uint16_t hold, uint16_t rt2, uint16_t rt1_primary,
+                     uint16_t rt1_secondary, uint8_t retries, const uint8_t *preambles,
+                     const uint8_t *polling_addresses, const uint64_t *unique_addresses,
+                     uint64_t primary_start, uint64_t secondary_start,
+                     const uint8_t *NENGAPIKO_RESTRICT ticks, size_t size,
+                     uint8_t *NENGAPIKO_RESTRICT events, size_t room) NENGAPIKO_NONNULL;
+
+#ifdef __cplusplus
+}
+#endif
+
+#endif
