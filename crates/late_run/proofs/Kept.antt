@@ -4,7 +4,7 @@ use native.Mathlib.Omega.{arith}
 use mathlib.Core.Bool.{Bool, true}
 use mathlib.Core.Path.{_≡_, refl, sym, ap, subst, _∙_}
 use mathlib.Core.List.{List, [], _∷_}
-use lib.ListN.{length}
+use lib.ListN.{length, getD}
 use lib.Seq.{take-nil, drop-nil}
 use Rattle.base.specs.Store.{stored}
 use Rattle.base.specs.Refusal.{number, Called, accepted, refused}
@@ -22,19 +22,21 @@ use Rattle.turns.specs.declared.Master.{Master}
 use Rattle.turns.proofs.Fresh.{master-is}
 use Rattle.turns.proofs.Item14.{item-14}
 use Rattle.turns.proofs.Late.{common-start}
-use Rattle.link.specs.declared.Link.{Link}
-use Rattle.link_start.specs.Fresh.{lentFresh}
-use Rattle.link_start.specs.Start.{linkStarts, linkAs}
-use Rattle.link_start.specs.declared.DevicesSettings.{DevicesSettings}
+use Rattle.parties.specs.Stands.{anyMaster, heres}
+use Rattle.parties.specs.declared.Link.{Link}
+use Rattle.link_start.specs.Fresh.{rowsFresh, lentFresh}
+use Rattle.link_start.specs.Start.{linkStarts, made, StartedIs}
+use Rattle.link_start.specs.declared.Setting.{Setting}
 use Rattle.link_start.specs.declared.LinkStarted.{LinkStarted}
+use Rattle.link_start.specs.declared.StartAnswer.{StartAnswer}
 use Rattle.link_start.proofs.Started.{masters-start, all-start}
 use Rattle.tick_list.specs.Ticks.{ticksOf}
-use Rattle.link_run.specs.Run.{hereOf, stepsBy, stepsOf, devicesBy, callsBy, numbersOf, ranAs, ranBy, written, RunKeeps}
+use Rattle.link_run.specs.Run.{stepsBy, stepsOf, devicesBy, callsBy, numbersOf, ranAs, ranBy, written, RunKeeps}
 use Rattle.link_run.specs.declared.RunEnded.{RunEnded}
-use Rattle.link_run.proofs.Kept.{run-keeps}
+use Rattle.link_run.proofs.Kept.{was-started, six-slots, run-keeps}
 use Rattle.link_run.proofs.Senders.{written-tells}
 use Rattle.late_run.specs.Late.{lateStepsBy, lateSteps, LateRunPremises, Item14Of, LateKeeps}
-use Rattle.late_run.specs.Step.{Fresh, LateReady}
+use Rattle.late_run.specs.Step.{Fresh, LateReady, lateNumbers}
 use Rattle.late_run.specs.declared.StartTicks.{StartTicks}
 
 -- ---- item 14
@@ -66,15 +68,15 @@ all-started : {p : Profile} {line : Heard} {xs : List DeviceSide} → All (Devic
 all-started none = none
 all-started (and x q) = and (starts-now x) (all-started q)
 
-item-14-kept : (p : Profile) (retries : ℕ) (s : DevicesSettings) (a b : ℕ) (ticks : List ℕ) → LateRunPremises p retries s a b ticks → Item14Of p retries s a b ticks
+item-14-kept : (p : Profile) (retries : ℕ) (s : List Setting) (six : length s ≡ 6) (a b : ℕ) (ticks : List ℕ) → LateRunPremises p retries s a b ticks → Item14Of p retries s a b ticks
 unfolding lateSteps
-item-14-kept p retries s a b ticks k = by (linkStarts p retries s) refl
+item-14-kept p retries s six a b ticks k = by (linkStarts p retries s) refl
   where
     by : (c : Called Link) → linkStarts p retries s ≡ c → LateStart 255 p retries a b (lateStepsBy a b c ticks)
     by (refused why) e = no-tick-starts p retries a b
     by (accepted l) e =
-        let all = all-start p retries s l e (subst (λ (c : Called Link). Distinct (devicesBy c)) e (k .distinct)) in
-        item-14 255 (omega arith) (omega arith) p retries a b (lentFresh l) (ticksOf (hereOf (l .devices)) ticks)
+        let all = all-start p retries s six l e (subst (λ (c : Called Link). Distinct (devicesBy c)) e (k .distinct)) in
+        item-14 255 (omega arith) (omega arith) p retries a b (lentFresh l) (ticksOf (heres (l .devices)) ticks)
         (record {
           made = k .made;
           primary = all .primary;
@@ -86,8 +88,8 @@ item-14-kept p retries s a b ticks k = by (linkStarts p retries s) refl
         })
 
 -- where two send, it is a tick of the overlap
-one-but-in-overlap : (p : Profile) (retries : ℕ) (s : DevicesSettings) (a b : ℕ) (ticks : List ℕ) (i : ℕ) → LateRunPremises p retries s a b ticks → (InOverlap 255 (lateSteps p retries s a b ticks) i → ⊥) → sendersIn (lateSteps p retries s a b ticks) i ≤ 1
-one-but-in-overlap p retries s a b ticks i k f = by (sendersIn (lateSteps p retries s a b ticks) i) (item-14-kept p retries s a b ticks k .one-overlap .two-send i)
+one-but-in-overlap : (p : Profile) (retries : ℕ) (s : List Setting) (six : length s ≡ 6) (a b : ℕ) (ticks : List ℕ) (i : ℕ) → LateRunPremises p retries s a b ticks → (InOverlap 255 (lateSteps p retries s a b ticks) i → ⊥) → sendersIn (lateSteps p retries s a b ticks) i ≤ 1
+one-but-in-overlap p retries s six a b ticks i k f = by (sendersIn (lateSteps p retries s a b ticks) i) (item-14-kept p retries s six a b ticks k .one-overlap .two-send i)
   where
     by : (n : ℕ) → (2 ≤ n → InOverlap 255 (lateSteps p retries s a b ticks) i) → n ≤ 1
     by zero h = omega arith
@@ -95,19 +97,19 @@ one-but-in-overlap p retries s a b ticks i k f = by (sendersIn (lateSteps p retr
     by (suc (suc n)) h = absurd (f (h (omega arith)))
 
 -- where both masters start in tick 0, it is the run of the common start
-common : (p : Profile) (retries : ℕ) (s : DevicesSettings) (ticks : List ℕ) → lateSteps p retries s 0 0 ticks ≡ stepsOf p retries s ticks
+common : (p : Profile) (retries : ℕ) (s : List Setting) (ticks : List ℕ) → lateSteps p retries s 0 0 ticks ≡ stepsOf p retries s ticks
 unfolding lateSteps stepsOf
 common p retries s ticks = by (linkStarts p retries s)
   where
     by : (c : Called Link) → lateStepsBy 0 0 c ticks ≡ stepsBy c ticks
-    by (accepted l) = common-start 255 (lentFresh l) (ticksOf (hereOf (l .devices)) ticks)
+    by (accepted l) = common-start 255 (lentFresh l) (ticksOf (heres (l .devices)) ticks)
     by (refused why) = refl
 
-as-common : (p : Profile) (retries : ℕ) (s : DevicesSettings) (a b : ℕ) (ticks before : List ℕ) (r : RunEnded) (after : List ℕ) → a ≡ 0 → b ≡ 0
+as-common : (p : Profile) (retries : ℕ) (s : List Setting) (six : length s ≡ 6) (a b : ℕ) (ticks before : List ℕ) (r : RunEnded) (after : List ℕ) → a ≡ 0 → b ≡ 0
     → ranAs r ≡ ranBy (linkStarts p retries s) (length (written (lateSteps p retries s a b ticks) before)) → after ≡ stored before 0 (written (lateSteps p retries s a b ticks) before) → RunKeeps p retries s ticks before r after
-as-common p retries s a b ticks before r after f g x y =
+as-common p retries s six a b ticks before r after f g x y =
     let same : lateSteps p retries s a b ticks ≡ stepsOf p retries s ticks = (λ i. lateSteps p retries s (f i) (g i) ticks) ∙ common p retries s ticks in
-    run-keeps p retries s ticks before r after (x ∙ ap (λ (steps : List LinkStep). ranBy (linkStarts p retries s) (length (written steps before))) same)
+    run-keeps p retries s six ticks before r after (x ∙ ap (λ (steps : List LinkStep). ranBy (linkStarts p retries s) (length (written steps before))) same)
     (y ∙ ap (λ (steps : List LinkStep). stored before 0 (written steps before)) same)
 
 -- ---- the run
@@ -115,14 +117,14 @@ as-common p retries s a b ticks before r after f g x y =
 fresh : (p : Profile) (primary : Bool) (retries : ℕ) (m : Master) → masterStarts p primary retries ≡ accepted m → Fresh m
 fresh p primary retries m e = subst Fresh (sym (master-is p primary retries m e)) (record { hears-nothing = refl; no-message = refl })
 
-module _ (p : Profile) (retries : ℕ) (s : DevicesSettings) (starts : StartTicks) (ticks before : List ℕ) (started : LinkStarted) (q : linkAs started ≡ linkStarts p retries s) where
-  pub start-ready : (l : Link) → started ≡ LinkStarted.Started l → LateReady starts l
-  start-ready l e =
-      let is = sym q ∙ ap linkAs e in
-      let masters = masters-start p retries s l is in
+module _ (p : Profile) (retries : ℕ) (s : List Setting) (starts : StartTicks) (ticks before : List ℕ) (started : LinkStarted) (six : length s ≡ 6) (q : StartedIs p retries s started) where
+  pub start-ready : started .answer ≡ StartAnswer.Started → LateReady starts (started .link)
+  start-ready e =
+      let masters = masters-start p retries s six (started .link) (was-started p retries s ticks before started six q e) in
       record {
-        primary = λ h. fresh p _ retries (l .masters .primary) (masters .0);
-        secondary = λ h. fresh p _ retries (l .masters .secondary) (masters .1);
+        six = six-slots p retries s ticks before started six q e;
+        primary = λ h. fresh p _ retries (getD (started .link .masters) 0 anyMaster) (masters .0);
+        secondary = λ h. fresh p _ retries (getD (started .link .masters) 1 anyMaster) (masters .1);
       }
 
   abbrev stepsFrom : Called Link → List LinkStep
@@ -139,18 +141,18 @@ module _ (p : Profile) (retries : ℕ) (s : DevicesSettings) (starts : StartTick
       record {
         answered = result;
         events = stores;
-        item-14 = item-14-kept p retries s a b ticks;
-        one-sender = λ k i h f. written-tells (lateSteps p retries s a b ticks) before after i stores h (one-but-in-overlap p retries s a b ticks i k f);
-        common-start = λ f g. as-common p retries s a b ticks before r after f g result stores;
+        item-14 = item-14-kept p retries s six a b ticks;
+        one-sender = λ k i h f. written-tells (lateSteps p retries s a b ticks) before after i stores h (one-but-in-overlap p retries s six a b ticks i k f);
+        common-start = λ f g. as-common p retries s six a b ticks before r after f g result stores;
       }
 
-  pub run-accepted : (l : Link) (n : ℕ) (after : List ℕ) → started ≡ LinkStarted.Started l
-      → RunIs (numbersOf (lateRun 255 (starts .primary) (starts .secondary) (lentFresh l) (ticksOf (hereOf (l .devices)) ticks))) before n after
+  pub run-accepted : (n : ℕ) (after : List ℕ) → started .answer ≡ StartAnswer.Started → RunIs (lateNumbers (started .link) starts rowsFresh ticks) before n after
       → LateKeeps p retries s (starts .primary) (starts .secondary) ticks before (RunEnded.Ran n) after
-  run-accepted l n after e r = promised (accepted l) (RunEnded.Ran n) after (sym q ∙ ap linkAs e) (ap (λ (k : ℕ). accepted k) (r .returned)) (r .events)
+  run-accepted n after e r =
+      promised (accepted (started .link)) (RunEnded.Ran n) after (was-started p retries s ticks before started six q e) (ap (λ (k : ℕ). accepted k) (r .returned)) (r .events)
 
-  pub run-refused : (why : Refusal) → started ≡ LinkStarted.Refused why → LateKeeps p retries s (starts .primary) (starts .secondary) ticks before (RunEnded.Refused why) before
+  pub run-refused : (why : Refusal) → started .answer ≡ StartAnswer.Refused why → LateKeeps p retries s (starts .primary) (starts .secondary) ticks before (RunEnded.Refused why) before
   unfolding numbersOf stored
-  run-refused why e = promised (refused (number why)) (RunEnded.Refused why) before (sym q ∙ ap linkAs e) refl (sym (ap (λ (l : List ℕ). stored before 0 l) (take-nil (length before))))
+  run-refused why e = promised (refused (number why)) (RunEnded.Refused why) before (sym (q .answer-is) ∙ ap (made (started .link)) e) refl (sym (ap (λ (l : List ℕ). stored before 0 l) (take-nil (length before))))
 
 pub ruleset kept = (refl, start-ready, run-accepted, run-refused)

@@ -1,9 +1,10 @@
 -- Laws of one tick of such a run: what a fresh master does that is ticked without a call, and that the tick of the code is `lateTick` of turns.
 use Prim.Native.Nat.{ℕ, zero, suc, _+_, _-_, _*_, _<_}
 use native.Mathlib.Omega.{arith}
-use mathlib.Core.Path.{_≡_, sym, ap, subst, _∙_}
+use mathlib.Core.Path.{_≡_, refl, sym, ap, subst, _∙_}
 use mathlib.Core.Bool.{false}
-use mathlib.Core.List.{List}
+use mathlib.Core.List.{List, []}
+use lib.ListN.{length, getD}
 use borrow.Author.Tests.{ne-eqb}
 use Rattle.base.specs.Choice.{if_then_else_, _=?_}
 use Rattle.base.proofs.Choices.{if-is-true, if-is-false}
@@ -21,19 +22,20 @@ use Rattle.turns.specs.declared.Sent.the-variants.{Silent}
 use Rattle.turns.specs.declared.Stage.{Stage}
 use Rattle.master.specs.Tick as M
 use Rattle.master.specs.declared.MasterHostCall.{MasterHostCall}
-use Rattle.link.specs.Link.{MasterLent, DevicesLent, LinkIs, after}
-use Rattle.link.specs.Stands.{masterCallOf, callsOf, linkOf, linkStepOf}
-use Rattle.link.specs.declared.Link.{Link}
-use Rattle.link.specs.declared.LinkCalls.{LinkCalls}
-use Rattle.link.specs.declared.LinkTicked.{LinkTicked}
-use Rattle.link.specs.declared.MasterCall.{MasterCall}
-use Rattle.link.proofs.Agrees.{step-agrees, after-agrees}
-use Rattle.tick_list.specs.Coded.{TickReadIs}
+use Rattle.parties.specs.Stands.{Rows, anyMaster, linkOf, heres, noMasterCall, masterCallOf, callsOf}
+use Rattle.parties.specs.declared.Calls.{Calls}
+use Rattle.parties.specs.declared.Link.{Link}
+use Rattle.parties.specs.declared.MasterCall.{MasterCall}
+use Rattle.parties.specs.declared.Ticked.{Ticked}
+use Rattle.link_ticks.specs.Ticks as T
+use Rattle.link_ticks.proofs.Answers.{stepWith, one-link}
+use Rattle.tick_list.specs.Read.{tickAt}
 use Rattle.tick_list.specs.declared.TickRead.{TickRead}
-use Rattle.link_run.specs.Run.{taken, hereOf, tickNumber}
-use Rattle.link_run.specs.Step.{deviceSendersIn, tickedNumber}
-use Rattle.link_run.proofs.Steps.{calls-are, number-agrees, same-here}
-use Rattle.late_run.specs.Step.{startsBehind, callTaken, callsTaken, masterBehind, linkBehind, Fresh, LateReady, stepAt, LateStepIs}
+use Rattle.link_run.specs.Run.{taken, tickNumber}
+use Rattle.link_run.specs.Step.{rowNumber}
+use Rattle.link_run.proofs.Going.{heres-length}
+use Rattle.link_run.proofs.Steps.{number-agrees, calls-read, next-read}
+use Rattle.late_run.specs.Step.{startsBehind, callTaken, callsTaken, masterBehind, linkBehind, Fresh, LateReady, stepAt, LateStepping}
 use Rattle.late_run.specs.declared.StartTicks.{StartTicks}
 
 -- ---- a master
@@ -64,7 +66,7 @@ put-back : (n : ℕ) (before ticked : Master) → masterBehind (suc n) before ti
 put-back n before ticked = if-is-false (suc n =? 0) _ _ (not-started n)
 
 as-late : (start : ℕ) (x : MasterSide) (heard : Heard) (c : MasterCall) (put : List ℕ) (t : MasterStep) → (0 < start → Fresh (x .master))
-    → t ≡ masterTick 255 x heard (masterCallOf (callTaken start c) put) → AsLate start x heard (masterCallOf c put) t
+    → t ≡ masterTick 255 x heard (masterCallOf put (callTaken start c)) → AsLate start x heard (masterCallOf put c) t
 unfolding if_then_else_
 as-late zero x heard c put t f e = record {
   sent-is = ap (λ (u : MasterStep). u .sent) e;
@@ -72,7 +74,7 @@ as-late zero x heard c put t f e = record {
   side-is = ap (λ (u : MasterStep). u .side) e;
 }
 as-late (suc n) x heard c put t f e =
-    let q = e ∙ ap (λ (k : MasterCall). masterTick 255 x heard (masterCallOf k put)) (none-taken n c) ∙ fresh-ticked x heard (f (omega arith)) in
+    let q = e ∙ ap (λ (k : MasterCall). masterTick 255 x heard (masterCallOf put k)) (none-taken n c) ∙ fresh-ticked x heard (f (omega arith)) in
     record {
       sent-is = ap (λ (u : MasterStep). u .sent) q;
       answer-is = ap (λ (u : MasterStep). u .result) q;
@@ -85,24 +87,33 @@ still-fresh (suc n) before ticked f h = subst Fresh (sym (put-back n before tick
 
 -- ---- the tick
 
-module _ (l : Link) (starts : StartTicks) (ticks : List ℕ) (at : ℕ) (p s p-after s-after : MasterLent) (d d-after : DevicesLent) (read : TickRead) (t : LinkTicked) (reads : TickReadIs ticks at read) (is : LinkIs l (callsTaken starts (read .calls)) ticks p s d t p-after s-after d-after) where
+module _ (l : Link) (starts : StartTicks) (ticks : List ℕ) (at : ℕ) (x x-after : Rows) (sent sent-after : List (List ℕ)) (read : TickRead) (t : Ticked)
+    (is : T.RunIs l (callsTaken starts (read .calls)) ticks 1 x sent t x-after sent-after) where
   -- what the code did, and what turns gives for the calls that were read
   abbrev did : LinkStep
-  did = linkStepOf t p-after s-after d-after
+  did = stepWith l (callsTaken starts (read .calls)) ticks x
 
   abbrev given : LinkStep
-  given = lateTick 255 (starts .primary) (starts .secondary) (linkOf l p s d) (callsOf l (read .calls) ticks)
+  given = lateTick 255 (starts .primary) (starts .secondary) (linkOf l x) (callsOf ticks (heres (l .devices)) (read .calls))
+
+  abbrev calls : ℕ → MasterCall
+  calls i = getD (read .calls .masters) i noMasterCall
+
+  behind : linkOf (t .link) x-after ≡ linkAfter did
+  behind = one-link l (callsTaken starts (read .calls)) ticks x x-after sent sent-after t is
 
   module _ (k : LateReady starts l) where
-    for-primary : AsLate (starts .primary) (linkOf l p s d .primary) (l .line) (masterCallOf (read .calls .masters .primary) ticks) (did .for-primary)
-    for-primary = as-late (starts .primary) (linkOf l p s d .primary) (l .line) (read .calls .masters .primary) ticks (did .for-primary) (k .primary) (is .masters .primary .step)
+    for-primary : AsLate (starts .primary) (linkOf l x .primary) (l .line) (masterCallOf ticks (calls 0)) (did .for-primary)
+    unfolding linkTick
+    for-primary = as-late (starts .primary) (linkOf l x .primary) (l .line) (calls 0) ticks (did .for-primary) (k .primary) refl
 
-    for-secondary : AsLate (starts .secondary) (linkOf l p s d .secondary) (l .line) (masterCallOf (read .calls .masters .secondary) ticks) (did .for-secondary)
-    for-secondary = as-late (starts .secondary) (linkOf l p s d .secondary) (l .line) (read .calls .masters .secondary) ticks (did .for-secondary) (k .secondary) (is .masters .secondary .step)
+    for-secondary : AsLate (starts .secondary) (linkOf l x .secondary) (l .line) (masterCallOf ticks (calls 1)) (did .for-secondary)
+    unfolding linkTick
+    for-secondary = as-late (starts .secondary) (linkOf l x .secondary) (l .line) (calls 1) ticks (did .for-secondary) (k .secondary) refl
 
     for-devices : did .for-devices ≡ given .for-devices
     unfolding lateTick linkTick
-    for-devices = ap (λ (u : LinkStep). u .for-devices) (step-agrees l (callsTaken starts (read .calls)) ticks p s d t p-after s-after d-after is)
+    for-devices = refl
 
     number-given : tickNumber did ≡ tickNumber given
     unfolding lateTick
@@ -111,40 +122,41 @@ module _ (l : Link) (starts : StartTicks) (ticks : List ℕ) (at : ℕ) (p s p-a
         + 16 * (taken (for-primary .answer-is i) + 4 * count (for-primary .sent-is i))
         + 32 * (taken (for-secondary .answer-is i) + 4 * count (for-secondary .sent-is i))
 
-    link-given : linkOf (linkBehind starts l (after t)) p-after s-after d-after ≡ linkAfter given
-    unfolding lateTick
-    link-given =
-        let q = after-agrees l (callsTaken starts (read .calls)) ticks p s d t p-after s-after d-after is in
-        λ i. record {
-          primary = for-primary .side-is i;
-          secondary = for-secondary .side-is i;
-          devices = (ap (λ (x : L.Link). x .devices) q ∙ ap sides for-devices) i;
-          line = (ap (λ (x : L.Link). x .line) q ∙ (λ j. joins (for-primary .sent-is j) (joins (for-secondary .sent-is j) (carried (for-devices j))))) i;
-        }
+    -- a master's side, where it is put back if it has not started
+    abbrev put-into : ℕ → Master → MasterSide → MasterSide
+    put-into start m y = M.sideOf (masterBehind start m (y .master)) (y .frame) (y .bytes)
 
-    ready-behind : LateReady (startsBehind starts) (linkBehind starts l (after t))
-    ready-behind = record {
-      primary = still-fresh (starts .primary) (l .masters .primary) (t .masters .primary .master) (k .primary);
-      secondary = still-fresh (starts .secondary) (l .masters .secondary) (t .masters .secondary .master) (k .secondary);
+    link-given : linkOf (linkBehind starts l (t .link)) x-after ≡ linkAfter given
+    unfolding lateTick
+    link-given = λ i. record {
+      primary = (ap (λ (y : L.Link). put-into (starts .primary) (getD (l .masters) 0 anyMaster) (y .primary)) behind ∙ for-primary .side-is) i;
+      secondary = (ap (λ (y : L.Link). put-into (starts .secondary) (getD (l .masters) 1 anyMaster) (y .secondary)) behind ∙ for-secondary .side-is) i;
+      devices = (ap (λ (y : L.Link). y .devices) behind ∙ ap sides for-devices) i;
+      line = (ap (λ (y : L.Link). y .line) behind ∙ (λ j. joins (for-primary .sent-is j) (joins (for-secondary .sent-is j) (carried (for-devices j))))) i;
     }
 
-  step-is : (link : Link) (number : ℕ) → link ≡ linkBehind starts l (after t) → number ≡ tickedNumber (t .masters) (deviceSendersIn (t .devices))
-      → LateStepIs l starts ticks at p s d (record { link = link; number = number; next = read .next }) p-after s-after d-after
-  step-is link number e n = record {
-    steps = λ k.
-        let here : given ≡ stepAt l starts p s d ticks at = ap (lateTick 255 (starts .primary) (starts .secondary) (linkOf l p s d)) (calls-are l ticks at read reads) in
-        record {
-          behind-is = ap (λ (x : Link). linkOf x p-after s-after d-after) e ∙ link-given k ∙ ap linkAfter here;
-          number-is = n ∙ number-agrees l (callsTaken starts (read .calls)) ticks p s p-after s-after d d-after t is ∙ number-given k ∙ ap tickNumber here;
-          ready = subst (λ (x : Link). LateReady (startsBehind starts) x) (sym e) (ready-behind k);
-          here = ap (λ (x : Link). hereOf (x .devices)) e ∙ same-here l (callsTaken starts (read .calls)) ticks p s p-after s-after d d-after t is;
-          next = reads .next;
-        };
-  }
+    ready-behind : LateReady (startsBehind starts) (linkBehind starts l (t .link))
+    ready-behind = record {
+      six = sym (heres-length (t .link .devices)) ∙ ap length (is .slots) ∙ heres-length (l .devices) ∙ k .six;
+      primary = still-fresh (starts .primary) (getD (l .masters) 0 anyMaster) (getD (t .link .masters) 0 anyMaster) (k .primary);
+      secondary = still-fresh (starts .secondary) (getD (l .masters) 1 anyMaster) (getD (t .link .masters) 1 anyMaster) (k .secondary);
+    }
+
+  step-is : (link : Link) (number : ℕ) → read ≡ tickAt ticks at → link ≡ linkBehind starts l (t .link) → number ≡ rowNumber (getD sent-after 0 []) (t .masters)
+      → LateReady starts l → LateStepping l starts ticks at x (record { link = link; number = number; next = read .next }) x-after
+  step-is link number reads e n k =
+      let here : given ≡ stepAt l starts x ticks at = ap (lateTick 255 (starts .primary) (starts .secondary) (linkOf l x)) (calls-read l ticks at x x-after sent sent-after read t reads (k .six)) in
+      record {
+        behind-is = ap (λ (y : Link). linkOf y x-after) e ∙ link-given k ∙ ap linkAfter here;
+        number-is = n ∙ number-agrees l ticks at x x-after sent sent-after read t (callsTaken starts (read .calls)) is (k .six) ∙ number-given k ∙ ap tickNumber here;
+        ready = subst (λ (y : Link). LateReady (startsBehind starts) y) (sym e) (ready-behind k);
+        slots = ap (λ (y : Link). heres (y .devices)) e ∙ is .slots;
+        next = next-read l ticks at x x-after sent sent-after read t reads (k .six);
+      }
 
 -- with the calls as the code has them
-pub step-taken : (l : Link) (starts : StartTicks) (ticks : List ℕ) (at : ℕ) (p s p-after s-after : MasterLent) (d d-after : DevicesLent) (read : TickRead) (t : LinkTicked) (calls : LinkCalls) (link : Link) (number : ℕ)
-    → TickReadIs ticks at read → calls ≡ callsTaken starts (read .calls) → LinkIs l calls ticks p s d t p-after s-after d-after → link ≡ linkBehind starts l (after t) → number ≡ tickedNumber (t .masters) (deviceSendersIn (t .devices))
-    → LateStepIs l starts ticks at p s d (record { link = link; number = number; next = read .next }) p-after s-after d-after
-step-taken l starts ticks at p s p-after s-after d d-after read t calls link number reads e is f n =
-    step-is l starts ticks at p s p-after s-after d d-after read t reads (subst (λ (c : LinkCalls). LinkIs l c ticks p s d t p-after s-after d-after) e is) link number f n
+pub step-taken : (l : Link) (starts : StartTicks) (ticks : List ℕ) (at : ℕ) (x x-after : Rows) (sent sent-after : List (List ℕ)) (read : TickRead) (t : Ticked) (calls : Calls) (link : Link) (number : ℕ)
+    → read ≡ tickAt ticks at → calls ≡ callsTaken starts (read .calls) → T.RunIs l calls ticks 1 x sent t x-after sent-after → link ≡ linkBehind starts l (t .link) → number ≡ rowNumber (getD sent-after 0 []) (t .masters)
+    → LateReady starts l → LateStepping l starts ticks at x (record { link = link; number = number; next = read .next }) x-after
+step-taken l starts ticks at x x-after sent sent-after read t calls link number reads e is f n k =
+    step-is l starts ticks at x x-after sent sent-after read t (subst (λ (c : Calls). T.RunIs l c ticks 1 x sent t x-after sent-after) e is) link number reads f n k

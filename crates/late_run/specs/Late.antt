@@ -14,28 +14,29 @@ use Rattle.turns.specs.Run.{Distinct, EachTick}
 use Rattle.turns.specs.Ledgers.{blanks, OneFinds}
 use Rattle.turns.specs.Demand3.{NoneBurstsIn}
 use Rattle.turns.specs.Late.{lateRun, InOverlap, LateStart}
-use Rattle.link.specs.declared.Link.{Link}
+use Rattle.parties.specs.Stands.{heres}
+use Rattle.parties.specs.declared.Link.{Link}
 use Rattle.link_start.specs.Fresh.{lentFresh}
 use Rattle.link_start.specs.Start.{linkStarts}
-use Rattle.link_start.specs.declared.DevicesSettings.{DevicesSettings}
+use Rattle.link_start.specs.declared.Setting.{Setting}
 use Rattle.tick_list.specs.Ticks.{ticksOf}
-use Rattle.link_run.specs.Run.{hereOf, devicesBy, callsBy, ranAs, ranBy, OneSender, written, RunKeeps}
+use Rattle.link_run.specs.Run.{devicesBy, callsBy, ranAs, ranBy, OneSender, written, RunKeeps}
 use Rattle.link_run.specs.declared.RunEnded.{RunEnded}
 
 -- ---- the run
 
 -- what every party does in each tick, from the parties' start on; no tick where a start is refused
 abbrev pub lateStepsBy : ℕ → ℕ → Called Link → List ℕ → List LinkStep
-lateStepsBy a b (accepted l) ticks = lateRun mostData a b (lentFresh l) (ticksOf (hereOf (l .devices)) ticks)
+lateStepsBy a b (accepted l) ticks = lateRun mostData a b (lentFresh l) (ticksOf (heres (l .devices)) ticks)
 lateStepsBy a b (refused why) ticks = []
 
-unfoldable pub lateSteps : Profile → ℕ → DevicesSettings → ℕ → ℕ → List ℕ → List LinkStep
+unfoldable pub lateSteps : Profile → ℕ → List Setting → ℕ → ℕ → List ℕ → List LinkStep
 lateSteps p retries s a b ticks = lateStepsBy a b (linkStarts p retries s) ticks
 
 -- ---- item 14, for the run that was made
 
 -- "all else is as for the common start, devices were started before, no character is otherwise damaged or lost and no device bursts" and, by item 6, "at most one host's answer to each command 11 is taken". That the devices start in tick 0 is how the run begins; that no character is otherwise damaged or lost is how its line is defined.
-pub record LateRunPremises (p : Profile) (retries : ℕ) (s : DevicesSettings) (a b : ℕ) (ticks : List ℕ) : Type 0 where
+pub record LateRunPremises (p : Profile) (retries : ℕ) (s : List Setting) (a b : ℕ) (ticks : List ℕ) : Type 0 where
   -- the profile is one that the check takes
   pub made : profileMade p ≡ accepted p
   pub distinct : Distinct (devicesBy (linkStarts p retries s))
@@ -43,11 +44,11 @@ pub record LateRunPremises (p : Profile) (retries : ℕ) (s : DevicesSettings) (
   pub one-finds : OneFinds (blanks (devicesBy (linkStarts p retries s))) (callsBy (linkStarts p retries s) ticks) (lateSteps p retries s a b ticks)
 
 -- "then there is at most one tick in which two masters begin together", and what follows it in item 14
-abbrev pub Item14Of : Profile → ℕ → DevicesSettings → ℕ → ℕ → List ℕ → Type 0
+abbrev pub Item14Of : Profile → ℕ → List Setting → ℕ → ℕ → List ℕ → Type 0
 Item14Of p retries s a b ticks = LateStart mostData p retries a b (lateSteps p retries s a b ticks)
 
 -- what a run promises: its answer, and the numbers at the front of the lent events; where the premises hold item 14 of the run, and at most one sender in each number that was written but those of the overlap; and where both masters start in tick 0 all that a run of the common start promises
-pub record LateKeeps (p : Profile) (retries : ℕ) (s : DevicesSettings) (a b : ℕ) (ticks before : List ℕ) (r : RunEnded) (after : List ℕ) : Type 0 where
+pub record LateKeeps (p : Profile) (retries : ℕ) (s : List Setting) (a b : ℕ) (ticks before : List ℕ) (r : RunEnded) (after : List ℕ) : Type 0 where
   pub answered : ranAs r ≡ ranBy (linkStarts p retries s) (length (written (lateSteps p retries s a b ticks) before))
   pub events : after ≡ stored before 0 (written (lateSteps p retries s a b ticks) before)
   pub item-14 : LateRunPremises p retries s a b ticks → Item14Of p retries s a b ticks

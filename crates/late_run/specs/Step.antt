@@ -3,24 +3,23 @@
 use Prim.Native.Nat.{ℕ, _-_, _<_}
 use mathlib.Core.Path.{_≡_}
 use mathlib.Core.Bool.{true}
-use mathlib.Core.List.{List}
-use lib.ListN.{drop}
+use mathlib.Core.List.{List, [], _∷_}
+use lib.ListN.{length, drop, getD}
 use Rattle.base.specs.Choice.{if_then_else_, _=?_}
+use Rattle.base.specs.Lent as B
+use Rattle.base.specs.Lent.{Lent}
 use Rattle.frame.specs.Limits.{mostData}
 use Rattle.turns.specs.Link.{LinkStep, linkAfter}
-use Rattle.turns.specs.Late.{lateTick}
+use Rattle.turns.specs.Late.{lateTick, lateRun}
 use Rattle.turns.specs.declared.Master.{Master}
 use Rattle.turns.specs.declared.Stage.the-variants.{Free}
 use Rattle.master.specs.declared.MasterHostCall.{MasterHostCall}
-use Rattle.link.specs.Link.{MasterLent, DevicesLent}
-use Rattle.link.specs.Stands.{linkOf}
-use Rattle.link.specs.declared.Link.{Link}
-use Rattle.link.specs.declared.LinkCalls.{LinkCalls}
-use Rattle.link.specs.declared.MasterCall.{MasterCall}
-use Rattle.link.specs.declared.Masters.{Masters}
-use Rattle.tick_list.specs.Ticks.{callsIn}
-use Rattle.tick_list.specs.Coded.{BehindIs}
-use Rattle.link_run.specs.Run.{hereOf, tickNumber}
+use Rattle.parties.specs.Stands.{Rows, rowsOf, anyMaster, linkOf, heres, noMasterCall}
+use Rattle.parties.specs.declared.Calls.{Calls}
+use Rattle.parties.specs.declared.Link.{Link}
+use Rattle.parties.specs.declared.MasterCall.{MasterCall}
+use Rattle.tick_list.specs.Ticks.{behind, callsIn, ticksOf}
+use Rattle.link_run.specs.Run.{tickNumber, numbersOf}
 use Rattle.link_run.specs.declared.Stepped.{Stepped}
 use Rattle.late_run.specs.declared.StartTicks.{StartTicks}
 
@@ -32,18 +31,21 @@ startsBehind s = record { primary = s .primary - 1; secondary = s .secondary - 1
 abbrev pub callTaken : ℕ → MasterCall → MasterCall
 callTaken start c = if start =? 0 then c else record { call = MasterHostCall.Nothing; part = c .part }
 
-abbrev pub callsTaken : StartTicks → LinkCalls → LinkCalls
-callsTaken s c = record {
-  masters = record { primary = callTaken (s .primary) (c .masters .primary); secondary = callTaken (s .secondary) (c .masters .secondary) };
-  devices = c .devices;
-}
+abbrev pub requestsTaken : StartTicks → List MasterCall → List MasterCall
+requestsTaken s cs = callTaken (s .primary) (getD cs 0 noMasterCall) ∷ callTaken (s .secondary) (getD cs 1 noMasterCall) ∷ []
+
+abbrev pub callsTaken : StartTicks → Calls → Calls
+callsTaken s c = record { masters = requestsTaken s (c .masters); devices = c .devices }
 
 -- the link behind a tick: a master that has not started is what it was before
 abbrev pub masterBehind : ℕ → Master → Master → Master
 masterBehind start before ticked = if start =? 0 then ticked else before
 
-abbrev pub mastersBehind : StartTicks → Masters → Masters → Masters
-mastersBehind s before ticked = record { primary = masterBehind (s .primary) (before .primary) (ticked .primary); secondary = masterBehind (s .secondary) (before .secondary) (ticked .secondary) }
+abbrev pub mastersBehind : StartTicks → List Master → List Master → List Master
+mastersBehind s before ticked =
+    masterBehind (s .primary) (getD before 0 anyMaster) (getD ticked 0 anyMaster)
+    ∷ masterBehind (s .secondary) (getD before 1 anyMaster) (getD ticked 1 anyMaster)
+    ∷ []
 
 abbrev pub linkBehind : StartTicks → Link → Link → Link
 linkBehind s l t = record { masters = mastersBehind s (l .masters) (t .masters); devices = t .devices; line = t .line }
@@ -53,22 +55,28 @@ pub record Fresh (m : Master) : Type 0 where
   pub hears-nothing : m .deaf ≡ true
   pub no-message : m .message .stage ≡ Free
 
--- a master that has not started is fresh
+-- a link with six slots, in which a master that has not started is fresh
 pub record LateReady (s : StartTicks) (l : Link) : Type 0 where
-  pub primary : 0 < s .primary → Fresh (l .masters .primary)
-  pub secondary : 0 < s .secondary → Fresh (l .masters .secondary)
+  pub six : length (l .devices) ≡ 6
+  pub primary : 0 < s .primary → Fresh (getD (l .masters) 0 anyMaster)
+  pub secondary : 0 < s .secondary → Fresh (getD (l .masters) 1 anyMaster)
+
+-- the numbers of a whole run from a link on
+abbrev pub lateNumbers : Link → StartTicks → Rows → List ℕ → List ℕ
+lateNumbers l starts x ticks = numbersOf (lateRun mostData (starts .primary) (starts .secondary) (linkOf l x) (ticksOf (heres (l .devices)) ticks))
 
 -- the tick that turns gives for the calls at this place of the list
-abbrev pub stepAt : Link → StartTicks → MasterLent → MasterLent → DevicesLent → List ℕ → ℕ → LinkStep
-stepAt l starts p s d ticks at = lateTick mostData (starts .primary) (starts .secondary) (linkOf l p s d) (callsIn (hereOf (l .devices)) (drop at ticks))
+abbrev pub stepAt : Link → StartTicks → Rows → List ℕ → ℕ → LinkStep
+stepAt l starts x ticks at = lateTick mostData (starts .primary) (starts .secondary) (linkOf l x) (callsIn (heres (l .devices)) (drop at ticks))
 
-pub record LateStepping (l : Link) (starts : StartTicks) (ticks : List ℕ) (at : ℕ) (p s : MasterLent) (d : DevicesLent) (r : Stepped) (p-after s-after : MasterLent) (d-after : DevicesLent) : Type 0 where
-  pub behind-is : linkOf (r .link) p-after s-after d-after ≡ linkAfter (stepAt l starts p s d ticks at)
-  pub number-is : r .number ≡ tickNumber (stepAt l starts p s d ticks at)
+pub record LateStepping (l : Link) (starts : StartTicks) (ticks : List ℕ) (at : ℕ) (x : Rows) (r : Stepped) (x-after : Rows) : Type 0 where
+  pub behind-is : linkOf (r .link) x-after ≡ linkAfter (stepAt l starts x ticks at)
+  pub number-is : r .number ≡ tickNumber (stepAt l starts x ticks at)
   pub ready : LateReady (startsBehind starts) (r .link)
-  pub here : hereOf (r .link .devices) ≡ hereOf (l .devices)
-  pub next : BehindIs ticks at 8 (r .next)
+  pub slots : heres (r .link .devices) ≡ heres (l .devices)
+  pub next : drop (r .next) ticks ≡ behind 8 (drop at ticks)
 
 -- so it is for a link that is ready
-pub record LateStepIs (l : Link) (starts : StartTicks) (ticks : List ℕ) (at : ℕ) (p s : MasterLent) (d : DevicesLent) (r : Stepped) (p-after s-after : MasterLent) (d-after : DevicesLent) : Type 0 where
-  pub steps : LateReady starts l → LateStepping l starts ticks at p s d r p-after s-after d-after
+abbrev pub LateStepIs : Link → StartTicks → List ℕ → ℕ → Lent (List (List ℕ)) → Lent (List (List ℕ)) → Lent (List (List ℕ)) → Stepped → Type 0
+LateStepIs l starts ticks at frames bytes contents r =
+    LateReady starts l → LateStepping l starts ticks at (rowsOf (B.before frames) (B.before bytes) (B.before contents)) r (rowsOf (B.after frames) (B.after bytes) (B.after contents))

@@ -1,28 +1,22 @@
 // A run of the link over a lent list of ticks in which each master starts at a tick of its own, for which item 14 is promised.
 use line::Profile;
-use link::Link;
-use link::LinkCalls;
-use link::LinkTicked;
-use link::MasterCall;
-use link::Masters;
-use link::MastersCalls;
 use link_run::RunEnded;
 use link_run::Stepped;
-use link_start::DevicesSettings;
-use link_start::LinkStarted;
+use link_start::Setting;
+use link_start::StartAnswer;
+use parties::Calls;
+use parties::Link;
+use parties::MasterCall;
 use turns::Master;
 ghost use mathlib.Core.Path.{_≡_};
 ghost use Prim.Native.Nat.{_-_};
-ghost use Rattle.frame.specs.Limits.{mostData};
+ghost use lib.ListN.{length};
+ghost use Rattle.base.specs.Lent.{before, after};
 ghost use Rattle.line_c.specs.Recording.{RunIs};
-ghost use Rattle.turns.specs.Late.{lateRun};
-ghost use Rattle.link.specs.Link.{masterLends, devicesLend, after};
-ghost use Rattle.link.specs.Stands.{linkOf};
-ghost use Rattle.link_start.specs.Fresh.{masterFresh, devicesFresh};
-ghost use Rattle.tick_list.specs.Ticks.{ticksOf};
-ghost use Rattle.link_run.specs.Run.{numbersOf, hereOf};
+ghost use Rattle.parties.specs.Stands.{rowsOf};
+ghost use Rattle.link_start.specs.Fresh.{rowsFresh};
 ghost use Rattle.late_run.specs.Late.{LateKeeps};
-ghost use Rattle.late_run.specs.Step.{callTaken, callsTaken, masterBehind, mastersBehind, linkBehind, startsBehind, LateReady, LateStepIs};
+ghost use Rattle.late_run.specs.Step.{callTaken, requestsTaken, callsTaken, masterBehind, mastersBehind, linkBehind, startsBehind, LateReady, LateStepIs, lateNumbers};
 
 // In how many ticks each master starts: 0 for one that has started.
 pub struct StartTicks {
@@ -63,18 +57,21 @@ fn call_taken(start: u64, c: MasterCall) -> MasterCall
     }
 }
 
-fn calls_taken(s: StartTicks, calls: LinkCalls) -> LinkCalls
+fn requests_taken(s: StartTicks, requests: [MasterCall; 2]) -> [MasterCall; 2]
+    ensures { λ r. ⌜ r ≡ requestsTaken s requests ⌝ }
+{
+    let p = call_taken(s.primary, requests[0]);
+    let q = call_taken(s.secondary, requests[1]);
+    [p, q]
+}
+
+fn calls_taken(s: StartTicks, calls: Calls) -> Calls
     ensures { λ r. ⌜ r ≡ callsTaken s calls ⌝ }
 {
-    let m = calls.masters;
+    let requests = calls.masters;
     let devices = calls.devices;
-    let p = m.primary;
-    let q = m.secondary;
-    let masters = MastersCalls {
-        primary: call_taken(s.primary, p),
-        secondary: call_taken(s.secondary, q),
-    };
-    LinkCalls {
+    let masters = requests_taken(s, requests);
+    Calls {
         masters: masters,
         devices: devices,
     }
@@ -90,30 +87,25 @@ fn master_behind(start: u64, before: Master, ticked: Master) -> Master
     before
 }
 
-fn masters_behind(s: StartTicks, before: Masters, ticked: Masters) -> Masters
+fn masters_behind(s: StartTicks, before: [Master; 2], ticked: [Master; 2]) -> [Master; 2]
     ensures { λ r. ⌜ r ≡ mastersBehind s before ticked ⌝ }
 {
-    let p = before.primary;
-    let q = before.secondary;
-    let x = ticked.primary;
-    let y = ticked.secondary;
-    Masters {
-        primary: master_behind(s.primary, p, x),
-        secondary: master_behind(s.secondary, q, y),
-    }
+    let p = master_behind(s.primary, before[0], ticked[0]);
+    let q = master_behind(s.secondary, before[1], ticked[1]);
+    [p, q]
 }
 
 // The link behind a tick.
-fn link_behind(s: StartTicks, l: Link, t: LinkTicked) -> Link
-    ensures { λ r. ⌜ r ≡ linkBehind s l (after t) ⌝ }
+fn link_behind(s: StartTicks, l: Link, t: Link) -> Link
+    ensures { λ r. ⌜ r ≡ linkBehind s l t ⌝ }
 {
-    let b = link::behind(t);
     let before = l.masters;
-    let ticked = b.masters;
-    let devices = b.devices;
-    let line = b.line;
+    let ticked = t.masters;
+    let devices = t.devices;
+    let line = t.line;
+    let masters = masters_behind(s, before, ticked);
     Link {
-        masters: masters_behind(s, before, ticked),
+        masters: masters,
         devices: devices,
         line: line,
     }
@@ -125,35 +117,22 @@ fn step_at(
     s: StartTicks,
     ticks: &[u8],
     at: usize,
-    stx: &mut [u8; 284],
-    own: &mut [u8; 255],
-    stxs: &mut [u8; 284],
-    owns: &mut [u8; 255],
-    frames: &mut [[u8; 284]; 6],
-    bytes: &mut [[u8; 255]; 6],
+    frames: &mut [[u8; 284]; 8],
+    bytes: &mut [[u8; 255]; 8],
     contents: &mut [[u8; 255]; 6],
+    sent: &mut [[u16; 8]; 64],
 ) -> Stepped
-    ensures { λ r. ⌜ LateStepIs l s (now (ticks .entry)) at (masterLends (now (stx .entry)) (now (own .entry))) (masterLends (now (stxs .entry)) (now (owns .entry))) (devicesLend (now (frames .entry)) (now (bytes .entry)) (now (contents .entry))) r (masterLends (now (stx .exit)) (now (own .exit))) (masterLends (now (stxs .exit)) (now (owns .exit))) (devicesLend (now (frames .exit)) (now (bytes .exit)) (now (contents .exit))) ⌝ }
+    ensures { λ r. ⌜ LateStepIs l s (before ticks) at frames bytes contents r ⌝ }
 {
     let read = tick_list::read(ticks, at);
     let listed = read.calls;
     let calls = calls_taken(s, listed);
-    let t = link::tick(
-        l,
-        calls,
-        ticks,
-        stx,
-        own,
-        stxs,
-        owns,
-        frames,
-        bytes,
-        contents,
-    );
-    let behind = link_behind(s, l, t);
+    let t = link_ticks::ticks(l, calls, ticks, 1, frames, bytes, contents, sent);
+    let ticked = t.link;
+    let masters = t.masters;
     Stepped {
-        link: behind,
-        number: link_run::tick_number(t),
+        link: link_behind(s, l, ticked),
+        number: link_run::tick_number(&sent[0], masters),
         next: read.next,
     }
 }
@@ -164,17 +143,14 @@ fn run_from(
     starts: StartTicks,
     ticks: &[u8],
     events: &mut [u8],
-    stx: &mut [u8; 284],
-    own: &mut [u8; 255],
-    stxs: &mut [u8; 284],
-    owns: &mut [u8; 255],
-    frames: &mut [[u8; 284]; 6],
-    bytes: &mut [[u8; 255]; 6],
+    frames: &mut [[u8; 284]; 8],
+    bytes: &mut [[u8; 255]; 8],
     contents: &mut [[u8; 255]; 6],
 ) -> usize
     requires { ⌜ LateReady starts start ⌝ }
-    ensures { λ r. ⌜ RunIs (numbersOf (lateRun mostData (starts .primary) (starts .secondary) (linkOf start (masterLends (now (stx .entry)) (now (own .entry))) (masterLends (now (stxs .entry)) (now (owns .entry))) (devicesLend (now (frames .entry)) (now (bytes .entry)) (now (contents .entry)))) (ticksOf (hereOf (start .devices)) (now (ticks .entry))))) (now (events .entry)) r (now (events .exit)) ⌝ }
+    ensures { λ r. ⌜ RunIs (lateNumbers start starts (rowsOf (before frames) (before bytes) (before contents)) (before ticks)) (before events) r (after events) ⌝ }
 {
+    let mut sent = [[256u16; 8]; 64];
     let mut l = start;
     let mut s = starts;
     let mut at = 0;
@@ -185,19 +161,7 @@ fn run_from(
         }
         let place = i;
         i += 1;
-        let t = step_at(
-            l,
-            s,
-            ticks,
-            at,
-            stx,
-            own,
-            stxs,
-            owns,
-            frames,
-            bytes,
-            contents,
-        );
+        let t = step_at(l, s, ticks, at, frames, bytes, contents, &mut sent);
         events[place] = t.number;
         at = t.next;
         l = t.link;
@@ -206,27 +170,19 @@ fn run_from(
     i
 }
 
-// A run of a link that was started, with buffers of its own.
+// A run of a link that was started, with rows of its own.
 fn run_started(start: Link, starts: StartTicks, ticks: &[u8], events: &mut [u8]) -> usize
     requires { ⌜ LateReady starts start ⌝ }
-    ensures { λ r. ⌜ RunIs (numbersOf (lateRun mostData (starts .primary) (starts .secondary) (linkOf start masterFresh masterFresh devicesFresh) (ticksOf (hereOf (start .devices)) (now (ticks .entry))))) (now (events .entry)) r (now (events .exit)) ⌝ }
+    ensures { λ r. ⌜ RunIs (lateNumbers start starts rowsFresh (before ticks)) (before events) r (after events) ⌝ }
 {
-    let mut stx = [0u8; 284];
-    let mut own = [0u8; 255];
-    let mut stxs = [0u8; 284];
-    let mut owns = [0u8; 255];
-    let mut frames = [[0u8; 284]; 6];
-    let mut bytes = [[0u8; 255]; 6];
+    let mut frames = [[0u8; 284]; 8];
+    let mut bytes = [[0u8; 255]; 8];
     let mut contents = [[0u8; 255]; 6];
     run_from(
         start,
         starts,
         ticks,
         events,
-        &mut stx,
-        &mut own,
-        &mut stxs,
-        &mut owns,
         &mut frames,
         &mut bytes,
         &mut contents,
@@ -237,16 +193,18 @@ fn run_started(start: Link, starts: StartTicks, ticks: &[u8], events: &mut [u8])
 pub fn run(
     profile: Profile,
     retries: u8,
-    settings: DevicesSettings,
+    settings: [Setting; 6],
     starts: StartTicks,
     ticks: &[u8],
     events: &mut [u8],
 ) -> RunEnded
-    ensures { λ r. ⌜ LateKeeps profile retries settings (starts .primary) (starts .secondary) (now (ticks .entry)) (now (events .entry)) r (now (events .exit)) ⌝ }
+    ensures { λ r. ⌜ LateKeeps profile retries settings (starts .primary) (starts .secondary) (before ticks) (before events) r (after events) ⌝ }
 {
     let started = link_start::start(profile, retries, settings);
-    match started {
-        LinkStarted::Started(l) => RunEnded::Ran(run_started(l, starts, ticks, events)),
-        LinkStarted::Refused(why) => RunEnded::Refused(why),
+    let answer = started.answer;
+    let link = started.link;
+    match answer {
+        StartAnswer::Started => RunEnded::Ran(run_started(link, starts, ticks, events)),
+        StartAnswer::Refused(why) => RunEnded::Refused(why),
     }
 }

@@ -1,46 +1,39 @@
 -- A link that rests: what it is behind any number of ticks, and that nobody sends in them.
 use Prim.Native.Nat.{ℕ, zero, suc}
-use mathlib.Core.Bool.{true, false}
+use native.Mathlib.Omega.{arith}
+use mathlib.Core.Bool.{Bool, true, false}
 use mathlib.Core.Path.{_≡_, refl, sym, ap, subst, _∙_}
-use mathlib.Core.List.{List, [], _∷_, _++_}
+use mathlib.Core.List.{List, [], _∷_, map}
+use lib.ListN.{getD}
 use Rattle.base.specs.Choice.{if_then_else_}
-use Rattle.base.proofs.Choices.{true-false}
+use Rattle.base.proofs.Choices.{true-false, if-is-true}
 use Rattle.base.proofs.Tables.{chain-first, chain-second}
 use Rattle.line.specs.declared.Heard.{Heard}
 use Rattle.line.specs.declared.Heard.the-variants.{Silence, Character, Damaged}
 use Rattle.turns.specs.Link.{DeviceSide, DeviceStep, deviceTicks, linkTick, sides, carried, linkAfter}
 use Rattle.turns.specs.Link as L
-use Rattle.turns.specs.Run.{All, none, and}
-use Rattle.turns.specs.declared.Sent.{Sent}
-use Rattle.turns.specs.declared.Sent.the-variants.{Silent}
+use Rattle.turns.specs.Run.{All, none, and, deviceSenders, senders}
 use Rattle.party.specs.Hears.{isSilence}
-use Rattle.slots.specs.Slot.{Lent, slotSides}
-use Rattle.slots.specs.declared.Slot.{Slot}
-use Rattle.slots.specs.declared.Slot.the-variants.{Absent, Present}
-use Rattle.link.specs.Link.{MasterLent, DevicesLent}
-use Rattle.link.specs.Sents.{devicesSent, sentOf}
-use Rattle.link.specs.Stands.{devicesOf, linkOf}
-use Rattle.link.specs.declared.Link.{Link}
+use Rattle.parties.specs.Stands.{Rows, anyMaster, deviceAt, ifHere, devicesFrom, linkOf}
+use Rattle.parties.specs.declared.Link.{Link}
+use Rattle.parties.specs.declared.Slot.{Slot}
+use Rattle.parties.proofs.Ways.{quietDevice, quietMaster}
 use Rattle.link_rests.specs.Uncalled.{uncalledTick, afterTicks}
-use Rattle.link_rests.specs.Rests.{masterRests, slotRests, pairRests, devicesRest, mastersRest, linkRests, timerRested, deviceRested, slotRested, devicesRested, linkRested}
-use Rattle.link_rests.proofs.Resting.{DeviceRests, device-rests, MasterRests, master-rests, deviceSide, deviceStep, device-tick, device-rests-on, device-one-more, masterSide, masterStep, master-tick, master-rests-on}
+use Rattle.link_rests.specs.Rests.{deviceRests, masterRests, slotRests, slotsRest, mastersRest, linkRests, timerRested, slotRested, linkRested}
+use Rattle.link_rests.proofs.Resting.{counts-is, DeviceRests, deviceSide, device-tick, device-rests-on, device-one-more, MasterRests, masterSide, master-tick, master-rests-on}
 
 -- ---- the devices
 
-abbrev pub SideRests : DeviceSide → Type 0
+abbrev SideRests : DeviceSide → Type 0
 SideRests x = DeviceRests (x .device)
 
-unfoldable pub sidesRested : ℕ → List DeviceSide → List DeviceSide
+unfoldable sidesRested : ℕ → List DeviceSide → List DeviceSide
 sidesRested n [] = []
 sidesRested n (x ∷ xs) = deviceSide n x ∷ sidesRested n xs
 
-unfoldable pub silents : List DeviceSide → List Sent
-silents [] = []
-silents (x ∷ xs) = Silent ∷ silents xs
-
 unfoldable steps : List DeviceSide → List DeviceStep
 steps [] = []
-steps (x ∷ xs) = deviceStep x ∷ steps xs
+steps (x ∷ xs) = quietDevice (deviceSide 1 x) ∷ steps xs
 
 ticks-rest : {xs : List DeviceSide} → All SideRests xs → deviceTicks 255 Silence xs [] ≡ steps xs
 unfolding deviceTicks steps
@@ -57,15 +50,10 @@ unfolding carried steps
 steps-carried [] = refl
 steps-carried (x ∷ xs) = steps-carried xs
 
-silents-same : (n : ℕ) (xs : List DeviceSide) → silents (sidesRested n xs) ≡ silents xs
-unfolding sidesRested silents
-silents-same n [] = refl
-silents-same n (x ∷ xs) = ap (λ (ss : List Sent). Silent ∷ ss) (silents-same n xs)
-
-steps-sent : (xs : List DeviceSide) → devicesSent (steps xs) ≡ silents xs
-unfolding devicesSent steps silents
+steps-sent : (xs : List DeviceSide) → deviceSenders (steps xs) ≡ 0
+unfolding deviceSenders steps
 steps-sent [] = refl
-steps-sent (x ∷ xs) = ap (λ (ys : List Sent). Silent ∷ ys) (steps-sent xs)
+steps-sent (x ∷ xs) = omega (arith, steps-sent xs)
 
 all-rest-on : (n : ℕ) {xs : List DeviceSide} → All SideRests xs → All SideRests (sidesRested n xs)
 unfolding sidesRested
@@ -79,19 +67,19 @@ all-one-more n (x ∷ xs) = λ i. record { device = device-one-more n (x .device
 
 -- ---- the link
 
-pub record LinkRests (l : L.Link) : Type 0 where
+record LinkRests (l : L.Link) : Type 0 where
   pub primary : MasterRests (l .primary .master)
   pub secondary : MasterRests (l .secondary .master)
   pub devices : All SideRests (l .devices)
   pub line-is : l .line ≡ Silence
 
-abbrev pub restedLink : ℕ → L.Link → L.Link
+abbrev restedLink : ℕ → L.Link → L.Link
 restedLink n l = record { primary = masterSide n (l .primary); secondary = masterSide n (l .secondary); devices = sidesRested n (l .devices); line = Silence }
 
 on-silent-line : (l : L.Link) → l .line ≡ Silence → l ≡ record { primary = l .primary; secondary = l .secondary; devices = l .devices; line = Silence }
 on-silent-line l e = λ i. record { primary = l .primary; secondary = l .secondary; devices = l .devices; line = e i }
 
-rest-step : (l : L.Link) → LinkRests l → uncalledTick l ≡ record { for-primary = masterStep (l .primary); for-secondary = masterStep (l .secondary); for-devices = steps (l .devices) }
+rest-step : (l : L.Link) → LinkRests l → uncalledTick l ≡ record { for-primary = quietMaster (masterSide 1 (l .primary)); for-secondary = quietMaster (masterSide 1 (l .secondary)); for-devices = steps (l .devices) }
 unfolding linkTick
 rest-step l r =
     ap uncalledTick (on-silent-line l (r .line-is))
@@ -103,8 +91,8 @@ rest-after l r =
     ∙ (λ i. record { primary = masterSide 1 (l .primary); secondary = masterSide 1 (l .secondary); devices = steps-sides (l .devices) i; line = steps-carried (l .devices) i })
 
 -- nobody sends
-pub rest-sent : (l : L.Link) → LinkRests l → sentOf (uncalledTick l) ≡ Silent ∷ Silent ∷ silents (l .devices)
-rest-sent l r = ap sentOf (rest-step l r) ∙ ap (λ (ss : List Sent). Silent ∷ Silent ∷ ss) (steps-sent (l .devices))
+rest-sent : (l : L.Link) → LinkRests l → senders (uncalledTick l) ≡ 0
+rest-sent l r = omega (arith, ap senders (rest-step l r), steps-sent (l .devices))
 
 rests-again : (n : ℕ) (l : L.Link) → LinkRests l → LinkRests (restedLink n l)
 rests-again n l r = record { primary = master-rests-on n (l .primary .master) (r .primary); secondary = master-rests-on n (l .secondary .master) (r .secondary); devices = all-rest-on n (r .devices); line-is = refl }
@@ -124,67 +112,52 @@ rests-on (suc n) l r = subst LinkRests (sym (rests-for n l r)) (rests-again (suc
 
 -- ---- the code's link
 
-slot-sides : (n : ℕ) (s : Slot) (x : Lent) (xs ys : List DeviceSide) → xs ≡ sidesRested n ys → (slotSides (slotRested n s) x ++ xs) ≡ sidesRested n (slotSides s x ++ ys)
-unfolding sidesRested
-slot-sides n Absent x xs ys e = e
-slot-sides n (Present d) x xs ys e = ap (λ (zs : List DeviceSide). record { device = deviceRested n d; frame = x .frame; bytes = x .bytes; contents = x .contents } ∷ zs) e
+slots-are : (x : Rows) (n i : ℕ) (ss : List Slot) → devicesFrom x i (map (slotRested n) ss) ≡ sidesRested n (devicesFrom x i ss)
+unfolding devicesFrom sidesRested
+slots-are x n i [] = refl
+slots-are x n i (s ∷ ss) = by (s .here) (slots-are x n (suc i) ss)
+  where
+    by : (h : Bool) → devicesFrom x (suc i) (map (slotRested n) ss) ≡ sidesRested n (devicesFrom x (suc i) ss)
+        → ifHere h (deviceAt x i (slotRested n s .device)) (devicesFrom x (suc i) (map (slotRested n) ss)) ≡ sidesRested n (ifHere h (deviceAt x i (s .device)) (devicesFrom x (suc i) ss))
+    by true e = ap (λ (xs : List DeviceSide). deviceAt x i (slotRested n s .device) ∷ xs) e
+    by false e = e
 
-slot-all : (s : Slot) (x : Lent) (xs : List DeviceSide) → slotRests s ≡ true → All SideRests xs → All SideRests (slotSides s x ++ xs)
-slot-all Absent x xs e a = a
-slot-all (Present d) x xs e a = and (device-rests d e) a
+slots-rest : (x : Rows) (i : ℕ) (ss : List Slot) → slotsRest ss ≡ true → All SideRests (devicesFrom x i ss)
+unfolding devicesFrom slotsRest
+slots-rest x i [] e = none
+slots-rest x i (s ∷ ss) e =
+    by (s .here) refl (chain-first (slotRests s) (slotsRest ss) e) (slots-rest x (suc i) ss (chain-second (slotRests s) (slotsRest ss) e))
+  where
+    by : (h : Bool) → s .here ≡ h → slotRests s ≡ true → All SideRests (devicesFrom x (suc i) ss) → All SideRests (ifHere h (deviceAt x i (s .device)) (devicesFrom x (suc i) ss))
+    by true k r others = and (counts-is _ (sym (if-is-true (s .here) (deviceRests (s .device)) true k) ∙ r)) others
+    by false k r others = others
 
-module _ (l : Link) (x y : MasterLent) (d : DevicesLent) where
-  devices-are : (n : ℕ) → devicesOf (devicesRested n (l .devices)) d ≡ sidesRested n (devicesOf (l .devices) d)
-  unfolding sidesRested
-  devices-are n =
-      let s = l .devices in
-      slot-sides n (s .low .left) _ _ _
-      (slot-sides n (s .low .right) _ _ _
-      (slot-sides n (s .middle .left) _ _ _
-      (slot-sides n (s .middle .right) _ _ _
-      (slot-sides n (s .high .left) _ _ _
-      (slot-sides n (s .high .right) _ _ _ refl)))))
-
-  link-are : (n : ℕ) → linkOf (linkRested n l) x y d ≡ restedLink n (linkOf l x y d)
-  link-are n = λ i. record { primary = restedLink n (linkOf l x y d) .primary; secondary = restedLink n (linkOf l x y d) .secondary; devices = devices-are n i; line = Silence }
+module _ (l : Link) (x : Rows) where
+  link-are : (n : ℕ) → linkOf (linkRested n l) x ≡ restedLink n (linkOf l x)
+  link-are n = λ i. record { primary = restedLink n (linkOf l x) .primary; secondary = restedLink n (linkOf l x) .secondary; devices = slots-are x n 0 (l .devices) i; line = Silence }
 
   silent-is : (h : Heard) → isSilence h ≡ true → h ≡ Silence
   silent-is Silence e = refl
   silent-is (Character c) e = absurd (true-false (sym e))
   silent-is (Damaged c kind) e = absurd (true-false (sym e))
 
-  pub link-rests : linkRests l ≡ true → LinkRests (linkOf l x y d)
+  link-rests : linkRests l ≡ true → LinkRests (linkOf l x)
   link-rests e =
-      let s = l .devices in
-      let both = chain-second (isSilence (l .line)) (if mastersRest (l .masters) then devicesRest s else false) e in
-      let ms = chain-first (mastersRest (l .masters)) (devicesRest s) both in
-      let ds = chain-second (mastersRest (l .masters)) (devicesRest s) both in
-      let lows = chain-first (pairRests (s .low)) (if pairRests (s .middle) then pairRests (s .high) else false) ds in
-      let rest = chain-second (pairRests (s .low)) (if pairRests (s .middle) then pairRests (s .high) else false) ds in
-      let middles = chain-first (pairRests (s .middle)) (pairRests (s .high)) rest in
-      let highs = chain-second (pairRests (s .middle)) (pairRests (s .high)) rest in
+      let both = chain-second (isSilence (l .line)) (if mastersRest (l .masters) then slotsRest (l .devices) else false) e in
+      let ms = chain-first (mastersRest (l .masters)) (slotsRest (l .devices)) both in
+      let first = masterRests (getD (l .masters) 0 anyMaster) in
+      let second = masterRests (getD (l .masters) 1 anyMaster) in
       record {
-        primary = master-rests (l .masters .primary) (chain-first (masterRests (l .masters .primary)) (masterRests (l .masters .secondary)) ms);
-        secondary = master-rests (l .masters .secondary) (chain-second (masterRests (l .masters .primary)) (masterRests (l .masters .secondary)) ms);
-        devices =
-            slot-all (s .low .left) _ _ (chain-first (slotRests (s .low .left)) (slotRests (s .low .right)) lows)
-            (slot-all (s .low .right) _ _ (chain-second (slotRests (s .low .left)) (slotRests (s .low .right)) lows)
-            (slot-all (s .middle .left) _ _ (chain-first (slotRests (s .middle .left)) (slotRests (s .middle .right)) middles)
-            (slot-all (s .middle .right) _ _ (chain-second (slotRests (s .middle .left)) (slotRests (s .middle .right)) middles)
-            (slot-all (s .high .left) _ _ (chain-first (slotRests (s .high .left)) (slotRests (s .high .right)) highs)
-            (slot-all (s .high .right) _ _ (chain-second (slotRests (s .high .left)) (slotRests (s .high .right)) highs) none)))));
-        line-is = silent-is (l .line) (chain-first (isSilence (l .line)) (if mastersRest (l .masters) then devicesRest s else false) e);
+        primary = counts-is _ (chain-first first second ms);
+        secondary = counts-is _ (chain-second first second ms);
+        devices = slots-rest x 0 (l .devices) (chain-second (mastersRest (l .masters)) (slotsRest (l .devices)) both);
+        line-is = silent-is (l .line) (chain-first (isSilence (l .line)) (if mastersRest (l .masters) then slotsRest (l .devices) else false) e);
       }
 
   -- behind one tick or more
-  pub rested-agrees : (n : ℕ) → linkRests l ≡ true → linkOf (linkRested (suc n) l) x y d ≡ afterTicks (suc n) (linkOf l x y d)
-  rested-agrees n e = link-are (suc n) ∙ sym (rests-for n (linkOf l x y d) (link-rests e))
+  pub rested-agrees : (n : ℕ) → linkRests l ≡ true → linkOf (linkRested (suc n) l) x ≡ afterTicks (suc n) (linkOf l x)
+  rested-agrees n e = link-are (suc n) ∙ sym (rests-for n (linkOf l x) (link-rests e))
 
   -- nobody sends in any tick
-  pub rested-sent : (n : ℕ) → linkRests l ≡ true → sentOf (uncalledTick (afterTicks n (linkOf l x y d))) ≡ Silent ∷ Silent ∷ silents (devicesOf (l .devices) d)
-  unfolding afterTicks
-  rested-sent zero e = rest-sent (linkOf l x y d) (link-rests e)
-  rested-sent (suc n) e =
-      rest-sent (afterTicks (suc n) (linkOf l x y d)) (rests-on (suc n) (linkOf l x y d) (link-rests e))
-      ∙ ap (λ (z : L.Link). Silent ∷ Silent ∷ silents (z .devices)) (rests-for n (linkOf l x y d) (link-rests e))
-      ∙ ap (λ (ss : List Sent). Silent ∷ Silent ∷ ss) (silents-same (suc n) (devicesOf (l .devices) d))
+  pub rested-sent : (n : ℕ) → linkRests l ≡ true → senders (uncalledTick (afterTicks n (linkOf l x))) ≡ 0
+  rested-sent n e = rest-sent (afterTicks n (linkOf l x)) (rests-on n (linkOf l x) (link-rests e))

@@ -1,83 +1,56 @@
 -- Inner contracts: nothing that is to be believed rests on them.
--- A link that rests: the line is silent, no master has a message, no device bursts, and nobody has heard anything of a frame. Until a host calls, nothing but timers changes, and nobody sends.
+-- A link that rests: the line is silent, and every party only counts. Until a host calls, nothing but timers changes, and nobody sends.
 use Prim.Native.Nat.{ℕ, zero, suc, _-_}
 use mathlib.Core.Bool.{Bool, true, false}
+use mathlib.Core.List.{List, [], _∷_, map}
+use lib.ListN.{getD}
 use Rattle.base.specs.Choice.{if_then_else_}
 use Rattle.line.specs.Reader.{idle}
-use Rattle.line.specs.declared.Heard.{Heard}
-use Rattle.line.specs.declared.Heard.the-variants.{Silence, Character, Damaged}
-use Rattle.line.specs.declared.Place.{Place}
-use Rattle.line.specs.declared.Place.the-variants.{Passing, Idle, Preamble, First, Address, Expansion, Command, Count, Data, Check}
+use Rattle.line.specs.declared.Heard.the-variants.{Silence}
 use Rattle.line.specs.declared.Profile.{Profile}
 use Rattle.turns.specs.Device as D
 use Rattle.turns.specs.Master as M
 use Rattle.turns.specs.Master.{countClear}
 use Rattle.turns.specs.declared.Device.{Device}
 use Rattle.turns.specs.declared.Master.{Master}
-use Rattle.turns.specs.declared.Stage.{Stage}
-use Rattle.turns.specs.declared.Stage.the-variants.{Free, Waiting, Sending, Awaiting}
 use Rattle.turns.specs.declared.Timer.{Timer}
-use Rattle.turns.specs.declared.Turn.{Turn}
-use Rattle.turns.specs.declared.Turn.the-variants.{Listens, Asked, AnswerWaits, Begins, Answers, Follows, Bursts}
+use Rattle.turns.specs.declared.Turn.the-variants.{Listens}
 use Rattle.party.specs.Hears.{isSilence}
-use Rattle.slots.specs.declared.Devices.{Devices}
-use Rattle.slots.specs.declared.Pair.{Pair}
-use Rattle.slots.specs.declared.Slot.{Slot}
-use Rattle.slots.specs.declared.Slot.the-variants.{Absent, Present}
-use Rattle.link.specs.declared.Link.{Link}
-use Rattle.link.specs.declared.Masters.{Masters}
+use Rattle.master.specs.declared.MasterHostCall as MasterHost
+use Rattle.device_tick.specs.declared.DeviceHostCall as DeviceHost
+use Rattle.parties.specs.Stands.{anyMaster}
+use Rattle.parties.specs.Ways.{deviceWay, masterWay}
+use Rattle.parties.specs.declared.Link.{Link}
+use Rattle.parties.specs.declared.Slot.{Slot}
+use Rattle.parties.specs.declared.Way.{Way}
+use Rattle.parties.specs.declared.Way.the-variants.{Counts, Hears, Acts}
 
 -- ---- who rests
 
--- a reader before a frame
-abbrev pub isIdle : Place → Bool
-isIdle Passing = false
-isIdle Idle = true
-isIdle (Preamble n) = false
-isIdle First = false
-isIdle (Address n) = false
-isIdle (Expansion n) = false
-isIdle Command = false
-isIdle Count = false
-isIdle (Data n) = false
-isIdle Check = false
-
-abbrev pub isListening : Turn → Bool
-isListening Listens = true
-isListening (Asked n) = false
-isListening AnswerWaits = false
-isListening Begins = false
-isListening (Answers n) = false
-isListening Follows = false
-isListening (Bursts n) = false
-
-abbrev pub isFree : Stage → Bool
-isFree Free = true
-isFree Waiting = false
-isFree (Sending n) = false
-isFree (Awaiting n) = false
+abbrev pub onlyCounts : Way → Bool
+onlyCounts Counts = true
+onlyCounts (Hears r) = false
+onlyCounts Acts = false
 
 abbrev pub deviceRests : Device → Bool
-deviceRests d = if d .deaf then false else if d .burst then false else if isListening (d .turn) then isIdle (d .receiver .place) else false
+deviceRests d = onlyCounts (deviceWay d Silence DeviceHost.DeviceHostCall.Nothing)
 
 abbrev pub masterRests : Master → Bool
-masterRests m = if m .deaf then false else if m .burst then false else if isFree (m .message .stage) then isIdle (m .receiver .place) else false
+masterRests m = onlyCounts (masterWay m Silence MasterHost.MasterHostCall.Nothing)
 
+-- where no device is here, nothing changes
 abbrev pub slotRests : Slot → Bool
-slotRests Absent = true
-slotRests (Present d) = deviceRests d
+slotRests s = if s .here then deviceRests (s .device) else true
 
-abbrev pub pairRests : Pair → Bool
-pairRests p = if slotRests (p .left) then slotRests (p .right) else false
+unfoldable pub slotsRest : List Slot → Bool
+slotsRest [] = true
+slotsRest (s ∷ ss) = if slotRests s then slotsRest ss else false
 
-abbrev pub devicesRest : Devices → Bool
-devicesRest d = if pairRests (d .low) then (if pairRests (d .middle) then pairRests (d .high) else false) else false
-
-abbrev pub mastersRest : Masters → Bool
-mastersRest m = if masterRests (m .primary) then masterRests (m .secondary) else false
+abbrev pub mastersRest : List Master → Bool
+mastersRest ms = if masterRests (getD ms 0 anyMaster) then masterRests (getD ms 1 anyMaster) else false
 
 abbrev pub linkRests : Link → Bool
-linkRests l = if isSilence (l .line) then (if mastersRest (l .masters) then devicesRest (l .devices) else false) else false
+linkRests l = if isSilence (l .line) then (if mastersRest (l .masters) then slotsRest (l .devices) else false) else false
 
 -- ---- behind so many silent ticks
 
@@ -94,17 +67,10 @@ abbrev pub masterRested : ℕ → Master → Master
 masterRested n m = M.masterWith m idle (m .burst) (m .noted) (timerRested n (m .profile) (m .timer)) (m .message)
 
 abbrev pub slotRested : ℕ → Slot → Slot
-slotRested n Absent = Absent
-slotRested n (Present d) = Present (deviceRested n d)
+slotRested n s = record { device = deviceRested n (s .device); here = s .here }
 
-abbrev pub pairRested : ℕ → Pair → Pair
-pairRested n p = record { left = slotRested n (p .left); right = slotRested n (p .right) }
-
-abbrev pub devicesRested : ℕ → Devices → Devices
-devicesRested n d = record { low = pairRested n (d .low); middle = pairRested n (d .middle); high = pairRested n (d .high) }
-
-abbrev pub mastersRested : ℕ → Masters → Masters
-mastersRested n m = record { primary = masterRested n (m .primary); secondary = masterRested n (m .secondary) }
+abbrev pub mastersRested : ℕ → List Master → List Master
+mastersRested n ms = masterRested n (getD ms 0 anyMaster) ∷ masterRested n (getD ms 1 anyMaster) ∷ []
 
 abbrev pub linkRested : ℕ → Link → Link
-linkRested n l = record { masters = mastersRested n (l .masters); devices = devicesRested n (l .devices); line = Silence }
+linkRested n l = record { masters = mastersRested n (l .masters); devices = map (slotRested n) (l .devices); line = Silence }

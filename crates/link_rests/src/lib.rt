@@ -1,141 +1,85 @@
-// A link that rests: until a host calls, nothing but timers changes. What it is behind any number of ticks, worked out party by party.
+// A link that rests: the line is silent, and every party only counts. Until a host calls, nothing but timers changes. What it is behind any number of ticks, worked out party by party.
 use line::Heard;
-use line::Place;
 use line::Profile;
-use link::Link;
-use link::Masters;
-use slots::Devices;
-use slots::Pair;
-use slots::Slot;
+use parties::Link;
+use parties::Slot;
+use parties::Way;
 use turns::Device;
 use turns::Master;
-use turns::Stage;
 use turns::Timer;
 use turns::Turn;
 ghost use mathlib.Core.Path.{_≡_};
+ghost use mathlib.Core.Bool.{false};
+ghost use mathlib.Core.List.{map};
 ghost use Prim.Native.Nat.{_-_};
-ghost use Rattle.link_rests.specs.Rests.{isIdle, isListening, isFree, deviceRests, masterRests, slotRests, pairRests, devicesRest, mastersRest, linkRests, deviceRested, timerRested, masterRested, slotRested, pairRested, devicesRested, mastersRested, linkRested};
+ghost use Rattle.base.specs.Choice.{if_then_else_};
+ghost use Rattle.link_rests.specs.Rests.{onlyCounts, deviceRests, masterRests, slotRests, slotsRest, mastersRest, linkRests};
+ghost use Rattle.link_rests.specs.Rests.{deviceRested, timerRested, masterRested, slotRested, mastersRested, linkRested};
 
-// Whether a reader is before a frame.
-pub fn is_idle(place: Place) -> bool
-    ensures { λ r. ⌜ r ≡ isIdle place ⌝ }
+// Whether a tick that goes so only counts.
+fn only_counts(way: Way) -> bool
+    ensures { λ r. ⌜ r ≡ onlyCounts way ⌝ }
 {
-    match place {
-        Place::Passing => false,
-        Place::Idle => true,
-        Place::Preamble(_) => false,
-        Place::First => false,
-        Place::Address(_) => false,
-        Place::Expansion(_) => false,
-        Place::Command => false,
-        Place::Count => false,
-        Place::Data(_) => false,
-        Place::Check => false,
-    }
-}
-
-fn is_listening(turn: Turn) -> bool
-    ensures { λ r. ⌜ r ≡ isListening turn ⌝ }
-{
-    match turn {
-        Turn::Listens => true,
-        Turn::Asked(_) => false,
-        Turn::AnswerWaits => false,
-        Turn::Begins => false,
-        Turn::Answers(_) => false,
-        Turn::Follows => false,
-        Turn::Bursts(_) => false,
-    }
-}
-
-fn is_free(stage: Stage) -> bool
-    ensures { λ r. ⌜ r ≡ isFree stage ⌝ }
-{
-    match stage {
-        Stage::Free => true,
-        Stage::Waiting => false,
-        Stage::Sending(_) => false,
-        Stage::Awaiting(_) => false,
+    match way {
+        Way::Counts => true,
+        Way::Hears(_) => false,
+        Way::Acts => false,
     }
 }
 
 fn device_rests(d: Device) -> bool
     ensures { λ r. ⌜ r ≡ deviceRests d ⌝ }
 {
-    let turn = d.turn;
-    let reader = d.receiver;
-    let place = reader.place;
-    if d.deaf {
-        return false;
-    }
-    if d.burst {
-        return false;
-    }
-    if is_listening(turn) {
-        return is_idle(place);
-    }
-    false
+    let none = parties::no_device_call();
+    only_counts(parties::device_way(d, Heard::Silence, none))
 }
 
 fn master_rests(m: Master) -> bool
     ensures { λ r. ⌜ r ≡ masterRests m ⌝ }
 {
-    let message = m.message;
-    let stage = message.stage;
-    let reader = m.receiver;
-    let place = reader.place;
-    if m.deaf {
-        return false;
+    let none = parties::no_master_call();
+    only_counts(parties::master_way(m, Heard::Silence, none))
+}
+
+fn slot_rests(s: Slot) -> bool
+    ensures { λ r. ⌜ r ≡ slotRests s ⌝ }
+{
+    let d = s.device;
+    if s.here {
+        return device_rests(d);
     }
-    if m.burst {
-        return false;
-    }
-    if is_free(stage) {
-        return is_idle(place);
+    true
+}
+
+// Whether both hold.
+fn both(a: bool, b: bool) -> bool
+    ensures { λ r. ⌜ r ≡ (if a then b else false) ⌝ }
+{
+    if a {
+        return b;
     }
     false
 }
 
-fn slot_rests(slot: Slot) -> bool
-    ensures { λ r. ⌜ r ≡ slotRests slot ⌝ }
+fn slots_rest(slots: [Slot; 6]) -> bool
+    ensures { λ r. ⌜ r ≡ slotsRest slots ⌝ }
 {
-    match slot {
-        Slot::Absent => true,
-        Slot::Present(d) => device_rests(d),
+    let mut rest = true;
+    let mut i = 0;
+    while i < 6 {
+        let s = slots[i];
+        let rests = slot_rests(s);
+        rest = both(rest, rests);
+        i += 1;
     }
+    rest
 }
 
-fn pair_rests(pair: Pair) -> bool
-    ensures { λ r. ⌜ r ≡ pairRests pair ⌝ }
-{
-    let left = pair.left;
-    let right = pair.right;
-    if slot_rests(left) {
-        return slot_rests(right);
-    }
-    false
-}
-
-fn devices_rest(devices: Devices) -> bool
-    ensures { λ r. ⌜ r ≡ devicesRest devices ⌝ }
-{
-    let low = devices.low;
-    let middle = devices.middle;
-    let high = devices.high;
-    if pair_rests(low) {
-        if pair_rests(middle) {
-            return pair_rests(high);
-        }
-        return false;
-    }
-    false
-}
-
-fn masters_rest(masters: Masters) -> bool
+fn masters_rest(masters: [Master; 2]) -> bool
     ensures { λ r. ⌜ r ≡ mastersRest masters ⌝ }
 {
-    let primary = masters.primary;
-    let secondary = masters.secondary;
+    let primary = masters[0];
+    let secondary = masters[1];
     if master_rests(primary) {
         return master_rests(secondary);
     }
@@ -151,7 +95,7 @@ pub fn link_rests(l: Link) -> bool
     let devices = l.devices;
     if party::is_silence(line) {
         if masters_rest(masters) {
-            return devices_rest(devices);
+            return slots_rest(devices);
         }
         return false;
     }
@@ -210,48 +154,39 @@ fn master_rested(m: Master, ticks: u16) -> Master
     master_rules::with_parts(m, idle, m.burst, noted, timer, message)
 }
 
-fn slot_rested(slot: Slot, ticks: u16) -> Slot
-    ensures { λ r. ⌜ r ≡ slotRested ticks slot ⌝ }
+fn slot_rested(s: Slot, ticks: u16) -> Slot
+    ensures { λ r. ⌜ r ≡ slotRested ticks s ⌝ }
 {
-    match slot {
-        Slot::Absent => Slot::Absent,
-        Slot::Present(d) => Slot::Present(device_rested(d, ticks)),
+    let d = s.device;
+    let device = device_rested(d, ticks);
+    Slot {
+        device: device,
+        here: s.here,
     }
 }
 
-fn pair_rested(pair: Pair, ticks: u16) -> Pair
-    ensures { λ r. ⌜ r ≡ pairRested ticks pair ⌝ }
+fn slots_rested(slots: [Slot; 6], ticks: u16) -> [Slot; 6]
+    ensures { λ r. ⌜ r ≡ map (slotRested ticks) slots ⌝ }
 {
-    let left = pair.left;
-    let right = pair.right;
-    Pair {
-        left: slot_rested(left, ticks),
-        right: slot_rested(right, ticks),
+    let mut all = slots;
+    let mut i = 0;
+    while i < 6 {
+        let s = all[i];
+        let rested = slot_rested(s, ticks);
+        all[i] = rested;
+        i += 1;
     }
+    all
 }
 
-fn devices_rested(devices: Devices, ticks: u16) -> Devices
-    ensures { λ r. ⌜ r ≡ devicesRested ticks devices ⌝ }
-{
-    let low = devices.low;
-    let middle = devices.middle;
-    let high = devices.high;
-    Devices {
-        low: pair_rested(low, ticks),
-        middle: pair_rested(middle, ticks),
-        high: pair_rested(high, ticks),
-    }
-}
-
-fn masters_rested(masters: Masters, ticks: u16) -> Masters
+fn masters_rested(masters: [Master; 2], ticks: u16) -> [Master; 2]
     ensures { λ r. ⌜ r ≡ mastersRested ticks masters ⌝ }
 {
-    let primary = masters.primary;
-    let secondary = masters.secondary;
-    Masters {
-        primary: master_rested(primary, ticks),
-        secondary: master_rested(secondary, ticks),
-    }
+    let p = masters[0];
+    let s = masters[1];
+    let primary = master_rested(p, ticks);
+    let secondary = master_rested(s, ticks);
+    [primary, secondary]
 }
 
 // A link that rests, behind so many ticks.
@@ -262,7 +197,7 @@ pub fn link_rested(l: Link, ticks: u16) -> Link
     let devices = l.devices;
     Link {
         masters: masters_rested(masters, ticks),
-        devices: devices_rested(devices, ticks),
+        devices: slots_rested(devices, ticks),
         line: Heard::Silence,
     }
 }

@@ -15,14 +15,16 @@ use Rattle.turns.specs.Demand3.{Premises, WaitIn}
 use Rattle.turns.proofs.Wait as W
 use Rattle.turns.proofs.Credit.{credit-in-a-run}
 use Rattle.turns.proofs.Backs.{backs-in-a-run}
-use Rattle.link.specs.declared.Link.{Link}
+use Rattle.parties.specs.Stands.{heres}
+use Rattle.parties.specs.declared.Link.{Link}
 use Rattle.link_start.specs.Fresh.{lentFresh}
-use Rattle.link_start.specs.Start.{linkStarts, linkAs}
-use Rattle.link_start.specs.declared.DevicesSettings.{DevicesSettings}
+use Rattle.link_start.specs.Start.{linkStarts, made, StartedIs}
+use Rattle.link_start.specs.declared.Setting.{Setting}
 use Rattle.link_start.specs.declared.LinkStarted.{LinkStarted}
-use Rattle.link_start.proofs.Started.{all-start}
+use Rattle.link_start.specs.declared.StartAnswer.{StartAnswer}
+use Rattle.link_start.proofs.Started.{slots-started, all-start}
 use Rattle.tick_list.specs.Ticks.{ticksOf}
-use Rattle.link_run.specs.Run.{hereOf, runSteps, stepsBy, stepsOf, devicesBy, FindsBy, numbersOf, ranAs, ranBy, OneSender, RunPremises, Demand3Of, CreditOf, BacksOf, written, RunKeeps}
+use Rattle.link_run.specs.Run.{runSteps, stepsBy, stepsOf, devicesBy, FindsBy, numbersOf, ranAs, ranBy, OneSender, RunPremises, Demand3Of, CreditOf, BacksOf, written, RunKeeps}
 use Rattle.link_run.specs.declared.RunEnded.{RunEnded}
 use Rattle.link_run.proofs.Senders.{none-in-tick, written-tells}
 
@@ -35,73 +37,82 @@ no-wait p retries primary t s after e a = absurd (impossible (sym (drop-nil t) �
     impossible q = let k : _≡_ {A = ℕ} 0 (length (s ∷ after)) = ap length q in omega (arith, k)
 
 -- the premises of turns, for the link that was started
-premises : (p : Profile) (retries : ℕ) (s : DevicesSettings) (ticks : List ℕ) (l : Link) → linkStarts p retries s ≡ accepted l → RunPremises p retries s ticks → Premises 255 p retries (lentFresh l) (ticksOf (hereOf (l .devices)) ticks)
+premises : (p : Profile) (retries : ℕ) (s : List Setting) (six : length s ≡ 6) (ticks : List ℕ) (l : Link) → linkStarts p retries s ≡ accepted l → RunPremises p retries s ticks → Premises 255 p retries (lentFresh l) (ticksOf (heres (l .devices)) ticks)
 unfolding stepsOf
-premises p retries s ticks l e k = record {
+premises p retries s six ticks l e k = record {
   made = k .made;
-  starts = all-start p retries s l e (subst (λ (c : Called Link). Distinct (devicesBy c)) e (k .distinct));
+  starts = all-start p retries s six l e (subst (λ (c : Called Link). Distinct (devicesBy c)) e (k .distinct));
   one-bursts = subst (λ (c : Called Link). EachTick OneBursts (stepsBy c ticks)) e (k .one-bursts);
   one-finds = subst (λ (c : Called Link). FindsBy c ticks) e (k .one-finds);
 }
 
-demand-3-kept : (p : Profile) (retries : ℕ) (s : DevicesSettings) (ticks : List ℕ) → RunPremises p retries s ticks → Demand3Of p retries s ticks
+demand-3-kept : (p : Profile) (retries : ℕ) (s : List Setting) (six : length s ≡ 6) (ticks : List ℕ) → RunPremises p retries s ticks → Demand3Of p retries s ticks
 unfolding stepsOf
-demand-3-kept p retries s ticks k = by (linkStarts p retries s) refl
+demand-3-kept p retries s six ticks k = by (linkStarts p retries s) refl
   where
     by : (c : Called Link) → linkStarts p retries s ≡ c → EachTick NoTwoSend (stepsBy c ticks) × WaitIn 255 p retries (stepsBy c ticks)
     by (refused why) e = (no-tick, no-wait p retries)
     by (accepted l) e =
         let claim = W.demand-3 255 (omega arith) (omega arith) in
-        let met = premises p retries s ticks l e k in
-        (claim .0 p retries (lentFresh l) (ticksOf (hereOf (l .devices)) ticks) met, claim .1 p retries (lentFresh l) (ticksOf (hereOf (l .devices)) ticks) met)
+        let met = premises p retries s six ticks l e k in
+        (claim .0 p retries (lentFresh l) (ticksOf (heres (l .devices)) ticks) met, claim .1 p retries (lentFresh l) (ticksOf (heres (l .devices)) ticks) met)
 
 -- ---- the credited answer and the BACKs: the masters' buffers have 255 bytes
 
-pub credit-kept : (p : Profile) (retries : ℕ) (s : DevicesSettings) (ticks : List ℕ) → RunPremises p retries s ticks → CreditOf p retries s ticks
-credit-kept p retries s ticks k l e =
+pub credit-kept : (p : Profile) (retries : ℕ) (s : List Setting) (six : length s ≡ 6) (ticks : List ℕ) → RunPremises p retries s ticks → CreditOf p retries s ticks
+credit-kept p retries s six ticks k l e =
     let room = length-replicate {A = ℕ} 255 0 in
-    credit-in-a-run 255 (omega arith) (omega arith) p retries (lentFresh l) (ticksOf (hereOf (l .devices)) ticks) (premises p retries s ticks l e k) (omega (arith, room)) (omega (arith, room))
+    credit-in-a-run 255 (omega arith) (omega arith) p retries (lentFresh l) (ticksOf (heres (l .devices)) ticks) (premises p retries s six ticks l e k) (omega (arith, room)) (omega (arith, room))
 
-pub backs-kept : (p : Profile) (retries : ℕ) (s : DevicesSettings) (ticks : List ℕ) → RunPremises p retries s ticks → BacksOf p retries s ticks
-backs-kept p retries s ticks k l e =
+pub backs-kept : (p : Profile) (retries : ℕ) (s : List Setting) (six : length s ≡ 6) (ticks : List ℕ) → RunPremises p retries s ticks → BacksOf p retries s ticks
+backs-kept p retries s six ticks k l e =
     let room = length-replicate {A = ℕ} 255 0 in
-    backs-in-a-run 255 (omega arith) (omega arith) p retries (lentFresh l) (ticksOf (hereOf (l .devices)) ticks) (premises p retries s ticks l e k) (omega (arith, room)) (omega (arith, room))
+    backs-in-a-run 255 (omega arith) (omega arith) p retries (lentFresh l) (ticksOf (heres (l .devices)) ticks) (premises p retries s six ticks l e k) (omega (arith, room)) (omega (arith, room))
 
 -- ---- at most one sender in each number
 
-one-sender-kept : (p : Profile) (retries : ℕ) (s : DevicesSettings) (ticks before after : List ℕ) → after ≡ stored before 0 (written (stepsOf p retries s ticks) before)
+one-sender-kept : (p : Profile) (retries : ℕ) (s : List Setting) (six : length s ≡ 6) (ticks before after : List ℕ) → after ≡ stored before 0 (written (stepsOf p retries s ticks) before)
     → RunPremises p retries s ticks → (i : ℕ) → i < length (written (stepsOf p retries s ticks) before) → OneSender (getD after i 0)
-one-sender-kept p retries s ticks before after e k i h =
+one-sender-kept p retries s six ticks before after e k i h =
     let steps = stepsOf p retries s ticks in
-    written-tells steps before after i e h (none-in-tick steps i (demand-3-kept p retries s ticks k .0))
+    written-tells steps before after i e h (none-in-tick steps i (demand-3-kept p retries s six ticks k .0))
 
 -- ---- the run
 
 -- a run that answers and writes what the definitions give keeps the rest
-pub run-keeps : (p : Profile) (retries : ℕ) (s : DevicesSettings) (ticks before : List ℕ) (r : RunEnded) (after : List ℕ) → ranAs r ≡ ranBy (linkStarts p retries s) (length (written (stepsOf p retries s ticks) before))
+pub run-keeps : (p : Profile) (retries : ℕ) (s : List Setting) (six : length s ≡ 6) (ticks before : List ℕ) (r : RunEnded) (after : List ℕ) → ranAs r ≡ ranBy (linkStarts p retries s) (length (written (stepsOf p retries s ticks) before))
     → after ≡ stored before 0 (written (stepsOf p retries s ticks) before) → RunKeeps p retries s ticks before r after
-run-keeps p retries s ticks before r after x y = record {
+run-keeps p retries s six ticks before r after x y = record {
   answered = x;
   events = y;
-  demand-3 = demand-3-kept p retries s ticks;
-  credit = credit-kept p retries s ticks;
-  backs = backs-kept p retries s ticks;
-  one-sender = one-sender-kept p retries s ticks before after y;
+  demand-3 = demand-3-kept p retries s six ticks;
+  credit = credit-kept p retries s six ticks;
+  backs = backs-kept p retries s six ticks;
+  one-sender = one-sender-kept p retries s six ticks before after y;
 }
 
-module _ (p : Profile) (retries : ℕ) (s : DevicesSettings) (ticks before : List ℕ) (started : LinkStarted) (q : linkAs started ≡ linkStarts p retries s) where
+module _ (p : Profile) (retries : ℕ) (s : List Setting) (ticks before : List ℕ) (started : LinkStarted) (six : length s ≡ 6) (q : StartedIs p retries s started) where
   promised : (c : Called Link) (r : RunEnded) (after : List ℕ) → linkStarts p retries s ≡ c → ranAs r ≡ ranBy c (length (written (stepsBy c ticks) before)) → after ≡ stored before 0 (written (stepsBy c ticks) before)
       → RunKeeps p retries s ticks before r after
   unfolding stepsOf
   promised c r after e x y =
-      run-keeps p retries s ticks before r after (x ∙ ap (λ (k : Called Link). ranBy k (length (written (stepsBy k ticks) before))) (sym e))
+      run-keeps p retries s six ticks before r after (x ∙ ap (λ (k : Called Link). ranBy k (length (written (stepsBy k ticks) before))) (sym e))
       (y ∙ ap (λ (k : Called Link). stored before 0 (written (stepsBy k ticks) before)) (sym e))
 
-  pub run-accepted : (l : Link) (n : ℕ) (after : List ℕ) → started ≡ LinkStarted.Started l → RunIs (numbersOf (runSteps (lentFresh l) (ticksOf (hereOf (l .devices)) ticks))) before n after → RunKeeps p retries s ticks before (RunEnded.Ran n) after
-  run-accepted l n after e r = promised (accepted l) (RunEnded.Ran n) after (sym q ∙ ap linkAs e) (ap (λ (k : ℕ). accepted k) (r .returned)) (r .events)
+  -- what the answer says of the start
+  pub was-started : started .answer ≡ StartAnswer.Started → linkStarts p retries s ≡ accepted (started .link)
+  was-started e = sym (q .answer-is) ∙ ap (made (started .link)) e
 
-  pub run-refused : (why : Refusal) → started ≡ LinkStarted.Refused why → RunKeeps p retries s ticks before (RunEnded.Refused why) before
+  -- the link that was started has six slots
+  pub six-slots : started .answer ≡ StartAnswer.Started → length (started .link .devices) ≡ 6
+  six-slots e = slots-started p retries s (started .link) (was-started e) ∙ six
+
+  pub run-accepted : (n : ℕ) (after : List ℕ) → started .answer ≡ StartAnswer.Started
+      → RunIs (numbersOf (runSteps (lentFresh (started .link)) (ticksOf (heres (started .link .devices)) ticks))) before n after → RunKeeps p retries s ticks before (RunEnded.Ran n) after
+  run-accepted n after e r = promised (accepted (started .link)) (RunEnded.Ran n) after (was-started e) (ap (λ (k : ℕ). accepted k) (r .returned)) (r .events)
+
+  pub run-refused : (why : Refusal) → started .answer ≡ StartAnswer.Refused why → RunKeeps p retries s ticks before (RunEnded.Refused why) before
   unfolding numbersOf stored
-  run-refused why e = promised (refused (number why)) (RunEnded.Refused why) before (sym q ∙ ap linkAs e) refl (sym (ap (λ (l : List ℕ). stored before 0 l) (take-nil (length before))))
+  run-refused why e = promised (refused (number why)) (RunEnded.Refused why) before (sym (q .answer-is) ∙ ap (made (started .link)) e) refl (sym (ap (λ (l : List ℕ). stored before 0 l) (take-nil (length before))))
 
-pub ruleset kept = (refl, run-accepted, run-refused)
+pub ruleset kept = (refl, six-slots, run-accepted, run-refused)

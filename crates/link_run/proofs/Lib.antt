@@ -1,6 +1,6 @@
 -- The laws by which a run is proved.
-pub mod Steps
 pub mod Going
+pub mod Steps
 pub mod Senders
 pub mod Kept
 pub mod Every

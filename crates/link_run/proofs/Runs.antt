@@ -4,7 +4,7 @@ use native.Mathlib.Omega.{arith}
 use mathlib.Core.Path.{_≡_, refl}
 use mathlib.Core.Bool.{true, false}
 use mathlib.Core.List.{List, [], _∷_, _++_}
-use lib.ListN.{take, getD, replicate}
+use lib.ListN.{length, take, getD, replicate}
 use Rattle.base.specs.Refusal.{accepted}
 use Rattle.base.specs.Choice.{if_then_else_}
 use Rattle.base.specs.Store.{stored}
@@ -25,33 +25,28 @@ use Rattle.turns.specs.Backs.{noContents, foundBy, EachBack}
 use Rattle.turns.specs.declared.MasterTold.the-variants.{Answered}
 use Rattle.turns.proofs.CreditRuns.{linkBehind}
 use Rattle.turns.proofs.Premises.{short, short-taken, lone, lone-finds}
-use Rattle.slots.specs.declared.Slot.the-variants.{Absent, Present}
-use Rattle.link.specs.declared.Link.{Link}
+use Rattle.parties.specs.Stands.{devicesFrom}
+use Rattle.parties.specs.declared.Link.{Link}
 use Rattle.link_start.specs.Fresh.{lentFresh}
-use Rattle.link_start.specs.Start.{linkStarts}
-use Rattle.link_start.specs.declared.DevicesSettings.{DevicesSettings}
-use Rattle.link_start.specs.declared.SlotSetting.{SlotSetting}
-use Rattle.tick_list.specs.Ticks.{behindCall, behind, callsIn, ticksFrom}
+use Rattle.link_start.specs.Start.{absent, devicesStart, linkStarts}
+use Rattle.link_start.specs.declared.Setting.{Setting}
+use Rattle.tick_list.specs.Ticks.{behindCall, behind, slotsIn, callsIn, ticksFrom}
 use Rattle.link_run.specs.Run.{numbersOf, stepsOf, devicesBy, callsBy, RunPremises}
 use Rattle.link_run.proofs.Kept.{credit-kept, backs-kept}
 
 -- ---- one device, which answers and bursts
 
-unfoldable pub one-slot : DevicesSettings
-one-slot = record {
-  low = record { left = SlotSetting.Present (record { preamble = 5; polling = 0; unique = 2 }); right = SlotSetting.Absent };
-  middle = record { left = SlotSetting.Absent; right = SlotSetting.Absent };
-  high = record { left = SlotSetting.Absent; right = SlotSetting.Absent };
-}
+-- a slot without a device
+abbrev nobody : Setting
+nobody = record { here = false; preamble = 0; polling = 0; unique = 0 }
+
+unfoldable pub one-slot : List Setting
+one-slot = record { here = true; preamble = 5; polling = 0; unique = 2 } ∷ replicate 5 nobody
 
 unfoldable pub link : Link
 link = record {
-  masters = record { primary = freshMaster short true 3; secondary = freshMaster short false 3 };
-  devices = record {
-    low = record { left = Present (freshDevice short 5 0 2); right = Absent };
-    middle = record { left = Absent; right = Absent };
-    high = record { left = Absent; right = Absent };
-  };
+  masters = freshMaster short true 3 ∷ freshMaster short false 3 ∷ [];
+  devices = record { device = freshDevice short 5 0 2; here = true } ∷ replicate 5 absent;
   line = Silence;
 }
 
@@ -67,11 +62,11 @@ bytes =
 
 -- 16: the primary's request is taken. It sends in ticks 4 to 17, 65; the device its ACK and a BACK from tick 19 to 50, 1.
 pub numbers-are : numbersOf (stepsOf short 3 one-slot bytes) ≡ 16 ∷ (replicate 3 0 ++ (replicate 14 65 ++ (0 ∷ (replicate 32 1 ++ (0 ∷ [])))))
-unfolding numbersOf stepsOf one-slot bytes short ticksFrom callsIn behind behindCall run deviceSenders linkTick deviceTicks sides carried masterTick deviceTick requested requestedUpTo masterTakes masterSends deviceTakes deviceSends answered contentGiven taken takenData atIdle atPreamble atFirst atAddress atExpansion atCommand atCount atData atCheck writeBuffer writeAnswer frameBytes preambleBytes bodyBytes protectedBytes headerBytes xorFrom delimiterOf stored if_then_else_
+unfolding numbersOf stepsOf one-slot bytes short devicesStart devicesFrom ticksFrom callsIn slotsIn behind behindCall run deviceSenders linkTick deviceTicks sides carried masterTick deviceTick requested requestedUpTo masterTakes masterSends deviceTakes deviceSends answered contentGiven taken takenData atIdle atPreamble atFirst atAddress atExpansion atCommand atCount atData atCheck writeBuffer writeAnswer frameBytes preambleBytes bodyBytes protectedBytes headerBytes xorFrom delimiterOf stored if_then_else_
 numbers-are = refl
 
 pub started : linkStarts short 3 one-slot ≡ accepted link
-unfolding one-slot link short if_then_else_
+unfolding one-slot link short devicesStart if_then_else_
 started = refl
 
 -- its calls, tick by tick
@@ -84,18 +79,18 @@ silent = record { for-primary = no-request; for-secondary = no-request; for-devi
 -- in tick 35 the primary reports its message as answered
 pub reported : linkTick 255 (linkBehind 255 (lentFresh link) (take 35 calls)) (getD calls 35 silent) .for-primary .told
     ≡ Answered (record { header = record { frame = ack; long = true; primary = true; burst = true; address = 2; command = 3 }; expansion = 0; count = 2 })
-unfolding linkBehind link bytes short ticksFrom callsIn behind behindCall linkTick deviceTicks sides carried masterTick deviceTick requested requestedUpTo masterTakes masterSends deviceTakes deviceSends answered contentGiven taken takenData atIdle atPreamble atFirst atAddress atExpansion atCommand atCount atData atCheck writeBuffer writeAnswer frameBytes preambleBytes bodyBytes protectedBytes headerBytes xorFrom delimiterOf stored if_then_else_
+unfolding linkBehind link bytes short devicesFrom ticksFrom callsIn slotsIn behind behindCall linkTick deviceTicks sides carried masterTick deviceTick requested requestedUpTo masterTakes masterSends deviceTakes deviceSends answered contentGiven taken takenData atIdle atPreamble atFirst atAddress atExpansion atCommand atCount atData atCheck writeBuffer writeAnswer frameBytes preambleBytes bodyBytes protectedBytes headerBytes xorFrom delimiterOf stored if_then_else_
 reported = refl
 
 -- in tick 51 it finds the BACK whole
 pub back-found : foundBy (linkBehind 255 (lentFresh link) (take 51 calls) .primary) (linkBehind 255 (lentFresh link) (take 51 calls) .line)
     ≡ Frame (record { header = record { frame = back; long = true; primary = true; burst = true; address = 2; command = 3 }; expansion = 0; count = 2 })
-unfolding linkBehind link bytes short ticksFrom callsIn behind behindCall linkTick deviceTicks sides carried masterTick deviceTick requested requestedUpTo masterTakes masterSends deviceTakes deviceSends answered contentGiven taken takenData atIdle atPreamble atFirst atAddress atExpansion atCommand atCount atData atCheck writeBuffer writeAnswer frameBytes preambleBytes bodyBytes protectedBytes headerBytes xorFrom delimiterOf stored if_then_else_
+unfolding linkBehind link bytes short devicesFrom ticksFrom callsIn slotsIn behind behindCall linkTick deviceTicks sides carried masterTick deviceTick requested requestedUpTo masterTakes masterSends deviceTakes deviceSends answered contentGiven taken takenData atIdle atPreamble atFirst atAddress atExpansion atCommand atCount atData atCheck writeBuffer writeAnswer frameBytes preambleBytes bodyBytes protectedBytes headerBytes xorFrom delimiterOf stored if_then_else_
 back-found = refl
 
 -- it meets the premises
 pub met : RunPremises short 3 one-slot bytes
-unfolding stepsOf one-slot link short blanks if_then_else_
+unfolding stepsOf one-slot link short devicesStart devicesFrom blanks if_then_else_
 met = record {
   made = short-taken;
   distinct = Distinct.and none Distinct.none;
@@ -103,21 +98,21 @@ met = record {
   one-finds = lone-finds 255 _ (lentFresh link) calls (omega arith);
 }
 
+six-settings : length one-slot ≡ 6
+unfolding one-slot
+six-settings = refl
+
 -- so the contract speaks of them
 pub run-credited : EachCredited 255 noneAsked (blanks (devicesBy (accepted link))) (lentFresh link) calls
-run-credited = credit-kept short 3 one-slot bytes met link started
+run-credited = credit-kept short 3 one-slot six-settings bytes met link started
 
 pub run-backs : EachBack 255 (noContents (devicesBy (accepted link))) (lentFresh link) calls
-run-backs = backs-kept short 3 one-slot bytes met link started
+run-backs = backs-kept short 3 one-slot six-settings bytes met link started
 
 -- ---- two devices with one polling address
 
-unfoldable pub alike : DevicesSettings
-alike = record {
-  low = record { left = SlotSetting.Present (record { preamble = 5; polling = 0; unique = 2 }); right = SlotSetting.Present (record { preamble = 5; polling = 0; unique = 3 }) };
-  middle = record { left = SlotSetting.Absent; right = SlotSetting.Absent };
-  high = record { left = SlotSetting.Absent; right = SlotSetting.Absent };
-}
+unfoldable pub alike : List Setting
+alike = record { here = true; preamble = 5; polling = 0; unique = 2 } ∷ record { here = true; preamble = 5; polling = 0; unique = 3 } ∷ replicate 4 nobody
 
 -- in tick 0 the primary asks the polling address 0 of a device of revision 7 for command 0; in tick 15 both hosts answer
 unfoldable pub both-reply : List ℕ
@@ -127,5 +122,5 @@ both-reply =
 
 -- the number of tick 15 tells of two senders
 pub two-told : numbersOf (stepsOf short 3 alike both-reply) ≡ 16 ∷ (replicate 3 0 ++ (replicate 10 65 ++ (0 ∷ 2 ∷ [])))
-unfolding numbersOf stepsOf alike both-reply short ticksFrom callsIn behind behindCall run deviceSenders linkTick deviceTicks sides carried masterTick deviceTick requested requestedUpTo masterTakes masterSends deviceTakes deviceSends answered contentGiven taken takenData atIdle atPreamble atFirst atAddress atExpansion atCommand atCount atData atCheck writeBuffer writeAnswer frameBytes preambleBytes bodyBytes protectedBytes headerBytes xorFrom delimiterOf stored if_then_else_
+unfolding numbersOf stepsOf alike both-reply short devicesStart devicesFrom ticksFrom callsIn slotsIn behind behindCall run deviceSenders linkTick deviceTicks sides carried masterTick deviceTick requested requestedUpTo masterTakes masterSends deviceTakes deviceSends answered contentGiven taken takenData atIdle atPreamble atFirst atAddress atExpansion atCommand atCount atData atCheck writeBuffer writeAnswer frameBytes preambleBytes bodyBytes protectedBytes headerBytes xorFrom delimiterOf stored if_then_else_
 two-told = refl

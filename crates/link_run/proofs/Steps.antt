@@ -1,108 +1,149 @@
--- Laws of one tick of a run: its calls, its number, and that the same slots have devices behind it.
-use Prim.Native.Nat.{ℕ, _+_}
+-- Laws of one tick of a run: its calls, and its number from what each party sent.
+use Prim.Native.Nat.{ℕ, zero, suc, _+_, _*_, _≤_, _<_}
+use native.Mathlib.Numerals.{add-one}
 use native.Mathlib.Omega.{arith}
-use mathlib.Core.Path.{_≡_, refl, ap, _∙_}
-use mathlib.Core.List.{List, [], _∷_, _++_}
-use lib.ListN.{drop}
+use mathlib.Core.Bool.{Bool, true, false}
+use mathlib.Core.Path.{_≡_, refl, sym, ap, subst, _∙_}
+use mathlib.Core.List.{List, [], _∷_}
+use lib.ListN.{length, drop, getD, replicate, drop-of-length-le}
+use lib.Seq.{drop-cons}
+use Rattle.base.specs.Choice.{if_then_else_, _<?_}
+use Rattle.base.proofs.Choices.{if-below, if-not-below}
 use Rattle.line.specs.declared.Heard.{Heard}
-use Rattle.turns.specs.Link.{DeviceStep, linkTick, linkAfter}
+use Rattle.turns.specs.Party.{CallResult, none, was-taken, was-refused}
+use Rattle.turns.specs.Link.{DeviceSide, DeviceStep, LinkStep, deviceTicks, linkTick, linkAfter}
 use Rattle.turns.specs.Link as L
 use Rattle.turns.specs.Run.{count, deviceSenders}
-use Rattle.master.specs.Tick as M
-use Rattle.device_tick.specs.Tick as D
-use Rattle.device_tick.specs.declared.DeviceHostCall.{DeviceHostCall}
-use Rattle.slots.specs.Slot.{Lent, slotSteps, SlotIs}
-use Rattle.slots.specs.Slots.{devicesAfter}
-use Rattle.slots.specs.declared.Slot.{Slot}
-use Rattle.slots.specs.declared.Slot.the-variants.{Absent, Present}
-use Rattle.slots.specs.declared.SlotCall.{SlotCall}
-use Rattle.slots.specs.declared.SlotTicked.{SlotTicked}
-use Rattle.link.specs.Link.{MasterLent, DevicesLent, LinkIs, after}
-use Rattle.link.specs.Stands.{six, slotCallOf, callsOf, deviceStepsOf, linkOf, linkStepOf}
-use Rattle.link.specs.declared.Link.{Link}
-use Rattle.link.specs.declared.LinkCalls.{LinkCalls}
-use Rattle.link.specs.declared.LinkTicked.{LinkTicked}
-use Rattle.link.proofs.Agrees.{none-comes, none-goes, step-agrees, after-agrees}
-use Rattle.tick_list.specs.Ticks.{ifHere, callsIn}
-use Rattle.tick_list.specs.Coded.{SlotCallIs, TickReadIs}
+use Rattle.turns.specs.declared.Sent.{Sent}
+use Rattle.turns.specs.declared.Sent.the-variants.{Silent, Character}
+use Rattle.parties.specs.Stands.{Rows, ifHere, deviceAt, devicesFrom, linkOf, heres, callsOf, codeOf}
+use Rattle.parties.specs.declared.CallOutcome.{CallOutcome}
+use Rattle.parties.specs.declared.Calls.{Calls}
+use Rattle.parties.specs.declared.Link.{Link}
+use Rattle.parties.specs.declared.MasterDid.{MasterDid}
+use Rattle.parties.specs.declared.Slot.{Slot}
+use Rattle.parties.specs.declared.Ticked.{Ticked}
+use Rattle.link_ticks.specs.Ticks.{onHere, deviceCode, codes, SendsByte, sends-none, sends-byte, DevicesSendBytes, no-device, device-and, SendBytes, answerKept, masterNothing, mastersDo}
+use Rattle.link_ticks.specs.Ticks as T
+use Rattle.link_ticks.proofs.Lists.{any-default}
+use Rattle.link_ticks.proofs.Answers.{ticked-each, stepWith, one-link, one-row, one-bytes, one-masters}
+use Rattle.tick_list.specs.Ticks.{Here, behind, callsIn}
+use Rattle.tick_list.specs.Read.{tickAt}
+use Rattle.tick_list.specs.Nearest.{present}
+use Rattle.tick_list.proofs.Readings.{calls-are, rest-is}
 use Rattle.tick_list.specs.declared.TickRead.{TickRead}
-use Rattle.link_run.specs.Run.{isHere, hereOf, tickNumber}
-use Rattle.link_run.specs.Step.{deviceSendersIn, tickedNumber, stepAt, StepIs}
+use Rattle.link_run.specs.Run.{taken, tickNumber}
+use Rattle.link_run.specs.Step.{countIn, sendersIn, takenIn, rowNumber, stepAt, StepIs}
+use Rattle.link_run.proofs.Going.{heres-length}
 
--- ---- the calls
+-- ---- who sends, as a row of numbers tells it
 
-slot-call : (s : Slot) (ticks rest : List ℕ) (c : SlotCall) → SlotCallIs ticks rest c → slotCallOf s c ticks ≡ ifHere (isHere s) rest
-slot-call Absent ticks rest c k = refl
-slot-call (Present d) ticks rest c k = λ i. D.callOf (k .call-is i) (k .data-is i) ∷ []
+-- the loop over a row: so many of the first n send
+pub record Counting (row : List ℕ) (senders n : ℕ) : Type 0 where
+  pub eight : length row ≡ 8
+  pub within : n ≤ 8
+  pub at-most : senders ≤ n
+  pub left : senders + sendersIn (drop n row) ≡ sendersIn row
 
-pub calls-are : (l : Link) (ticks : List ℕ) (at : ℕ) (r : TickRead) → TickReadIs ticks at r → callsOf l (r .calls) ticks ≡ callsIn (hereOf (l .devices)) (drop at ticks)
-unfolding callsIn
-calls-are l ticks at r t = λ i. record {
-  for-primary = M.callOf (t .primary .call-is i) (t .primary .data-is i);
-  for-secondary = M.callOf (t .secondary .call-is i) (t .secondary .data-is i);
-  for-devices = six (slot-call (l .devices .low .left) ticks _ _ (t .first) i) (slot-call (l .devices .low .right) ticks _ _ (t .second) i)
-      (slot-call (l .devices .middle .left) ticks _ _ (t .third) i) (slot-call (l .devices .middle .right) ticks _ _ (t .fourth) i)
-      (slot-call (l .devices .high .left) ticks _ _ (t .fifth) i) (slot-call (l .devices .high .right) ticks _ _ (t .sixth) i);
-}
+pub counting-none : (row : List ℕ) → length row ≡ 8 → Counting row 0 0
+counting-none row h = record { eight = h; within = omega arith; at-most = omega arith; left = let k : 0 + sendersIn row ≡ sendersIn row = omega arith in k }
 
--- ---- a slot
+pub counting-more : (row : List ℕ) (senders n k d : ℕ) → Counting row senders n → n < 8 → k ≡ countIn (getD row n d) → k ≤ 1 → Counting row (senders + k) (n + 1)
+unfolding sendersIn
+counting-more row senders n k d v h e m =
+    let first : sendersIn (drop n row) ≡ countIn (getD row n d) + sendersIn (drop (n + 1) row) =
+    ap sendersIn (drop-cons row n d (omega (arith, v .eight, h))) ∙ ap (λ (j : ℕ). countIn (getD row n d) + sendersIn (drop j row)) (sym (add-one n)) in
+    record { eight = v .eight; within = omega (arith, h); at-most = omega (arith, v .at-most, m); left = omega (arith, v .left, first, e) }
 
-module _ (s : Slot) (heard : Heard) (call : DeviceHostCall) (put : List ℕ) (x : Lent) (r : SlotTicked) (behind : Lent) (is : SlotIs s heard call put x r behind) where
-  senders-onto : (steps : List DeviceStep) (n : ℕ) → n ≡ deviceSenders steps → count (r .sent) + n ≡ deviceSenders (slotSteps r (r .slot) behind ++ steps)
-  unfolding deviceSenders
-  senders-onto steps n e = by s (r .slot) refl refl
-    where
-      by : (t u : Slot) → s ≡ t → r .slot ≡ u → count (r .sent) + n ≡ deviceSenders (slotSteps r u behind ++ steps)
-      by t (Present d) k l = ap (λ (m : ℕ). count (r .sent) + m) e
-      by Absent Absent k l = let none : count (r .sent) ≡ 0 = ap (λ (y : SlotTicked). count (y .sent)) (is .absent k .nothing) in omega (arith, none, e)
-      by (Present d) Absent k l = absurd (none-goes s heard call put x r behind is d k l)
+pub counting-all : (row : List ℕ) (senders n : ℕ) → Counting row senders n → 8 ≤ n → senders ≡ sendersIn row
+unfolding sendersIn
+counting-all row senders n v h =
+    let none : sendersIn (drop n row) ≡ 0 = ap sendersIn (drop-of-length-le row {i = n} (omega (arith, v .eight, h))) in
+    omega (arith, v .left, none)
 
-  still-here : isHere (r .slot) ≡ isHere s
-  still-here = by s (r .slot) refl refl
-    where
-      by : (t u : Slot) → s ≡ t → r .slot ≡ u → isHere u ≡ isHere t
-      by Absent Absent k l = refl
-      by (Present d) (Present e) k l = refl
-      by (Present d) Absent k l = absurd (none-goes s heard call put x r behind is d k l)
-      by Absent (Present d) k l = absurd (none-comes s heard call put x r behind is d k l)
+pub number-made : (row : List ℕ) (dids : List MasterDid) (d e : MasterDid) (senders a b : ℕ) → length dids ≡ 2 → senders ≡ sendersIn row
+    → a ≡ takenIn (getD dids 0 d .result) + 4 * countIn (getD row 0 0) → b ≡ takenIn (getD dids 1 e .result) + 4 * countIn (getD row 1 0) → senders + 16 * a + 32 * b ≡ rowNumber row dids
+number-made row dids d e senders a b two s p q =
+    let first = ap (λ (x : MasterDid). takenIn (x .result) + 4 * countIn (getD row 0 0)) (any-default dids 0 d masterNothing (omega (arith, two))) in
+    let second = ap (λ (x : MasterDid). takenIn (x .result) + 4 * countIn (getD row 1 0)) (any-default dids 1 e masterNothing (omega (arith, two))) in
+    λ i. s i + 16 * (p ∙ first) i + 32 * (q ∙ second) i
+
+pub ruleset counting = (refl, counting-none, counting-more, counting-all, number-made)
+
+-- ---- a row of numbers, of a tick
+
+count-is : (s : Sent) → SendsByte s → countIn (codeOf s) ≡ count s
+unfolding if_then_else_
+count-is Silent sends-none = refl
+count-is (Character c) (sends-byte h) = sym (if-below c 256 1 1 0 h refl)
+
+blank-senders : (n : ℕ) → sendersIn (replicate n 256) ≡ 0
+unfolding sendersIn if_then_else_
+blank-senders zero = refl
+blank-senders (suc n) = omega (arith, blank-senders n)
+
+device-senders : (hs : Here) (n : ℕ) (xs : List DeviceStep) → length xs ≡ present hs → length hs ≤ n → DevicesSendBytes xs → sendersIn (onHere deviceCode hs xs (replicate n 256)) ≡ deviceSenders xs
+unfolding onHere sendersIn deviceSenders if_then_else_
+device-senders [] zero [] e h no-device = refl
+device-senders [] (suc n) [] e h no-device = blank-senders (suc n)
+device-senders [] n (x ∷ xs) e h b = absurd (omega (arith, e))
+device-senders (false ∷ hs) zero xs e h b = absurd (omega arith)
+device-senders (false ∷ hs) (suc n) xs e h b = omega (arith, device-senders hs n xs e (omega (arith, h)) b)
+device-senders (true ∷ hs) zero xs e h b = absurd (omega arith)
+device-senders (true ∷ hs) (suc n) [] e h b = absurd (omega (arith, e))
+device-senders (true ∷ hs) (suc n) (x ∷ xs) e h (device-and s b) = λ i. count-is (x .sent) s i + device-senders hs n xs (omega (arith, e)) (omega (arith, h)) b i
+
+taken-is : (r : CallResult) → takenIn (answerKept CallOutcome.Nothing r) ≡ taken r
+taken-is none = refl
+taken-is was-taken = refl
+taken-is (was-refused why) = refl
+
+number-is : (hs : Here) (s : LinkStep) → length hs ≡ 6 → length (s .for-devices) ≡ present hs → SendBytes s
+    → rowNumber (codes hs s) (mastersDo s (replicate 2 masterNothing)) ≡ tickNumber s
+unfolding sendersIn
+number-is hs s h e b = λ i.
+    (count-is (s .for-primary .sent) (b .primary) i + (count-is (s .for-secondary .sent) (b .secondary) i + device-senders hs 6 (s .for-devices) e (omega (arith, h)) (b .devices) i))
+    + 16 * (taken-is (s .for-primary .result) i + 4 * count-is (s .for-primary .sent) (b .primary) i)
+    + 32 * (taken-is (s .for-secondary .result) i + 4 * count-is (s .for-secondary .sent) (b .secondary) i)
+
+-- ---- the devices are those that are here
+
+pub devices-here : (x : Rows) (i : ℕ) (ss : List Slot) → length (devicesFrom x i ss) ≡ present (heres ss)
+unfolding devicesFrom
+devices-here x i [] = refl
+devices-here x i (s ∷ ss) = by (s .here) (devices-here x (suc i) ss)
+  where
+    by : (h : Bool) → length (devicesFrom x (suc i) ss) ≡ present (heres ss) → length (ifHere h (deviceAt x i (s .device)) (devicesFrom x (suc i) ss)) ≡ present (h ∷ heres ss)
+    by true e = ap suc e
+    by false e = e
 
 -- ---- the tick
 
-module _ (l : Link) (calls : LinkCalls) (put : List ℕ) (p s p-after s-after : MasterLent) (d d-after : DevicesLent) (t : LinkTicked) (is : LinkIs l calls put p s d t p-after s-after d-after) where
-  device-senders : deviceSendersIn (t .devices) ≡ deviceSenders (deviceStepsOf (t .devices) d-after)
-  unfolding deviceSenders
-  device-senders =
-      let q = is .devices in
-      let chain : count (t .devices .low .left .sent) + (count (t .devices .low .right .sent) + (count (t .devices .middle .left .sent) + (count (t .devices .middle .right .sent) + (count (t .devices .high .left .sent) + (count (t .devices .high .right .sent) + 0))))) ≡ deviceSenders (deviceStepsOf (t .devices) d-after) =
-      senders-onto _ _ _ _ _ _ _ (q .first) _ _
-      (senders-onto _ _ _ _ _ _ _ (q .second) _ _
-      (senders-onto _ _ _ _ _ _ _ (q .third) _ _
-      (senders-onto _ _ _ _ _ _ _ (q .fourth) _ _
-      (senders-onto _ _ _ _ _ _ _ (q .fifth) _ _
-      (senders-onto _ _ _ _ _ _ _ (q .sixth) [] 0 refl))))) in
-      omega (arith, chain)
+module _ (l : Link) (ticks : List ℕ) (at : ℕ) (x x-after : Rows) (sent sent-after : List (List ℕ)) (read : TickRead) (t : Ticked) where
+  -- the number that the code gives, whatever the calls were
+  pub number-agrees : (c : Calls) → T.RunIs l c ticks 1 x sent t x-after sent-after → length (l .devices) ≡ 6 → rowNumber (getD sent-after 0 []) (t .masters) ≡ tickNumber (stepWith l c ticks x)
+  unfolding linkTick
+  number-agrees c is six =
+      let s = stepWith l c ticks x in
+      (λ i. rowNumber (one-row l c ticks x x-after sent sent-after t is i) (one-masters l c ticks x x-after sent sent-after t is i))
+      ∙ number-is (heres (l .devices)) s (heres-length (l .devices) ∙ six)
+      (ticked-each (l .line) (devicesFrom x 0 (l .devices)) _ ∙ devices-here x 0 (l .devices))
+      (one-bytes l c ticks x x-after sent sent-after t is)
 
-  pub number-agrees : tickedNumber (t .masters) (deviceSendersIn (t .devices)) ≡ tickNumber (linkStepOf t p-after s-after d-after)
-  number-agrees = ap (tickedNumber (t .masters)) device-senders
+  module _ (reads : read ≡ tickAt ticks at) (six : length (l .devices) ≡ 6) where
+    pub calls-read : callsOf ticks (heres (l .devices)) (read .calls) ≡ callsIn (heres (l .devices)) (drop at ticks)
+    calls-read = ap (λ (r : TickRead). callsOf ticks (heres (l .devices)) (r .calls)) reads ∙ calls-are ticks (heres (l .devices)) at (omega (arith, heres-length (l .devices), six))
 
-  pub same-here : hereOf (devicesAfter (t .devices)) ≡ hereOf (l .devices)
-  same-here = let q = is .devices in λ i. record {
-    first = still-here _ _ _ _ _ _ _ (q .first) i;
-    second = still-here _ _ _ _ _ _ _ (q .second) i;
-    third = still-here _ _ _ _ _ _ _ (q .third) i;
-    fourth = still-here _ _ _ _ _ _ _ (q .fourth) i;
-    fifth = still-here _ _ _ _ _ _ _ (q .fifth) i;
-    sixth = still-here _ _ _ _ _ _ _ (q .sixth) i;
-  }
+    pub next-read : drop (read .next) ticks ≡ behind 8 (drop at ticks)
+    next-read = ap (λ (r : TickRead). drop (r .next) ticks) reads ∙ rest-is ticks at
 
-module _ (l : Link) (ticks : List ℕ) (at : ℕ) (p s p-after s-after : MasterLent) (d d-after : DevicesLent) (read : TickRead) (t : LinkTicked) (reads : TickReadIs ticks at read) (is : LinkIs l (read .calls) ticks p s d t p-after s-after d-after) where
-  pub step-is : (link : Link) (number : ℕ) → link ≡ after t → number ≡ tickedNumber (t .masters) (deviceSendersIn (t .devices))
-      → StepIs l ticks at p s d (record { link = link; number = number; next = read .next }) p-after s-after d-after
-  step-is link number e n =
-      let step : linkStepOf t p-after s-after d-after ≡ stepAt l p s d ticks at = step-agrees l (read .calls) ticks p s d t p-after s-after d-after is ∙ ap (linkTick 255 (linkOf l p s d)) (calls-are l ticks at read reads) in
+  pub step-is : (number : ℕ) → read ≡ tickAt ticks at → T.RunIs l (read .calls) ticks 1 x sent t x-after sent-after → number ≡ rowNumber (getD sent-after 0 []) (t .masters) → length (l .devices) ≡ 6
+      → StepIs l ticks at x (record { link = t .link; number = number; next = read .next }) x-after
+  step-is number reads is n six =
+      let step : stepWith l (read .calls) ticks x ≡ stepAt l x ticks at = ap (linkTick 255 (linkOf l x)) (calls-read reads six) in
       record {
-        behind-is = ap (λ (x : Link). linkOf x p-after s-after d-after) e ∙ after-agrees l (read .calls) ticks p s d t p-after s-after d-after is ∙ ap linkAfter step;
-        number-is = n ∙ number-agrees l (read .calls) ticks p s p-after s-after d d-after t is ∙ ap tickNumber step;
-        here = ap (λ (x : Link). hereOf (x .devices)) e ∙ same-here l (read .calls) ticks p s p-after s-after d d-after t is;
-        next = reads .next;
+        behind-is = one-link l (read .calls) ticks x x-after sent sent-after t is ∙ ap linkAfter step;
+        number-is = n ∙ number-agrees (read .calls) is six ∙ ap tickNumber step;
+        slots = is .slots;
+        next = next-read reads six;
       }

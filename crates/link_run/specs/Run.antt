@@ -2,7 +2,6 @@
 -- Document 01, "Runs of the link": "A run is a list of ticks from tick 0, in which every party is fresh". What every party does in each tick of a lent list, and what is promised of that run: demand 3, the credited answer and the BACKs.
 use Prim.Native.Nat.{ℕ, _+_, _*_, _/_, _%_, _≤_, _<_}
 use mathlib.Core.Path.{_≡_}
-use mathlib.Core.Bool.{Bool, true, false}
 use mathlib.Core.List.{List, [], _∷_}
 use lib.ListN.{length, take, getD}
 use Rattle.base.specs.Refusal.{number, Called, accepted, refused}
@@ -18,33 +17,15 @@ use Rattle.turns.specs.Ledgers.{blanks, OneFinds}
 use Rattle.turns.specs.Demand3.{WaitIn}
 use Rattle.turns.specs.Credit.{noneAsked, EachCredited}
 use Rattle.turns.specs.Backs.{noContents, EachBack}
-use Rattle.slots.specs.declared.Devices.{Devices}
-use Rattle.slots.specs.declared.Slot.{Slot}
-use Rattle.slots.specs.declared.Slot.the-variants.{Absent, Present}
-use Rattle.link.specs.Stands.{devicesOf}
-use Rattle.link.specs.declared.Link.{Link}
-use Rattle.link_start.specs.Fresh.{devicesFresh, lentFresh}
+use Rattle.parties.specs.Stands.{heres}
+use Rattle.parties.specs.declared.Link.{Link}
+use Rattle.link_start.specs.Fresh.{lentFresh}
 use Rattle.link_start.specs.Start.{linkStarts}
-use Rattle.link_start.specs.declared.DevicesSettings.{DevicesSettings}
-use Rattle.tick_list.specs.Ticks.{Here, ticksOf}
+use Rattle.link_start.specs.declared.Setting.{Setting}
+use Rattle.tick_list.specs.Ticks.{ticksOf}
 use Rattle.link_run.specs.declared.RunEnded.{RunEnded}
 
 -- ---- the run
-
--- which slots have a device
-abbrev pub isHere : Slot → Bool
-isHere Absent = false
-isHere (Present d) = true
-
-abbrev pub hereOf : Devices → Here
-hereOf s = record {
-  first = isHere (s .low .left);
-  second = isHere (s .low .right);
-  third = isHere (s .middle .left);
-  fourth = isHere (s .middle .right);
-  fifth = isHere (s .high .left);
-  sixth = isHere (s .high .right);
-}
 
 -- what every party does in each tick
 abbrev pub runSteps : L.Link → List Calls → List LinkStep
@@ -52,19 +33,19 @@ runSteps l ticks = L.run mostData l ticks
 
 -- the same from the parties' start on, with the list as bytes; no tick where a start is refused
 abbrev pub stepsBy : Called Link → List ℕ → List LinkStep
-stepsBy (accepted l) ticks = runSteps (lentFresh l) (ticksOf (hereOf (l .devices)) ticks)
+stepsBy (accepted l) ticks = runSteps (lentFresh l) (ticksOf (heres (l .devices)) ticks)
 stepsBy (refused why) ticks = []
 
-unfoldable pub stepsOf : Profile → ℕ → DevicesSettings → List ℕ → List LinkStep
+unfoldable pub stepsOf : Profile → ℕ → List Setting → List ℕ → List LinkStep
 stepsOf p retries s ticks = stepsBy (linkStarts p retries s) ticks
 
 abbrev pub devicesBy : Called Link → List DeviceSide
-devicesBy (accepted l) = devicesOf (l .devices) devicesFresh
+devicesBy (accepted l) = lentFresh l .devices
 devicesBy (refused why) = []
 
 -- the calls of its ticks
 abbrev pub callsBy : Called Link → List ℕ → List Calls
-callsBy (accepted l) ticks = ticksOf (hereOf (l .devices)) ticks
+callsBy (accepted l) ticks = ticksOf (heres (l .devices)) ticks
 callsBy (refused why) ticks = []
 
 -- item 6: "one tag, one device, so that at most one host's answer to each command 11 is taken"
@@ -121,7 +102,7 @@ pub record OneSender (n : ℕ) : Type 0 where
 -- ---- demand 3, the credited answer and the BACKs, for the run that was made
 
 -- "Let a primary master, a secondary master and devices that share no address all start in the same tick with one profile and one retry limit R. .. if .. at most one device bursts at a time" and, by item 6, "at most one host's answer to each command 11 is taken". That all start so is how the run begins; that no character is damaged or lost is how its line is defined.
-pub record RunPremises (p : Profile) (retries : ℕ) (s : DevicesSettings) (ticks : List ℕ) : Type 0 where
+pub record RunPremises (p : Profile) (retries : ℕ) (s : List Setting) (ticks : List ℕ) : Type 0 where
   -- the profile is one that the check takes
   pub made : profileMade p ≡ accepted p
   pub distinct : Distinct (devicesBy (linkStarts p retries s))
@@ -129,16 +110,16 @@ pub record RunPremises (p : Profile) (retries : ℕ) (s : DevicesSettings) (tick
   pub one-finds : FindsBy (linkStarts p retries s) ticks
 
 -- "then no two send in one tick, and every accepted message's first character goes out within" its ticks
-abbrev pub Demand3Of : Profile → ℕ → DevicesSettings → List ℕ → Type 0
+abbrev pub Demand3Of : Profile → ℕ → List Setting → List ℕ → Type 0
 Demand3Of p retries s ticks = EachTick NoTwoSend (stepsOf p retries s ticks) × WaitIn mostData p retries (stepsOf p retries s ticks)
 
 -- beyond demand 3, of the link l that was started: every answer that a master reports is credited
-abbrev pub CreditOf : Profile → ℕ → DevicesSettings → List ℕ → Type 0
+abbrev pub CreditOf : Profile → ℕ → List Setting → List ℕ → Type 0
 CreditOf p retries s ticks =
     (l : Link) → linkStarts p retries s ≡ accepted l → EachCredited mostData noneAsked (blanks (devicesBy (accepted l))) (lentFresh l) (callsBy (accepted l) ticks)
 
 -- and every BACK that a master finds whole is as its device's host gave it
-abbrev pub BacksOf : Profile → ℕ → DevicesSettings → List ℕ → Type 0
+abbrev pub BacksOf : Profile → ℕ → List Setting → List ℕ → Type 0
 BacksOf p retries s ticks =
     (l : Link) → linkStarts p retries s ≡ accepted l → EachBack mostData (noContents (devicesBy (accepted l))) (lentFresh l) (callsBy (accepted l) ticks)
 
@@ -149,7 +130,7 @@ abbrev pub written : List LinkStep → List ℕ → List ℕ
 written steps before = take (length before) (numbersOf steps)
 
 -- its answer, and the numbers at the front of the lent events; and where the premises hold demand 3, the credited answer and the BACKs of the run, and at most one sender in each number that was written
-pub record RunKeeps (p : Profile) (retries : ℕ) (s : DevicesSettings) (ticks before : List ℕ) (r : RunEnded) (after : List ℕ) : Type 0 where
+pub record RunKeeps (p : Profile) (retries : ℕ) (s : List Setting) (ticks before : List ℕ) (r : RunEnded) (after : List ℕ) : Type 0 where
   pub answered : ranAs r ≡ ranBy (linkStarts p retries s) (length (written (stepsOf p retries s ticks) before))
   pub events : after ≡ stored before 0 (written (stepsOf p retries s ticks) before)
   pub demand-3 : RunPremises p retries s ticks → Demand3Of p retries s ticks

@@ -2,45 +2,62 @@
 -- One tick of a run: the link behind it, its number, and the place behind it in the list.
 use Prim.Native.Nat.{ℕ, _+_, _*_}
 use mathlib.Core.Path.{_≡_}
-use mathlib.Core.List.{List}
-use lib.ListN.{drop}
+use mathlib.Core.List.{List, [], _∷_}
+use lib.ListN.{length, drop, getD}
+use Rattle.base.specs.Choice.{if_then_else_, _<?_}
+use Rattle.base.specs.Lent.{Lent, before, after}
 use Rattle.frame.specs.Limits.{mostData}
 use Rattle.turns.specs.Link.{LinkStep, linkTick, linkAfter}
-use Rattle.turns.specs.Run.{count}
-use Rattle.party.specs.Calls.{resultOf}
-use Rattle.master.specs.declared.MasterTicked.{MasterTicked}
-use Rattle.slots.specs.declared.DevicesTicked.{DevicesTicked}
-use Rattle.slots.specs.declared.PairTicked.{PairTicked}
-use Rattle.link.specs.Link.{MasterLent, DevicesLent}
-use Rattle.link.specs.Stands.{linkOf}
-use Rattle.link.specs.declared.Link.{Link}
-use Rattle.link.specs.declared.MastersTicked.{MastersTicked}
-use Rattle.tick_list.specs.Ticks.{callsIn}
-use Rattle.tick_list.specs.Coded.{BehindIs}
-use Rattle.link_run.specs.Run.{taken, hereOf, tickNumber}
+use Rattle.parties.specs.Stands.{Rows, rowsOf, linkOf, heres}
+use Rattle.parties.specs.declared.CallOutcome.{CallOutcome}
+use Rattle.parties.specs.declared.Link.{Link}
+use Rattle.parties.specs.declared.MasterDid.{MasterDid}
+use Rattle.link_ticks.specs.Ticks.{masterNothing}
+use Rattle.tick_list.specs.Ticks.{behind, callsIn, ticksOf}
+use Rattle.link_run.specs.Run.{runSteps, numbersOf, tickNumber}
 use Rattle.link_run.specs.declared.Stepped.{Stepped}
 
--- how many send
-abbrev pub pairSenders : PairTicked → ℕ
-pairSenders t = count (t .left .sent) + count (t .right .sent)
+-- ---- a tick's number, from what each party sent, as a number, and what became of the masters' calls
 
-abbrev pub deviceSendersIn : DevicesTicked → ℕ
-deviceSendersIn t = pairSenders (t .low) + (pairSenders (t .middle) + pairSenders (t .high))
+-- 1 for a party that sends
+abbrev pub countIn : ℕ → ℕ
+countIn code = if code <? 256 then 1 else 0
 
--- what a master adds to a tick's number, in units of 16
-abbrev pub masterNumber : MasterTicked → ℕ
-masterNumber t = taken (resultOf (t .result)) + 4 * count (t .sent)
+unfoldable pub sendersIn : List ℕ → ℕ
+sendersIn [] = 0
+sendersIn (c ∷ cs) = countIn c + sendersIn cs
 
--- the number of a tick in which so many devices send
-abbrev pub tickedNumber : MastersTicked → ℕ → ℕ
-tickedNumber t devices = (count (t .primary .sent) + (count (t .secondary .sent) + devices)) + 16 * masterNumber (t .primary) + 32 * masterNumber (t .secondary)
+-- 1 for a request that was taken
+abbrev pub takenIn : CallOutcome → ℕ
+takenIn CallOutcome.Nothing = 0
+takenIn CallOutcome.Taken = 1
+takenIn (CallOutcome.Refused why) = 0
 
--- the tick that turns gives for the calls at this place of the list
-abbrev pub stepAt : Link → MasterLent → MasterLent → DevicesLent → List ℕ → ℕ → LinkStep
-stepAt l p s d ticks at = linkTick mostData (linkOf l p s d) (callsIn (hereOf (l .devices)) (drop at ticks))
+-- what a master adds, in units of 16
+abbrev pub masterNumber : List ℕ → List MasterDid → ℕ → ℕ
+masterNumber row dids i = takenIn (getD dids i masterNothing .result) + 4 * countIn (getD row i 0)
 
-pub record StepIs (l : Link) (ticks : List ℕ) (at : ℕ) (p s : MasterLent) (d : DevicesLent) (r : Stepped) (p-after s-after : MasterLent) (d-after : DevicesLent) : Type 0 where
-  pub behind-is : linkOf (r .link) p-after s-after d-after ≡ linkAfter (stepAt l p s d ticks at)
-  pub number-is : r .number ≡ tickNumber (stepAt l p s d ticks at)
-  pub here : hereOf (r .link .devices) ≡ hereOf (l .devices)
-  pub next : BehindIs ticks at 8 (r .next)
+abbrev pub rowNumber : List ℕ → List MasterDid → ℕ
+rowNumber row dids = sendersIn row + 16 * masterNumber row dids 0 + 32 * masterNumber row dids 1
+
+-- ---- a run
+
+-- the numbers of a whole run from a link on
+abbrev pub allNumbers : Link → Rows → List ℕ → List ℕ
+allNumbers l x ticks = numbersOf (runSteps (linkOf l x) (ticksOf (heres (l .devices)) ticks))
+
+-- ---- the tick that turns gives for the calls at this place of the list
+
+abbrev pub stepAt : Link → Rows → List ℕ → ℕ → LinkStep
+stepAt l x ticks at = linkTick mostData (linkOf l x) (callsIn (heres (l .devices)) (drop at ticks))
+
+pub record StepIs (l : Link) (ticks : List ℕ) (at : ℕ) (x : Rows) (r : Stepped) (x-after : Rows) : Type 0 where
+  pub behind-is : linkOf (r .link) x-after ≡ linkAfter (stepAt l x ticks at)
+  pub number-is : r .number ≡ tickNumber (stepAt l x ticks at)
+  pub slots : heres (r .link .devices) ≡ heres (l .devices)
+  pub next : drop (r .next) ticks ≡ behind 8 (drop at ticks)
+
+-- a link has six slots
+abbrev pub SteppedIs : Link → List ℕ → ℕ → Lent (List (List ℕ)) → Lent (List (List ℕ)) → Lent (List (List ℕ)) → Stepped → Type 0
+SteppedIs l ticks at frames bytes contents r =
+    length (l .devices) ≡ 6 → StepIs l ticks at (rowsOf (before frames) (before bytes) (before contents)) r (rowsOf (after frames) (after bytes) (after contents))

@@ -1,98 +1,80 @@
 // A run of the link over a lent list of ticks, for which demand 3, the credited answer and the BACKs are promised.
 use base::Refusal;
 use line::Profile;
-use link::Link;
-use link::LinkTicked;
-use link::MastersTicked;
-use link_start::DevicesSettings;
-use link_start::LinkStarted;
-use master::MasterTicked;
-use party::CallStatus;
-use slots::DevicesTicked;
-use slots::PairTicked;
-use turns::Sent;
+use link_start::Setting;
+use link_start::StartAnswer;
+use parties::CallOutcome;
+use parties::Link;
+use parties::MasterDid;
 ghost use mathlib.Core.Path.{_≡_};
-ghost use Prim.Native.Nat.{_+_, _≤_};
-ghost use Rattle.party.specs.Calls.{resultOf};
-ghost use Rattle.turns.specs.Run.{count};
+ghost use Prim.Native.Nat.{_+_, _*_, _≤_};
+ghost use lib.ListN.{length};
+ghost use Rattle.base.specs.Lent.{before, after};
 ghost use Rattle.line_c.specs.Recording.{RunIs};
-ghost use Rattle.link.specs.Link.{masterLends, devicesLend};
-ghost use Rattle.link.specs.Stands.{linkOf};
-ghost use Rattle.link_start.specs.Fresh.{masterFresh, devicesFresh};
+ghost use Rattle.parties.specs.Stands.{rowsOf, heres};
+ghost use Rattle.link_start.specs.Fresh.{lentFresh};
 ghost use Rattle.tick_list.specs.Ticks.{ticksOf};
-ghost use Rattle.link_run.specs.Run.{taken, numbersOf, hereOf, RunKeeps, runSteps};
-ghost use Rattle.link_run.specs.Step.{pairSenders, deviceSendersIn, masterNumber, tickedNumber, StepIs};
+ghost use Rattle.link_run.specs.Run.{numbersOf, RunKeeps, runSteps};
+ghost use Rattle.link_run.specs.Step.{countIn, sendersIn, takenIn, rowNumber, allNumbers, SteppedIs};
 
-// 1 for a party that sends.
-fn count_of(sent: Sent) -> u8
-    ensures { λ r. ⌜ (r ≡ count sent) × (r ≤ 1) ⌝ }
+// 1 for a party that sends: its number is the character, or 256 for none.
+fn count_of(code: u16) -> u8
+    ensures { λ r. ⌜ (r ≡ countIn code) × (r ≤ 1) ⌝ }
 {
-    match sent {
-        Sent::Silent => 0,
-        Sent::Character(_) => 1,
+    if code < 256 {
+        return 1;
     }
+    0
 }
 
 // 1 for a request that was taken.
-fn taken_of(result: CallStatus) -> u8
-    ensures { λ r. ⌜ (r ≡ taken (resultOf result)) × (r ≤ 1) ⌝ }
+fn taken_of(result: CallOutcome) -> u8
+    ensures { λ r. ⌜ (r ≡ takenIn result) × (r ≤ 1) ⌝ }
 {
     match result {
-        CallStatus::Nothing => 0,
-        CallStatus::Taken => 1,
-        CallStatus::Refused(_) => 0,
+        CallOutcome::Nothing => 0,
+        CallOutcome::Taken => 1,
+        CallOutcome::Refused(_) => 0,
     }
 }
 
-fn pair_senders(t: PairTicked) -> u8
-    ensures { λ r. ⌜ (r ≡ pairSenders t) × (r ≤ 2) ⌝ }
-{
-    let a = t.left;
-    let b = t.right;
-    let x = a.sent;
-    let y = b.sent;
-    count_of(x) + count_of(y)
-}
+// There are eight numbers in a row: what the array's type says, in words that the promise below needs.
+fn eight_numbers(row: &[u16])
+    requires { ⌜ length (now row) ≡ 8 ⌝ }
+    ensures { λ _. ⌜ length (before row) ≡ 8 ⌝ }
+{}
 
-fn device_senders(t: DevicesTicked) -> u8
-    ensures { λ r. ⌜ (r ≡ deviceSendersIn t) × (r ≤ 6) ⌝ }
+// How many send.
+fn senders_of(row: &[u16; 8]) -> u8
+    ensures { λ r. ⌜ (r ≡ sendersIn (before row)) × (r ≤ 8) ⌝ }
 {
-    let a = t.low;
-    let b = t.middle;
-    let c = t.high;
-    pair_senders(a) + (pair_senders(b) + pair_senders(c))
+    eight_numbers(row);
+    let mut senders = 0;
+    let mut next = 0;
+    while next < 8 {
+        let i = next;
+        next += 1;
+        senders += count_of(row[i]);
+    }
+    senders
 }
 
 // What a master adds to a tick's number, in units of 16: its request was taken, and it sends.
-fn master_number(t: MasterTicked) -> u8
-    ensures { λ r. ⌜ (r ≡ masterNumber t) × (r ≤ 5) ⌝ }
+fn master_number(did: MasterDid, code: u16) -> u8
+    ensures { λ r. ⌜ (r ≡ takenIn (did .result) + 4 * countIn code) × (r ≤ 5) ⌝ }
 {
-    let result = t.result;
-    let sent = t.sent;
-    taken_of(result) + 4 * count_of(sent)
+    let result = did.result;
+    taken_of(result) + 4 * count_of(code)
 }
 
-fn masters_number(t: MastersTicked, devices: u8) -> u8
-    requires { ⌜ devices ≤ 6 ⌝ }
-    ensures { λ r. ⌜ r ≡ tickedNumber t devices ⌝ }
+// The number of a tick in which each party sent this and the masters' hosts were answered so.
+pub fn tick_number(row: &[u16; 8], masters: [MasterDid; 2]) -> u8
+    ensures { λ r. ⌜ r ≡ rowNumber (before row) masters ⌝ }
 {
-    let p = t.primary;
-    let s = t.secondary;
-    let x = p.sent;
-    let y = s.sent;
-    let senders = count_of(x) + (count_of(y) + devices);
-    let a = master_number(p);
-    let b = master_number(s);
+    let senders = senders_of(row);
+    let a = master_number(masters[0], row[0]);
+    let b = master_number(masters[1], row[1]);
     senders + 16 * a + 32 * b
-}
-
-// The number of a tick.
-pub fn tick_number(t: LinkTicked) -> u8
-    ensures { λ r. ⌜ r ≡ tickedNumber (t .masters) (deviceSendersIn (t .devices)) ⌝ }
-{
-    let m = t.masters;
-    let d = t.devices;
-    masters_number(m, device_senders(d))
 }
 
 // A link behind a tick of a list, the tick's number, and the place behind it.
@@ -107,34 +89,21 @@ fn step_at(
     l: Link,
     ticks: &[u8],
     at: usize,
-    stx: &mut [u8; 284],
-    own: &mut [u8; 255],
-    stxs: &mut [u8; 284],
-    owns: &mut [u8; 255],
-    frames: &mut [[u8; 284]; 6],
-    bytes: &mut [[u8; 255]; 6],
+    frames: &mut [[u8; 284]; 8],
+    bytes: &mut [[u8; 255]; 8],
     contents: &mut [[u8; 255]; 6],
+    sent: &mut [[u16; 8]; 64],
 ) -> Stepped
-    ensures { λ r. ⌜ StepIs l (now (ticks .entry)) at (masterLends (now (stx .entry)) (now (own .entry))) (masterLends (now (stxs .entry)) (now (owns .entry))) (devicesLend (now (frames .entry)) (now (bytes .entry)) (now (contents .entry))) r (masterLends (now (stx .exit)) (now (own .exit))) (masterLends (now (stxs .exit)) (now (owns .exit))) (devicesLend (now (frames .exit)) (now (bytes .exit)) (now (contents .exit))) ⌝ }
+    ensures { λ r. ⌜ SteppedIs l (before ticks) at frames bytes contents r ⌝ }
 {
     let read = tick_list::read(ticks, at);
     let calls = read.calls;
-    let t = link::tick(
-        l,
-        calls,
-        ticks,
-        stx,
-        own,
-        stxs,
-        owns,
-        frames,
-        bytes,
-        contents,
-    );
-    let behind = link::behind(t);
+    let t = link_ticks::ticks(l, calls, ticks, 1, frames, bytes, contents, sent);
+    let link = t.link;
+    let masters = t.masters;
     Stepped {
-        link: behind,
-        number: tick_number(t),
+        link: link,
+        number: tick_number(&sent[0], masters),
         next: read.next,
     }
 }
@@ -144,16 +113,14 @@ fn run_from(
     start: Link,
     ticks: &[u8],
     events: &mut [u8],
-    stx: &mut [u8; 284],
-    own: &mut [u8; 255],
-    stxs: &mut [u8; 284],
-    owns: &mut [u8; 255],
-    frames: &mut [[u8; 284]; 6],
-    bytes: &mut [[u8; 255]; 6],
+    frames: &mut [[u8; 284]; 8],
+    bytes: &mut [[u8; 255]; 8],
     contents: &mut [[u8; 255]; 6],
 ) -> usize
-    ensures { λ r. ⌜ RunIs (numbersOf (runSteps (linkOf start (masterLends (now (stx .entry)) (now (own .entry))) (masterLends (now (stxs .entry)) (now (owns .entry))) (devicesLend (now (frames .entry)) (now (bytes .entry)) (now (contents .entry)))) (ticksOf (hereOf (start .devices)) (now (ticks .entry))))) (now (events .entry)) r (now (events .exit)) ⌝ }
+    requires { ⌜ length (start .devices) ≡ 6 ⌝ }
+    ensures { λ r. ⌜ RunIs (allNumbers start (rowsOf (before frames) (before bytes) (before contents)) (before ticks)) (before events) r (after events) ⌝ }
 {
+    let mut sent = [[256u16; 8]; 64];
     let mut l = start;
     let mut at = 0;
     let mut i = 0;
@@ -163,7 +130,7 @@ fn run_from(
         }
         let place = i;
         i += 1;
-        let s = step_at(l, ticks, at, stx, own, stxs, owns, frames, bytes, contents);
+        let s = step_at(l, ticks, at, frames, bytes, contents, &mut sent);
         events[place] = s.number;
         at = s.next;
         l = s.link;
@@ -171,29 +138,15 @@ fn run_from(
     i
 }
 
-// A run of a link that was started, with buffers of its own.
+// A run of a link that was started, with rows of its own.
 fn run_started(start: Link, ticks: &[u8], events: &mut [u8]) -> usize
-    ensures { λ r. ⌜ RunIs (numbersOf (runSteps (linkOf start masterFresh masterFresh devicesFresh) (ticksOf (hereOf (start .devices)) (now (ticks .entry))))) (now (events .entry)) r (now (events .exit)) ⌝ }
+    requires { ⌜ length (start .devices) ≡ 6 ⌝ }
+    ensures { λ r. ⌜ RunIs (numbersOf (runSteps (lentFresh start) (ticksOf (heres (start .devices)) (before ticks)))) (before events) r (after events) ⌝ }
 {
-    let mut stx = [0u8; 284];
-    let mut own = [0u8; 255];
-    let mut stxs = [0u8; 284];
-    let mut owns = [0u8; 255];
-    let mut frames = [[0u8; 284]; 6];
-    let mut bytes = [[0u8; 255]; 6];
+    let mut frames = [[0u8; 284]; 8];
+    let mut bytes = [[0u8; 255]; 8];
     let mut contents = [[0u8; 255]; 6];
-    run_from(
-        start,
-        ticks,
-        events,
-        &mut stx,
-        &mut own,
-        &mut stxs,
-        &mut owns,
-        &mut frames,
-        &mut bytes,
-        &mut contents,
-    )
+    run_from(start, ticks, events, &mut frames, &mut bytes, &mut contents)
 }
 
 // What a run answers: how many ticks it gave numbers of, or why the link's start was refused.
@@ -206,15 +159,17 @@ pub enum RunEnded {
 pub fn run(
     profile: Profile,
     retries: u8,
-    settings: DevicesSettings,
+    settings: [Setting; 6],
     ticks: &[u8],
     events: &mut [u8],
 ) -> RunEnded
-    ensures { λ r. ⌜ RunKeeps profile retries settings (now (ticks .entry)) (now (events .entry)) r (now (events .exit)) ⌝ }
+    ensures { λ r. ⌜ RunKeeps profile retries settings (before ticks) (before events) r (after events) ⌝ }
 {
     let started = link_start::start(profile, retries, settings);
-    match started {
-        LinkStarted::Started(l) => RunEnded::Ran(run_started(l, ticks, events)),
-        LinkStarted::Refused(why) => RunEnded::Refused(why),
+    let answer = started.answer;
+    let link = started.link;
+    match answer {
+        StartAnswer::Started => RunEnded::Ran(run_started(link, ticks, events)),
+        StartAnswer::Refused(why) => RunEnded::Refused(why),
     }
 }

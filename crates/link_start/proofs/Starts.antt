@@ -1,34 +1,39 @@
--- Laws of a start: a definition by cases, at a case that a `match` has told.
-use Prim.Native.Nat.{ℕ, _≤_, _<_}
+-- Laws of a start: a definition by cases, at a case that a `match` has told, and the loop over the slots.
+use Prim.Native.Nat.{ℕ, zero, suc, _-_, _≤_, _<_}
 use native.Mathlib.Omega.{arith}
-use mathlib.Core.Bool.{true, false}
-use mathlib.Core.Path.{_≡_, refl, sym, ap, _∙_}
-use Rattle.base.specs.Refusal.{Called, accepted, refused}
-use Rattle.base.proofs.Choices.{if-at-most, if-above}
+use mathlib.Core.Bool.{Bool, true, false}
+use mathlib.Core.List.{List, [], _∷_}
+use mathlib.Core.Path.{_≡_, refl, sym, ap, subst, _∙_}
+use lib.ListN.{length, drop, getD, set, replicate, length-set, drop-of-length-le}
+use lib.Seq.{drop-cons, drop-set-lt, getD-set-same}
+use Rattle.base.specs.Choice.{if_then_else_}
+use Rattle.base.specs.Refusal.{number, Called, accepted, refused}
+use Rattle.base.specs.declared.Refusal.{Refusal}
+use Rattle.base.proofs.Choices.{if-true, if-false, if-at-most, if-above}
+use Rattle.frame.specs.declared.Header.{Header}
+use Rattle.line.specs.Reader.{passing, noHeader}
 use Rattle.line.specs.declared.Profile.{Profile}
-use Rattle.turns.specs.Master.{masterStarts}
+use Rattle.line.specs.declared.Receiver.{Receiver}
+use Rattle.turns.specs.Master.{masterStarts, noMessage, timer}
 use Rattle.turns.specs.Device.{deviceStarts}
 use Rattle.turns.specs.declared.Device.{Device}
 use Rattle.turns.specs.declared.Master.{Master}
+use Rattle.turns.specs.declared.Message.{Message}
+use Rattle.turns.specs.declared.Stage.the-variants.{Free}
+use Rattle.turns.specs.declared.Timer.{Timer}
+use Rattle.turns.specs.declared.Turn.the-variants.{Listens}
+use Rattle.turns.specs.declared.Wish.the-variants.{Same}
 use Rattle.device.specs.Calls.{startedAs}
 use Rattle.device.specs.declared.DeviceStarted.{DeviceStarted}
 use Rattle.master.specs.Answers.{started}
 use Rattle.master.specs.declared.MasterStarted.{MasterStarted}
-use Rattle.link_start.specs.Start.{lower, both, inSlot, slotStarts, pairOf, pairStarts, threeOf, twoOf, devicesStart, mastersOf, mastersStart, freshLink, linkStarts, made, verdictAs, lowest, slotAs, pairAs, devicesAs, mastersAs}
-use Rattle.slots.specs.declared.Devices.{Devices}
-use Rattle.slots.specs.declared.Pair.{Pair}
-use Rattle.slots.specs.declared.Slot.{Slot}
-use Rattle.link_start.specs.declared.DevicesBegun.{DevicesBegun}
-use Rattle.link_start.specs.declared.DevicesSettings.{DevicesSettings}
-use Rattle.link.specs.declared.Link.{Link}
-use Rattle.link.specs.declared.Masters.{Masters}
-use Rattle.link_start.specs.declared.MastersStarted.{MastersStarted}
-use Rattle.link_start.specs.declared.PairBegun.{PairBegun}
-use Rattle.link_start.specs.declared.PairSettings.{PairSettings}
+use Rattle.parties.specs.Stands.{anyMaster}
+use Rattle.parties.specs.declared.Link.{Link}
+use Rattle.parties.specs.declared.Slot.{Slot}
+use Rattle.link_start.specs.Start.{noProfile, anyDevice, absent, lower, both, inSlot, deviceSlot, slotStarts, inFront, devicesStart, primaryFirst, mastersStart, freshLink, linkStarts, made, answerAs, lowest, emptyLink, linkOr, StartedIs}
 use Rattle.link_start.specs.declared.Setting.{Setting}
-use Rattle.link_start.specs.declared.SlotBegun.{SlotBegun}
-use Rattle.link_start.specs.declared.SlotSetting.{SlotSetting}
-use Rattle.link_start.specs.declared.Verdict.{Verdict}
+use Rattle.link_start.specs.declared.StartAnswer.{StartAnswer}
+use Rattle.link_start.specs.declared.StartAnswer.the-variants.{Started, Refused}
 
 -- the lower of two numbers that the code has compared
 module _ (v w a b : ℕ) (p : a ≡ v) (q : b ≡ w) where
@@ -41,72 +46,174 @@ module _ (v w a b : ℕ) (p : a ≡ v) (q : b ≡ w) where
 pub refused-same : {A : Type 0} (x y : ℕ) → x ≡ y → _≡_ {A = Called A} (refused x) (refused y)
 refused-same {A} x y e = λ i. refused (e i)
 
--- verdicts
-pub lowest-taken : (y : Verdict) → verdictAs y ≡ lowest (accepted tt) (verdictAs y)
-lowest-taken Verdict.Taken = refl
-lowest-taken (Verdict.Refused why) = refl
+-- where no party was started: records with equal parts
+pub message-none : (h : Header) → h ≡ noHeader → _≡_ {A = Message} (record { stage = Free; header = h; length = 0; attempts = 0 }) noMessage
+message-none h e = λ i. record { stage = Free; header = e i; length = 0; attempts = 0 }
 
-pub lowest-first : (p q y : Verdict) (r : Called (Unit {0})) → p ≡ q → r ≡ lowest (verdictAs q) (verdictAs y) → r ≡ lowest (verdictAs p) (verdictAs y)
-lowest-first p q y r e f = f ∙ ap (λ (x : Verdict). lowest (verdictAs x) (verdictAs y)) (sym e)
+pub master-any : (p : Profile) (r : Receiver) (t : Timer) (g : Message) → p ≡ noProfile → r ≡ passing → t ≡ timer 0 → g ≡ noMessage
+    → _≡_ {A = Master} (record { primary = true; profile = p; retries = 0; receiver = r; deaf = true; burst = false; noted = record { long = false; address = 0 }; timer = t; message = g }) anyMaster
+unfolding if_then_else_
+master-any p r t g e f h k = λ i. record { primary = true; profile = e i; retries = 0; receiver = f i; deaf = true; burst = false; noted = record { long = false; address = 0 }; timer = h i; message = k i }
 
-pub lowest-second : (v : ℕ) (p q : Verdict) (r : Called (Unit {0})) → p ≡ q → r ≡ lowest (refused v) (verdictAs q) → r ≡ lowest (refused v) (verdictAs p)
-lowest-second v p q r e f = f ∙ ap (λ (x : Verdict). lowest (refused v) (verdictAs x)) (sym e)
+pub device-any : (p : Profile) (r : Receiver) (h : Header) → p ≡ noProfile → r ≡ passing → h ≡ noHeader
+    → _≡_ {A = Device} (record {
+      profile = p;
+      preamble = 0;
+      polling = 0;
+      unique = 0;
+      receiver = r;
+      deaf = true;
+      turn = Listens;
+      request = h;
+      wish = Same;
+      length = 0;
+      burst = false;
+      primary = true;
+      due = 0;
+      content = record { given = false; command = 0; count = 0 };
+    }) anyDevice
+device-any p r h e f g = λ i. record {
+  profile = e i;
+  preamble = 0;
+  polling = 0;
+  unique = 0;
+  receiver = f i;
+  deaf = true;
+  turn = Listens;
+  request = g i;
+  wish = Same;
+  length = 0;
+  burst = false;
+  primary = true;
+  due = 0;
+  content = record { given = false; command = 0; count = 0 };
+}
 
--- what is made of two parts has the lowest of their verdicts
-abbrev with-verdict : {C : Type 0} → C → Called (Unit {0}) → Called C
-with-verdict c (accepted u) = accepted c
-with-verdict c (refused why) = refused why
+pub slot-absent : (d : Device) → d ≡ anyDevice → _≡_ {A = Slot} (record { device = d; here = false }) absent
+slot-absent d e = λ i. record { device = e i; here = false }
 
-made-with : {C : Type 0} (c : C) (v : Verdict) → made c v ≡ with-verdict c (verdictAs v)
-made-with c Verdict.Taken = refl
-made-with c (Verdict.Refused why) = refl
+pub link-empty : (m : Master) (s : Slot) → m ≡ anyMaster → s ≡ absent → freshLink (replicate 2 m) (replicate 6 s) ≡ emptyLink
+link-empty m s e f = λ i. freshLink (replicate 2 (e i)) (replicate 6 (f i))
 
-both-with : {A B C : Type 0} (f : A → B → C) (a : A) (b : B) (x y : Verdict) → with-verdict (f a b) (lowest (verdictAs x) (verdictAs y)) ≡ both f (made a x) (made b y)
-both-with f a b Verdict.Taken Verdict.Taken = refl
-both-with f a b Verdict.Taken (Verdict.Refused w) = refl
-both-with f a b (Verdict.Refused v) Verdict.Taken = refl
-both-with f a b (Verdict.Refused v) (Verdict.Refused w) = refl
+-- answers
+pub lowest-taken : (y : StartAnswer) → answerAs y ≡ lowest (accepted tt) (answerAs y)
+lowest-taken Started = refl
+lowest-taken (Refused why) = refl
 
-both-made : {A B C : Type 0} (f : A → B → C) (a : A) (b : B) (x y v : Verdict) → verdictAs v ≡ lowest (verdictAs x) (verdictAs y) → made (f a b) v ≡ both f (made a x) (made b y)
-both-made f a b x y v e = made-with (f a b) v ∙ ap (with-verdict (f a b)) e ∙ both-with f a b x y
+pub lowest-first : (p q y : StartAnswer) (r : Called (Unit {0})) → p ≡ q → r ≡ lowest (answerAs q) (answerAs y) → r ≡ lowest (answerAs p) (answerAs y)
+lowest-first p q y r e f = f ∙ ap (λ (x : StartAnswer). lowest (answerAs x) (answerAs y)) (sym e)
 
--- a device's start
-pub device-begins : (p : Profile) (s : Setting) (d t : DeviceStarted) (r : Called Slot) → startedAs d ≡ deviceStarts p (s .preamble) (s .polling) (s .unique) → d ≡ t → r ≡ inSlot (startedAs t) → r ≡ slotStarts p (SlotSetting.Present s)
+pub lowest-second : (v : ℕ) (p q : StartAnswer) (r : Called (Unit {0})) → p ≡ q → r ≡ lowest (refused v) (answerAs q) → r ≡ lowest (refused v) (answerAs p)
+lowest-second v p q r e f = f ∙ ap (λ (x : StartAnswer). lowest (refused v) (answerAs x)) (sym e)
+
+-- what is made of two parts has the lowest of their answers
+abbrev with-answer : {C : Type 0} → C → Called (Unit {0}) → Called C
+with-answer c (accepted u) = accepted c
+with-answer c (refused why) = refused why
+
+made-with : {C : Type 0} (c : C) (v : StartAnswer) → made c v ≡ with-answer c (answerAs v)
+made-with c Started = refl
+made-with c (Refused why) = refl
+
+both-with : {A B C : Type 0} (f : A → B → C) (a : A) (b : B) (x y : StartAnswer) → with-answer (f a b) (lowest (answerAs x) (answerAs y)) ≡ both f (made a x) (made b y)
+both-with f a b Started Started = refl
+both-with f a b Started (Refused w) = refl
+both-with f a b (Refused v) Started = refl
+both-with f a b (Refused v) (Refused w) = refl
+
+both-made : {A B C : Type 0} (f : A → B → C) (a : A) (b : B) (x y v : StartAnswer) → answerAs v ≡ lowest (answerAs x) (answerAs y) → made (f a b) v ≡ both f (made a x) (made b y)
+both-made f a b x y v e = made-with (f a b) v ∙ ap (with-answer (f a b)) e ∙ both-with f a b x y
+
+-- a party's start
+pub master-begins : (p : Profile) (primary : Bool) (retries : ℕ) (m t : MasterStarted) (r : Called Master) → started m ≡ masterStarts p primary retries → m ≡ t → r ≡ started t → r ≡ masterStarts p primary retries
+master-begins p primary retries m t r q e f = f ∙ ap started (sym e) ∙ q
+
+pub masters-begin : (p : Profile) (retries : ℕ) (a b : Master) (x y v : StartAnswer) → made a x ≡ masterStarts p true retries → made b y ≡ masterStarts p false retries
+    → answerAs v ≡ lowest (answerAs x) (answerAs y) → made (a ∷ b ∷ []) v ≡ mastersStart p retries
+masters-begin p retries a b x y v e f g = both-made primaryFirst a b x y v g ∙ (λ i. both primaryFirst (e i) (f i))
+
+pub device-begins : (p : Profile) (s : Setting) (d t : DeviceStarted) (r : Called Slot) → startedAs d ≡ deviceStarts p (s .preamble) (s .polling) (s .unique) → d ≡ t → r ≡ inSlot (startedAs t) → r ≡ deviceSlot p s
 device-begins p s d t r q e f = f ∙ ap inSlot (ap startedAs (sym e) ∙ q)
 
-pub setting-at : (p : Profile) (s t : SlotSetting) (r : Called Slot) → s ≡ t → r ≡ slotStarts p t → r ≡ slotStarts p s
-setting-at p s t r e f = f ∙ ap (slotStarts p) (sym e)
+pub none-begins : (p : Profile) (s : Setting) (slot : Slot) → s .here ≡ false → slot ≡ absent → accepted slot ≡ slotStarts p s
+none-begins p s slot e f = if-false (s .here) (accepted slot) (deviceSlot p s) (accepted absent) e (ap accepted f)
 
-pub pair-made : (a b : SlotBegun) (v : Verdict) → verdictAs v ≡ lowest (verdictAs (a .verdict)) (verdictAs (b .verdict)) → made (pairOf (a .slot) (b .slot)) v ≡ both pairOf (slotAs a) (slotAs b)
-pair-made a b v e = both-made pairOf (a .slot) (b .slot) (a .verdict) (b .verdict) v e
+pub one-begins : (p : Profile) (s : Setting) (r : Called Slot) → s .here ≡ true → r ≡ deviceSlot p s → r ≡ slotStarts p s
+one-begins p s r e f = if-true (s .here) r (deviceSlot p s) (accepted absent) e f
 
-pub pair-starts : (p : Profile) (s : PairSettings) (a b : Called Slot) (r : Called Pair) → a ≡ slotStarts p (s .left) → b ≡ slotStarts p (s .right) → r ≡ both pairOf a b → r ≡ pairStarts p s
-pair-starts p s a b r e f g = g ∙ (λ i. both pairOf (e i) (f i))
+-- ---- the loop over the slots, from the last to the first
 
-pub devices-made : (a b c : PairBegun) (x v : Verdict) → verdictAs x ≡ lowest (verdictAs (b .verdict)) (verdictAs (c .verdict)) → verdictAs v ≡ lowest (verdictAs (a .verdict)) (verdictAs x)
-    → _≡_ {A = Called Devices} (made (record { low = a .pair; middle = b .pair; high = c .pair }) v) (both threeOf (pairAs a) (both twoOf (pairAs b) (pairAs c)))
-devices-made a b c x v e f =
-    both-made threeOf (a .pair) (twoOf (b .pair) (c .pair)) (a .verdict) x v f
-    ∙ ap (both threeOf (pairAs a)) (both-made twoOf (b .pair) (c .pair) (b .verdict) (c .verdict) x e)
+pub record Begun (p : Profile) (ss : List Setting) (slots : List Slot) (v : StartAnswer) (n : ℕ) : Type 0 where
+  pub settings-six : length ss ≡ 6
+  pub six : length slots ≡ 6
+  pub within : n ≤ 6
+  pub left : made (drop n slots) v ≡ devicesStart p (drop n ss)
 
-pub devices-start : (p : Profile) (s : DevicesSettings) (a b c : Called Pair) (r : Called Devices) → a ≡ pairStarts p (s .low) → b ≡ pairStarts p (s .middle) → c ≡ pairStarts p (s .high) → r ≡ both threeOf a (both twoOf b c) → r ≡ devicesStart p s
-devices-start p s a b c r e f g h = h ∙ (λ i. both threeOf (e i) (both twoOf (f i) (g i)))
+pub begun-none : (p : Profile) (ss : List Setting) (slots : List Slot) → length ss ≡ 6 → length slots ≡ 6 → Begun p ss slots Started 6
+unfolding devicesStart
+begun-none p ss slots h k = record {
+  settings-six = h;
+  six = k;
+  within = omega arith;
+  left =
+      ap (λ (l : List Slot). made l Started) (drop-of-length-le slots {i = 6} (omega (arith, k)))
+      ∙ ap (devicesStart p) (sym (drop-of-length-le ss {i = 6} (omega (arith, h))));
+}
 
--- both masters
-pub secondary-at : (x : Called Master) (s t : MasterStarted) (r : Called Masters) → s ≡ t → r ≡ both mastersOf x (started t) → r ≡ both mastersOf x (started s)
-secondary-at x s t r e f = f ∙ ap (λ (y : MasterStarted). both mastersOf x (started y)) (sym e)
+devices-more : (p : Profile) (s : Setting) (ss : List Setting) → both inFront (slotStarts p s) (devicesStart p ss) ≡ devicesStart p (s ∷ ss)
+unfolding devicesStart
+devices-more p s ss = refl
 
-pub primary-at : (p t s : MasterStarted) (r : Called Masters) → p ≡ t → r ≡ both mastersOf (started t) (started s) → r ≡ both mastersOf (started p) (started s)
-primary-at p t s r e f = f ∙ ap (λ (y : MasterStarted). both mastersOf (started y) (started s)) (sym e)
+module _ (p : Profile) (ss : List Setting) (slots : List Slot) (v : StartAnswer) (i : ℕ) (b : Begun p ss slots v (suc i)) where
+  inside : i < 6
+  inside = omega (arith, b .within)
 
-pub masters-start : (p : Profile) (retries : ℕ) (a b : MasterStarted) (r : Called Masters) → started a ≡ masterStarts p true retries → started b ≡ masterStarts p false retries → r ≡ both mastersOf (started a) (started b) → r ≡ mastersStart p retries
-masters-start p retries a b r e f g = g ∙ (λ i. both mastersOf (e i) (f i))
+  stored : (e : Slot) → drop i (set slots i e) ≡ e ∷ drop (suc i) slots
+  stored e =
+      drop-cons (set slots i e) i e (omega (arith, length-set slots i e, b .six, inside))
+      ∙ (λ j. getD-set-same slots i e e (omega (arith, b .six, inside)) j ∷ drop-set-lt (suc i) slots i e (omega arith) j)
 
--- the link
-pub verdict-at : (x : Called Masters) (d : DevicesBegun) (q : Verdict) (r : Called Link) → d .verdict ≡ q → r ≡ both freshLink x (made (d .devices) q) → r ≡ both freshLink x (devicesAs d)
-verdict-at x d q r e f = f ∙ ap (λ (v : Verdict). both freshLink x (made (d .devices) v)) (sym e)
+  one-more : (d : Setting) (e : Slot) (x w : StartAnswer) → made e x ≡ slotStarts p (getD ss i d) → answerAs w ≡ lowest (answerAs x) (answerAs v) → Begun p ss (set slots i e) w i
+  one-more d e x w q g = record {
+    settings-six = b .settings-six;
+    six = length-set slots i e ∙ b .six;
+    within = omega (arith, inside);
+    left =
+        ap (λ (l : List Slot). made l w) (stored e)
+        ∙ both-made inFront e (drop (suc i) slots) x v w g
+        ∙ (λ j. both inFront (q j) (b .left j))
+        ∙ devices-more p (getD ss i d) (drop (suc i) ss)
+        ∙ ap (devicesStart p) (sym (drop-cons ss i d (omega (arith, b .settings-six, inside))));
+  }
 
-pub link-starts : (p : Profile) (retries : ℕ) (s : DevicesSettings) (m t : MastersStarted) (d : Called Devices) (r : Called Link) → mastersAs m ≡ mastersStart p retries → m ≡ t → d ≡ devicesStart p s → r ≡ both freshLink (mastersAs t) d → r ≡ linkStarts p retries s
-link-starts p retries s m t d r q e f g = g ∙ (λ i. both freshLink ((ap mastersAs (sym e) ∙ q) i) (f i))
+pub begun-more : (p : Profile) (ss : List Setting) (slots : List Slot) (v : StartAnswer) (n : ℕ) (d : Setting) (e : Slot) (x w : StartAnswer)
+    → Begun p ss slots v n → 0 < n → made e x ≡ slotStarts p (getD ss (n - 1) d) → answerAs w ≡ lowest (answerAs x) (answerAs v) → Begun p ss (set slots (n - 1) e) w (n - 1)
+begun-more p ss slots v n d e x w b h q g =
+    let k : n ≡ suc (n - 1) = omega (arith, h) in
+    one-more p ss slots v (n - 1) (subst (Begun p ss slots v) k b) d e x w q g
 
-pub ruleset starts = (refl, lower-first, lower-second, refused-same, lowest-taken, lowest-first, lowest-second, device-begins, setting-at, pair-made, pair-starts, devices-made, devices-start, secondary-at, primary-at, masters-start, verdict-at, link-starts)
+pub begun-all : (p : Profile) (ss : List Setting) (slots : List Slot) (v : StartAnswer) (n : ℕ) → Begun p ss slots v n → n ≤ 0 → made slots v ≡ devicesStart p ss
+begun-all p ss slots v zero b h = b .left
+begun-all p ss slots v (suc n) b h = absurd (omega arith)
+
+-- ---- the link
+
+link-made : (p : Profile) (retries : ℕ) (ss : List Setting) (ms : List Master) (slots : List Slot) (x y v : StartAnswer) → made ms x ≡ mastersStart p retries → made slots y ≡ devicesStart p ss
+    → answerAs v ≡ lowest (answerAs x) (answerAs y) → made (freshLink ms slots) v ≡ linkStarts p retries ss
+link-made p retries ss ms slots x y v e f g = both-made freshLink ms slots x y v g ∙ (λ i. both freshLink (e i) (f i))
+
+module _ (p : Profile) (retries : ℕ) (ss : List Setting) (ms : List Master) (slots : List Slot) (x y v : StartAnswer)
+    (e : made ms x ≡ mastersStart p retries) (f : made slots y ≡ devicesStart p ss) (g : answerAs v ≡ lowest (answerAs x) (answerAs y)) where
+  pub link-started : v ≡ Started → StartedIs p retries ss (record { answer = Started; link = freshLink ms slots })
+  link-started q =
+      let is : accepted (freshLink ms slots) ≡ linkStarts p retries ss = ap (made (freshLink ms slots)) (sym q) ∙ link-made p retries ss ms slots x y v e f g in
+      record { answer-is = is; link-is = ap linkOr is }
+
+  pub link-refused : (why : Refusal) (l : Link) → v ≡ Refused why → l ≡ emptyLink → StartedIs p retries ss (record { answer = Refused why; link = l })
+  link-refused why l q k =
+      let is : _≡_ {A = Called Link} (refused (number why)) (linkStarts p retries ss) = ap (made (freshLink ms slots)) (sym q) ∙ link-made p retries ss ms slots x y v e f g in
+      record { answer-is = is; link-is = k ∙ ap linkOr is }
+
+pub ruleset parts = (refl, message-none, master-any, device-any, slot-absent, link-empty)
+
+pub ruleset starts = (refl, lower-first, lower-second, refused-same, lowest-taken, lowest-first, lowest-second, master-begins, masters-begin, device-begins, none-begins, one-begins, begun-none, begun-more, begun-all, link-started, link-refused)

@@ -2,30 +2,37 @@
 -- The start of a link: the lowest number of its parties' refusals, or the fresh link, with nothing on the line before.
 use Prim.Native.Nat.{ℕ}
 use mathlib.Core.Bool.{true, false}
+use mathlib.Core.List.{List, [], _∷_}
+use mathlib.Core.Path.{_≡_}
+use lib.ListN.{replicate}
 use Rattle.base.specs.Choice.{if_then_else_, _≤?_}
 use Rattle.base.specs.Refusal.{number, Called, accepted, refused}
 use Rattle.line.specs.declared.Heard.the-variants.{Silence}
 use Rattle.line.specs.declared.Profile.{Profile}
 use Rattle.turns.specs.Master.{masterStarts}
-use Rattle.turns.specs.Device.{deviceStarts}
+use Rattle.turns.specs.Device.{freshDevice, deviceStarts}
 use Rattle.turns.specs.declared.Device.{Device}
 use Rattle.turns.specs.declared.Master.{Master}
-use Rattle.slots.specs.declared.Devices.{Devices}
-use Rattle.slots.specs.declared.Pair.{Pair}
-use Rattle.link_start.specs.declared.DevicesBegun.{DevicesBegun}
-use Rattle.link_start.specs.declared.DevicesSettings.{DevicesSettings}
-use Rattle.link.specs.declared.Link.{Link}
+use Rattle.parties.specs.Stands.{anyMaster}
+use Rattle.parties.specs.declared.Link.{Link}
+use Rattle.parties.specs.declared.Slot.{Slot}
 use Rattle.link_start.specs.declared.LinkStarted.{LinkStarted}
-use Rattle.link.specs.declared.Masters.{Masters}
-use Rattle.link_start.specs.declared.MastersStarted.{MastersStarted}
-use Rattle.link_start.specs.declared.PairBegun.{PairBegun}
-use Rattle.link_start.specs.declared.PairSettings.{PairSettings}
-use Rattle.slots.specs.declared.Slot.{Slot}
-use Rattle.slots.specs.declared.Slot.the-variants.{Absent, Present}
-use Rattle.link_start.specs.declared.SlotBegun.{SlotBegun}
-use Rattle.link_start.specs.declared.SlotSetting.{SlotSetting}
-use Rattle.link_start.specs.declared.Verdict.{Verdict}
-use Rattle.link_start.specs.declared.Verdict.the-variants.{Taken}
+use Rattle.link_start.specs.declared.Setting.{Setting}
+use Rattle.link_start.specs.declared.StartAnswer.{StartAnswer}
+use Rattle.link_start.specs.declared.StartAnswer.the-variants.{Started, Refused}
+
+-- ---- a slot without a device: nothing is said of what it holds
+
+abbrev pub noProfile : Profile
+noProfile = record { sto = 0; hold = 0; rt2 = 0; rt1p = 0; rt1s = 0 }
+
+abbrev pub anyDevice : Device
+anyDevice = freshDevice noProfile 0 0 0
+
+abbrev pub absent : Slot
+absent = record { device = anyDevice; here = false }
+
+-- ---- the start
 
 -- "In one place the lowest applies."
 abbrev pub lower : ℕ → ℕ → ℕ
@@ -40,68 +47,56 @@ both makes (refused v) (refused w) = refused (lower v w)
 
 -- a slot's device, where its start accepted it
 abbrev pub inSlot : Called Device → Called Slot
-inSlot (accepted d) = accepted (Present d)
+inSlot (accepted d) = accepted (record { device = d; here = true })
 inSlot (refused why) = refused why
 
-abbrev pub slotStarts : Profile → SlotSetting → Called Slot
-slotStarts p SlotSetting.Absent = accepted Absent
-slotStarts p (SlotSetting.Present s) = inSlot (deviceStarts p (s .preamble) (s .polling) (s .unique))
+abbrev pub deviceSlot : Profile → Setting → Called Slot
+deviceSlot p s = inSlot (deviceStarts p (s .preamble) (s .polling) (s .unique))
 
-abbrev pub pairOf : Slot → Slot → Pair
-pairOf a b = record { left = a; right = b }
+abbrev pub slotStarts : Profile → Setting → Called Slot
+slotStarts p s = if s .here then deviceSlot p s else accepted absent
 
-abbrev pub pairStarts : Profile → PairSettings → Called Pair
-pairStarts p s = both pairOf (slotStarts p (s .left)) (slotStarts p (s .right))
+abbrev pub inFront : Slot → List Slot → List Slot
+inFront s ss = s ∷ ss
 
-abbrev pub threeOf : Pair → Pair × Pair → Devices
-threeOf low rest = record { low = low; middle = rest .0; high = rest .1 }
+unfoldable pub devicesStart : Profile → List Setting → Called (List Slot)
+devicesStart p [] = accepted []
+devicesStart p (s ∷ ss) = both inFront (slotStarts p s) (devicesStart p ss)
 
--- two of the three pairs
-abbrev pub twoOf : Pair → Pair → Pair × Pair
-twoOf middle high = (middle, high)
+abbrev pub primaryFirst : Master → Master → List Master
+primaryFirst p s = p ∷ s ∷ []
 
-abbrev pub devicesStart : Profile → DevicesSettings → Called Devices
-devicesStart p s = both threeOf (pairStarts p (s .low)) (both twoOf (pairStarts p (s .middle)) (pairStarts p (s .high)))
+abbrev pub mastersStart : Profile → ℕ → Called (List Master)
+mastersStart p retries = both primaryFirst (masterStarts p true retries) (masterStarts p false retries)
 
-abbrev pub mastersOf : Master → Master → Masters
-mastersOf a b = record { primary = a; secondary = b }
+abbrev pub freshLink : List Master → List Slot → Link
+freshLink ms ss = record { masters = ms; devices = ss; line = Silence }
 
-abbrev pub mastersStart : Profile → ℕ → Called Masters
-mastersStart p retries = both mastersOf (masterStarts p true retries) (masterStarts p false retries)
-
-abbrev pub freshLink : Masters → Devices → Link
-freshLink m d = record { masters = m; devices = d; line = Silence }
-
-abbrev pub linkStarts : Profile → ℕ → DevicesSettings → Called Link
+abbrev pub linkStarts : Profile → ℕ → List Setting → Called Link
 linkStarts p retries s = both freshLink (mastersStart p retries) (devicesStart p s)
 
--- ---- what the code's answers say
+-- ---- what the code's answer says
 
--- what was made, with the verdict on it
-abbrev pub made : {A : Type 0} → A → Verdict → Called A
-made a Taken = accepted a
-made a (Verdict.Refused why) = refused (number why)
+-- what was made, with the answer to it
+abbrev pub made : {A : Type 0} → A → StartAnswer → Called A
+made a Started = accepted a
+made a (Refused why) = refused (number why)
 
--- a verdict alone, and the lowest of two
-abbrev pub verdictAs : Verdict → Called (Unit {0})
-verdictAs v = made tt v
+-- an answer alone, and the lowest of two
+abbrev pub answerAs : StartAnswer → Called (Unit {0})
+answerAs x = made tt x
 
 abbrev pub lowest : Called (Unit {0}) → Called (Unit {0}) → Called (Unit {0})
 lowest x y = both (λ a b. tt) x y
 
-abbrev pub slotAs : SlotBegun → Called Slot
-slotAs b = made (b .slot) (b .verdict)
+-- the link that stands beside a refusal
+abbrev pub emptyLink : Link
+emptyLink = freshLink (replicate 2 anyMaster) (replicate 6 absent)
 
-abbrev pub pairAs : PairBegun → Called Pair
-pairAs b = made (b .pair) (b .verdict)
+abbrev pub linkOr : Called Link → Link
+linkOr (accepted l) = l
+linkOr (refused why) = emptyLink
 
-abbrev pub devicesAs : DevicesBegun → Called Devices
-devicesAs b = made (b .devices) (b .verdict)
-
-abbrev pub mastersAs : MastersStarted → Called Masters
-mastersAs (MastersStarted.Started m) = accepted m
-mastersAs (MastersStarted.Refused why) = refused (number why)
-
-abbrev pub linkAs : LinkStarted → Called Link
-linkAs (LinkStarted.Started l) = accepted l
-linkAs (LinkStarted.Refused why) = refused (number why)
+pub record StartedIs (p : Profile) (retries : ℕ) (s : List Setting) (r : LinkStarted) : Type 0 where
+  pub answer-is : made (r .link) (r .answer) ≡ linkStarts p retries s
+  pub link-is : r .link ≡ linkOr (linkStarts p retries s)

@@ -1,72 +1,182 @@
 // The start of a link.
 use base::Refusal;
+use frame::Header;
 use line::Heard;
 use line::Profile;
-use link::Link;
-use link::Masters;
 use master::MasterStarted;
-use slots::Devices;
-use slots::Pair;
-use slots::Slot;
+use parties::Link;
+use parties::Slot;
+use turns::Content;
+use turns::Device;
 use turns::Master;
+use turns::Message;
+use turns::Noted;
+use turns::Stage;
+use turns::Turn;
+use turns::Wish;
 ghost use mathlib.Core.Path.{_≡_};
 ghost use Rattle.base.specs.Refusal.{number, accepted, refused};
-ghost use Rattle.master.specs.Answers.{started};
-ghost use Rattle.link_start.specs.Start.{lower, both, slotStarts, pairOf, pairStarts, threeOf, twoOf, devicesStart, mastersOf, mastersStart, freshLink, linkStarts, verdictAs, lowest, slotAs, pairAs, devicesAs, mastersAs, linkAs};
+ghost use Rattle.turns.specs.Master.{masterStarts, noMessage};
+ghost use Rattle.line.specs.Reader.{noHeader};
+ghost use Rattle.parties.specs.Stands.{anyMaster};
+ghost use Rattle.link_start.specs.Start.{noProfile, anyDevice, absent, emptyLink, lower, both, deviceSlot, slotStarts, devicesStart, mastersStart, made, answerAs, lowest, StartedIs};
 
-// What a device is started with.
+// What a device is started with, where one is here.
 pub struct Setting {
+    pub here: bool,
     pub preamble: usize,
     pub polling: u8,
     pub unique: u64,
 }
 
-pub enum SlotSetting {
-    Absent,
-    Present(Setting),
-}
-
-pub struct PairSettings {
-    pub left: SlotSetting,
-    pub right: SlotSetting,
-}
-
-pub struct DevicesSettings {
-    pub low: PairSettings,
-    pub middle: PairSettings,
-    pub high: PairSettings,
-}
-
 // What became of some starts: all were taken, or the lowest of their refusals.
-pub enum Verdict {
-    Taken,
+pub enum StartAnswer {
+    Started,
     Refused(Refusal),
+}
+
+// What became of a link's start, and the link. Where it was refused, that is one without a device.
+pub struct LinkStarted {
+    pub answer: StartAnswer,
+    pub link: Link,
+}
+
+// Parties whose start was taken; where it was refused they are any.
+pub struct MasterBegun {
+    pub master: Master,
+    pub answer: StartAnswer,
+}
+
+pub struct MastersBegun {
+    pub masters: [Master; 2],
+    pub answer: StartAnswer,
 }
 
 pub struct SlotBegun {
     pub slot: Slot,
-    pub verdict: Verdict,
-}
-
-pub struct PairBegun {
-    pub pair: Pair,
-    pub verdict: Verdict,
+    pub answer: StartAnswer,
 }
 
 pub struct DevicesBegun {
-    pub devices: Devices,
-    pub verdict: Verdict,
+    pub devices: [Slot; 6],
+    pub answer: StartAnswer,
 }
 
-pub enum MastersStarted {
-    Started(Masters),
-    Refused(Refusal),
+// ---- where no party was started
+
+fn no_profile() -> Profile
+    ensures { λ r. ⌜ r ≡ noProfile ⌝ }
+{
+    Profile {
+        sto: 0,
+        hold: 0,
+        rt2: 0,
+        rt1p: 0,
+        rt1s: 0,
+    }
 }
 
-pub enum LinkStarted {
-    Started(Link),
-    Refused(Refusal),
+fn no_header() -> Header
+    ensures { λ r. ⌜ r ≡ noHeader ⌝ }
+{
+    Header {
+        frame: 0,
+        long: false,
+        primary: false,
+        burst: false,
+        address: 0,
+        command: 0,
+    }
 }
+
+fn no_message() -> Message
+    ensures { λ r. ⌜ r ≡ noMessage ⌝ }
+{
+    let header = no_header();
+    Message {
+        stage: Stage::Free,
+        header: header,
+        length: 0,
+        attempts: 0,
+    }
+}
+
+fn any_master() -> Master
+    ensures { λ r. ⌜ r ≡ anyMaster ⌝ }
+{
+    let profile = no_profile();
+    let receiver = tick_reader::passing_reader();
+    let timer = master_rules::timer_of(0);
+    let message = no_message();
+    let noted = Noted {
+        long: false,
+        address: 0,
+    };
+    Master {
+        primary: true,
+        profile: profile,
+        retries: 0,
+        receiver: receiver,
+        deaf: true,
+        burst: false,
+        noted: noted,
+        timer: timer,
+        message: message,
+    }
+}
+
+fn any_device() -> Device
+    ensures { λ r. ⌜ r ≡ anyDevice ⌝ }
+{
+    let profile = no_profile();
+    let receiver = tick_reader::passing_reader();
+    let request = no_header();
+    let content = Content {
+        given: false,
+        command: 0,
+        count: 0,
+    };
+    Device {
+        profile: profile,
+        preamble: 0,
+        polling: 0,
+        unique: 0,
+        receiver: receiver,
+        deaf: true,
+        turn: Turn::Listens,
+        request: request,
+        wish: Wish::Same,
+        length: 0,
+        burst: false,
+        primary: true,
+        due: 0,
+        content: content,
+    }
+}
+
+fn absent_slot() -> Slot
+    ensures { λ r. ⌜ r ≡ absent ⌝ }
+{
+    let device = any_device();
+    Slot {
+        device: device,
+        here: false,
+    }
+}
+
+fn empty_link() -> Link
+    ensures { λ r. ⌜ r ≡ emptyLink ⌝ }
+{
+    let master = any_master();
+    let slot = absent_slot();
+    Link {
+        masters: [master; 2],
+        devices: [slot; 6],
+        line: Heard::Silence,
+    }
+}
+
+// ---- the lowest refusal
 
 // The refusal with the lower number.
 fn lower_of(v: Refusal, w: Refusal) -> Refusal
@@ -80,181 +190,135 @@ fn lower_of(v: Refusal, w: Refusal) -> Refusal
     w
 }
 
-fn lowest_with(v: Refusal, y: Verdict) -> Verdict
-    ensures { λ r. ⌜ verdictAs r ≡ lowest (refused (number v)) (verdictAs y) ⌝ }
+fn lowest_with(v: Refusal, y: StartAnswer) -> StartAnswer
+    ensures { λ r. ⌜ answerAs r ≡ lowest (refused (number v)) (answerAs y) ⌝ }
 {
     match y {
-        Verdict::Taken => Verdict::Refused(v),
-        Verdict::Refused(w) => Verdict::Refused(lower_of(v, w)),
+        StartAnswer::Started => StartAnswer::Refused(v),
+        StartAnswer::Refused(w) => StartAnswer::Refused(lower_of(v, w)),
     }
 }
 
-fn lowest_of(x: Verdict, y: Verdict) -> Verdict
-    ensures { λ r. ⌜ verdictAs r ≡ lowest (verdictAs x) (verdictAs y) ⌝ }
+fn lowest_of(x: StartAnswer, y: StartAnswer) -> StartAnswer
+    ensures { λ r. ⌜ answerAs r ≡ lowest (answerAs x) (answerAs y) ⌝ }
 {
     match x {
-        Verdict::Taken => y,
-        Verdict::Refused(v) => lowest_with(v, y),
+        StartAnswer::Started => y,
+        StartAnswer::Refused(v) => lowest_with(v, y),
+    }
+}
+
+// ---- the parties' starts
+
+fn master_begins(profile: Profile, primary: bool, retries: u8) -> MasterBegun
+    ensures { λ r. ⌜ made (r .master) (r .answer) ≡ masterStarts profile primary retries ⌝ }
+{
+    let m = master::start(profile, primary, retries);
+    match m {
+        MasterStarted::Started(x) => MasterBegun {
+            master: x,
+            answer: StartAnswer::Started,
+        },
+        MasterStarted::Refused(why) => MasterBegun {
+            master: any_master(),
+            answer: StartAnswer::Refused(why),
+        },
+    }
+}
+
+fn masters_begin(profile: Profile, retries: u8) -> MastersBegun
+    ensures { λ r. ⌜ made (r .masters) (r .answer) ≡ mastersStart profile retries ⌝ }
+{
+    let p = master_begins(profile, true, retries);
+    let s = master_begins(profile, false, retries);
+    let primary = p.master;
+    let secondary = s.master;
+    let x = p.answer;
+    let y = s.answer;
+    MastersBegun {
+        masters: [primary, secondary],
+        answer: lowest_of(x, y),
     }
 }
 
 fn device_begins(profile: Profile, s: Setting) -> SlotBegun
-    ensures { λ r. ⌜ slotAs r ≡ slotStarts profile (SlotSetting.Present s) ⌝ }
+    ensures { λ r. ⌜ made (r .slot) (r .answer) ≡ deviceSlot profile s ⌝ }
 {
     let d = device::start(profile, s.preamble, s.polling, s.unique);
     match d {
         device::DeviceStarted::Started(x) => SlotBegun {
-            slot: Slot::Present(x),
-            verdict: Verdict::Taken,
+            slot: Slot {
+                device: x,
+                here: true,
+            },
+            answer: StartAnswer::Started,
         },
         device::DeviceStarted::Refused(why) => SlotBegun {
-            slot: Slot::Absent,
-            verdict: Verdict::Refused(why),
+            slot: absent_slot(),
+            answer: StartAnswer::Refused(why),
         },
     }
 }
 
-fn slot_begins(profile: Profile, s: SlotSetting) -> SlotBegun
-    ensures { λ r. ⌜ slotAs r ≡ slotStarts profile s ⌝ }
+fn slot_begins(profile: Profile, s: Setting) -> SlotBegun
+    ensures { λ r. ⌜ made (r .slot) (r .answer) ≡ slotStarts profile s ⌝ }
 {
-    match s {
-        SlotSetting::Absent => SlotBegun {
-            slot: Slot::Absent,
-            verdict: Verdict::Taken,
-        },
-        SlotSetting::Present(x) => device_begins(profile, x),
+    if s.here {
+        return device_begins(profile, s);
+    }
+    let slot = absent_slot();
+    SlotBegun {
+        slot: slot,
+        answer: StartAnswer::Started,
     }
 }
 
-fn pair_of(a: SlotBegun, b: SlotBegun) -> PairBegun
-    ensures { λ r. ⌜ pairAs r ≡ both pairOf (slotAs a) (slotAs b) ⌝ }
+// The devices, from the last to the first, and the lowest refusal of those that were started.
+fn devices_begin(profile: Profile, settings: [Setting; 6]) -> DevicesBegun
+    ensures { λ r. ⌜ made (r .devices) (r .answer) ≡ devicesStart profile settings ⌝ }
 {
-    let left = a.slot;
-    let right = b.slot;
-    let x = a.verdict;
-    let y = b.verdict;
-    let pair = Pair {
-        left: left,
-        right: right,
-    };
-    PairBegun {
-        pair: pair,
-        verdict: lowest_of(x, y),
+    let none = absent_slot();
+    let mut slots = [none; 6];
+    let mut answer = StartAnswer::Started;
+    let mut n = 6;
+    while 0 < n {
+        let i = n - 1;
+        n = i;
+        let s = slot_begins(profile, settings[i]);
+        let slot = s.slot;
+        let one = s.answer;
+        slots[i] = slot;
+        answer = lowest_of(one, answer);
     }
-}
-
-fn pair_begins(profile: Profile, s: PairSettings) -> PairBegun
-    ensures { λ r. ⌜ pairAs r ≡ pairStarts profile s ⌝ }
-{
-    let a = s.left;
-    let b = s.right;
-    pair_of(slot_begins(profile, a), slot_begins(profile, b))
-}
-
-fn devices_of(a: PairBegun, b: PairBegun, c: PairBegun) -> DevicesBegun
-    ensures { λ r. ⌜ devicesAs r ≡ both threeOf (pairAs a) (both twoOf (pairAs b) (pairAs c)) ⌝ }
-{
-    let low = a.pair;
-    let middle = b.pair;
-    let high = c.pair;
-    let x = a.verdict;
-    let y = b.verdict;
-    let z = c.verdict;
-    let devices = Devices {
-        low: low,
-        middle: middle,
-        high: high,
-    };
     DevicesBegun {
-        devices: devices,
-        verdict: lowest_of(x, lowest_of(y, z)),
-    }
-}
-
-fn devices_begin(profile: Profile, s: DevicesSettings) -> DevicesBegun
-    ensures { λ r. ⌜ devicesAs r ≡ devicesStart profile s ⌝ }
-{
-    let a = s.low;
-    let b = s.middle;
-    let c = s.high;
-    devices_of(
-        pair_begins(profile, a),
-        pair_begins(profile, b),
-        pair_begins(profile, c),
-    )
-}
-
-fn secondary_beside(a: Master, s: MasterStarted) -> MastersStarted
-    ensures { λ r. ⌜ mastersAs r ≡ both mastersOf (accepted a) (started s) ⌝ }
-{
-    match s {
-        MasterStarted::Started(b) => MastersStarted::Started(Masters {
-            primary: a,
-            secondary: b,
-        }),
-        MasterStarted::Refused(w) => MastersStarted::Refused(w),
-    }
-}
-
-fn secondary_behind(v: Refusal, s: MasterStarted) -> MastersStarted
-    ensures { λ r. ⌜ mastersAs r ≡ both mastersOf (refused (number v)) (started s) ⌝ }
-{
-    match s {
-        MasterStarted::Started(_) => MastersStarted::Refused(v),
-        MasterStarted::Refused(w) => MastersStarted::Refused(lower_of(v, w)),
-    }
-}
-
-fn both_masters(p: MasterStarted, s: MasterStarted) -> MastersStarted
-    ensures { λ r. ⌜ mastersAs r ≡ both mastersOf (started p) (started s) ⌝ }
-{
-    match p {
-        MasterStarted::Started(a) => secondary_beside(a, s),
-        MasterStarted::Refused(v) => secondary_behind(v, s),
-    }
-}
-
-fn masters_begin(profile: Profile, retries: u8) -> MastersStarted
-    ensures { λ r. ⌜ mastersAs r ≡ mastersStart profile retries ⌝ }
-{
-    let p = master::start(profile, true, retries);
-    let s = master::start(profile, false, retries);
-    both_masters(p, s)
-}
-
-fn with_masters(m: Masters, d: DevicesBegun) -> LinkStarted
-    ensures { λ r. ⌜ linkAs r ≡ both freshLink (accepted m) (devicesAs d) ⌝ }
-{
-    let devices = d.devices;
-    let verdict = d.verdict;
-    match verdict {
-        Verdict::Taken => LinkStarted::Started(Link {
-            masters: m,
-            devices: devices,
-            line: Heard::Silence,
-        }),
-        Verdict::Refused(w) => LinkStarted::Refused(w),
-    }
-}
-
-fn without_masters(v: Refusal, d: DevicesBegun) -> LinkStarted
-    ensures { λ r. ⌜ linkAs r ≡ both freshLink (refused (number v)) (devicesAs d) ⌝ }
-{
-    let verdict = d.verdict;
-    match verdict {
-        Verdict::Taken => LinkStarted::Refused(v),
-        Verdict::Refused(w) => LinkStarted::Refused(lower_of(v, w)),
+        devices: slots,
+        answer: answer,
     }
 }
 
 // The fresh link of these parties, or the lowest of their starts' refusals: 2, 3 or 4.
-pub fn start(profile: Profile, retries: u8, settings: DevicesSettings) -> LinkStarted
-    ensures { λ r. ⌜ linkAs r ≡ linkStarts profile retries settings ⌝ }
+pub fn start(profile: Profile, retries: u8, settings: [Setting; 6]) -> LinkStarted
+    ensures { λ r. ⌜ StartedIs profile retries settings r ⌝ }
 {
-    let d = devices_begin(profile, settings);
     let m = masters_begin(profile, retries);
-    match m {
-        MastersStarted::Started(x) => with_masters(x, d),
-        MastersStarted::Refused(v) => without_masters(v, d),
+    let d = devices_begin(profile, settings);
+    let masters = m.masters;
+    let devices = d.devices;
+    let x = m.answer;
+    let y = d.answer;
+    let answer = lowest_of(x, y);
+    match answer {
+        StartAnswer::Started => LinkStarted {
+            answer: StartAnswer::Started,
+            link: Link {
+                masters: masters,
+                devices: devices,
+                line: Heard::Silence,
+            },
+        },
+        StartAnswer::Refused(why) => LinkStarted {
+            answer: StartAnswer::Refused(why),
+            link: empty_link(),
+        },
     }
 }

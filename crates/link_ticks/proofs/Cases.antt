@@ -1,7 +1,7 @@
 -- A definition by cases, at a case that a `match` has told.
-use Prim.Native.Nat.{ℕ, zero, suc}
+use Prim.Native.Nat.{ℕ, zero, suc, _<_}
 use mathlib.Core.Bool.{Bool}
-use mathlib.Core.Path.{_≡_, refl, sym, ap, _∙_}
+use mathlib.Core.Path.{_≡_, refl, sym, ap, subst, _∙_}
 use Rattle.base.specs.Refusal.{number}
 use Rattle.base.specs.declared.Refusal.{Refusal}
 use Rattle.party.specs.Calls.{resultOf}
@@ -9,13 +9,15 @@ use Rattle.party.specs.declared.CallStatus.{CallStatus}
 use Rattle.turns.specs.Party.{CallResult}
 use Rattle.turns.specs.declared.DeviceTold.{DeviceTold}
 use Rattle.turns.specs.declared.MasterTold.{MasterTold}
+use Rattle.turns.specs.declared.Sent.{Sent}
+use Rattle.turns.specs.declared.Sent.the-variants.{Silent}
 use Rattle.parties.specs.Stands.{noMasterCall, noDeviceCall}
 use Rattle.parties.specs.declared.CallOutcome.{CallOutcome}
 use Rattle.parties.specs.declared.DeviceCall.{DeviceCall}
 use Rattle.parties.specs.declared.DeviceDid.{DeviceDid}
 use Rattle.parties.specs.declared.MasterCall.{MasterCall}
 use Rattle.parties.specs.declared.MasterDid.{MasterDid}
-use Rattle.link_ticks.specs.Ticks.{masterCallIn, deviceCallIn, masterTells, deviceTells, answerKept, masterToldKept, deviceToldKept, masterDidBy, deviceDidBy}
+use Rattle.link_ticks.specs.Ticks.{masterCallIn, deviceCallIn, SendsByte, sends-none, sends-byte, CodeIs, masterTells, deviceTells, answerKept, masterToldKept, deviceToldKept, masterDidBy, deviceDidBy}
 
 pub master-tells-at : (p q : MasterTold) (b r : Bool) → p ≡ q → r ≡ masterTells q b → r ≡ masterTells p b
 master-tells-at p q b r e f = f ∙ ap (λ (x : MasterTold). masterTells x b) (sym e)
@@ -42,6 +44,13 @@ master-did-is old told a result b e f = λ i. record { told = e i; result = f i 
 pub device-did-is : (old : DeviceDid) (told a : DeviceTold) (result : CallResult) (b : CallOutcome) → a ≡ deviceToldKept (old .told) told → b ≡ answerKept (old .result) result
     → _≡_ {A = DeviceDid} (record { told = a; result = b }) (deviceDidBy old told result)
 device-did-is old told a result b e f = λ i. record { told = e i; result = f i }
+
+-- what is sent, as a number
+pub code-silent : (s : Sent) → s ≡ Silent → CodeIs s 256
+code-silent s e = subst (λ (x : Sent). CodeIs x 256) (sym e) (record { is = refl; byte = sends-none })
+
+pub code-character : (s : Sent) (c : ℕ) → s ≡ Sent.Character c → c < 256 → CodeIs s c
+code-character s c e h = subst (λ (x : Sent). CodeIs x c) (sym e) (record { is = refl; byte = sends-byte h })
 
 -- only the first tick has calls
 pub master-call-first : (t : ℕ) (c r : MasterCall) → t ≡ 0 → r ≡ c → r ≡ masterCallIn t c

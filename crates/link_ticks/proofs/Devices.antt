@@ -25,7 +25,7 @@ use Rattle.parties.specs.declared.DeviceDid.{DeviceDid}
 use Rattle.parties.specs.declared.Slot.{Slot}
 use Rattle.parties.specs.declared.Way.{Way}
 use Rattle.parties.specs.declared.Way.the-variants.{Counts, Hears}
-use Rattle.link_ticks.specs.Ticks.{deviceTells, devicesTell, onHere, deviceCode, deviceDidBy, deviceDid, deviceNothing}
+use Rattle.link_ticks.specs.Ticks.{deviceTells, devicesTell, onHere, deviceCode, SendsByte, sends-none, DevicesSendBytes, no-device, device-and, CodeIs, deviceDidBy, deviceDid, deviceNothing}
 use Rattle.link_ticks.proofs.Lists.{Same, same-set, same-less, drop-set, any-default, on-here, on-none, on-end}
 
 -- where the loop stands
@@ -82,6 +82,7 @@ module _ (heard : Heard) (put : List ℕ) (call : ℕ → DeviceCall) where
     pub sides-are : devicesFrom (b .rows) n (drop n (b .slots)) ≡ sides (steps a n)
     pub flags : heres (b .slots) ≡ heres (a .slots)
     pub codes-are : drop (n + 2) (b .row) ≡ onHere deviceCode (heres (drop n (a .slots))) (steps a n) (drop (n + 2) (a .row))
+    pub bytes-sent : DevicesSendBytes (steps a n)
     pub dids-are : drop n (b .dids) ≡ onHere deviceDid (heres (drop n (a .slots))) (steps a n) (drop n (a .dids))
     pub line-is : b .line ≡ carried (steps a n)
     pub told-is : b .told ≡ devicesTell (steps a n) (a .told)
@@ -119,6 +120,7 @@ module _ (heard : Heard) (put : List ℕ) (call : ℕ → DeviceCall) where
             none-left (a .row) 8 r
             ∙ ap (λ (ss : List Slot). onHere deviceCode (heres ss) (stepsFrom (a .rows) 6 ss) []) (sym u)
             ∙ ap (onHere deviceCode (heres (drop 6 (a .slots))) (steps a 6)) (sym (none-left (a .row) 8 r));
+        bytes-sent = subst (λ (ss : List Slot). DevicesSendBytes (stepsFrom (a .rows) 6 ss)) (sym u) no-device;
         dids-are =
             none-left (a .dids) 6 d
             ∙ ap (λ (ss : List Slot). onHere deviceDid (heres ss) (stepsFrom (a .rows) 6 ss) []) (sym u)
@@ -189,6 +191,7 @@ module _ (heard : Heard) (put : List ℕ) (call : ℕ → DeviceCall) where
           ∙ (λ n. v .row-left (i + 2) 0 (omega arith) n ∷ codes-next n)
           ∙ sym (on-none deviceCode _ (steps a (suc i)) (getD (a .row) (i + 2) 0) (drop (suc (i + 2)) (a .row)))
           ∙ (λ n. onHere deviceCode (sym (heres-at false k) n) (sym (steps-at false k) n) (sym (drop-cons (a .row) (i + 2) 0 (omega (arith, v .row-before, in-six))) n));
+      bytes-sent = subst DevicesSendBytes (sym (steps-at false k)) (v .bytes-sent);
       dids-are =
           drop-cons (b .dids) i deviceNothing (omega (arith, v .dids-six, in-six))
           ∙ (λ n. v .dids-left i deviceNothing (omega arith) n ∷ v .dids-are n)
@@ -210,11 +213,11 @@ module _ (heard : Heard) (put : List ℕ) (call : ℕ → DeviceCall) where
       own = getD (b .slots) i d .device
 
       pub acts : (f y z : List ℕ) (c : ℕ) (q : DeviceDid) (told : Bool) (line : Heard) (s : DeviceStep)
-          → s ≡ stepAt (b .rows) i own → D.sideOf (e .device) f y z ≡ s .side → c ≡ codeOf (s .sent) → q ≡ deviceDid s (getD (b .dids) i deviceNothing)
+          → s ≡ stepAt (b .rows) i own → D.sideOf (e .device) f y z ≡ s .side → c ≡ codeOf (s .sent) → SendsByte (s .sent) → q ≡ deviceDid s (getD (b .dids) i deviceNothing)
           → told ≡ deviceTells (s .told) (b .told) → line ≡ joins (s .sent) (b .line)
           → Ticking a (record { slots = set (b .slots) i e; rows = stored (b .rows) i f y z; row = set (b .row) (i + 2) c; dids = set (b .dids) i q; told = told; line = line }) i
       unfolding devicesFrom sides carried devicesTell
-      acts f y z c q told line s p side-is code-is did-is told-is line-is =
+      acts f y z c q told line s p side-is code-is byte did-is told-is line-is =
           let steps-are : steps a i ≡ s ∷ steps a (suc i) = steps-at true k ∙ ap (λ (x : DeviceStep). x ∷ steps a (suc i)) (sym p) in
           let x = stored (b .rows) i f y z in
           record {
@@ -245,6 +248,7 @@ module _ (heard : Heard) (put : List ℕ) (call : ℕ → DeviceCall) where
                 ∙ (λ n. code-is n ∷ codes-next n)
                 ∙ sym (on-here deviceCode _ s (steps a (suc i)) (getD (a .row) (i + 2) 0) (drop (suc (i + 2)) (a .row)))
                 ∙ (λ n. onHere deviceCode (sym (heres-at true k) n) (sym steps-are n) (sym (drop-cons (a .row) (i + 2) 0 (omega (arith, v .row-before, in-six))) n));
+            bytes-sent = subst DevicesSendBytes (sym steps-are) (device-and byte (v .bytes-sent));
             dids-are =
                 drop-set (b .dids) i q (omega (arith, v .dids-six, in-six))
                 ∙ (λ n. (did-is ∙ ap (deviceDid s) (v .dids-left i deviceNothing (omega arith))) n ∷ v .dids-are n)
@@ -269,7 +273,7 @@ module _ (heard : Heard) (put : List ℕ) (call : ℕ → DeviceCall) where
           let c : set (b .row) (i + 2) 256 ≡ b .row = ap (set (b .row) (i + 2)) (sym (v .row-left (i + 2) 256 (omega arith) ∙ v .blank (i + 2) (omega (arith, in-six)))) ∙ set-getD (b .row) (i + 2) 256 in
           subst (λ (x : At). Ticking a x i)
           (λ n. record { slots = set (b .slots) i e; rows = rowsOf (set-getD (b .rows .frames) (i + 2) [] n) (set (b .rows .bytes) (i + 2) y) (set-getD (b .rows .contents) i [] n); row = c n; dids = set-getD (b .dids) i deviceNothing n; told = b .told; line = b .line })
-          (acts f y z 256 (getD (b .dids) i deviceNothing) (b .told) (b .line) (quietDevice (D.sideOf (e .device) f y z)) p refl refl refl refl refl)
+          (acts f y z 256 (getD (b .dids) i deviceNothing) (b .told) (b .line) (quietDevice (D.sideOf (e .device) f y z)) p refl refl sends-none refl refl refl)
 
       -- and only its state
       pub still : quietDevice (D.sideOf (e .device) (getD (b .rows .frames) (i + 2) []) (getD (b .rows .bytes) (i + 2) []) (getD (b .rows .contents) i [])) ≡ stepAt (b .rows) i own
@@ -314,10 +318,10 @@ module _ (heard : Heard) (put : List ℕ) (call : ℕ → DeviceCall) where
 
       pub device-acted : (r : DeviceTicked) (f y z : List ℕ) (e : Slot) (x : ℕ) (q : DeviceDid) (u : DeviceDid) (told : Bool) (line : Heard)
           → D.DeviceTickIs this heard (c .call) (dataOf (c .part) put) (getD (b .rows .frames) (n - 1 + 2) []) (getD (b .rows .bytes) (n - 1 + 2) []) (getD (b .rows .contents) (n - 1) []) r f y z
-          → e ≡ inSlot (r .device) → x ≡ codeOf (r .sent) → q ≡ deviceDidBy (getD (b .dids) (n - 1) u) (r .told) (resultOf (r .result))
+          → e ≡ inSlot (r .device) → CodeIs (r .sent) x → q ≡ deviceDidBy (getD (b .dids) (n - 1) u) (r .told) (resultOf (r .result))
           → told ≡ deviceTells (r .told) (b .told) → line ≡ joins (r .sent) (b .line)
           → Ticking a (record { slots = set (b .slots) (n - 1) e; rows = stored (b .rows) (n - 1) f y z; row = set (b .row) (n - 1 + 2) x; dids = set (b .dids) (n - 1) q; told = told; line = line }) (n - 1)
       device-acted r f y z e x q u told line p e-is x-is q-is told-is line-is =
           subst (λ (s : Slot). Ticking a (record { slots = set (b .slots) (n - 1) s; rows = stored (b .rows) (n - 1) f y z; row = set (b .row) (n - 1 + 2) x; dids = set (b .dids) (n - 1) q; told = told; line = line }) (n - 1)) (sym e-is)
-          (acts a b (n - 1) d at-last k (inSlot (r .device)) refl f y z x q told line (D.stepOf r f y z) (p .step ∙ as-called c own) refl x-is
+          (acts a b (n - 1) d at-last k (inSlot (r .device)) refl f y z x q told line (D.stepOf r f y z) (p .step ∙ as-called c own) refl (x-is .is) (x-is .byte)
           (q-is ∙ ap (λ (o : DeviceDid). deviceDidBy o (r .told) (resultOf (r .result))) (any-default (b .dids) (n - 1) u deviceNothing (omega (arith, v .dids-six, v .within, h)))) told-is line-is)

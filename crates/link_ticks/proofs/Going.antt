@@ -15,6 +15,7 @@ use Rattle.line.specs.declared.Heard.{Heard}
 use Rattle.line.specs.declared.Heard.the-variants.{Silence}
 use Rattle.turns.specs.Link.{DeviceSide, DeviceStep, MasterStep, LinkStep, no-call, joins, sides, carried, deviceTick, deviceTicks, linkTick, linkAfter, run}
 use Rattle.turns.specs.Link as L
+use Rattle.turns.specs.Run.{EachTick, no-tick, tick-and}
 use Rattle.turns.specs.declared.Master.{Master}
 use Rattle.master.specs.Tick as M
 use Rattle.parties.specs.Stands.{Rows, rowsOf, masterAt, anyMaster, deviceAt, ifHere, devicesFrom, linkOf, heres, masterCallOf, deviceCallOf, deviceCallsFrom, callsOf, uncalled, noMasterCall, noDeviceCall, codeOf}
@@ -26,7 +27,7 @@ use Rattle.parties.specs.declared.MasterCall.{MasterCall}
 use Rattle.parties.specs.declared.MasterDid.{MasterDid}
 use Rattle.parties.specs.declared.Slot.{Slot}
 use Rattle.parties.specs.declared.Ticked.{Ticked}
-use Rattle.link_ticks.specs.Ticks.{masterTells, tells, devicesTell, upToTold, callsFirst, masterCallIn, deviceCallIn, goesOn, atMost, stepsOf, linkBehind, onHere, deviceCode, deviceDid, codes, codesOf, masterDid, masterNothing, deviceNothing, mastersDo, devicesDo, mastersDid, devicesDid, linkWith, callsWith, RunIs}
+use Rattle.link_ticks.specs.Ticks.{masterTells, tells, devicesTell, upToTold, callsFirst, masterCallIn, deviceCallIn, goesOn, atMost, stepsOf, linkBehind, onHere, deviceCode, deviceDid, codes, codesOf, SendsByte, SendBytes, masterDid, masterNothing, deviceNothing, mastersDo, devicesDo, mastersDid, devicesDid, linkWith, callsWith, RunIs}
 use Rattle.link_ticks.proofs.Lists.{Same, any-default}
 use Rattle.link_ticks.proofs.Devices.{At, stepAt, stepsFrom, Ticking, ticking-none}
 use Rattle.link_ticks.proofs.Masters.{MastersAt, stepOf, lineFrom, toldFrom, MastersTicking, masters-none}
@@ -122,6 +123,10 @@ unfolding codesOf
 codes-length hs [] = refl
 codes-length hs (x ∷ ss) = ap suc (codes-length hs ss)
 
+each-more : {P : LinkStep → Type 0} {ss : List LinkStep} {s : LinkStep} → EachTick P ss → P s → EachTick P (ss ++ (s ∷ []))
+each-more no-tick q = tick-and q no-tick
+each-more (tick-and p ps) q = tick-and p (each-more ps q)
+
 masters-more : (ss : List LinkStep) (s : LinkStep) (ds : List MasterDid) → mastersDid (ss ++ (s ∷ [])) ds ≡ mastersDo s (mastersDid ss ds)
 unfolding mastersDid
 masters-more [] s ds = refl
@@ -197,6 +202,7 @@ module _ (put : List ℕ) (most : ℕ) (ms-calls : List MasterCall) (ds-calls : 
     pub link-is : linkNow b ≡ linkBehind (linkNow a) steps
     pub flags : heres (b .slots) ≡ heres (a .slots)
     pub sent-is : b .sent ≡ codesOf (heres (a .slots)) steps ++ drop t (a .sent)
+    pub bytes-sent : EachTick SendBytes steps
     pub masters-are : b .masters-did ≡ mastersDid steps (replicate 2 masterNothing)
     pub devices-are : b .devices-did ≡ devicesDid (heres (a .slots)) steps (replicate 6 deviceNothing)
 
@@ -221,6 +227,7 @@ module _ (put : List ℕ) (most : ℕ) (ms-calls : List MasterCall) (ds-calls : 
     link-is = refl;
     flags = refl;
     sent-is = refl;
+    bytes-sent = no-tick;
     masters-are = p;
     devices-are = q;
   }
@@ -299,6 +306,13 @@ module _ (put : List ℕ) (most : ℕ) (ms-calls : List MasterCall) (ds-calls : 
           (z .done 1 (omega arith) (omega arith) .code-is ∙ ap (λ (s : MasterStep). codeOf (s .sent)) secondary-is)
           (z .row-stays ∙ w .codes-are ∙ (λ i. onHere deviceCode (v .flags i) (step .for-devices) (drop 2 (blank i))))
 
+      send-bytes : SendBytes step
+      send-bytes = record {
+        primary = subst (λ (s : MasterStep). SendsByte (s .sent)) primary-is (z .done 0 (omega arith) (omega arith) .byte-sent);
+        secondary = subst (λ (s : MasterStep). SendsByte (s .sent)) secondary-is (z .done 1 (omega arith) (omega arith) .byte-sent);
+        devices = w .bytes-sent;
+      }
+
       masters-do : m .dids ≡ mastersDo step (b .masters-did)
       masters-do =
           just-two (m .dids) _ _ masterNothing (z .dids-two)
@@ -334,6 +348,7 @@ module _ (put : List ℕ) (most : ℕ) (ms-calls : List MasterCall) (ds-calls : 
             (λ i. set (v .sent-is i) t (row-is i))
             ∙ row-more (codesOf (heres (a .slots)) (v .steps)) (a .sent) (codes (heres (a .slots)) step) t (codes-length (heres (a .slots)) (v .steps) ∙ v .count-is) (omega (arith, v .sent-all, below))
             ∙ ap (λ (l : List (List ℕ)). l ++ drop (t + 1) (a .sent)) (sym (codes-more (heres (a .slots)) (v .steps) step));
+        bytes-sent = each-more (v .bytes-sent) send-bytes;
         masters-are = masters-do ∙ ap (mastersDo step) (v .masters-are) ∙ sym (masters-more (v .steps) step (replicate 2 masterNothing));
         devices-are = devices-do ∙ ap (devicesDo (heres (a .slots)) step) (v .devices-are) ∙ sym (devices-more (heres (a .slots)) (v .steps) step (replicate 6 deviceNothing));
       }
@@ -376,6 +391,7 @@ module _ (put : List ℕ) (most : ℕ) (ms-calls : List MasterCall) (ds-calls : 
         slots = v .flags;
         count-is = sym (v .count-is) ∙ ap length e;
         sent-is = v .sent-is ∙ (λ i. codesOf (heres (a .slots)) (e i) ++ drop ((sym (v .count-is) ∙ ap length e) i) (a .sent));
+        bytes-sent = subst (EachTick SendBytes) e (v .bytes-sent);
         masters-are = v .masters-are ∙ ap (λ (ss : List LinkStep). mastersDid ss (replicate 2 masterNothing)) e;
         devices-are = v .devices-are ∙ ap (λ (ss : List LinkStep). devicesDid (heres (a .slots)) ss (replicate 6 deviceNothing)) e;
       }

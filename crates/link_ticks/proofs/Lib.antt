@@ -4,3 +4,4 @@ pub mod Lists
 pub mod Devices
 pub mod Masters
 pub mod Going
+pub mod Answers

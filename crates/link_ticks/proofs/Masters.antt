@@ -24,7 +24,7 @@ use Rattle.parties.specs.declared.MasterDid.{MasterDid}
 use Rattle.parties.specs.declared.Slot.{Slot}
 use Rattle.parties.specs.declared.Way.{Way}
 use Rattle.parties.specs.declared.Way.the-variants.{Counts, Hears}
-use Rattle.link_ticks.specs.Ticks.{masterTells, masterDidBy, masterDid, masterNothing}
+use Rattle.link_ticks.specs.Ticks.{masterTells, SendsByte, sends-none, CodeIs, masterDidBy, masterDid, masterNothing}
 use Rattle.link_ticks.proofs.Lists.{Same, same-set, any-default}
 
 -- where the loop stands
@@ -80,6 +80,7 @@ module _ (heard : Heard) (put : List ℕ) (call : ℕ → MasterCall) where
   pub record Done (a b : MastersAt) (j : ℕ) : Type 0 where
     pub side-is : masterAt (b .rows) j (getD (b .masters) j anyMaster) ≡ stepOf a j .side
     pub code-is : getD (b .row) j 256 ≡ codeOf (stepOf a j .sent)
+    pub byte-sent : SendsByte (stepOf a j .sent)
     pub did-is : getD (b .dids) j masterNothing ≡ masterDid (stepOf a j) (getD (a .dids) j masterNothing)
 
   pub record MastersTicking (a b : MastersAt) (n : ℕ) : Type 0 where
@@ -148,10 +149,10 @@ module _ (heard : Heard) (put : List ℕ) (call : ℕ → MasterCall) where
         heard (masterCallOf put (call i))
 
     pub acts : (e : Master) (f y : List ℕ) (c : ℕ) (q : MasterDid) (told : Bool) (line : Heard) (s : MasterStep)
-        → s ≡ stepOf b i → M.sideOf e f y ≡ s .side → c ≡ codeOf (s .sent) → q ≡ masterDid s (getD (b .dids) i masterNothing)
+        → s ≡ stepOf b i → M.sideOf e f y ≡ s .side → c ≡ codeOf (s .sent) → SendsByte (s .sent) → q ≡ masterDid s (getD (b .dids) i masterNothing)
         → told ≡ masterTells (s .told) (b .told) → line ≡ joins (s .sent) (b .line)
         → MastersTicking a (record { masters = set (b .masters) i e; rows = kept (b .rows) i f y; row = set (b .row) i c; dids = set (b .dids) i q; told = told; line = line }) i
-    acts e f y c q told line s p side-is code-is did-is told-is line-is =
+    acts e f y c q told line s p side-is code-is byte did-is told-is line-is =
         let x : MastersAt = record { masters = set (b .masters) i e; rows = kept (b .rows) i f y; row = set (b .row) i c; dids = set (b .dids) i q; told = told; line = line } in
         let step-is : s ≡ stepOf a i = p ∙ own-step in
         let this : Done a x i = record {
@@ -163,6 +164,7 @@ module _ (heard : Heard) (put : List ℕ) (call : ℕ → MasterCall) where
               ∙ side-is
               ∙ ap (λ (t : MasterStep). t .side) step-is;
           code-is = getD-set-same (b .row) i c 256 (omega (arith, v .row-eight, in-two)) ∙ code-is ∙ ap (λ (t : MasterStep). codeOf (t .sent)) step-is;
+          byte-sent = subst (λ (t : MasterStep). SendsByte (t .sent)) step-is byte;
           did-is =
               getD-set-same (b .dids) i q masterNothing (omega (arith, v .dids-two, in-two))
               ∙ did-is
@@ -185,6 +187,7 @@ module _ (heard : Heard) (put : List ℕ) (call : ℕ → MasterCall) where
                 (getD-set-other (b .rows .bytes) i j y [] (λ r. omega (arith, r, g)) n))
                 ∙ other .side-is;
             code-is = getD-set-other (b .row) i j c 256 (λ r. omega (arith, r, g)) ∙ other .code-is;
+            byte-sent = other .byte-sent;
             did-is = getD-set-other (b .dids) i j q masterNothing (λ r. omega (arith, r, g)) ∙ other .did-is;
           });
           contents-stay = v .contents-stay;
@@ -207,7 +210,7 @@ module _ (heard : Heard) (put : List ℕ) (call : ℕ → MasterCall) where
         let c : set (b .row) i 256 ≡ b .row = ap (set (b .row) i) (sym (v .row-left i 256 (omega arith) ∙ v .blank i in-two)) ∙ set-getD (b .row) i 256 in
         subst (λ (x : MastersAt). MastersTicking a x i)
         (λ n. record { masters = set (b .masters) i e; rows = rowsOf (set-getD (b .rows .frames) i [] n) (set (b .rows .bytes) i y) (b .rows .contents); row = c n; dids = set-getD (b .dids) i masterNothing n; told = b .told; line = b .line })
-        (acts e f y 256 (getD (b .dids) i masterNothing) (b .told) (b .line) (quietMaster (M.sideOf e f y)) p refl refl refl refl refl)
+        (acts e f y 256 (getD (b .dids) i masterNothing) (b .told) (b .line) (quietMaster (M.sideOf e f y)) p refl refl sends-none refl refl refl)
 
     -- and only its state
     pub still : (e : Master) → quietMaster (M.sideOf e (getD (b .rows .frames) i []) (getD (b .rows .bytes) i [])) ≡ stepOf b i
@@ -249,9 +252,9 @@ module _ (heard : Heard) (put : List ℕ) (call : ℕ → MasterCall) where
 
     pub master-acted : (r : MasterTicked) (f y : List ℕ) (x : ℕ) (q : MasterDid) (u : MasterDid) (told : Bool) (line : Heard)
         → M.MasterTickIs (getD (b .masters) (n - 1) d) heard (c .call) (dataOf (c .part) put) (getD (b .rows .frames) (n - 1) []) (getD (b .rows .bytes) (n - 1) []) r f y
-        → x ≡ codeOf (r .sent) → q ≡ masterDidBy (getD (b .dids) (n - 1) u) (r .told) (resultOf (r .result))
+        → CodeIs (r .sent) x → q ≡ masterDidBy (getD (b .dids) (n - 1) u) (r .told) (resultOf (r .result))
         → told ≡ masterTells (r .told) (b .told) → line ≡ joins (r .sent) (b .line)
         → MastersTicking a (record { masters = set (b .masters) (n - 1) (r .master); rows = kept (b .rows) (n - 1) f y; row = set (b .row) (n - 1) x; dids = set (b .dids) (n - 1) q; told = told; line = line }) (n - 1)
     master-acted r f y x q u told line p x-is q-is told-is line-is =
-        acts a b (n - 1) at-last (r .master) f y x q told line (M.stepOf r f y) (p .step ∙ as-called _ same) refl x-is
+        acts a b (n - 1) at-last (r .master) f y x q told line (M.stepOf r f y) (p .step ∙ as-called _ same) refl (x-is .is) (x-is .byte)
         (q-is ∙ ap (λ (o : MasterDid). masterDidBy o (r .told) (resultOf (r .result))) (any-default (b .dids) (n - 1) u masterNothing (omega (arith, v .dids-two, v .within, h)))) told-is line-is

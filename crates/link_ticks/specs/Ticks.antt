@@ -1,6 +1,6 @@
 -- How the code stands for what is to be believed.
 -- Ticks of a link: one with calls, and more without a call, up to one in which a host is told something. They are a run of crates/turns/specs/Link.antt.
-use Prim.Native.Nat.{ℕ, zero, suc}
+use Prim.Native.Nat.{ℕ, zero, suc, _<_}
 use mathlib.Core.Bool.{Bool, true, false}
 use mathlib.Core.List.{List, [], _∷_, _++_}
 use mathlib.Core.Path.{_≡_}
@@ -12,9 +12,12 @@ use Rattle.line.specs.declared.Heard.{Heard}
 use Rattle.turns.specs.Party.{CallResult, none, was-taken, was-refused}
 use Rattle.turns.specs.Link.{MasterStep, DeviceStep, LinkStep, linkAfter, run}
 use Rattle.turns.specs.Link as L
+use Rattle.turns.specs.Run.{EachTick}
 use Rattle.turns.specs.declared.DeviceTold.{DeviceTold}
 use Rattle.turns.specs.declared.Master.{Master}
 use Rattle.turns.specs.declared.MasterTold.{MasterTold}
+use Rattle.turns.specs.declared.Sent.{Sent}
+use Rattle.turns.specs.declared.Sent.the-variants.{Silent, Character}
 use Rattle.parties.specs.Stands.{Rows, rowsOf, linkOf, heres, callsOf, noMasterCall, noDeviceCall, uncalled, codeOf}
 use Rattle.parties.specs.declared.CallOutcome.{CallOutcome}
 use Rattle.parties.specs.declared.Calls.{Calls}
@@ -103,6 +106,24 @@ unfoldable pub codesOf : List Bool → List LinkStep → List (List ℕ)
 codesOf hs [] = []
 codesOf hs (s ∷ ss) = codes hs s ∷ codesOf hs ss
 
+-- a character that is sent is a byte, so that its number tells it from silence
+pub data SendsByte : Sent → Type 0 where
+  sends-none : SendsByte Silent
+  sends-byte : {c : ℕ} → c < 256 → SendsByte (Character c)
+
+pub data DevicesSendBytes : List DeviceStep → Type 0 where
+  no-device : DevicesSendBytes []
+  device-and : {s : DeviceStep} {ss : List DeviceStep} → SendsByte (s .sent) → DevicesSendBytes ss → DevicesSendBytes (s ∷ ss)
+
+pub record SendBytes (s : LinkStep) : Type 0 where
+  pub primary : SendsByte (s .for-primary .sent)
+  pub secondary : SendsByte (s .for-secondary .sent)
+  pub devices : DevicesSendBytes (s .for-devices)
+
+pub record CodeIs (sent : Sent) (r : ℕ) : Type 0 where
+  pub is : r ≡ codeOf sent
+  pub byte : SendsByte sent
+
 -- ---- what each host was told and answered. In these ticks that is at most one thing each: a tick that tells is the last, and only the first has calls.
 
 abbrev pub answerKept : CallOutcome → CallResult → CallOutcome
@@ -171,6 +192,7 @@ pub record RunIs (l : Link) (c : Calls) (put : List ℕ) (most : ℕ) (x : Rows)
   pub count-is : r .count ≡ length (stepsOf l c put most x)
   -- a row of what each party sent for each tick; the other rows stay
   pub sent-is : sent-after ≡ codesOf (heres (l .devices)) (stepsOf l c put most x) ++ drop (length (stepsOf l c put most x)) sent
+  pub bytes-sent : EachTick SendBytes (stepsOf l c put most x)
   pub masters-are : r .masters ≡ mastersDid (stepsOf l c put most x) (replicate 2 masterNothing)
   pub devices-are : r .devices ≡ devicesDid (heres (l .devices)) (stepsOf l c put most x) (replicate 6 deviceNothing)
 

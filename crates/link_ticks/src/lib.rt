@@ -15,12 +15,13 @@ use turns::Device;
 use turns::DeviceTold;
 use turns::Master;
 use turns::MasterTold;
+use turns::Sent;
 ghost use mathlib.Core.Path.{_≡_};
 ghost use lib.ListN.{length};
 ghost use Rattle.base.specs.Lent.{before};
 ghost use Rattle.party.specs.Calls.{resultOf};
 ghost use Rattle.parties.specs.Ways.{inSlot};
-ghost use Rattle.link_ticks.specs.Ticks.{masterTells, deviceTells, masterCallIn, deviceCallIn, goesOn, linkWith, callsWith, TicksAre};
+ghost use Rattle.link_ticks.specs.Ticks.{masterTells, deviceTells, masterCallIn, deviceCallIn, goesOn, linkWith, callsWith, CodeIs, TicksAre};
 ghost use Rattle.link_ticks.specs.Ticks.{answerKept, masterToldKept, deviceToldKept, masterDidBy, deviceDidBy, masterNothing, deviceNothing};
 
 fn in_slot(d: Device) -> Slot
@@ -146,6 +147,16 @@ fn device_nothing() -> DeviceDid
     }
 }
 
+// What is sent, as a number: the character, or 256 for none.
+fn code(sent: Sent) -> u16
+    ensures { λ r. ⌜ CodeIs sent r ⌝ }
+{
+    match sent {
+        Sent::Silent => 256,
+        Sent::Character(c) => c as u16,
+    }
+}
+
 // Whether there is a tick with this number.
 fn goes_on(t: u16, most: u16, told: bool) -> bool
     ensures { λ r. ⌜ r ≡ goesOn t most told ⌝ }
@@ -234,7 +245,7 @@ fn ticks_of(
                         let x = s.told;
                         let a = s.result;
                         ds[i] = in_slot(e);
-                        row[i + 2] = parties::code(c);
+                        row[i + 2] = code(c);
                         ds_did[i] = device_did(did, x, a);
                         told = device_tells(x, told);
                         next = parties::join(c, next);
@@ -276,7 +287,7 @@ fn ticks_of(
                     let x = s.told;
                     let a = s.result;
                     ms[i] = e;
-                    row[i] = parties::code(c);
+                    row[i] = code(c);
                     ms_did[i] = master_did(did, x, a);
                     told = master_tells(x, told);
                     next = parties::join(c, next);

@@ -1,5 +1,5 @@
 -- Laws of a tick's lines: for one party, and for several one behind the other.
-use Prim.Native.Nat.{ℕ, suc, _+_, _≤_, _<_}
+use Prim.Native.Nat.{ℕ, zero, suc, _+_, _≤_, _<_}
 use native.Mathlib.Numerals.{add-one}
 use native.Mathlib.Omega.{arith}
 use mathlib.Core.Bool.{Bool, true, false}
@@ -19,10 +19,11 @@ use Rattle.line.specs.declared.FrameDamage.{FrameDamage}
 use Rattle.turns.specs.Run.{count}
 use Rattle.turns.specs.declared.Sent.{Sent}
 use Rattle.turns.specs.declared.Sent.the-variants.{Silent}
-use Rattle.listing.specs.Lines.{Line, lineOf, quietMonitor, PartyLines, goesOn, frameEnds, endsBy, endsWith, oneMore, listens, TickLines, besides, linesOf, senders, tickLines, linesFrom}
+use Rattle.listing.specs.Lines.{Line, lineOf, quietMonitor, PartyLines, goesOn, frameEnds, endsBy, endsWith, oneMore, listens, TickLines, besides, linesOf, senders, tickLines, linesFrom, monitorsFrom}
 use Rattle.listing.specs.Put.{Out, outOf, put, PutIs}
 use Rattle.listing.specs.Text.{lineText, linesText}
 use Rattle.listing.specs.Promises.{SendsIs, PartyIs, TickLinesAre}
+use Rattle.listing.specs.Rows.{ticksLines}
 use Rattle.listing.specs.declared.Monitor.{Monitor}
 use Rattle.listing.proofs.Puts.{put-append, put-none, put-same, put-then, put-length}
 
@@ -109,7 +110,7 @@ pub listens-character : (tick party : ℕ) (lone : Bool) (e : Monitor) (s : Sent
     → PartyIs (listens tick party lone e (Sent.Character c)) before at f r after → PartyIs (listens tick party lone e s) before at f r after
 listens-character tick party lone e s c before after at f r p v = subst (λ (x : Sent). PartyIs (listens tick party lone e x) before at f r after) (sym p) v
 
-pub ruleset listening = (refl, hears, listens-silent, listens-character)
+pub ruleset listening = (refl, hears)
 
 -- ---- how many send
 
@@ -135,8 +136,6 @@ counting-more ss n i m d v h e =
 
 pub counting-all : (ss : List Sent) (n i : ℕ) → Counting ss n i → 8 ≤ i → n ≡ senders ss
 counting-all ss n i v h = omega (arith, senders-nobody ss i (omega arith))
-
-pub ruleset counting = (counting-none, counting-more, counting-all)
 
 -- ---- parties one behind the other
 
@@ -207,8 +206,6 @@ listening-all whole tick lone ss before at es bytes place i v h =
     let none = subst (λ (l : List Monitor). TickLinesAre (linesOf tick i lone l (drop i ss)) bytes place [] place bytes) (sym (drop-of-length-le es over)) (tick-none bytes place) in
     subst (λ (l : List Monitor). TickLinesAre whole before at l place bytes) (append-nil (take i es) ∙ take-all i es (omega arith)) (v .left [] place bytes none)
 
-pub ruleset parties = (listening-none, listening-all)
-
 -- nobody sends
 nobody : (tick party : ℕ) (lone : Bool) (es : List Monitor) (ss : List Sent) (before : List ℕ) (at : ℕ) → length es ≡ length ss → senders ss ≡ 0
     → TickLinesAre (linesOf tick party lone es ss) before at (replicate (length ss) quietMonitor) at before
@@ -229,47 +226,6 @@ tick-silent tick n es fs ss before at e z h k q =
     subst (λ (l : List Monitor). TickLinesAre (linesOf tick 0 (senders ss ≤? 1) es ss) before at l at before) (ap (λ (m : ℕ). replicate m quietMonitor) k ∙ sym q)
     (nobody tick 0 (senders ss ≤? 1) es ss before at (h ∙ sym k) (sym e ∙ z))
 
--- one party sends, and no other
-pub data AloneIn (c : ℕ) : ℕ → List Sent → Type 0 where
-  speaks-here : {ss : List Sent} → senders ss ≡ 0 → AloneIn c 0 (Sent.Character c ∷ ss)
-  speaks-behind : {k : ℕ} {ss : List Sent} → AloneIn c k ss → AloneIn c (suc k) (Silent ∷ ss)
-
-alone-senders : (c k : ℕ) (ss : List Sent) → AloneIn c k ss → senders ss ≡ 1
-unfolding senders
-alone-senders c _ _ (speaks-here h) = omega (arith, h)
-alone-senders c _ _ (speaks-behind {k} {ss} a) = omega (arith, alone-senders c k ss a)
-
-alone-lines : (tick party : ℕ) (lone : Bool) (c k : ℕ) (es : List Monitor) (ss : List Sent) (before after : List ℕ) (at r : ℕ) (d e : Monitor) → AloneIn c k ss → length es ≡ length ss
-    → PartyIs (listens tick (party + k) lone (getD es k d) (Sent.Character c)) before at e r after → TickLinesAre (linesOf tick party lone es ss) before at (set (replicate (length ss) quietMonitor) k e) r after
-unfolding linesOf
-alone-lines tick party lone c _ [] _ before after at r d e (speaks-here h) l p = absurd (omega (arith, l))
-alone-lines tick party lone c _ (f ∷ es) _ before after at r d e (speaks-here {ss} h) l p =
-    let here : party + 0 ≡ party = omega arith in
-    tick-besides (listens tick party lone f (Sent.Character c)) (linesOf tick (party + 1) lone es ss) before after after at r r e (replicate (length ss) quietMonitor)
-    (subst (λ (n : ℕ). PartyIs (listens tick n lone f (Sent.Character c)) before at e r after) here p)
-    (nobody tick (party + 1) lone es ss after r (omega (arith, l)) h)
-alone-lines tick party lone c _ [] _ before after at r d e (speaks-behind a) l p = absurd (omega (arith, l))
-alone-lines tick party lone c _ (f ∷ es) _ before after at r d e (speaks-behind {k} {ss} a) l p =
-    let behind : party + suc k ≡ party + 1 + k = omega arith in
-    tick-besides (listens tick party lone f Silent) (linesOf tick (party + 1) lone es ss) before before after at at r quietMonitor (set (replicate (length ss) quietMonitor) k e)
-    (listens-silent tick party lone f Silent before at quietMonitor refl refl)
-    (alone-lines tick (party + 1) lone c k es ss before after at r d e a (omega (arith, l)) (subst (λ (n : ℕ). PartyIs (listens tick n lone (getD es k d) (Sent.Character c)) before at e r after) behind p))
-
-pub tick-alone : (tick c k : ℕ) (es : List Monitor) (ss : List Sent) (before after : List ℕ) (at r : ℕ) (d e : Monitor) → AloneIn c k ss → length es ≡ 8 → length ss ≡ 8
-    → PartyIs (listens tick k true (getD es k d) (Sent.Character c)) before at e r after → TickLinesAre (tickLines tick es ss) before at (set (replicate 8 quietMonitor) k e) r after
-unfolding tickLines
-tick-alone tick c k es ss before after at r d e a h l p =
-    let one : true ≡ (senders ss ≤? 1) = ap (λ (n : ℕ). n ≤? 1) (sym (alone-senders c k ss a)) in
-    let lines = alone-lines tick 0 true c k es ss before after at r d e a (h ∙ sym l) (subst (λ (n : ℕ). PartyIs (listens tick n true (getD es k d) (Sent.Character c)) before at e r after) (omega arith) p) in
-    subst (λ (n : ℕ). TickLinesAre (linesOf tick 0 (senders ss ≤? 1) es ss) before at (set (replicate n quietMonitor) k e) r after) l
-    (subst (λ (b : Bool). TickLinesAre (linesOf tick 0 b es ss) before at (set (replicate (length ss) quietMonitor) k e) r after) one lines)
-
--- a tick
-pub tick-is : (tick n : ℕ) (es : List Monitor) (ss : List Sent) (before : List ℕ) (at : ℕ) (fs : List Monitor) (r : ℕ) (after : List ℕ)
-    → n ≡ senders ss → TickLinesAre (linesOf tick 0 (n ≤? 1) es ss) before at fs r after → TickLinesAre (tickLines tick es ss) before at fs r after
-unfolding tickLines
-tick-is tick n es ss before at fs r after e p = subst (λ (m : ℕ). TickLinesAre (linesOf tick 0 (m ≤? 1) es ss) before at fs r after) e p
-
 -- a loop over ticks: behind one of them, what is left gives what the whole gives
 pub tick-goes-on : (tick : ℕ) (es fs : List Monitor) (ss : List Sent) (ticks : List (List Sent)) (before after : List ℕ) (at r : ℕ) → TickLinesAre (tickLines tick es ss) before at fs r after
     → put (outOf before at) (linesText (linesFrom tick es (ss ∷ ticks))) ≡ put (outOf after r) (linesText (linesFrom (tick + 1) fs ticks))
@@ -281,3 +237,43 @@ tick-goes-on tick es fs ss ticks before after at r p =
     ∙ put-append (linesText (now .lines)) (linesText rest) (outOf before at)
     ∙ ap (λ (o : Out). put o (linesText rest)) (sym (p .text .out))
     ∙ ap (λ (l : List Monitor). put (outOf after r) (linesText (linesFrom (tick + 1) l ticks))) (sym (p .monitors-are))
+
+-- several ticks: the lines of those in front, then of those behind
+lines-behind : (tick : ℕ) (es : List Monitor) (ts rest : List (List Sent)) → linesFrom tick es (ts ++ rest) ≡ linesFrom tick es ts ++ linesFrom (tick + length ts) (monitorsFrom tick es ts) rest
+unfolding linesFrom monitorsFrom
+lines-behind tick es [] rest = let here : tick ≡ tick + 0 = omega arith in ap (λ (n : ℕ). linesFrom n es rest) here
+lines-behind tick es (ss ∷ ts) rest =
+    let now = tickLines tick es ss in
+    let onward : tick + 1 + length ts ≡ tick + suc (length ts) = omega arith in
+    ap (λ (ls : List Line). now .lines ++ ls) (lines-behind (tick + 1) (now .monitors) ts rest)
+    ∙ sym (append-assoc (now .lines) (linesFrom (tick + 1) (now .monitors) ts) _)
+    ∙ ap (λ (n : ℕ). (now .lines ++ linesFrom (tick + 1) (now .monitors) ts) ++ linesFrom n (monitorsFrom (tick + 1) (now .monitors) ts) rest) onward
+
+pub ticks-go-on : (tick : ℕ) (es fs : List Monitor) (ts rest : List (List Sent)) (before after : List ℕ) (at r : ℕ) → TickLinesAre (ticksLines tick es ts) before at fs r after
+    → put (outOf after r) (linesText (linesFrom (tick + length ts) fs rest)) ≡ put (outOf before at) (linesText (linesFrom tick es (ts ++ rest)))
+ticks-go-on tick es fs ts rest before after at r p =
+    let behind = linesFrom (tick + length ts) (monitorsFrom tick es ts) rest in
+    ap (λ (l : List Monitor). put (outOf after r) (linesText (linesFrom (tick + length ts) l rest))) (p .monitors-are)
+    ∙ ap (λ (o : Out). put o (linesText behind)) (p .text .out)
+    ∙ sym (put-append (linesText (linesFrom tick es ts)) (linesText behind) (outOf before at))
+    ∙ ap (put (outOf before at)) (lines-append (linesFrom tick es ts) behind)
+    ∙ ap (λ (ls : List Line). put (outOf before at) (linesText ls)) (sym (lines-behind tick es ts rest))
+
+-- some ticks in which nobody sends
+pub ticks-silent : (n tick : ℕ) (es : List Monitor) (before : List ℕ) (at : ℕ) → length es ≡ 8
+    → TickLinesAre (ticksLines tick es (replicate (suc n) (replicate 8 Silent))) before at (replicate 8 quietMonitor) at before
+unfolding linesFrom monitorsFrom senders
+ticks-silent zero tick es before at h =
+    let one = tick-silent tick 0 es (replicate 8 quietMonitor) (replicate 8 Silent) before at refl refl h refl refl in
+    record {
+      monitors-are = one .monitors-are;
+      text = put-same _ _ before at at before (one .text) (ap linesText (sym (append-nil (tickLines tick es (replicate 8 Silent) .lines))));
+    }
+ticks-silent (suc n) tick es before at h =
+    let now = tickLines tick es (replicate 8 Silent) in
+    let one = tick-silent tick 0 es (replicate 8 quietMonitor) (replicate 8 Silent) before at refl refl h refl refl in
+    let others = ticks-silent n (tick + 1) (now .monitors) before at (ap length (sym (one .monitors-are))) in
+    record {
+      monitors-are = others .monitors-are;
+      text = put-same _ _ before at at before (put-then _ _ before before before at at at (one .text) (others .text)) (lines-append (now .lines) (linesFrom (tick + 1) (now .monitors) (replicate (suc n) (replicate 8 Silent))));
+    }

@@ -25,7 +25,7 @@ use Rattle.listing.specs.Promises.{SendsIs, PartyIs, TickLinesAre}
 use Rattle.listing.specs.Rows.{sentFor, rowSent, rowsSent, lesser, rowsListed, heardSoFar, allHeard, rowsLines, RowIs}
 use Rattle.listing.specs.declared.Monitor.{Monitor}
 use Rattle.listing.proofs.Puts.{put-length}
-use Rattle.listing.proofs.Listens.{Counting, counting-none, counting-more, counting-all, Listening, listening-none, listening-more, listening-all, listens-silent, listens-character, tick-is, tick-goes-on}
+use Rattle.listing.proofs.Listens.{Counting, counting-none, counting-more, counting-all, Listening, listening-none, listening-more, listening-all, listens-silent, listens-character, tick-goes-on}
 
 -- ---- how many rows
 

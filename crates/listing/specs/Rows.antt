@@ -39,9 +39,12 @@ heardSoFar m = if m .count =? 0 then quietMonitor else m
 unfoldable pub allHeard : List Monitor → List Monitor
 allHeard ms = map heardSoFar ms
 
--- the monitors behind the rows, and the lines of the frames that ended in them
+-- the monitors behind some ticks, and the lines of the frames that ended in them
+abbrev pub ticksLines : ℕ → List Monitor → List (List Sent) → TickLines
+ticksLines tick ms ticks = record { monitors = monitorsFrom tick ms ticks; lines = linesFrom tick ms ticks }
+
 abbrev pub rowsLines : ℕ → List Monitor → List (List ℕ) → TickLines
-rowsLines tick ms rows = record { monitors = monitorsFrom tick ms (rowsSent rows); lines = linesFrom tick ms (rowsSent rows) }
+rowsLines tick ms rows = ticksLines tick ms (rowsSent rows)
 
 -- what is promised of a row's numbers, and of several rows
 pub record RowIs (row : List ℕ) (lone : Bool) : Type 0 where

@@ -11,10 +11,10 @@ ghost use lib.ListN.{length, replicate};
 ghost use Prim.Native.Nat.{_<_, _+_};
 ghost use Rattle.base.specs.Choice.{if_then_else_};
 ghost use Rattle.base.specs.Lent.{before};
-ghost use Rattle.listing.specs.Lines.{lineOf, quietMonitor, frameEnds, endsWith, oneMore, listens, linesOf, senders, tickLines};
+ghost use Rattle.listing.specs.Lines.{lineOf, quietMonitor, frameEnds, endsWith, oneMore, listens};
 ghost use Rattle.listing.specs.Text.{decimalOf, decimal, headLine, typeName, masterDigit, word, lineText};
 ghost use Rattle.listing.specs.Put.{PutIs};
-ghost use Rattle.listing.specs.Promises.{SendsIs, PartyIs, TickLinesAre};
+ghost use Rattle.listing.specs.Promises.{PartyIs};
 ghost use Rattle.listing.specs.Rows.{lesser, rowsListed, heardSoFar, RowIs, RowsAre};
 
 // What was heard of one party's characters.
@@ -29,23 +29,20 @@ pub struct Monitor {
 // A monitor for each party: 0 primary, 1 secondary, then the devices.
 pub type Monitors = [Monitor; 8];
 
-// What every party sent in a tick, in the same order.
-pub type Sents = [Sent; 8];
-
-// The monitors behind a tick, and the place behind its lines in the output.
+// The monitors behind some ticks, and the place behind their lines in the output.
 pub struct Listened {
     pub monitors: Monitors,
     pub at: usize,
 }
 
-// The same of one party.
+// The same of one party and one tick.
 pub struct MonitorHeard {
     pub monitor: Monitor,
     pub at: usize,
 }
 
 // A byte at a place of the output, if there is room for it; the next place.
-pub fn put_byte(b: u8, out: &mut [u8], at: usize) -> usize
+fn put_byte(b: u8, out: &mut [u8], at: usize) -> usize
     ensures { λ r. ⌜ PutIs (b ∷ []) (now (out .entry)) at r (now (out .exit)) ⌝ }
 {
     if at < out.len() {
@@ -91,7 +88,7 @@ fn put_digits(digits: u8, n: u16, out: &mut [u8], at: usize) -> usize
 }
 
 // A number in decimal.
-pub fn put_decimal(n: u16, out: &mut [u8], at: usize) -> usize
+fn put_decimal(n: u16, out: &mut [u8], at: usize) -> usize
     ensures { λ r. ⌜ PutIs (decimal n) (now (out .entry)) at r (now (out .exit)) ⌝ }
 {
     put_digits(5, n, out, at)
@@ -151,14 +148,7 @@ fn put_master_word(primary: bool, out: &mut [u8], at: usize) -> usize
 }
 
 // The line of a frame: the tick of its last character, its sender, its type, its master, and its length in characters.
-pub fn put_line(
-    tick: u16,
-    party: u16,
-    header: Header,
-    length: u16,
-    out: &mut [u8],
-    at: usize,
-) -> usize
+fn put_line(tick: u16, party: u16, header: Header, length: u16, out: &mut [u8], at: usize) -> usize
     ensures { λ r. ⌜ PutIs (lineText (lineOf tick party header length)) (now (out .entry)) at r (now (out .exit)) ⌝ }
 {
     let frame = header.frame;
@@ -172,7 +162,7 @@ pub fn put_line(
 }
 
 // A monitor that has heard nothing of a frame.
-pub fn quiet_monitor() -> Monitor
+fn quiet_monitor() -> Monitor
     ensures { λ r. ⌜ r ≡ quietMonitor ⌝ }
 {
     let r = tick_reader::idle_reader();
@@ -281,7 +271,7 @@ fn both(a: bool, b: bool) -> bool
 }
 
 // A party sends a character.
-pub fn hear(
+fn hear(
     tick: u16,
     party: u16,
     lone: bool,
@@ -297,104 +287,6 @@ pub fn hear(
     let count = one_more(monitor.count);
     let alone = both(monitor.alone, lone);
     ends_with(tick, party, count, alone, t, out, at)
-}
-
-// A tick of one party: its monitor behind it, and the line of the frame that ended.
-fn listen(
-    tick: u16,
-    party: u16,
-    lone: bool,
-    monitor: Monitor,
-    sent: Sent,
-    out: &mut [u8],
-    at: usize,
-) -> MonitorHeard
-    ensures { λ h. ⌜ PartyIs (listens tick party lone monitor sent) (now (out .entry)) at (h .monitor) (h .at) (now (out .exit)) ⌝ }
-{
-    match sent {
-        Sent::Silent => {
-            let quiet = quiet_monitor();
-            MonitorHeard {
-                monitor: quiet,
-                at: at,
-            }
-        }
-        Sent::Character(c) => hear(tick, party, lone, monitor, c, out, at),
-    }
-}
-
-// 1 for a party that sends.
-fn sends(s: Sent) -> usize
-    ensures { λ r. ⌜ SendsIs s r ⌝ }
-{
-    match s {
-        Sent::Silent => 0,
-        Sent::Character(_) => 1,
-    }
-}
-
-// How many parties send.
-fn senders_of(sents: Sents) -> usize
-    ensures { λ r. ⌜ r ≡ senders sents ⌝ }
-{
-    let mut n = 0;
-    let mut i = 0;
-    while i < 8 {
-        let s = sents[i];
-        n += sends(s);
-        i += 1;
-    }
-    n
-}
-
-// The parties one behind the other. lone says that at most one of them sends.
-fn listen_all(
-    tick: u16,
-    lone: bool,
-    monitors: Monitors,
-    sents: Sents,
-    out: &mut [u8],
-    at: usize,
-) -> Listened
-    ensures { λ h. ⌜ TickLinesAre (linesOf tick 0 lone monitors sents) (now (out .entry)) at (h .monitors) (h .at) (now (out .exit)) ⌝ }
-{
-    let mut list = monitors;
-    let mut place = at;
-    let mut i = 0;
-    while i < 8 {
-        let e = list[i];
-        let s = sents[i];
-        let h = listen(tick, i as u16, lone, e, s, out, place);
-        let next = h.monitor;
-        list[i] = next;
-        place = h.at;
-        i += 1;
-    }
-    Listened {
-        monitors: list,
-        at: place,
-    }
-}
-
-// A tick: the monitors behind it, and the lines of the frames that ended in it, put into the output.
-pub fn tick_lines(
-    tick: u16,
-    monitors: Monitors,
-    sents: Sents,
-    out: &mut [u8],
-    at: usize,
-) -> Listened
-    ensures { λ h. ⌜ TickLinesAre (tickLines tick monitors sents) (now (out .entry)) at (h .monitors) (h .at) (now (out .exit)) ⌝ }
-{
-    let n = senders_of(sents);
-    if n == 0 {
-        let quiet = quiet_monitors();
-        return Listened {
-            monitors: quiet,
-            at: at,
-        };
-    }
-    listen_all(tick, n <= 1, monitors, sents, out, at)
 }
 
 // The smaller of two numbers.

@@ -21,7 +21,7 @@ ghost use Rattle.base.specs.Lent.{before, after};
 ghost use Rattle.line.specs.Reader.{takenData};
 ghost use Rattle.turns.specs.Link.{joins};
 ghost use Rattle.parties.specs.Part.{PartIs};
-ghost use Rattle.parties.specs.Stands.{codeOf, noPart, noMasterCall, noDeviceCall, MasterIs, DeviceIs};
+ghost use Rattle.parties.specs.Stands.{noPart, noMasterCall, noDeviceCall, MasterIs, DeviceIs};
 ghost use Rattle.parties.specs.Ways.{hearsBy, countsIf, callsDevice, isListening, deviceCounts, deviceWay, countedDevice, heardDevice, inSlot};
 ghost use Rattle.parties.specs.Ways.{callsMaster, isFree, isSending, masterCounts, masterHears, masterWay, countedMaster, heardMaster};
 
@@ -144,16 +144,6 @@ pub fn join(sent: Sent, heard: Heard) -> Heard
     match sent {
         Sent::Silent => heard,
         Sent::Character(c) => join_character(c, heard),
-    }
-}
-
-// What is sent, as a number: the character, or 256 for none.
-pub fn code(sent: Sent) -> u16
-    ensures { λ r. ⌜ r ≡ codeOf sent ⌝ }
-{
-    match sent {
-        Sent::Silent => 256,
-        Sent::Character(c) => c as u16,
     }
 }
 

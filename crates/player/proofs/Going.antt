@@ -1,61 +1,46 @@
 -- The loop over the ticks: what is left to play gives what the whole gives.
-use Prim.Native.Nat.{ℕ, _+_, _-_, _≤_, _<_}
+use Prim.Native.Nat.{ℕ, _-_, _≤_, _<_}
 use native.Mathlib.Omega.{arith}
 use mathlib.Core.Path.{_≡_, refl, ap, _∙_}
 use mathlib.Core.List.{List}
 use lib.ListN.{length}
 use Rattle.turns.specs.Link.{run}
-use Rattle.turns.specs.Link as L
 use Rattle.script.specs.Script.{recordsOf, callsFrom}
+use Rattle.listing.specs.Sents.{sentIn}
 use Rattle.listing.specs.Lines.{linesFrom}
 use Rattle.listing.specs.Put.{outOf, put, PutIs}
+use Rattle.listing.specs.Rows.{allHeard}
 use Rattle.listing.specs.Text.{linesText}
-use Rattle.link.specs.Link.{MasterLent, DevicesLent}
-use Rattle.link.specs.Stands.{linkOf}
-use Rattle.link.specs.Sents.{sentIn}
-use Rattle.player_tick.specs.declared.Playing.{Playing}
-use Rattle.player.specs.Ahead.{GoneIs}
-use Rattle.player.specs.Ticks.{textFrom, Stands}
-use Rattle.player.specs.declared.Gone.{Gone}
+use Rattle.parties.specs.Stands.{Rows, linkOf}
+use Rattle.player.specs.Ticks.{textFrom, textLeft, Stands, PlaysOn}
+use Rattle.player.specs.declared.Playing.{Playing}
 
-pub record Going (script : List ℕ) (stop : ℕ) (text before : List ℕ) (from : ℕ) (p : Playing) (x y : MasterLent) (d : DevicesLent) (out : List ℕ) (tick : ℕ) : Type 0 where
-  pub within : tick ≤ stop
+pub record Going (script : List ℕ) (stop : ℕ) (start : Playing) (x-start : Rows) (before : List ℕ) (p : Playing) (x : Rows) (out : List ℕ) : Type 0 where
+  pub within : p .tick ≤ stop
   pub same-length : length out ≡ length before
-  pub stands : Stands script tick p
-  pub left : put (outOf out (p .at)) (textFrom tick (stop - tick) (p .monitors) (linkOf (p .link) x y d) (recordsOf script)) ≡ put (outOf before from) text
+  pub stands : Stands script p
+  pub left : put (outOf out (p .at)) (textLeft script stop p x) ≡ put (outOf before (start .at)) (textLeft script stop start x-start)
 
-pub going-begun : (script : List ℕ) (stop : ℕ) (before : List ℕ) (p : Playing) (x y : MasterLent) (d : DevicesLent) → Stands script 0 p
-    → Going script stop (textFrom 0 stop (p .monitors) (linkOf (p .link) x y d) (recordsOf script)) before (p .at) p x y d before 0
-going-begun script stop before p x y d k = record {
-  within = omega arith;
-  same-length = refl;
-  stands = k;
-  left = let all : stop - 0 ≡ stop = omega arith in ap (λ (n : ℕ). put (outOf before (p .at)) (textFrom 0 n (p .monitors) (linkOf (p .link) x y d) (recordsOf script))) all;
-}
+pub going-begun : (script : List ℕ) (stop : ℕ) (p : Playing) (x : Rows) (out : List ℕ) → Stands script p × (p .tick ≤ stop) → Going script stop p x out p x out
+going-begun script stop p x out k = record { within = k .1; same-length = refl; stands = k .0; left = refl }
 
-module _ (script : List ℕ) (stop : ℕ) (text before : List ℕ) (from : ℕ) (p : Playing) (x y : MasterLent) (d : DevicesLent) (out : List ℕ) (tick : ℕ) (g : Going script stop text before from p x y d out tick) where
-  pub going-on : (r : Gone) (x-after y-after : MasterLent) (d-after : DevicesLent) (out-after : List ℕ) → GoneIs script tick stop p x y d out r x-after y-after d-after out-after
-      → Going script stop text before from (r .playing) x-after y-after d-after out-after (tick + r .ticks)
-  going-on r x-after y-after d-after out-after is = record {
+module _ (script : List ℕ) (stop : ℕ) (start : Playing) (x-start : Rows) (before : List ℕ) (p : Playing) (x : Rows) (out : List ℕ) (g : Going script stop start x-start before p x out) where
+  pub going-on : (r : Playing) (x-after : Rows) (out-after : List ℕ) → PlaysOn script stop p x out r x-after out-after → Going script stop start x-start before r x-after out-after
+  going-on r x-after out-after is = record {
     within = is .within;
     same-length = is .same-length ∙ g .same-length;
     stands = is .stands;
     left = is .left ∙ g .left;
   }
 
-  pub going-ended : stop ≤ tick → PutIs text before from (p .at) out
+  pub going-ended : stop ≤ p .tick → PutIs (textLeft script stop start x-start) before (start .at) (p .at) out
   unfolding sentIn run callsFrom linesFrom linesText put
   going-ended h =
-      let none : 0 ≡ stop - tick = omega arith in
-      record { out = ap (λ (n : ℕ). put (outOf out (p .at)) (textFrom tick n (p .monitors) (linkOf (p .link) x y d) (recordsOf script))) none ∙ g .left }
+      let none : 0 ≡ stop - p .tick = omega arith in
+      record { out = ap (λ (n : ℕ). put (outOf out (p .at)) (textFrom (p .tick) n (allHeard (p .monitors)) (linkOf (p .link) x) (recordsOf script))) none ∙ g .left }
 
--- what the loop's numbers need
-pub gone-room : (script : List ℕ) (tick stop : ℕ) (p : Playing) (x y : MasterLent) (d : DevicesLent) (out : List ℕ) (r : Gone) (x-after y-after : MasterLent) (d-after : DevicesLent) (out-after : List ℕ)
-    → GoneIs script tick stop p x y d out r x-after y-after d-after out-after → stop < 65536 → tick + r .ticks < 65536
-gone-room script tick stop p x y d out r x-after y-after d-after out-after is h = omega (arith, is .within)
+-- fewer ticks are left
+pub ticks-less : (script : List ℕ) (stop : ℕ) (p : Playing) (x : Rows) (out : List ℕ) (r : Playing) (x-after : Rows) (out-after : List ℕ) → PlaysOn script stop p x out r x-after out-after → p .tick < stop → stop - r .tick < stop - p .tick
+ticks-less script stop p x out r x-after out-after is h = omega (arith, is .later)
 
-pub gone-less : (script : List ℕ) (tick stop : ℕ) (p : Playing) (x y : MasterLent) (d : DevicesLent) (out : List ℕ) (r : Gone) (x-after y-after : MasterLent) (d-after : DevicesLent) (out-after : List ℕ)
-    → GoneIs script tick stop p x y d out r x-after y-after d-after out-after → tick < stop → stop - (tick + r .ticks) < stop - tick
-gone-less script tick stop p x y d out r x-after y-after d-after out-after is h = omega (arith, is .some)
-
-pub ruleset goings = (refl, going-begun, going-on, going-ended, gone-room, gone-less)
+pub ruleset goings = (refl, going-begun, going-on, going-ended, ticks-less)

@@ -23,7 +23,7 @@ use Rattle.script.specs.Script.{stopOf, callsFrom}
 use Rattle.listing.specs.Lines.{isLone}
 use Rattle.listing.specs.FrameLines.{sentBy, Ticks, no-more, one-more}
 use Rattle.listing.proofs.OutputLines.{output-listed}
-use Rattle.link.specs.Sents.{devicesSent, sentOf, sentIn}
+use Rattle.listing.specs.Sents.{devicesSent, sentOf, sentIn}
 use Rattle.player.specs.Play.{ready, readyLink}
 use Rattle.player.specs.Listed.{loneIn, ListsFrames, RunListed, PlayListed}
 

@@ -17,12 +17,11 @@ use Rattle.script.specs.Script.{recordsOf, goodScript, stopOf, callsAt, callsFr
 use Rattle.script.specs.declared.Entry.{Entry}
 use Rattle.listing.specs.Lines.{quietMonitor}
 use Rattle.listing.specs.Put.{Out, outOf, PutIs}
-use Rattle.listing.specs.Text.{decimalOf, headLine}
+use Rattle.listing.specs.Text.{decimalOf}
 use Rattle.listing.proofs.Lengths.{listing-most}
 use Rattle.listing.proofs.Puts.{put-front}
 use Rattle.player.specs.Play.{readyLink, listing, outputOf, play, PlayIs}
-use Rattle.player.specs.Ticks.{textFrom}
-use Rattle.link.specs.Sents.{sentIn}
+use Rattle.listing.specs.Sents.{sentIn}
 
 -- ---- the stop's tick
 
@@ -57,11 +56,6 @@ listing-fits script h =
 -- what a call answered, where the code tests it
 pub answer-is : (r t x : Bool) → r ≡ t → r ≡ x → t ≡ x
 answer-is r t x e f = sym e ∙ f
-
--- up to the stop's tick
-pub good-listing : (script before : List ℕ) (stop r : ℕ) (after : List ℕ) → stop ≡ stopOf (recordsOf script) → PutIs (headLine ++ textFrom 0 stop (replicate 8 quietMonitor) readyLink (recordsOf script)) before 0 r after
-    → PutIs (listing (recordsOf script)) before 0 r after
-good-listing script before stop r after e p = subst (λ (n : ℕ). PutIs (headLine ++ textFrom 0 n (replicate 8 quietMonitor) readyLink (recordsOf script)) before 0 r after) e p
 
 pub plays-good : (script before : List ℕ) (r : ℕ) (after : List ℕ) → goodScript script ≡ true → PutIs (listing (recordsOf script)) before 0 r after → PutIs (play script) before 0 r after
 unfolding play

@@ -3,4 +3,3 @@ pub mod Play
 pub mod Listed
 pub mod Ready
 pub mod Ticks
-pub mod Ahead

@@ -16,7 +16,7 @@ use Rattle.script.specs.Script.{stopOf, callsFrom}
 use Rattle.script.specs.declared.Entry.{Entry}
 use Rattle.listing.specs.Lines.{quietMonitor, isLone, linesFrom}
 use Rattle.listing.specs.FrameLines.{Frames, linesBy, sentBy}
-use Rattle.link.specs.Sents.{sentIn}
+use Rattle.listing.specs.Sents.{sentIn}
 use Rattle.player.specs.Play.{readyLink}
 
 -- whether at most one party sends in a tick

@@ -18,7 +18,7 @@ use Rattle.script.specs.Script.{recordsOf, goodScript, stopOf, callsFrom}
 use Rattle.script.specs.declared.Entry.{Entry}
 use Rattle.listing.specs.Lines.{quietMonitor, linesFrom}
 use Rattle.listing.specs.Text.{decimal, headLine, linesText}
-use Rattle.link.specs.Sents.{sentIn}
+use Rattle.listing.specs.Sents.{sentIn}
 
 -- "2 to 7 devices with polling address party − 2 and unique address equal to the party"; "FSK, R 3, preamble 5"
 abbrev pub ready : ℕ → DeviceSide

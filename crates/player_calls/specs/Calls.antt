@@ -1,46 +1,62 @@
 -- Inner contracts: nothing that is to be believed rests on them.
--- Document 01, "The player": how the calls of the code's link stand for those that a script wants in a tick. Their data lie in 255 zero bytes, and the part that names them is left open: many parts of zero bytes are the same.
+-- Document 01, "The player": the calls of the code's link in a tick of a script. The law `calls-stand` in proofs/Wanteds.antt says that they are those that the script wants.
 use Prim.Native.Nat.{ℕ}
+use mathlib.Core.Bool.{Bool, true, false}
 use mathlib.Core.List.{List, [], _∷_}
-use mathlib.Core.Path.{_≡_}
 use lib.ListN.{replicate}
 use Rattle.base.specs.Choice.{if_then_else_, _=?_}
 use Rattle.frame.specs.Limits.{mostData}
-use Rattle.turns.specs.Link as L
-use Rattle.script.specs.Script.{masterCall, deviceCall}
+use Rattle.turns.specs.declared.Wish.{Wish}
+use Rattle.turns.specs.declared.Wish.the-variants.{Same, On, Off}
+use Rattle.master.specs.declared.MasterHostCall as MasterHost
+use Rattle.device_tick.specs.declared.DeviceHostCall as DeviceHost
+use Rattle.parties.specs.Stands.{noMasterCall, noDeviceCall}
+use Rattle.parties.specs.declared.Calls.{Calls}
+use Rattle.parties.specs.declared.DeviceCall.{DeviceCall}
+use Rattle.parties.specs.declared.MasterCall.{MasterCall}
+use Rattle.parties.specs.declared.Part.{Part}
 use Rattle.script.specs.declared.ScriptTick.{ScriptTick}
 use Rattle.script.specs.declared.ScriptCall.{ScriptCall}
-use Rattle.device_tick.specs.Tick as D
-use Rattle.slots.specs.Part.{dataOf}
-use Rattle.slots.specs.declared.PairCalls.{PairCalls}
-use Rattle.slots.specs.declared.SlotCall.{SlotCall}
-use Rattle.link.specs.Stands.{masterCallOf}
-use Rattle.link.specs.declared.LinkCalls.{LinkCalls}
-use Rattle.link.specs.declared.MastersCalls.{MastersCalls}
+use Rattle.script.specs.declared.ScriptCall.the-variants.{Nothing, Call}
 
 -- what is put beside every tick's calls
 unfoldable pub zeroBytes : List ℕ
 zeroBytes = replicate mostData 0
 
--- a device's call
-abbrev pub slotCallOf : SlotCall → L.DeviceCall
-slotCallOf c = D.callOf (c .call) (dataOf (c .part) zeroBytes)
+-- the first so many of them
+abbrev pub zeros : ℕ → Part
+zeros n = record { from = 0; count = n }
+
+-- "FSK, R 3, preamble 5"
+abbrev pub requestWith : Bool → ℕ → ℕ → MasterCall
+requestWith long address command = record {
+  call = MasterHost.MasterHostCall.Requests (record { preamble = 5; revision = 7; long = long; address = address; command = command });
+  part = zeros 0;
+}
+
+-- "1 master asks command 0 of that polling address", "3 master asks command 3 of that unique address"
+abbrev pub masterCallFor : ScriptCall → MasterCall
+masterCallFor Nothing = noMasterCall
+masterCallFor (Call action argument) = if action =? 1 then requestWith false argument 0 else requestWith true argument 3
+
+abbrev pub answerWith : Wish → ℕ → DeviceCall
+answerWith wish count = record { call = DeviceHost.DeviceHostCall.Answers wish; part = zeros count }
+
+-- "2 device answers with that many zero bytes", "4 and 5 as 2, with burst on or off"
+abbrev pub deviceCallFor : ScriptCall → DeviceCall
+deviceCallFor Nothing = noDeviceCall
+deviceCallFor (Call action argument) =
+    if action =? 2 then answerWith Same argument else
+    if action =? 4 then answerWith On argument else answerWith Off argument
 
 -- "Burst content is command 3 with two zero bytes": each device's call of tick 0
-abbrev pub wantedCall : ℕ → ScriptCall → L.DeviceCall
-wantedCall tick w = if tick =? 0 then L.gives-content 3 (0 ∷ 0 ∷ []) else deviceCall w
+abbrev pub deviceCallIn : ℕ → ScriptCall → DeviceCall
+deviceCallIn tick w = if tick =? 0 then record { call = DeviceHost.DeviceHostCall.Content 3; part = zeros 2 } else deviceCallFor w
 
--- both masters' calls, those of two devices, and all of a tick
-pub record MastersCallsAre (a b : ScriptCall) (c : MastersCalls) : Type 0 where
-  pub primary : masterCallOf (c .primary) zeroBytes ≡ masterCall a
-  pub secondary : masterCallOf (c .secondary) zeroBytes ≡ masterCall b
-
-pub record PairCallsAre (tick : ℕ) (a b : ScriptCall) (c : PairCalls) : Type 0 where
-  pub left : slotCallOf (c .left) ≡ wantedCall tick a
-  pub right : slotCallOf (c .right) ≡ wantedCall tick b
-
-pub record CallsAre (tick : ℕ) (t : ScriptTick) (c : LinkCalls) : Type 0 where
-  pub masters : MastersCallsAre (t .primary) (t .secondary) (c .masters)
-  pub low : PairCallsAre tick (t .device2) (t .device3) (c .devices .low)
-  pub middle : PairCallsAre tick (t .device4) (t .device5) (c .devices .middle)
-  pub high : PairCallsAre tick (t .device6) (t .device7) (c .devices .high)
+abbrev pub callsFor : ℕ → ScriptTick → Calls
+callsFor tick t = record {
+  masters = masterCallFor (t .primary) ∷ masterCallFor (t .secondary) ∷ [];
+  devices =
+      deviceCallIn tick (t .device2) ∷ deviceCallIn tick (t .device3) ∷ deviceCallIn tick (t .device4)
+      ∷ deviceCallIn tick (t .device5) ∷ deviceCallIn tick (t .device6) ∷ deviceCallIn tick (t .device7) ∷ [];
+}

@@ -1,25 +1,18 @@
-// The calls of a tick that a script wants, for the link.
+// The calls of a tick that a script wants, for the link. Their data are the first of so many zero bytes.
 use device_tick::DeviceHostCall;
-use link::LinkCalls;
-use link::MasterCall;
-use link::MastersCalls;
+use parties::Calls;
+use parties::DeviceCall;
+use parties::MasterCall;
+use parties::Part;
 use script::ScriptCall;
 use script::ScriptTick;
-use slots::DevicesCalls;
-use slots::PairCalls;
-use slots::Part;
-use slots::SlotCall;
 use turns::Wish;
 ghost use mathlib.Core.Path.{_≡_};
-ghost use lib.ListN.{replicate};
-ghost use Rattle.script.specs.Script.{masterCall, deviceCall};
-ghost use Rattle.slots.specs.Part.{dataOf};
-ghost use Rattle.link.specs.Stands.{masterCallOf};
-ghost use Rattle.player_calls.specs.Calls.{zeroBytes, slotCallOf, wantedCall, MastersCallsAre, PairCallsAre, CallsAre};
+ghost use Rattle.player_calls.specs.Calls.{zeros, masterCallFor, requestWith, deviceCallFor, answerWith, deviceCallIn, callsFor};
 
-// So many of the zero bytes.
+// The first so many of the zero bytes.
 fn zeros(n: u8) -> Part
-    ensures { λ r. ⌜ dataOf r zeroBytes ≡ replicate n 0 ⌝ }
+    ensures { λ r. ⌜ r ≡ zeros n ⌝ }
 {
     Part {
         from: 0,
@@ -27,91 +20,83 @@ fn zeros(n: u8) -> Part
     }
 }
 
-// A master's action.
-fn request_for(action: u8, argument: u8) -> MasterCall
-    ensures { λ r. ⌜ masterCallOf r zeroBytes ≡ masterCall (ScriptCall.Call action argument) ⌝ }
+// A request for a command of this address.
+fn request_with(long: bool, address: u8, command: u8) -> MasterCall
+    ensures { λ r. ⌜ r ≡ requestWith long address command ⌝ }
 {
-    let none = Part { from: 0, count: 0 };
-    if action == 1 {
-        let q = master::RequestFields {
-            preamble: 5,
-            revision: 7,
-            long: false,
-            address: argument as u64,
-            command: 0,
-        };
-        return MasterCall {
-            call: master::MasterHostCall::Requests(q),
-            part: none,
-        };
-    }
+    let part = zeros(0);
     let q = master::RequestFields {
         preamble: 5,
         revision: 7,
-        long: true,
-        address: argument as u64,
-        command: 3,
+        long: long,
+        address: address as u64,
+        command: command,
     };
     MasterCall {
         call: master::MasterHostCall::Requests(q),
-        part: none,
-    }
-}
-
-fn master_call(w: ScriptCall) -> MasterCall
-    ensures { λ r. ⌜ masterCallOf r zeroBytes ≡ masterCall w ⌝ }
-{
-    match w {
-        ScriptCall::Nothing => MasterCall {
-            call: master::MasterHostCall::Nothing,
-            part: Part { from: 0, count: 0 },
-        },
-        ScriptCall::Call(action, argument) => request_for(action, argument),
-    }
-}
-
-// A device's action.
-fn answer_for(action: u8, argument: u8) -> SlotCall
-    ensures { λ r. ⌜ slotCallOf r ≡ deviceCall (ScriptCall.Call action argument) ⌝ }
-{
-    let part = zeros(argument);
-    if action == 2 {
-        return SlotCall {
-            call: DeviceHostCall::Answers(Wish::Same),
-            part: part,
-        };
-    }
-    if action == 4 {
-        return SlotCall {
-            call: DeviceHostCall::Answers(Wish::On),
-            part: part,
-        };
-    }
-    SlotCall {
-        call: DeviceHostCall::Answers(Wish::Off),
         part: part,
     }
 }
 
-fn device_call(w: ScriptCall) -> SlotCall
-    ensures { λ r. ⌜ slotCallOf r ≡ deviceCall w ⌝ }
+// A master's action.
+fn request_for(action: u8, argument: u8) -> MasterCall
+    ensures { λ r. ⌜ r ≡ masterCallFor (ScriptCall.Call action argument) ⌝ }
+{
+    if action == 1 {
+        return request_with(false, argument, 0);
+    }
+    request_with(true, argument, 3)
+}
+
+fn master_call(w: ScriptCall) -> MasterCall
+    ensures { λ r. ⌜ r ≡ masterCallFor w ⌝ }
 {
     match w {
-        ScriptCall::Nothing => SlotCall {
-            call: DeviceHostCall::Nothing,
-            part: Part { from: 0, count: 0 },
-        },
+        ScriptCall::Nothing => parties::no_master_call(),
+        ScriptCall::Call(action, argument) => request_for(action, argument),
+    }
+}
+
+// An answer with so many zero bytes.
+fn answer_with(wish: Wish, count: u8) -> DeviceCall
+    ensures { λ r. ⌜ r ≡ answerWith wish count ⌝ }
+{
+    let part = zeros(count);
+    DeviceCall {
+        call: DeviceHostCall::Answers(wish),
+        part: part,
+    }
+}
+
+// A device's action.
+fn answer_for(action: u8, argument: u8) -> DeviceCall
+    ensures { λ r. ⌜ r ≡ deviceCallFor (ScriptCall.Call action argument) ⌝ }
+{
+    if action == 2 {
+        return answer_with(Wish::Same, argument);
+    }
+    if action == 4 {
+        return answer_with(Wish::On, argument);
+    }
+    answer_with(Wish::Off, argument)
+}
+
+fn device_call(w: ScriptCall) -> DeviceCall
+    ensures { λ r. ⌜ r ≡ deviceCallFor w ⌝ }
+{
+    match w {
+        ScriptCall::Nothing => parties::no_device_call(),
         ScriptCall::Call(action, argument) => answer_for(action, argument),
     }
 }
 
 // A device's burst content in tick 0, and its action in every other tick.
-fn slot_call(tick: usize, w: ScriptCall) -> SlotCall
-    ensures { λ r. ⌜ slotCallOf r ≡ wantedCall tick w ⌝ }
+fn call_in(tick: usize, w: ScriptCall) -> DeviceCall
+    ensures { λ r. ⌜ r ≡ deviceCallIn tick w ⌝ }
 {
     if tick == 0 {
         let part = zeros(2);
-        return SlotCall {
+        return DeviceCall {
             call: DeviceHostCall::Content(3),
             part: part,
         };
@@ -119,42 +104,30 @@ fn slot_call(tick: usize, w: ScriptCall) -> SlotCall
     device_call(w)
 }
 
-fn pair_calls(tick: usize, a: ScriptCall, b: ScriptCall) -> PairCalls
-    ensures { λ r. ⌜ PairCallsAre tick a b r ⌝ }
-{
-    PairCalls {
-        left: slot_call(tick, a),
-        right: slot_call(tick, b),
-    }
-}
-
-fn masters_calls(a: ScriptCall, b: ScriptCall) -> MastersCalls
-    ensures { λ r. ⌜ MastersCallsAre a b r ⌝ }
-{
-    MastersCalls {
-        primary: master_call(a),
-        secondary: master_call(b),
-    }
-}
-
 // The calls of a tick.
-pub fn calls_of(tick: usize, t: ScriptTick) -> LinkCalls
-    ensures { λ r. ⌜ CallsAre tick t r ⌝ }
+pub fn calls_of(tick: usize, t: ScriptTick) -> Calls
+    ensures { λ r. ⌜ r ≡ callsFor tick t ⌝ }
 {
-    let p = t.primary;
-    let s = t.secondary;
-    let a = t.device2;
-    let b = t.device3;
-    let c = t.device4;
-    let d = t.device5;
-    let e = t.device6;
-    let f = t.device7;
-    LinkCalls {
-        masters: masters_calls(p, s),
-        devices: DevicesCalls {
-            low: pair_calls(tick, a, b),
-            middle: pair_calls(tick, c, d),
-            high: pair_calls(tick, e, f),
-        },
+    let a = t.primary;
+    let b = t.secondary;
+    let c = t.device2;
+    let d = t.device3;
+    let e = t.device4;
+    let f = t.device5;
+    let g = t.device6;
+    let h = t.device7;
+    let primary = master_call(a);
+    let secondary = master_call(b);
+    let device2 = call_in(tick, c);
+    let device3 = call_in(tick, d);
+    let device4 = call_in(tick, e);
+    let device5 = call_in(tick, f);
+    let device6 = call_in(tick, g);
+    let device7 = call_in(tick, h);
+    let masters = [primary, secondary];
+    let devices = [device2, device3, device4, device5, device6, device7];
+    Calls {
+        masters: masters,
+        devices: devices,
     }
 }

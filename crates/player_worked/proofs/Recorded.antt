@@ -14,7 +14,7 @@ use Rattle.turns.specs.Link.{masterTick, deviceTick, deviceTicks, sides, carrie
 use Rattle.listing.specs.Lines.{frameEnds, endsWith, listens, linesOf, senders, tickLines, linesFrom}
 use Rattle.listing.specs.Text.{decimalOf, lineText, linesText, headLine}
 use Rattle.script.specs.Script.{recordsOf, isIn, isGood, goodScript, wantedAt, stopOf, callsFrom}
-use Rattle.link.specs.Sents.{devicesSent, sentIn}
+use Rattle.listing.specs.Sents.{devicesSent, sentIn}
 use Rattle.player.specs.Play.{readyLink, play}
 
 -- one device bursts. The lines:

@@ -8,9 +8,9 @@ use Rattle.base.specs.Refusal.{number, Called, accepted, refused}
 use Rattle.base.specs.declared.Refusal.{Refusal}
 use Rattle.line.specs.declared.Profile.{Profile}
 use Rattle.line_c.specs.Recording.{RunIs}
-use Rattle.link.specs.declared.Link.{Link}
+use Rattle.parties.specs.declared.Link.{Link}
 use Rattle.link_start.specs.Start.{linkStarts}
-use Rattle.link_start.specs.declared.DevicesSettings.{DevicesSettings}
+use Rattle.link_start.specs.declared.Setting.{Setting}
 use Rattle.link_start.proofs.Started.{unlike}
 use Rattle.link_run.specs.Run.{numbersOf, ranAs, ranBy}
 use Rattle.link_run.specs.declared.RunEnded.{RunEnded}
@@ -20,7 +20,7 @@ abbrev got : Called ℕ → ℕ
 got (accepted n) = n
 got (refused why) = 0
 
-module _ (p : Profile) (retries : ℕ) (s : DevicesSettings) (a b : ℕ) (ticks before : List ℕ) (r : RunEnded) (after : List ℕ) (k : LateKeeps p retries s a b ticks before r after) where
+module _ (p : Profile) (retries : ℕ) (s : List Setting) (a b : ℕ) (ticks before : List ℕ) (r : RunEnded) (after : List ℕ) (k : LateKeeps p retries s a b ticks before r after) where
   -- how many numbers were given
   abbrev counted : Called Link → ℕ
   counted c = length (take (length before) (numbersOf (lateStepsBy a b c ticks)))
@@ -43,9 +43,9 @@ module _ (p : Profile) (retries : ℕ) (s : DevicesSettings) (a b : ℕ) (ticks 
   ran-none why e = record { events = k .events; returned = sym (none-given (linkStarts p retries s) (number why) (sym (k .answered) ∙ ap ranAs e)) }
 
 -- with the settings as the code has them
-module _ (p : Profile) (retries : ℕ) (s made : DevicesSettings) (a b : ℕ) (ticks before : List ℕ) (r : RunEnded) (after : List ℕ) (e : made ≡ s) (k : LateKeeps p retries made a b ticks before r after) where
+module _ (p : Profile) (retries : ℕ) (s made : List Setting) (a b : ℕ) (ticks before : List ℕ) (r : RunEnded) (after : List ℕ) (e : made ≡ s) (k : LateKeeps p retries made a b ticks before r after) where
   same : LateKeeps p retries s a b ticks before r after
-  same = subst (λ (x : DevicesSettings). LateKeeps p retries x a b ticks before r after) e k
+  same = subst (λ (x : List Setting). LateKeeps p retries x a b ticks before r after) e k
 
   pub gave-so-many : (n : ℕ) → r ≡ RunEnded.Ran n → RunIs (numbersOf (lateSteps p retries s a b ticks)) before n after
   gave-so-many = ran-so-many p retries s a b ticks before r after same

@@ -2,56 +2,43 @@
 use late_run::StartTicks;
 use line::Profile;
 use link_run::RunEnded;
-use link_start::DevicesSettings;
-use link_start::PairSettings;
 use link_start::Setting;
-use link_start::SlotSetting;
 ghost use mathlib.Core.Path.{_≡_};
-ghost use Prim.Native.Nat.{_+_, _<_};
-ghost use Rattle.line_c.specs.Recording.{RunIs};
-ghost use Rattle.link_run.specs.Run.{numbersOf};
-ghost use Rattle.late_run.specs.Late.{lateSteps};
-ghost use Rattle.run_c.specs.Settings.{profileOf, settingOf, settingAt, pairAt, settingsOf};
+ghost use lib.ListN.{length};
+ghost use Rattle.base.specs.Lent.{before};
+ghost use Rattle.run_c.specs.Settings.{profileOf, settingOf, settingsIn, RunsAs};
 
 // What a slot's device is started with; a preamble of 0 stands for a slot without one.
-fn setting_of(preamble: u8, polling: u8, unique: u64) -> SlotSetting
+fn setting_of(preamble: u8, polling: u8, unique: u64) -> Setting
     ensures { λ r. ⌜ r ≡ settingOf preamble polling unique ⌝ }
 {
-    if preamble == 0 {
-        return SlotSetting::Absent;
-    }
-    SlotSetting::Present(Setting {
+    Setting {
+        here: 0 < preamble,
         preamble: preamble as usize,
         polling: polling,
         unique: unique,
-    })
-}
-
-fn setting_at(preambles: &[u8; 6], pollings: &[u8; 6], uniques: &[u64; 6], at: usize) -> SlotSetting
-    requires { ⌜ at < 6 ⌝ }
-    ensures { λ r. ⌜ r ≡ settingAt (now (preambles .entry)) (now (pollings .entry)) (now (uniques .entry)) at ⌝ }
-{
-    setting_of(preambles[at], pollings[at], uniques[at])
-}
-
-fn pair_at(preambles: &[u8; 6], pollings: &[u8; 6], uniques: &[u64; 6], at: usize) -> PairSettings
-    requires { ⌜ at < 5 ⌝ }
-    ensures { λ r. ⌜ r ≡ pairAt (now (preambles .entry)) (now (pollings .entry)) (now (uniques .entry)) at ⌝ }
-{
-    PairSettings {
-        left: setting_at(preambles, pollings, uniques, at),
-        right: setting_at(preambles, pollings, uniques, at + 1),
     }
 }
 
-fn settings_of(preambles: &[u8; 6], pollings: &[u8; 6], uniques: &[u64; 6]) -> DevicesSettings
-    ensures { λ r. ⌜ r ≡ settingsOf (now (preambles .entry)) (now (pollings .entry)) (now (uniques .entry)) ⌝ }
+// There is a number for each slot: what the arrays' types say, in words that the promise below needs.
+fn six_each(preambles: &[u8], pollings: &[u8], uniques: &[u64])
+    requires { ⌜ (length (now preambles) ≡ 6) × (length (now pollings) ≡ 6) × (length (now uniques) ≡ 6) ⌝ }
+    ensures { λ _. ⌜ (length (before preambles) ≡ 6) × (length (before pollings) ≡ 6) × (length (before uniques) ≡ 6) ⌝ }
+{}
+
+fn settings_of(preambles: &[u8; 6], pollings: &[u8; 6], uniques: &[u64; 6]) -> [Setting; 6]
+    ensures { λ r. ⌜ r ≡ settingsIn preambles pollings uniques ⌝ }
 {
-    DevicesSettings {
-        low: pair_at(preambles, pollings, uniques, 0),
-        middle: pair_at(preambles, pollings, uniques, 2),
-        high: pair_at(preambles, pollings, uniques, 4),
+    six_each(preambles, pollings, uniques);
+    let none = setting_of(0, 0, 0);
+    let mut settings = [none; 6];
+    let mut n = 0;
+    while n < 6 {
+        let i = n;
+        n += 1;
+        settings[i] = setting_of(preambles[i], pollings[i], uniques[i]);
     }
+    settings
 }
 
 // The number of each tick of a run, at the front of events, for as many ticks as the list and the events hold, and how many they are; none where a start is refused.
@@ -71,7 +58,7 @@ pub extern "C" fn nengapiko_run(
     ticks: &[u8],
     events: &mut [u8],
 ) -> usize
-    ensures { λ r. ⌜ RunIs (numbersOf (lateSteps (profileOf sto hold rt2 rt1p rt1s) retries (settingsOf (now (preambles .entry)) (now (pollings .entry)) (now (uniques .entry))) primary secondary (now (ticks .entry)))) (now (events .entry)) r (now (events .exit)) ⌝ }
+    ensures { λ r. ⌜ RunsAs (profileOf sto hold rt2 rt1p rt1s) retries (settingsIn preambles pollings uniques) primary secondary ticks events r ⌝ }
 {
     let profile = Profile {
         sto: sto,

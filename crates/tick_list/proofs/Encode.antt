@@ -16,8 +16,8 @@ use Rattle.turns.specs.declared.Wish.{Wish}
 use Rattle.turns.specs.declared.Wish.the-variants.{Same, On, Off}
 use Rattle.master.specs.Tick as M
 use Rattle.device_tick.specs.Tick as D
-use Rattle.tick_list.specs.Ticks.{addressIn, lengthIn, dataIn, requestBy, requestIn, answerIn, behindCall, behind, Here, ifHere, callsIn, ticksOf}
-use Rattle.tick_list.specs.Encode.{callBytes, masterBytes, wishKind, deviceBytes, slotsOf, slotsBytes, tickBytes, ticksBytes, Bytes, no-byte, byte-and, DataCodable, RequestCodable, MasterCodable, DeviceCodable, SlotsCodable, no-slot, absent-and, present-and, TickCodable, TicksCodable, no-tick, tick-and, Encodes}
+use Rattle.tick_list.specs.Ticks.{addressIn, lengthIn, dataIn, requestBy, requestIn, answerIn, behindCall, behind, Here, callsEach, slotsIn, callsIn, ticksOf}
+use Rattle.tick_list.specs.Encode.{callBytes, masterBytes, wishKind, deviceBytes, slotsBytes, tickBytes, ticksBytes, Bytes, no-byte, byte-and, DataCodable, RequestCodable, MasterCodable, DeviceCodable, SlotsCodable, no-slot, absent-and, present-and, TickCodable, TicksCodable, no-tick, tick-and, Encodes}
 use Rattle.tick_list.proofs.Whole.{ticks-more, ticks-none}
 
 -- ---- a call
@@ -103,14 +103,6 @@ device-behind (gives-content command put) rest (DeviceCodable.codable-content b 
 
 -- ---- the calls to the slots
 
-slotsIn : List Bool → List ℕ → List DeviceCall
-slotsIn [] rest = []
-slotsIn (h ∷ hs) rest = ifHere h rest ++ slotsIn hs (behindCall rest)
-
-slotsBehind : List Bool → List ℕ → List ℕ
-slotsBehind [] rest = rest
-slotsBehind (h ∷ hs) rest = slotsBehind hs (behindCall rest)
-
 slots-back : (slots : List Bool) (calls : List DeviceCall) (rest : List ℕ) → SlotsCodable slots calls → slotsIn slots (slotsBytes slots calls ++ rest) ≡ calls
 unfolding slotsIn
 slots-back [] [] rest no-slot = refl
@@ -120,20 +112,20 @@ slots-back (true ∷ slots) (c ∷ cs) rest (present-and d s) =
     ∙ (λ i. device-back c (slotsBytes slots cs ++ rest) d i ∷ slotsIn slots (device-behind c (slotsBytes slots cs ++ rest) d i))
     ∙ ap (λ (l : List DeviceCall). c ∷ l) (slots-back slots cs rest s)
 
-slots-behind : (slots : List Bool) (calls : List DeviceCall) (rest : List ℕ) → SlotsCodable slots calls → slotsBehind slots (slotsBytes slots calls ++ rest) ≡ rest
-unfolding slotsBehind
+slots-behind : (slots : List Bool) (calls : List DeviceCall) (rest : List ℕ) → SlotsCodable slots calls → behind (length slots) (slotsBytes slots calls ++ rest) ≡ rest
+unfolding behind
 slots-behind [] [] rest no-slot = refl
-slots-behind (false ∷ slots) calls rest (absent-and s) = ap (slotsBehind slots) (none-behind (slotsBytes slots calls ++ rest)) ∙ slots-behind slots calls rest s
+slots-behind (false ∷ slots) calls rest (absent-and s) = ap (behind (length slots)) (none-behind (slotsBytes slots calls ++ rest)) ∙ slots-behind slots calls rest s
 slots-behind (true ∷ slots) (c ∷ cs) rest (present-and d s) =
-    ap (λ (l : List ℕ). slotsBehind (true ∷ slots) l) (append-assoc (deviceBytes c) (slotsBytes slots cs) rest)
-    ∙ ap (slotsBehind slots) (device-behind c (slotsBytes slots cs ++ rest) d)
+    ap (λ (l : List ℕ). behind (suc (length slots)) l) (append-assoc (deviceBytes c) (slotsBytes slots cs) rest)
+    ∙ ap (behind (length slots)) (device-behind c (slotsBytes slots cs ++ rest) d)
     ∙ slots-behind slots cs rest s
 
 -- ---- a tick
 
 module _ (here : Here) (c : Calls) (rest : List ℕ) (t : TickCodable here c) where
   slots : List ℕ
-  slots = slotsBytes (slotsOf here) (c .for-devices) ++ rest
+  slots = slotsBytes here (c .for-devices) ++ rest
 
   whole : List ℕ
   whole = masterBytes (c .for-primary) ++ (masterBytes (c .for-secondary) ++ slots)
@@ -141,8 +133,8 @@ module _ (here : Here) (c : Calls) (rest : List ℕ) (t : TickCodable here c) wh
   tick-parts : tickBytes here c ++ rest ≡ whole
   unfolding slots whole
   tick-parts =
-      append-assoc (masterBytes (c .for-primary)) (masterBytes (c .for-secondary) ++ slotsBytes (slotsOf here) (c .for-devices)) rest
-      ∙ ap (λ (l : List ℕ). masterBytes (c .for-primary) ++ l) (append-assoc (masterBytes (c .for-secondary)) (slotsBytes (slotsOf here) (c .for-devices)) rest)
+      append-assoc (masterBytes (c .for-primary)) (masterBytes (c .for-secondary) ++ slotsBytes here (c .for-devices)) rest
+      ∙ ap (λ (l : List ℕ). masterBytes (c .for-primary) ++ l) (append-assoc (masterBytes (c .for-secondary)) (slotsBytes here (c .for-devices)) rest)
 
   behind-primary : behindCall whole ≡ masterBytes (c .for-secondary) ++ slots
   unfolding whole
@@ -155,21 +147,21 @@ module _ (here : Here) (c : Calls) (rest : List ℕ) (t : TickCodable here c) wh
   unfolding whole
   primary-whole = master-back (c .for-primary) (masterBytes (c .for-secondary) ++ slots) (t .primary)
 
-  devices-whole : slotsIn (slotsOf here) slots ≡ c .for-devices
+  devices-whole : slotsIn here slots ≡ c .for-devices
   unfolding slots
-  devices-whole = slots-back (slotsOf here) (c .for-devices) rest (t .devices)
+  devices-whole = slots-back here (c .for-devices) rest (t .devices)
 
   calls-whole : callsIn here whole ≡ c
   unfolding callsIn behind slotsIn
   calls-whole =
       let secondary : M.callOf (requestIn (behindCall whole)) (dataIn (behindCall whole)) ≡ c .for-secondary =
       ap (λ (l : List ℕ). M.callOf (requestIn l) (dataIn l)) behind-primary ∙ master-back (c .for-secondary) slots (t .secondary) in
-      let devices : slotsIn (slotsOf here) (behindCall (behindCall whole)) ≡ c .for-devices = ap (slotsIn (slotsOf here)) behind-masters ∙ devices-whole in
+      let devices : slotsIn here (behindCall (behindCall whole)) ≡ c .for-devices = ap (slotsIn here) behind-masters ∙ devices-whole in
       λ i. record { for-primary = primary-whole i; for-secondary = secondary i; for-devices = devices i }
 
-  behind-whole : behind 8 whole ≡ rest
-  unfolding behind slotsBehind slots
-  behind-whole = ap (slotsBehind (slotsOf here)) behind-masters ∙ slots-behind (slotsOf here) (c .for-devices) rest (t .devices)
+  behind-whole : behind (callsEach here) whole ≡ rest
+  unfolding behind slots
+  behind-whole = ap (behind (length here)) behind-masters ∙ slots-behind here (c .for-devices) rest (t .devices)
 
   whole-some : 0 < length whole
   unfolding whole
@@ -231,9 +223,9 @@ unfolding ticksBytes
 ticks-bytes here [] no-tick = no-byte
 ticks-bytes here (c ∷ cs) (tick-and t ts) =
     bytes-append (tickBytes here c) (ticksBytes here cs)
-    (bytes-append (masterBytes (c .for-primary)) (masterBytes (c .for-secondary) ++ slotsBytes (slotsOf here) (c .for-devices)) (master-bytes (c .for-primary) (t .primary))
-    (bytes-append (masterBytes (c .for-secondary)) (slotsBytes (slotsOf here) (c .for-devices)) (master-bytes (c .for-secondary) (t .secondary))
-    (slots-bytes (slotsOf here) (c .for-devices) (t .devices))))
+    (bytes-append (masterBytes (c .for-primary)) (masterBytes (c .for-secondary) ++ slotsBytes here (c .for-devices)) (master-bytes (c .for-primary) (t .primary))
+    (bytes-append (masterBytes (c .for-secondary)) (slotsBytes here (c .for-devices)) (master-bytes (c .for-secondary) (t .secondary))
+    (slots-bytes here (c .for-devices) (t .devices))))
     (ticks-bytes here cs ts)
 
 -- ---- every list of codable ticks is what some byte string decodes to

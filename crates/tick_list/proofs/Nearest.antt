@@ -31,7 +31,7 @@ use Rattle.turns.specs.declared.Turn.the-variants.{Listens, Asked, AnswerWaits,
 use Rattle.turns.specs.declared.Wish.{Wish}
 use Rattle.turns.proofs.Masters.{polling-fits}
 use Rattle.tick_list.specs.Ticks.{Here, ticksOf}
-use Rattle.tick_list.specs.Encode.{slotsOf, ticksBytes, Bytes, no-byte, byte-and, DataCodable, RequestCodable, MasterCodable, DeviceCodable, SlotsCodable, no-slot, absent-and, present-and, TicksCodable}
+use Rattle.tick_list.specs.Encode.{ticksBytes, Bytes, no-byte, byte-and, DataCodable, RequestCodable, MasterCodable, DeviceCodable, SlotsCodable, no-slot, absent-and, present-and, TicksCodable}
 use Rattle.tick_list.specs.Nearest.{atMost, nearestData, nearestRequest, nearestMaster, nearestDevice, present, nearestDevices, nearestTick, nearestTicks, outcome, IsRefused, is-refused, MasterGives, DeviceGives, DevicesGive, no-device, device-and, TickGives, TicksGive}
 use Rattle.tick_list.proofs.Encode.{every-list}
 
@@ -303,7 +303,7 @@ unfolding nearestTicks
 nearest-codable here [] = TicksCodable.no-tick
 nearest-codable here (c ∷ cs) =
     TicksCodable.tick-and
-    (record { primary = master-codable (c .for-primary); secondary = master-codable (c .for-secondary); devices = slots-codable (slotsOf here) (c .for-devices) })
+    (record { primary = master-codable (c .for-primary); secondary = master-codable (c .for-secondary); devices = slots-codable here (c .for-devices) })
     (nearest-codable here cs)
 
 -- ---- a tick goes as with the nearest calls
@@ -459,10 +459,10 @@ module _ (limit : ℕ) (small : limit < 256) where
   as-many heard (x ∷ xs) [] = ap suc (as-many heard xs [])
   as-many heard (x ∷ xs) (c ∷ cs) = ap suc (as-many heard xs cs)
 
-  link-tick : (here : Here) (l : Link) (c : Calls) → length (l .devices) ≡ present (slotsOf here) → TickGives c → linkTick limit l (nearestTick here c) ≡ linkTick limit l c
+  link-tick : (here : Here) (l : Link) (c : Calls) → length (l .devices) ≡ present here → TickGives c → linkTick limit l (nearestTick here c) ≡ linkTick limit l c
   unfolding linkTick
   link-tick here l c e g =
-      let devices : deviceTicks limit (l .line) (l .devices) (nearestDevices (present (slotsOf here)) (c .for-devices)) ≡ deviceTicks limit (l .line) (l .devices) (c .for-devices) =
+      let devices : deviceTicks limit (l .line) (l .devices) (nearestDevices (present here) (c .for-devices)) ≡ deviceTicks limit (l .line) (l .devices) (c .for-devices) =
       ap (λ (n : ℕ). deviceTicks limit (l .line) (l .devices) (nearestDevices n (c .for-devices))) (sym e) ∙ device-ticks (l .line) (l .devices) (c .for-devices) (g .devices) in
       λ i. record {
         for-primary = master-tick (l .primary) (l .line) (c .for-primary) (g .primary) i;
@@ -475,7 +475,7 @@ module _ (limit : ℕ) (small : limit < 256) where
   link-devices l c = as-many (l .line) (l .devices) (c .for-devices)
 
   -- a run, tick by tick
-  pub nearest-run : (here : Here) (l : Link) (ticks : List Calls) → length (l .devices) ≡ present (slotsOf here) → TicksGive ticks → run limit l (nearestTicks here ticks) ≡ run limit l ticks
+  pub nearest-run : (here : Here) (l : Link) (ticks : List Calls) → length (l .devices) ≡ present here → TicksGive ticks → run limit l (nearestTicks here ticks) ≡ run limit l ticks
   unfolding run nearestTicks
   nearest-run here l [] e g = refl
   nearest-run here l (c ∷ cs) e (TicksGive.tick-and g gs) =
@@ -485,6 +485,6 @@ module _ (limit : ℕ) (small : limit < 256) where
 
   -- ---- a run over any list of ticks is one over what some byte string decodes to
 
-  pub every-run : (here : Here) (l : Link) (ticks : List Calls) → length (l .devices) ≡ present (slotsOf here) → TicksGive ticks
+  pub every-run : (here : Here) (l : Link) (ticks : List Calls) → length (l .devices) ≡ present here → TicksGive ticks
       → run limit l (ticksOf here (ticksBytes here (nearestTicks here ticks))) ≡ run limit l ticks
   every-run here l ticks e g = ap (run limit l) (every-list here (nearestTicks here ticks) (nearest-codable here ticks) .decoded) ∙ nearest-run here l ticks e g

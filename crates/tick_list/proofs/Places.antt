@@ -1,20 +1,18 @@
--- Laws of places in a list of ticks: its bytes, the data of a call, and the place behind a call.
+-- Laws of places in a list of ticks: its bytes, the calls, their data, and the place behind a call.
 use Prim.Native.Nat.{ℕ, suc, _+_, _-_, _*_, _/_, _%_, _^_, _≤_, _<_}
 use native.Mathlib.Omega.{arith}
 use mathlib.Core.Bool.{Bool}
-use mathlib.Core.Path.{_≡_, refl, sym, ap, subst, _∙_}
+use mathlib.Core.Path.{_≡_, refl, sym, ap, _∙_}
 use mathlib.Core.List.{List, [], _∷_}
-use lib.ListN.{length, take, drop, getD, length-drop}
-use lib.Seq.{getD-drop, drop-drop, take-nil}
+use lib.ListN.{length, drop, getD, length-drop}
+use lib.Seq.{getD-drop}
 use Rattle.base.specs.Choice.{if_then_else_, _=?_}
-use Rattle.base.proofs.Choices.{if-equal, if-unequal}
+use Rattle.base.proofs.Choices.{if-below, if-not-below, if-equal, if-unequal}
 use Rattle.frame.specs.Address.{byteAt}
-use Rattle.slots.specs.Part.{dataOf}
-use Rattle.slots.proofs.Parts.{past-end}
 use Rattle.master.specs.declared.MasterHostCall.{MasterHostCall}
 use Rattle.device_tick.specs.declared.DeviceHostCall as DeviceHost
-use Rattle.tick_list.specs.Ticks.{kindIn, addressIn, lengthIn, dataIn, requestOf, requestBy, requestIn, answerBy, answerIn, behindCall}
-use Rattle.tick_list.specs.Coded.{ForwardIs, NextIs}
+use Rattle.tick_list.specs.Ticks.{kindIn, addressIn, lengthIn, requestOf, requestBy, requestIn, answerBy, answerIn}
+use Rattle.tick_list.specs.Read.{partIn, forward, nextIn}
 
 short : (xs : List ℕ) (k : ℕ) → length xs ≤ k → getD xs k 0 ≡ 0
 short [] k h = refl
@@ -57,50 +55,22 @@ answer-is rest kind command r p q e = e ∙ (λ i. answerBy (p i) (q i))
 pub ruleset calls = (refl, length-is, length-same, length-small, address-is, wanted-is, request-is, answer-is)
 
 -- a call's data
-pub part-none : (ticks : List ℕ) (at : ℕ) → length ticks - at < 10 → dataOf (record { from = at; count = 0 }) ticks ≡ dataIn (drop at ticks)
-part-none ticks at h =
-    sym (ap (take (lengthIn (drop at ticks))) (past-end (drop at ticks) 10 (omega (arith, length-drop at ticks)))
-    ∙ take-nil (lengthIn (drop at ticks)))
+pub part-none : (ticks : List ℕ) (at : ℕ) → length ticks - at < 10 → record { from = at; count = 0 } ≡ partIn ticks at
+part-none ticks at h = if-below (length ticks - at) 10 _ _ _ h refl
 
-pub part-some : (ticks : List ℕ) (at n : ℕ) → n ≡ lengthIn (drop at ticks) → dataOf (record { from = at + 10; count = n }) ticks ≡ dataIn (drop at ticks)
-part-some ticks at n e =
-    ap (λ (m : ℕ). take m (drop (at + 10) ticks)) e
-    ∙ ap (take (lengthIn (drop at ticks))) (sym (drop-drop 10 at ticks))
+pub part-some : (ticks : List ℕ) (at n : ℕ) → 10 ≤ length ticks - at → n ≡ lengthIn (drop at ticks) → record { from = at + 10; count = n } ≡ partIn ticks at
+part-some ticks at n h e = if-not-below (length ticks - at) 10 _ _ _ h (λ i. record { from = at + 10; count = e i })
 
 pub ruleset parts = (refl, part-none, part-some)
 
--- so many places on, or the end
-pub forward-end : (at n end : ℕ) → at ≤ end → end - at < n → ForwardIs at n end end
-forward-end at n end h k = record {
-  within = omega arith;
-  onward = omega arith;
-  goes-on = λ p q. q;
-  rest = λ xs e. past-end xs end (omega (arith, e)) ∙ sym (past-end (drop at xs) n (omega (arith, length-drop at xs, e)));
-}
-
-pub forward-on : (at n end : ℕ) → at ≤ end → n ≤ end - at → ForwardIs at n end (at + n)
-forward-on at n end h k = record {
-  within = omega arith;
-  onward = omega arith;
-  goes-on = λ p q. omega arith;
-  rest = λ xs e. sym (drop-drop n at xs);
-}
-
-pub ruleset forwards = (refl, forward-end, forward-on)
-
+-- the place behind a call
 module _ (ticks : List ℕ) (at kind r : ℕ) (q : kind ≡ byteAt (drop at ticks) 0) where
-  next : (n : ℕ) → 0 < n → ForwardIs at n (length ticks) r → drop n (drop at ticks) ≡ behindCall (drop at ticks) → NextIs ticks at r
-  next n h f e = record { within = f .within; onward = λ k. f .onward; goes-on = f .goes-on h; rest = f .rest ticks refl ∙ e }
+  pub next-none : kind ≡ 0 → r ≡ forward at 1 (length ticks) → r ≡ nextIn ticks at
+  unfolding nextIn
+  next-none z f = if-equal (kindIn (drop at ticks)) 0 _ _ _ (sym q ∙ z) f
 
-  pub next-none : kind ≡ 0 → ForwardIs at 1 (length ticks) r → NextIs ticks at r
-  unfolding behindCall
-  next-none z f = next 1 (omega arith) f (if-equal (kindIn (drop at ticks)) 0 _ _ _ (sym q ∙ z) refl)
-
-  pub next-some : (n : ℕ) → (kind ≡ 0 → ⊥) → n ≡ lengthIn (drop at ticks) → ForwardIs at (10 + n) (length ticks) r → NextIs ticks at r
-  unfolding behindCall
-  next-some n z l f =
-      next (10 + n) (omega arith) f
-      (ap (λ (m : ℕ). drop (10 + m) (drop at ticks)) l
-      ∙ if-unequal (kindIn (drop at ticks)) 0 _ _ _ (λ e. z (q ∙ e)) refl)
+  pub next-some : (n : ℕ) → (kind ≡ 0 → ⊥) → n ≡ lengthIn (drop at ticks) → r ≡ forward at (10 + n) (length ticks) → r ≡ nextIn ticks at
+  unfolding nextIn
+  next-some n z l f = if-unequal (kindIn (drop at ticks)) 0 _ _ _ (λ e. z (q ∙ e)) (f ∙ ap (λ (m : ℕ). forward at (10 + m) (length ticks)) l)
 
 pub ruleset nexts = (refl, next-none, next-some)

@@ -1,119 +1,207 @@
--- Laws of reading calls, one behind the other.
-use Prim.Native.Nat.{ℕ, zero, suc, _+_, _≤_, _<_}
-use native.Mathlib.Nat.{zero-add, suc-add}
+-- Laws of reading calls, one behind the other: the loops, and that what is read at a place are the calls of Ticks.antt.
+use Prim.Native.Nat.{ℕ, zero, suc, _+_, _-_, _≤_, _<_}
+use native.Mathlib.Numerals.{add-one}
 use native.Mathlib.Omega.{arith}
+use mathlib.Core.Bool.{Bool, true, false}
+use mathlib.Core.List.{List, [], _∷_, _++_, append-nil, append-assoc}
 use mathlib.Core.Path.{_≡_, refl, sym, ap, subst, _∙_}
-use mathlib.Core.List.{List}
-use lib.ListN.{length, drop}
-use Rattle.slots.specs.Part.{dataOf}
-use Rattle.slots.specs.declared.DevicesCalls.{DevicesCalls}
-use Rattle.slots.specs.declared.PairCalls.{PairCalls}
-use Rattle.slots.specs.declared.Part.{Part}
-use Rattle.slots.specs.declared.SlotCall.{SlotCall}
-use Rattle.slots.proofs.Parts.{past-end}
-use Rattle.device_tick.specs.declared.DeviceHostCall as DeviceHost
+use lib.ListN.{length, take, drop, getD, set, length-set, length-drop}
+use lib.Seq.{drop-drop, take-all, take-nil, take-suc-set}
+use borrow.Author.Tests.{ltb-true, ltb-false, le-ltb}
+use Rattle.base.specs.Choice.{if_then_else_, _<?_, _=?_}
+use Rattle.base.proofs.Choices.{if-is-true, if-is-false, if-below, if-not-below}
+use Rattle.turns.proofs.Bursting.{if-both}
+use Rattle.turns.specs.Link as L
+use Rattle.master.specs.Tick as M
 use Rattle.master.specs.declared.MasterHostCall as MasterHost
-use Rattle.tick_list.specs.Ticks.{dataIn, requestIn, answerIn, behindCall, behind}
-use Rattle.tick_list.specs.Coded.{NextIs, MasterCallIs, SlotCallIs, MasterIs, SlotReadIs, BehindIs, MastersReadAre, PairReadIs, TickReadIs}
-use Rattle.tick_list.specs.declared.MasterRead.{MasterRead}
-use Rattle.tick_list.specs.declared.MastersRead.{MastersRead}
-use Rattle.tick_list.specs.declared.PairRead.{PairRead}
-use Rattle.tick_list.specs.declared.SlotRead.{SlotRead}
+use Rattle.device_tick.specs.Tick as D
+use Rattle.device_tick.specs.declared.DeviceHostCall as DeviceHost
+use Rattle.parties.specs.Part.{dataOf}
+use Rattle.parties.specs.Stands.{ifHere, noDeviceCall, deviceCallOf, deviceCallsFrom, callsOf}
+use Rattle.parties.proofs.Parts.{past-end}
+use Rattle.parties.specs.declared.Calls.{Calls}
+use Rattle.parties.specs.declared.DeviceCall.{DeviceCall}
+use Rattle.parties.specs.declared.MasterCall.{MasterCall}
+use Rattle.parties.specs.declared.Part.{Part}
+use Rattle.tick_list.specs.Ticks.{kindIn, lengthIn, dataIn, requestIn, answerIn, behindCall, Here, deviceCallIn, slotsIn, behind, callsIn}
+use Rattle.tick_list.specs.Read.{partIn, masterCallAt, deviceCallAt, forward, nextIn, callsFrom, placeBehind, tickFrom, tickAt}
 use Rattle.tick_list.specs.declared.TickRead.{TickRead}
 
-pub master-is : (ticks : List ℕ) (at next : ℕ) (call : MasterHost.MasterHostCall) (part : Part) → call ≡ requestIn (drop at ticks) → dataOf part ticks ≡ dataIn (drop at ticks) → NextIs ticks at next
-    → MasterIs ticks at (record { call = record { call = call; part = part }; next = next })
-master-is ticks at next call part p q n = record { call = record { call-is = p; data-is = q }; next = n }
+-- a call, its parts told
+pub master-call-is : (ticks : List ℕ) (at : ℕ) (call : MasterHost.MasterHostCall) (part : Part) → call ≡ requestIn (drop at ticks) → part ≡ partIn ticks at
+    → _≡_ {A = MasterCall} (record { call = call; part = part }) (masterCallAt ticks at)
+master-call-is ticks at call part e f = λ i. record { call = e i; part = f i }
 
-pub slot-is : (ticks : List ℕ) (at next : ℕ) (call : DeviceHost.DeviceHostCall) (part : Part) → call ≡ answerIn (drop at ticks) → dataOf part ticks ≡ dataIn (drop at ticks) → NextIs ticks at next
-    → SlotReadIs ticks at (record { call = record { call = call; part = part }; next = next })
-slot-is ticks at next call part p q n = record { call = record { call-is = p; data-is = q }; next = n }
+pub device-call-is : (ticks : List ℕ) (at : ℕ) (call : DeviceHost.DeviceHostCall) (part : Part) → call ≡ answerIn (drop at ticks) → part ≡ partIn ticks at
+    → _≡_ {A = DeviceCall} (record { call = call; part = part }) (deviceCallAt ticks at)
+device-call-is ticks at call part e f = λ i. record { call = e i; part = f i }
 
--- so many calls, and so many more
-behind-more : (m n : ℕ) (rest : List ℕ) → behind n (behind m rest) ≡ behind (m + n) rest
-unfolding behind
-behind-more zero n rest = ap (λ (k : ℕ). behind k rest) (sym (zero-add n))
-behind-more (suc m) n rest = behind-more m n (behindCall rest) ∙ ap (λ (k : ℕ). behind k rest) (sym (suc-add m n))
+-- ---- a loop: the first n calls are read, of so many
 
-one-call : (ticks : List ℕ) (at next : ℕ) → NextIs ticks at next → BehindIs ticks at 1 next
-unfolding behind
-one-call ticks at next n = record { within = n .within; onward = n .onward; goes-on = n .goes-on; rest = n .rest }
+module _ {A : Type 0} where
+  pub record Reading (call : List ℕ → ℕ → A) (ticks : List ℕ) (most start : ℕ) (calls : List A) (at n : ℕ) : Type 0 where
+    pub room : length calls ≡ most
+    pub within : n ≤ most
+    pub inside : at ≤ length ticks
+    pub calls-left : take n calls ++ callsFrom call ticks (most - n) at ≡ callsFrom call ticks most start
+    pub place-left : placeBehind ticks (most - n) at ≡ placeBehind ticks most start
 
-module _ (ticks : List ℕ) (at m middle : ℕ) (f : BehindIs ticks at m middle) where
-  -- what stands behind the first calls
-  from-middle : (P : List ℕ → Type 0) → P (drop middle ticks) → P (behind m (drop at ticks))
-  from-middle P p = subst P (f .rest) p
+  pub reading-none : (call : List ℕ → ℕ → A) (ticks : List ℕ) (most start : ℕ) (calls : List A) → length calls ≡ most → start ≤ length ticks → Reading call ticks most start calls start 0
+  reading-none call ticks most start calls h k =
+      let whole : most - 0 ≡ most = omega arith in
+      record {
+        room = h;
+        within = omega arith;
+        inside = k;
+        calls-left = ap (λ (n : ℕ). callsFrom call ticks n start) whole;
+        place-left = ap (λ (n : ℕ). placeBehind ticks n start) whole;
+      }
 
-  from-there : (n : ℕ) (P : List ℕ → Type 0) → P (behind n (drop middle ticks)) → P (behind (m + n) (drop at ticks))
-  from-there n P p = subst P (ap (behind n) (f .rest) ∙ behind-more m n (drop at ticks)) p
+  front-more : (es fs : List A) (i : ℕ) (e : A) → i < length es → take i es ++ (e ∷ fs) ≡ take (i + 1) (set es i e) ++ fs
+  front-more es fs i e h =
+      sym (append-assoc (take i es) (e ∷ []) fs)
+      ∙ ap (λ (l : List A). l ++ fs) (sym (take-suc-set es i e h))
+      ∙ ap (λ (n : ℕ). take n (set es i e) ++ fs) (sym (add-one i))
 
-  calls-on : (n next : ℕ) → BehindIs ticks middle n next → BehindIs ticks at (m + n) next
-  calls-on n next g = record {
-    within = g .within;
-    onward = λ h. omega (arith, f .onward h, g .onward (f .within));
-    goes-on = λ h. omega (arith, f .goes-on h, g .onward (f .within));
-    rest = g .rest ∙ ap (behind n) (f .rest) ∙ behind-more m n (drop at ticks);
+  module _ (call : List ℕ → ℕ → A) (ticks : List ℕ) (most start : ℕ) (calls : List A) (at n : ℕ) (v : Reading call ticks most start calls at n) where
+    pub reading-more : (e : A) (next : ℕ) → n < most → e ≡ call ticks at → next ≡ nextIn ticks at → next ≤ length ticks → Reading call ticks most start (set calls n e) next (n + 1)
+    unfolding callsFrom placeBehind
+    reading-more e next h p q k =
+        let less : suc (most - (n + 1)) ≡ most - n = omega (arith, h) in
+        record {
+          room = length-set calls n e ∙ v .room;
+          within = omega (arith, h);
+          inside = k;
+          calls-left =
+              sym (front-more calls (callsFrom call ticks (most - (n + 1)) next) n e (omega (arith, v .room, h)))
+              ∙ (λ i. take n calls ++ (p i ∷ callsFrom call ticks (most - (n + 1)) (q i)))
+              ∙ ap (λ (m : ℕ). take n calls ++ callsFrom call ticks m at) less
+              ∙ v .calls-left;
+          place-left = ap (placeBehind ticks (most - (n + 1))) q ∙ ap (λ (m : ℕ). placeBehind ticks m at) less ∙ v .place-left;
+        }
+
+    pub reading-calls : most ≤ n → calls ≡ callsFrom call ticks most start
+    unfolding callsFrom
+    reading-calls h =
+        let none : 0 ≡ most - n = omega (arith, h) in
+        sym (append-nil calls)
+        ∙ ap (λ (l : List A). l ++ []) (sym (take-all n calls (omega (arith, v .room, h))))
+        ∙ ap (λ (m : ℕ). take n calls ++ callsFrom call ticks m at) none
+        ∙ v .calls-left
+
+    pub reading-place : most ≤ n → at ≡ placeBehind ticks most start
+    unfolding placeBehind
+    reading-place h = let none : 0 ≡ most - n = omega (arith, h) in ap (λ (m : ℕ). placeBehind ticks m at) none ∙ v .place-left
+
+pub tick-is : (ticks : List ℕ) (at middle next : ℕ) (ms : List MasterCall) (ds : List DeviceCall) → ms ≡ callsFrom masterCallAt ticks 2 at → middle ≡ placeBehind ticks 2 at
+    → ds ≡ callsFrom deviceCallAt ticks 6 middle → next ≡ placeBehind ticks 6 middle → record { calls = record { masters = ms; devices = ds }; next = next } ≡ tickFrom ticks at
+unfolding placeBehind
+tick-is ticks at middle next ms ds e f g h = λ i. record {
+  calls = record { masters = e i; devices = (g ∙ ap (callsFrom deviceCallAt ticks 6) f) i };
+  next = (h ∙ ap (placeBehind ticks 6) f) i;
+}
+
+-- behind the end of the list
+pub tick-inside : (ticks : List ℕ) (at : ℕ) (r : TickRead) → at < length ticks → r ≡ tickFrom ticks at → r ≡ tickAt ticks at
+tick-inside ticks at r h e = e ∙ ap (tickFrom ticks) (if-below at (length ticks) at at (length ticks) h refl)
+
+pub tick-behind : (ticks : List ℕ) (at : ℕ) (r : TickRead) → length ticks ≤ at → r ≡ tickFrom ticks (length ticks) → r ≡ tickAt ticks at
+tick-behind ticks at r h e = e ∙ ap (tickFrom ticks) (if-not-below at (length ticks) (length ticks) at (length ticks) h refl)
+
+pub ruleset readings = (refl, master-call-is, device-call-is, reading-none, reading-more, reading-calls, reading-place, tick-is, tick-inside, tick-behind)
+
+-- ---- what is read at a place
+
+-- a call's data
+part-data : (ticks : List ℕ) (at : ℕ) → dataOf (partIn ticks at) ticks ≡ dataIn (drop at ticks)
+part-data ticks at = by (length ticks - at <? 10) refl
+  where
+    by : (b : Bool) → (length ticks - at <? 10) ≡ b → dataOf (partIn ticks at) ticks ≡ dataIn (drop at ticks)
+    by true e =
+        ap (λ (p : Part). dataOf p ticks) (if-is-true (length ticks - at <? 10) _ _ e)
+        ∙ sym (ap (take (lengthIn (drop at ticks))) (past-end (drop at ticks) 10 (omega (arith, length-drop at ticks, ltb-true (length ticks - at) 10 e)))
+        ∙ take-nil (lengthIn (drop at ticks)))
+    by false e =
+        ap (λ (p : Part). dataOf p ticks) (if-is-false (length ticks - at <? 10) _ _ e)
+        ∙ ap (take (lengthIn (drop at ticks))) (sym (drop-drop 10 at ticks))
+
+-- the place behind a call
+forward-rest : (xs : List ℕ) (at n : ℕ) → drop (forward at n (length xs)) xs ≡ drop n (drop at xs)
+forward-rest xs at n = by (length xs - at <? n) refl
+  where
+    by : (b : Bool) → (length xs - at <? n) ≡ b → drop (forward at n (length xs)) xs ≡ drop n (drop at xs)
+    by true e =
+        ap (λ (k : ℕ). drop k xs) (if-is-true (length xs - at <? n) _ _ e)
+        ∙ past-end xs (length xs) (omega arith)
+        ∙ sym (past-end (drop at xs) n (omega (arith, length-drop at xs, ltb-true (length xs - at) n e)))
+    by false e = ap (λ (k : ℕ). drop k xs) (if-is-false (length xs - at <? n) _ _ e) ∙ sym (drop-drop n at xs)
+
+next-rest : (ticks : List ℕ) (at : ℕ) → drop (nextIn ticks at) ticks ≡ behindCall (drop at ticks)
+unfolding nextIn behindCall
+next-rest ticks at = by (kindIn (drop at ticks) =? 0) refl
+  where
+    by : (b : Bool) → (kindIn (drop at ticks) =? 0) ≡ b → drop (nextIn ticks at) ticks ≡ behindCall (drop at ticks)
+    by true e =
+        ap (λ (k : ℕ). drop k ticks) (if-is-true (kindIn (drop at ticks) =? 0) _ _ e) ∙ forward-rest ticks at 1
+        ∙ sym (if-is-true (kindIn (drop at ticks) =? 0) _ _ e)
+    by false e =
+        ap (λ (k : ℕ). drop k ticks) (if-is-false (kindIn (drop at ticks) =? 0) _ _ e) ∙ forward-rest ticks at (10 + lengthIn (drop at ticks))
+        ∙ sym (if-is-false (kindIn (drop at ticks) =? 0) _ _ e)
+
+place-rest : (ticks : List ℕ) (n at : ℕ) → drop (placeBehind ticks n at) ticks ≡ behind n (drop at ticks)
+unfolding placeBehind behind
+place-rest ticks zero at = refl
+place-rest ticks (suc n) at = place-rest ticks n (nextIn ticks at) ∙ ap (behind n) (next-rest ticks at)
+
+-- the calls of the slots, from slot i on
+devices-read : (ticks : List ℕ) (cs : List DeviceCall) (i n at : ℕ) (hs : Here) → drop i cs ≡ callsFrom deviceCallAt ticks n at → length hs ≤ n → deviceCallsFrom ticks cs i hs ≡ slotsIn hs (drop at ticks)
+unfolding deviceCallsFrom slotsIn callsFrom
+devices-read ticks cs i n at [] e h = refl
+devices-read ticks cs i zero at (x ∷ hs) e h = absurd (omega arith)
+devices-read ticks cs i (suc n) at (x ∷ hs) e h =
+    let rest = devices-read ticks cs (suc i) n (nextIn ticks at) hs (behind-one cs i (deviceCallAt ticks at) (callsFrom deviceCallAt ticks n (nextIn ticks at)) e) (omega (arith, h)) in
+    λ j. ifHere x
+    ((ap (deviceCallOf ticks) (first-one cs i (deviceCallAt ticks at) (callsFrom deviceCallAt ticks n (nextIn ticks at)) e) ∙ ap (D.callOf (answerIn (drop at ticks))) (part-data ticks at)) j)
+    ((rest ∙ ap (slotsIn hs) (next-rest ticks at)) j)
+  where
+    empty : (c : DeviceCall) (ys : List DeviceCall) → [] ≡ c ∷ ys → ⊥
+    empty c ys e = let k : _≡_ {A = ℕ} 0 (suc (length ys)) = ap (λ (l : List DeviceCall). length l) e in omega (arith, k)
+
+    first-one : (xs : List DeviceCall) (k : ℕ) (c : DeviceCall) (ys : List DeviceCall) → drop k xs ≡ c ∷ ys → getD xs k noDeviceCall ≡ c
+    first-one [] zero c ys e = absurd (empty c ys e)
+    first-one [] (suc k) c ys e = absurd (empty c ys e)
+    first-one (x ∷ xs) zero c ys e = ap (λ (l : List DeviceCall). getD l 0 noDeviceCall) e
+    first-one (x ∷ xs) (suc k) c ys e = first-one xs k c ys e
+
+    behind-one : (xs : List DeviceCall) (k : ℕ) (c : DeviceCall) (ys : List DeviceCall) → drop k xs ≡ c ∷ ys → drop (suc k) xs ≡ ys
+    behind-one [] zero c ys e = absurd (empty c ys e)
+    behind-one [] (suc k) c ys e = absurd (empty c ys e)
+    behind-one (x ∷ xs) zero c ys e = ap (λ (l : List DeviceCall). drop 1 l) e
+    behind-one (x ∷ xs) (suc k) c ys e = behind-one xs k c ys e
+
+module _ (ticks : List ℕ) where
+  from-is : (here : Here) (at : ℕ) → length here ≤ 6 → callsOf ticks here (tickFrom ticks at .calls) ≡ callsIn here (drop at ticks)
+  unfolding callsIn callsFrom
+  from-is here at h = λ j. record {
+    for-primary = M.callOf (requestIn (drop at ticks)) (part-data ticks at j);
+    for-secondary = M.callOf (requestIn (next-rest ticks at j)) ((part-data ticks (nextIn ticks at) ∙ ap dataIn (next-rest ticks at)) j);
+    for-devices = (devices-read ticks (callsFrom deviceCallAt ticks 6 (placeBehind ticks 2 at)) 0 6 (placeBehind ticks 2 at) here refl h ∙ ap (slotsIn here) (place-rest ticks 2 at)) j;
   }
 
-pub masters-are : (ticks : List ℕ) (at : ℕ) (p s : MasterRead) → MasterIs ticks at p → MasterIs ticks (p .next) s
-    → MastersReadAre ticks at (record { calls = record { primary = p .call; secondary = s .call }; next = s .next })
-masters-are ticks at p s x y =
-    let f = one-call ticks at (p .next) (x .next) in
-    record {
-      primary = x .call;
-      secondary = from-middle ticks at 1 (p .next) f (λ (l : List ℕ). MasterCallIs ticks l (s .call)) (y .call);
-      next = calls-on ticks at 1 (p .next) f 1 (s .next) (one-call ticks (p .next) (s .next) (y .next));
-    }
+  -- the place that the code reads at, and the one that was asked for
+  read-from : (at : ℕ) → drop (if at <? length ticks then at else length ticks) ticks ≡ drop at ticks
+  read-from at = by (at <? length ticks) refl
+    where
+      by : (b : Bool) → (at <? length ticks) ≡ b → drop (if at <? length ticks then at else length ticks) ticks ≡ drop at ticks
+      by true e = ap (λ (k : ℕ). drop k ticks) (if-is-true (at <? length ticks) _ _ e)
+      by false e =
+          ap (λ (k : ℕ). drop k ticks) (if-is-false (at <? length ticks) _ _ e)
+          ∙ past-end ticks (length ticks) (omega arith)
+          ∙ sym (past-end ticks at (ltb-false at (length ticks) e))
 
-pub pair-is : (ticks : List ℕ) (at : ℕ) (a b : SlotRead) → SlotReadIs ticks at a → SlotReadIs ticks (a .next) b
-    → PairReadIs ticks at (record { calls = record { left = a .call; right = b .call }; next = b .next })
-pair-is ticks at a b x y =
-    let f = one-call ticks at (a .next) (x .next) in
-    record {
-      left = x .call;
-      right = from-middle ticks at 1 (a .next) f (λ (l : List ℕ). SlotCallIs ticks l (b .call)) (y .call);
-      next = calls-on ticks at 1 (a .next) f 1 (b .next) (one-call ticks (a .next) (b .next) (y .next));
-    }
+  -- the calls of Ticks.antt, and the rest behind them
+  pub calls-are : (here : Here) (at : ℕ) → length here ≤ 6 → callsOf ticks here (tickAt ticks at .calls) ≡ callsIn here (drop at ticks)
+  calls-are here at h = from-is here (if at <? length ticks then at else length ticks) h ∙ ap (callsIn here) (read-from at)
 
--- a tick: both masters, then three pairs of slots
-pub tick-is : (ticks : List ℕ) (at : ℕ) (m : MastersRead) (a b c : PairRead) → MastersReadAre ticks at m → PairReadIs ticks (m .next) a → PairReadIs ticks (a .next) b → PairReadIs ticks (b .next) c
-    → TickReadIs ticks at (record { calls = record { masters = m .calls; devices = record { low = a .calls; middle = b .calls; high = c .calls } }; next = c .next })
-tick-is ticks at m a b c w x y z =
-    let f = w .next in
-    let g = calls-on ticks at 2 (m .next) f 2 (a .next) (x .next) in
-    let h = calls-on ticks at 4 (a .next) g 2 (b .next) (y .next) in
-    record {
-      primary = w .primary;
-      secondary = w .secondary;
-      first = from-middle ticks at 2 (m .next) f (λ (l : List ℕ). SlotCallIs ticks l (a .calls .left)) (x .left);
-      second = from-there ticks at 2 (m .next) f 1 (λ (l : List ℕ). SlotCallIs ticks l (a .calls .right)) (x .right);
-      third = from-middle ticks at 4 (a .next) g (λ (l : List ℕ). SlotCallIs ticks l (b .calls .left)) (y .left);
-      fourth = from-there ticks at 4 (a .next) g 1 (λ (l : List ℕ). SlotCallIs ticks l (b .calls .right)) (y .right);
-      fifth = from-middle ticks at 6 (b .next) h (λ (l : List ℕ). SlotCallIs ticks l (c .calls .left)) (z .left);
-      sixth = from-there ticks at 6 (b .next) h 1 (λ (l : List ℕ). SlotCallIs ticks l (c .calls .right)) (z .right);
-      next = calls-on ticks at 6 (b .next) h 2 (c .next) (z .next);
-    }
-
--- behind the end there is nothing, as at the end
-pub at-end : (ticks : List ℕ) (at : ℕ) (r : TickRead) → length ticks ≤ at → TickReadIs ticks (length ticks) r → TickReadIs ticks at r
-at-end ticks at r h t =
-    let same : drop (length ticks) ticks ≡ drop at ticks = past-end ticks (length ticks) (omega arith) ∙ sym (past-end ticks at h) in
-    let on = t .next in
-    record {
-      primary = subst (λ (l : List ℕ). MasterCallIs ticks l (r .calls .masters .primary)) same (t .primary);
-      secondary = subst (λ (l : List ℕ). MasterCallIs ticks (behind 1 l) (r .calls .masters .secondary)) same (t .secondary);
-      first = subst (λ (l : List ℕ). SlotCallIs ticks (behind 2 l) (r .calls .devices .low .left)) same (t .first);
-      second = subst (λ (l : List ℕ). SlotCallIs ticks (behind 3 l) (r .calls .devices .low .right)) same (t .second);
-      third = subst (λ (l : List ℕ). SlotCallIs ticks (behind 4 l) (r .calls .devices .middle .left)) same (t .third);
-      fourth = subst (λ (l : List ℕ). SlotCallIs ticks (behind 5 l) (r .calls .devices .middle .right)) same (t .fourth);
-      fifth = subst (λ (l : List ℕ). SlotCallIs ticks (behind 6 l) (r .calls .devices .high .left)) same (t .fifth);
-      sixth = subst (λ (l : List ℕ). SlotCallIs ticks (behind 7 l) (r .calls .devices .high .right)) same (t .sixth);
-      next = record {
-        within = on .within;
-        onward = λ k. omega (arith, on .onward (omega arith));
-        goes-on = λ k. absurd (omega arith);
-        rest = on .rest ∙ ap (behind 8) same;
-      };
-    }
-
-pub ruleset readings = (refl, master-is, slot-is, masters-are, pair-is, tick-is, at-end)
+  pub rest-is : (at : ℕ) → drop (tickAt ticks at .next) ticks ≡ behind 8 (drop at ticks)
+  rest-is at = place-rest ticks 8 (if at <? length ticks then at else length ticks) ∙ ap (behind 8) (read-from at)

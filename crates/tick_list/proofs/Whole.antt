@@ -7,7 +7,7 @@ use lib.ListN.{length, drop, length-drop}
 use Rattle.base.specs.Choice.{if_then_else_, _=?_}
 use Rattle.turns.specs.Link.{Calls}
 use Rattle.turns.proofs.Bursting.{if-both}
-use Rattle.tick_list.specs.Ticks.{kindIn, lengthIn, behindCall, behind, Here, callsIn, ticksFrom, ticksOf}
+use Rattle.tick_list.specs.Ticks.{kindIn, lengthIn, behindCall, behind, Here, callsEach, callsIn, ticksFrom, ticksOf}
 
 call-shorter : (b : ℕ) (bs : List ℕ) → length (behindCall (b ∷ bs)) ≤ length bs
 unfolding behindCall
@@ -22,9 +22,9 @@ unfolding behind
 no-longer zero rest = omega arith
 no-longer (suc n) rest = omega (arith, no-longer n (behindCall rest), call-no-longer rest)
 
-tick-shorter : (b : ℕ) (bs : List ℕ) → length (behind 8 (b ∷ bs)) ≤ length bs
+tick-shorter : (here : Here) (b : ℕ) (bs : List ℕ) → length (behind (callsEach here) (b ∷ bs)) ≤ length bs
 unfolding behind
-tick-shorter b bs = omega (arith, no-longer 7 (behindCall (b ∷ bs)), call-shorter b bs)
+tick-shorter here b bs = omega (arith, no-longer (suc (length here)) (behindCall (b ∷ bs)), call-shorter b bs)
 
 -- so many ticks are enough
 enough : (here : Here) (n m : ℕ) (rest : List ℕ) → length rest ≤ n → length rest ≤ m → ticksFrom here n rest ≡ ticksFrom here m rest
@@ -35,13 +35,13 @@ enough here (suc n) zero [] h k = refl
 enough here (suc n) (suc m) [] h k = refl
 enough here zero (suc m) (b ∷ bs) h k = absurd (omega arith)
 enough here (suc n) zero (b ∷ bs) h k = absurd (omega arith)
-enough here (suc n) (suc m) (b ∷ bs) h k = ap (λ (l : List Calls). callsIn here (b ∷ bs) ∷ l) (enough here n m (behind 8 (b ∷ bs)) (omega (arith, tick-shorter b bs)) (omega (arith, tick-shorter b bs)))
+enough here (suc n) (suc m) (b ∷ bs) h k = ap (λ (l : List Calls). callsIn here (b ∷ bs) ∷ l) (enough here n m (behind (callsEach here) (b ∷ bs)) (omega (arith, tick-shorter here b bs)) (omega (arith, tick-shorter here b bs)))
 
 -- the first tick, and the rest
-pub ticks-more : (here : Here) (rest : List ℕ) → 0 < length rest → ticksOf here rest ≡ callsIn here rest ∷ ticksOf here (behind 8 rest)
+pub ticks-more : (here : Here) (rest : List ℕ) → 0 < length rest → ticksOf here rest ≡ callsIn here rest ∷ ticksOf here (behind (callsEach here) rest)
 unfolding ticksFrom
 ticks-more here [] h = absurd (omega arith)
-ticks-more here (b ∷ bs) h = ap (λ (l : List Calls). callsIn here (b ∷ bs) ∷ l) (enough here (length bs) (length (behind 8 (b ∷ bs))) (behind 8 (b ∷ bs)) (tick-shorter b bs) (omega arith))
+ticks-more here (b ∷ bs) h = ap (λ (l : List Calls). callsIn here (b ∷ bs) ∷ l) (enough here (length bs) (length (behind (callsEach here) (b ∷ bs))) (behind (callsEach here) (b ∷ bs)) (tick-shorter here b bs) (omega arith))
 
 pub ticks-none : (here : Here) (rest : List ℕ) → length rest ≤ 0 → ticksOf here rest ≡ []
 unfolding ticksFrom

@@ -38,10 +38,6 @@ deviceBytes no-call = 0 ∷ []
 deviceBytes (gives-answer wish put) = callBytes (wishKind wish) 0 0 0 put
 deviceBytes (gives-content command put) = callBytes 4 0 command 0 put
 
--- the slots in their order, and whether each has a device
-abbrev pub slotsOf : Here → List Bool
-slotsOf here = here .first ∷ here .second ∷ here .third ∷ here .fourth ∷ here .fifth ∷ here .sixth ∷ []
-
 -- the calls to the present slots, one behind the other; no call to an absent slot, nor to a device behind the end of the list
 abbrev pub slotsBytes : List Bool → List DeviceCall → List ℕ
 slotsBytes [] calls = []
@@ -49,9 +45,9 @@ slotsBytes (false ∷ slots) calls = 0 ∷ slotsBytes slots calls
 slotsBytes (true ∷ slots) [] = 0 ∷ slotsBytes slots []
 slotsBytes (true ∷ slots) (c ∷ cs) = deviceBytes c ++ slotsBytes slots cs
 
--- a tick: "to the primary, to the secondary, and to the devices of the six slots"
+-- a tick: "to the primary, to the secondary, and to the devices of the slots"
 abbrev pub tickBytes : Here → Calls → List ℕ
-tickBytes here c = masterBytes (c .for-primary) ++ (masterBytes (c .for-secondary) ++ slotsBytes (slotsOf here) (c .for-devices))
+tickBytes here c = masterBytes (c .for-primary) ++ (masterBytes (c .for-secondary) ++ slotsBytes here (c .for-devices))
 
 unfoldable pub ticksBytes : Here → List Calls → List ℕ
 ticksBytes here [] = []
@@ -93,7 +89,7 @@ pub data SlotsCodable : List Bool → List DeviceCall → Type 0 where
 pub record TickCodable (here : Here) (c : Calls) : Type 0 where
   pub primary : MasterCodable (c .for-primary)
   pub secondary : MasterCodable (c .for-secondary)
-  pub devices : SlotsCodable (slotsOf here) (c .for-devices)
+  pub devices : SlotsCodable here (c .for-devices)
 
 pub data TicksCodable (here : Here) : List Calls → Type 0 where
   no-tick : TicksCodable here []

@@ -2,4 +2,4 @@
 pub mod Ticks
 pub mod Encode
 pub mod Nearest
-pub mod Coded
+pub mod Read

@@ -10,7 +10,7 @@ use Rattle.turns.specs.Party.{Request, CallResult, was-taken, was-refused}
 use Rattle.turns.specs.Link.{MasterCall, no-request, requests, DeviceCall, no-call, gives-answer, gives-content, Calls}
 use Rattle.turns.specs.declared.Wish.{Wish}
 use Rattle.tick_list.specs.Ticks.{Here}
-use Rattle.tick_list.specs.Encode.{slotsOf, Bytes}
+use Rattle.tick_list.specs.Encode.{Bytes}
 
 -- ---- the nearest codable call
 
@@ -50,7 +50,7 @@ abbrev pub nearestTick : Here → Calls → Calls
 nearestTick here c = record {
   for-primary = nearestMaster (c .for-primary);
   for-secondary = nearestMaster (c .for-secondary);
-  for-devices = nearestDevices (present (slotsOf here)) (c .for-devices);
+  for-devices = nearestDevices (present here) (c .for-devices);
 }
 
 unfoldable pub nearestTicks : Here → List Calls → List Calls

@@ -1,5 +1,5 @@
 -- How the code stands for what is to be believed.
--- A list of ticks as bytes, so that a run can be lent "a list of ticks from tick 0" (document 01, "Runs of the link"). Every byte string is some list of ticks. A tick is eight calls, one behind the other: to the primary, to the secondary, and to the devices of the six slots.
+-- A list of ticks as bytes, so that a run can be lent "a list of ticks from tick 0" (document 01, "Runs of the link"). Every byte string is some list of ticks. A tick of a link with six slots is eight calls, one behind the other: to the primary, to the secondary, and to the devices of the slots.
 -- A call is one byte 0, no call; or a kind that is not 0, the preamble, the command, the address in five bytes, the length of the data in two, each most significant first, and the data. The length counts modulo 257, so that a call can have 0 to 256 data bytes. Behind the end every byte is 0, and data are as many as there are.
 use Prim.Native.Nat.{ℕ, zero, suc, _+_, _*_, _/_, _%_, _^_}
 use mathlib.Core.Bool.{Bool, true, false}
@@ -13,7 +13,7 @@ use Rattle.master.specs.Tick as M
 use Rattle.master.specs.declared.MasterHostCall as MasterHost
 use Rattle.device_tick.specs.Tick as D
 use Rattle.device_tick.specs.declared.DeviceHostCall as DeviceHost
-use Rattle.link.specs.Stands.{six}
+use Rattle.parties.specs.Stands.{ifHere}
 
 -- ---- a call, in front of the rest of the list
 
@@ -56,19 +56,22 @@ behindCall rest = if kindIn rest =? 0 then drop 1 rest else drop (10 + lengthIn 
 
 -- ---- a tick
 
--- which of the six slots have a device
-pub record Here : Type 0 where
-  pub first : Bool
-  pub second : Bool
-  pub third : Bool
-  pub fourth : Bool
-  pub fifth : Bool
-  pub sixth : Bool
+-- which slots have a device
+abbrev pub Here : Type 0
+Here = List Bool
 
--- a device's call, with its data; "a call to an absent slot does nothing"
-abbrev pub ifHere : Bool → List ℕ → List DeviceCall
-ifHere true rest = D.callOf (answerIn rest) (dataIn rest) ∷ []
-ifHere false rest = []
+-- how many calls a tick has: one for each master and one for each slot
+abbrev pub callsEach : Here → ℕ
+callsEach here = suc (suc (length here))
+
+-- a device's call, with its data
+abbrev pub deviceCallIn : List ℕ → DeviceCall
+deviceCallIn rest = D.callOf (answerIn rest) (dataIn rest)
+
+-- the calls of the slots that have a device; "a call to an absent slot does nothing"
+unfoldable pub slotsIn : Here → List ℕ → List DeviceCall
+slotsIn [] rest = []
+slotsIn (h ∷ hs) rest = ifHere h (deviceCallIn rest) (slotsIn hs (behindCall rest))
 
 -- the rest of the list behind so many calls
 unfoldable pub behind : ℕ → List ℕ → List ℕ
@@ -78,10 +81,8 @@ behind (suc n) rest = behind n (behindCall rest)
 unfoldable pub callsIn : Here → List ℕ → Calls
 callsIn here rest = record {
   for-primary = M.callOf (requestIn rest) (dataIn rest);
-  for-secondary = M.callOf (requestIn (behind 1 rest)) (dataIn (behind 1 rest));
-  for-devices = six (ifHere (here .first) (behind 2 rest)) (ifHere (here .second) (behind 3 rest))
-      (ifHere (here .third) (behind 4 rest)) (ifHere (here .fourth) (behind 5 rest))
-      (ifHere (here .fifth) (behind 6 rest)) (ifHere (here .sixth) (behind 7 rest));
+  for-secondary = M.callOf (requestIn (behindCall rest)) (dataIn (behindCall rest));
+  for-devices = slotsIn here (behind 2 rest);
 }
 
 -- ---- the list
@@ -90,7 +91,7 @@ callsIn here rest = record {
 unfoldable pub ticksFrom : Here → ℕ → List ℕ → List Calls
 ticksFrom here zero rest = []
 ticksFrom here (suc n) [] = []
-ticksFrom here (suc n) (b ∷ bs) = callsIn here (b ∷ bs) ∷ ticksFrom here n (behind 8 (b ∷ bs))
+ticksFrom here (suc n) (b ∷ bs) = callsIn here (b ∷ bs) ∷ ticksFrom here n (behind (callsEach here) (b ∷ bs))
 
 abbrev pub ticksOf : Here → List ℕ → List Calls
 ticksOf here bytes = ticksFrom here (length bytes) bytes

@@ -1,20 +1,17 @@
 // A list of ticks as bytes, and the calls of each tick. Every byte string is some list of ticks (specs/Ticks.antt).
-use link::LinkCalls;
-use link::MasterCall;
-use link::MastersCalls;
 use master::RequestFields;
-use slots::DevicesCalls;
-use slots::PairCalls;
-use slots::Part;
-use slots::SlotCall;
+use parties::Calls;
+use parties::DeviceCall;
+use parties::MasterCall;
+use parties::Part;
 use turns::Wish;
 ghost use mathlib.Core.Path.{_≡_};
 ghost use Prim.Native.Nat.{_+_, _*_, _%_, _^_, _≤_, _<_};
 ghost use lib.ListN.{length, drop};
+ghost use Rattle.base.specs.Lent.{before};
 ghost use Rattle.frame.specs.Address.{byteAt};
-ghost use Rattle.slots.specs.Part.{dataOf};
-ghost use Rattle.tick_list.specs.Ticks.{lengthIn, dataIn, addressIn, requestOf, requestBy, requestIn, answerBy, answerIn};
-ghost use Rattle.tick_list.specs.Coded.{ForwardIs, NextIs, MasterIs, SlotReadIs, MastersReadAre, PairReadIs, TickReadIs};
+ghost use Rattle.tick_list.specs.Ticks.{lengthIn, addressIn, requestOf, requestBy, requestIn, answerBy, answerIn};
+ghost use Rattle.tick_list.specs.Read.{partIn, forward, nextIn, masterCallAt, deviceCallAt, callsFrom, placeBehind, tickFrom, tickAt};
 
 fn wide(x: u8) -> u64
     ensures { λ r. ⌜ r ≡ x ⌝ }
@@ -25,7 +22,7 @@ fn wide(x: u8) -> u64
 // A byte of what stands from a place on, and 0 behind the end.
 fn byte_in(ticks: &[u8], at: usize, k: usize) -> u8
     requires { ⌜ at ≤ length (now ticks) ⌝ }
-    ensures { λ r. ⌜ r ≡ byteAt (drop at (now (ticks .entry))) k ⌝ }
+    ensures { λ r. ⌜ r ≡ byteAt (drop at (before ticks)) k ⌝ }
 {
     if k < ticks.len() - at {
         return ticks[at + k];
@@ -43,7 +40,7 @@ fn length_of(high: u8, low: u8) -> u64
 // How long a call's data are.
 fn length_in(ticks: &[u8], at: usize) -> u64
     requires { ⌜ at ≤ length (now ticks) ⌝ }
-    ensures { λ r. ⌜ (r ≡ lengthIn (drop at (now (ticks .entry)))) × (r < 257) ⌝ }
+    ensures { λ r. ⌜ (r ≡ lengthIn (drop at (before ticks))) × (r < 257) ⌝ }
 {
     length_of(byte_in(ticks, at, 8), byte_in(ticks, at, 9))
 }
@@ -58,7 +55,7 @@ fn address_of(a: u8, b: u8, c: u8, d: u8, e: u8) -> u64
 // A call's address.
 fn address_in(ticks: &[u8], at: usize) -> u64
     requires { ⌜ at ≤ length (now ticks) ⌝ }
-    ensures { λ r. ⌜ r ≡ addressIn (drop at (now (ticks .entry))) ⌝ }
+    ensures { λ r. ⌜ r ≡ addressIn (drop at (before ticks)) ⌝ }
 {
     let a = byte_in(ticks, at, 3);
     let b = byte_in(ticks, at, 4);
@@ -71,7 +68,7 @@ fn address_in(ticks: &[u8], at: usize) -> u64
 // A call's data.
 fn part_in(ticks: &[u8], at: usize) -> Part
     requires { ⌜ at ≤ length (now ticks) ⌝ }
-    ensures { λ r. ⌜ dataOf r (now (ticks .entry)) ≡ dataIn (drop at (now (ticks .entry))) ⌝ }
+    ensures { λ r. ⌜ r ≡ partIn (before ticks) at ⌝ }
 {
     let room = ticks.len() - at;
     if room < 10 {
@@ -87,7 +84,7 @@ fn part_in(ticks: &[u8], at: usize) -> Part
 // So many places on, or the end.
 fn forward(at: usize, n: usize, end: usize) -> usize
     requires { ⌜ at ≤ end ⌝ }
-    ensures { λ r. ⌜ ForwardIs at n end r ⌝ }
+    ensures { λ r. ⌜ (r ≡ forward at n end) × (r ≤ end) ⌝ }
 {
     if end - at < n {
         return end;
@@ -98,7 +95,7 @@ fn forward(at: usize, n: usize, end: usize) -> usize
 // The place behind a call.
 fn next_in(ticks: &[u8], at: usize) -> usize
     requires { ⌜ at ≤ length (now ticks) ⌝ }
-    ensures { λ r. ⌜ NextIs (now (ticks .entry)) at r ⌝ }
+    ensures { λ r. ⌜ (r ≡ nextIn (before ticks) at) × (r ≤ length (before ticks)) ⌝ }
 {
     if byte_in(ticks, at, 0) == 0 {
         return forward(at, 1, ticks.len());
@@ -110,7 +107,7 @@ fn next_in(ticks: &[u8], at: usize) -> usize
 // A master's request.
 fn wanted_in(ticks: &[u8], at: usize, long: bool) -> master::MasterHostCall
     requires { ⌜ at ≤ length (now ticks) ⌝ }
-    ensures { λ r. ⌜ r ≡ requestOf long (drop at (now (ticks .entry))) ⌝ }
+    ensures { λ r. ⌜ r ≡ requestOf long (drop at (before ticks)) ⌝ }
 {
     let kind = byte_in(ticks, at, 0);
     let preamble = byte_in(ticks, at, 1);
@@ -129,7 +126,7 @@ fn wanted_in(ticks: &[u8], at: usize, long: bool) -> master::MasterHostCall
 // A master's call, by its form.
 fn request_by(form: u8, ticks: &[u8], at: usize) -> master::MasterHostCall
     requires { ⌜ at ≤ length (now ticks) ⌝ }
-    ensures { λ r. ⌜ r ≡ requestBy form (drop at (now (ticks .entry))) ⌝ }
+    ensures { λ r. ⌜ r ≡ requestBy form (drop at (before ticks)) ⌝ }
 {
     if form == 1 {
         return wanted_in(ticks, at, false);
@@ -142,7 +139,7 @@ fn request_by(form: u8, ticks: &[u8], at: usize) -> master::MasterHostCall
 
 fn request_in(ticks: &[u8], at: usize) -> master::MasterHostCall
     requires { ⌜ at ≤ length (now ticks) ⌝ }
-    ensures { λ r. ⌜ r ≡ requestIn (drop at (now (ticks .entry))) ⌝ }
+    ensures { λ r. ⌜ r ≡ requestIn (drop at (before ticks)) ⌝ }
 {
     let kind = byte_in(ticks, at, 0);
     request_by(kind % 4, ticks, at)
@@ -169,132 +166,109 @@ fn answer_by(kind: u8, command: u8) -> device_tick::DeviceHostCall
 
 fn answer_in(ticks: &[u8], at: usize) -> device_tick::DeviceHostCall
     requires { ⌜ at ≤ length (now ticks) ⌝ }
-    ensures { λ r. ⌜ r ≡ answerIn (drop at (now (ticks .entry))) ⌝ }
+    ensures { λ r. ⌜ r ≡ answerIn (drop at (before ticks)) ⌝ }
 {
     answer_by(byte_in(ticks, at, 0), byte_in(ticks, at, 2))
 }
 
-// A call that was read, and the place behind it.
-pub struct MasterRead {
-    pub call: MasterCall,
-    pub next: usize,
-}
-
-pub struct SlotRead {
-    pub call: SlotCall,
-    pub next: usize,
-}
-
-fn master_read(ticks: &[u8], at: usize) -> MasterRead
+fn master_call(ticks: &[u8], at: usize) -> MasterCall
     requires { ⌜ at ≤ length (now ticks) ⌝ }
-    ensures { λ r. ⌜ MasterIs (now (ticks .entry)) at r ⌝ }
+    ensures { λ r. ⌜ r ≡ masterCallAt (before ticks) at ⌝ }
 {
-    let call = MasterCall {
+    MasterCall {
         call: request_in(ticks, at),
         part: part_in(ticks, at),
-    };
-    MasterRead {
-        call: call,
-        next: next_in(ticks, at),
     }
 }
 
-fn slot_read(ticks: &[u8], at: usize) -> SlotRead
+fn device_call(ticks: &[u8], at: usize) -> DeviceCall
     requires { ⌜ at ≤ length (now ticks) ⌝ }
-    ensures { λ r. ⌜ SlotReadIs (now (ticks .entry)) at r ⌝ }
+    ensures { λ r. ⌜ r ≡ deviceCallAt (before ticks) at ⌝ }
 {
-    let call = SlotCall {
+    DeviceCall {
         call: answer_in(ticks, at),
         part: part_in(ticks, at),
-    };
-    SlotRead {
-        call: call,
-        next: next_in(ticks, at),
     }
 }
 
+// Calls that were read, and the place behind them.
 pub struct MastersRead {
-    pub calls: MastersCalls,
+    pub calls: [MasterCall; 2],
     pub next: usize,
 }
 
-pub struct PairRead {
-    pub calls: PairCalls,
+pub struct DevicesRead {
+    pub calls: [DeviceCall; 6],
     pub next: usize,
 }
 
-fn masters_read(ticks: &[u8], at: usize) -> MastersRead
-    requires { ⌜ at ≤ length (now ticks) ⌝ }
-    ensures { λ r. ⌜ MastersReadAre (now (ticks .entry)) at r ⌝ }
+fn masters_read(ticks: &[u8], start: usize) -> MastersRead
+    requires { ⌜ start ≤ length (now ticks) ⌝ }
+    ensures { λ r. ⌜ (r .calls ≡ callsFrom masterCallAt (before ticks) 2 start) × (r .next ≡ placeBehind (before ticks) 2 start) × (r .next ≤ length (before ticks)) ⌝ }
 {
-    let p = master_read(ticks, at);
-    let primary = p.call;
-    let s = master_read(ticks, p.next);
-    let secondary = s.call;
-    let calls = MastersCalls {
-        primary: primary,
-        secondary: secondary,
-    };
+    let none = parties::no_master_call();
+    let mut calls = [none; 2];
+    let mut at = start;
+    let mut n = 0;
+    while n < 2 {
+        let i = n;
+        n += 1;
+        calls[i] = master_call(ticks, at);
+        at = next_in(ticks, at);
+    }
     MastersRead {
         calls: calls,
-        next: s.next,
+        next: at,
     }
 }
 
-fn pair_read(ticks: &[u8], at: usize) -> PairRead
-    requires { ⌜ at ≤ length (now ticks) ⌝ }
-    ensures { λ r. ⌜ PairReadIs (now (ticks .entry)) at r ⌝ }
+fn devices_read(ticks: &[u8], start: usize) -> DevicesRead
+    requires { ⌜ start ≤ length (now ticks) ⌝ }
+    ensures { λ r. ⌜ (r .calls ≡ callsFrom deviceCallAt (before ticks) 6 start) × (r .next ≡ placeBehind (before ticks) 6 start) ⌝ }
 {
-    let a = slot_read(ticks, at);
-    let left = a.call;
-    let b = slot_read(ticks, a.next);
-    let right = b.call;
-    let calls = PairCalls {
-        left: left,
-        right: right,
-    };
-    PairRead {
+    let none = parties::no_device_call();
+    let mut calls = [none; 6];
+    let mut at = start;
+    let mut n = 0;
+    while n < 6 {
+        let i = n;
+        n += 1;
+        calls[i] = device_call(ticks, at);
+        at = next_in(ticks, at);
+    }
+    DevicesRead {
         calls: calls,
-        next: b.next,
+        next: at,
     }
 }
 
 // The calls of a tick, and the place behind it.
 pub struct TickRead {
-    pub calls: LinkCalls,
+    pub calls: Calls,
     pub next: usize,
 }
 
 fn tick_from(ticks: &[u8], at: usize) -> TickRead
     requires { ⌜ at ≤ length (now ticks) ⌝ }
-    ensures { λ r. ⌜ TickReadIs (now (ticks .entry)) at r ⌝ }
+    ensures { λ r. ⌜ r ≡ tickFrom (before ticks) at ⌝ }
 {
     let m = masters_read(ticks, at);
     let masters = m.calls;
-    let a = pair_read(ticks, m.next);
-    let low = a.calls;
-    let b = pair_read(ticks, a.next);
-    let middle = b.calls;
-    let c = pair_read(ticks, b.next);
-    let high = c.calls;
-    let devices = DevicesCalls {
-        low: low,
-        middle: middle,
-        high: high,
-    };
-    let calls = LinkCalls {
+    let d = devices_read(ticks, m.next);
+    let devices = d.calls;
+    let calls = Calls {
         masters: masters,
         devices: devices,
     };
     TickRead {
         calls: calls,
-        next: c.next,
+        next: d.next,
     }
 }
 
 // The calls of the tick that stands at this place of the list, or at its end, and the place behind it.
 pub fn read(ticks: &[u8], at: usize) -> TickRead
-    ensures { λ r. ⌜ TickReadIs (now (ticks .entry)) at r ⌝ }
+    ensures { λ r. ⌜ r ≡ tickAt (before ticks) at ⌝ }
 {
     if at < ticks.len() {
         return tick_from(ticks, at);

@@ -8,5 +8,4 @@ calls-taken-spec =
     tie.close
     (tie.spec
     (λ c κs. search needs)
-    (λ c κs. search needs)
     (λ c. search (needs, parts)))

@@ -7,6 +7,10 @@ pub masters-behind-spec : {M : Type 1} → statement M
 masters-behind-spec =
     tie.close
     (tie.spec
+    (λ c. search needs)
+    (λ c. search needs)
     (λ c κs. search needs)
+    (λ c. search needs)
+    (λ c. search needs)
     (λ c κs. search needs)
     (λ c. search (needs, parts)))

@@ -1,4 +1,3 @@
-use Rattle.base.proofs.Choices.{choices}
 use Rattle.link_rests.proofs.Parts.{parts}
 use borrow.Author.Needs.{needs}
 use Rattle.link_rests.proofs.device_rests.Statement.{statement}
@@ -8,9 +7,7 @@ pub device-rests-spec : {M : Type 1} → statement M
 device-rests-spec =
     tie.close
     (tie.spec
-    (λ c. search (needs, choices, parts))
-    (λ c. search (needs, choices, parts))
     (λ c κs. search needs)
     (λ c κs. search needs)
-    (λ c. search (needs, choices, parts))
-    (λ c. search (needs, choices, parts)))
+    (λ c κs. search needs)
+    (λ c. search (needs, parts)))

@@ -1,4 +1,3 @@
-use Rattle.base.proofs.Choices.{choices}
 use Rattle.link_rests.proofs.Parts.{parts}
 use borrow.Author.Needs.{needs}
 use Rattle.link_rests.proofs.slot_rested.Statement.{statement}
@@ -8,8 +7,5 @@ pub slot-rested-spec : {M : Type 1} → statement M
 slot-rested-spec =
     tie.close
     (tie.spec
-    (λ c. search needs)
-    (λ c. search needs)
     (λ c κs. search needs)
-    (λ c. search needs)
-    (λ c. search (needs, choices, parts)))
+    (λ c. search (needs, parts)))

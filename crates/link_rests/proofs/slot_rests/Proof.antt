@@ -8,8 +8,6 @@ pub slot-rests-spec : {M : Type 1} → statement M
 slot-rests-spec =
     tie.close
     (tie.spec
-    (λ c. search needs)
-    (λ c. search needs)
     (λ c κs. search needs)
-    (λ c. search needs)
+    (λ c. search (needs, choices, parts))
     (λ c. search (needs, choices, parts)))

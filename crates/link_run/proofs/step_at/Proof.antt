@@ -3,15 +3,12 @@ use borrow.Author.Needs.{needs}
 use Rattle.link_run.proofs.step_at.Statement.{statement}
 use Rattle.link_run.proofs.step_at.Tie as tie
 
-returns : tie.Need-returns
-returns c = search (step-is, c .tick-number .ensures, c .before .behind .ensures, c .before .before .tick .ensures, c .before .before .before .before .before .before .before .before .before .before .before .read .ensures)
-
 pub step-at-spec : {M : Type 1} → statement M
 step-at-spec =
     tie.close
     (tie.spec
     (λ c κs. search needs)
     (λ c κs. search needs)
+    (λ c. search needs)
     (λ c κs. search needs)
-    (λ c κs. search needs)
-    returns)
+    (λ c. search (needs, step-is)))

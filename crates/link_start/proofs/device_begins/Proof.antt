@@ -10,5 +10,6 @@ device-begins-spec =
     (λ c κs. search needs)
     (λ c. search needs)
     (λ c. search needs)
+    (λ c κs. search needs)
     (λ c. search (needs, starts))
     (λ c. search (needs, starts)))

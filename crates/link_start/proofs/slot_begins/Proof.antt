@@ -7,8 +7,7 @@ pub slot-begins-spec : {M : Type 1} → statement M
 slot-begins-spec =
     tie.close
     (tie.spec
-    (λ c. search needs)
-    (λ c. search needs)
     (λ c κs. search needs)
     (λ c. search (needs, starts))
+    (λ c κs. search needs)
     (λ c. search (needs, starts)))

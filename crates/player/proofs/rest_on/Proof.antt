@@ -1,4 +1,4 @@
-use Rattle.player.proofs.Following.{gone-rested}
+use Rattle.player.proofs.PlaysOn.{rested-is}
 use borrow.Author.Needs.{needs}
 use Rattle.player.proofs.rest_on.Statement.{statement}
 use Rattle.player.proofs.rest_on.Tie as tie
@@ -10,4 +10,5 @@ rest-on-spec =
     (λ c κs. search needs)
     (λ c κs. search needs)
     (λ c κs. search needs)
-    (λ c. search (needs, gone-rested)))
+    (λ c. search needs)
+    (λ c. search (needs, rested-is)))

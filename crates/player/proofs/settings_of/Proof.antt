@@ -1,4 +1,4 @@
-use Rattle.player.proofs.Started.{started}
+use Rattle.player.proofs.Started.{settings-are}
 use borrow.Author.Needs.{needs}
 use Rattle.player.proofs.settings_of.Statement.{statement}
 use Rattle.player.proofs.settings_of.Tie as tie
@@ -10,4 +10,7 @@ settings-of-spec =
     (λ c κs. search needs)
     (λ c κs. search needs)
     (λ c κs. search needs)
-    (λ c. search (needs, started)))
+    (λ c κs. search needs)
+    (λ c κs. search needs)
+    (λ c κs. search needs)
+    (λ c. search (needs, settings-are)))

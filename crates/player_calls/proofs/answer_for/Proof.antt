@@ -10,5 +10,7 @@ answer-for-spec =
     (tie.spec
     (λ c κs. search needs)
     (λ c. search (needs, choices, wanteds))
+    (λ c κs. search needs)
     (λ c. search (needs, choices, wanteds))
+    (λ c κs. search needs)
     (λ c. search (needs, choices, wanteds)))

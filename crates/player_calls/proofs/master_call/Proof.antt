@@ -9,7 +9,8 @@ master-call-spec =
     tie.close
     (tie.spec
     (λ c. search needs)
-    (λ c. search needs)
     (λ c κs. search needs)
     (λ c. search needs)
+    (λ c κs. search needs)
+    (λ c. search (needs, choices, wanteds))
     (λ c. search (needs, choices, wanteds)))

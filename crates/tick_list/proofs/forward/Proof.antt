@@ -1,4 +1,4 @@
-use Rattle.tick_list.proofs.Places.{forwards}
+use Rattle.base.proofs.Choices.{choices}
 use borrow.Author.Needs.{needs}
 use Rattle.tick_list.proofs.forward.Statement.{statement}
 use Rattle.tick_list.proofs.forward.Tie as tie
@@ -8,6 +8,6 @@ forward-spec =
     tie.close
     (tie.spec
     (λ c. search needs)
-    (λ c. search (needs, forwards))
+    (λ c. search (needs, choices))
     (λ c. search needs)
-    (λ c. search (needs, forwards)))
+    (λ c. search (needs, choices)))

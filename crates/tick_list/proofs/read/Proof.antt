@@ -8,6 +8,6 @@ read-spec =
     tie.close
     (tie.spec
     (λ c κs. search needs)
-    (λ c. search needs)
+    (λ c. search (needs, readings))
     (λ c κs. search needs)
     (λ c. search (needs, readings)))

@@ -1,2 +1,0 @@
--- A link in which one party speaks.
-pub mod Speaks

@@ -1,0 +1,217 @@
+-- Some ticks of a play print what they would print one by one: those of a link that rests, and those that `link_ticks` takes.
+use Prim.Native.Nat.{ℕ, zero, suc, _+_, _-_, _≤_, _<_}
+use native.Mathlib.Omega.{arith}
+use borrow.Author.Tests.{ltb-false, ltb-true}
+use mathlib.Core.Bool.{Bool, true, false}
+use mathlib.Core.Path.{_≡_, refl, sym, ap, subst, _∙_}
+use mathlib.Core.List.{List, [], _∷_, map}
+use lib.ListN.{length, take, getD, replicate, length-map}
+use Rattle.base.specs.Choice.{if_then_else_, _<?_}
+use Rattle.turns.specs.Link.{LinkStep, run}
+use Rattle.turns.specs.Link as L
+use Rattle.turns.specs.Run.{EachTick}
+use Rattle.turns.specs.declared.Sent.{Sent}
+use Rattle.turns.specs.declared.Sent.the-variants.{Silent}
+use Rattle.script.specs.Script.{recordsOf, callsAt, callsFrom, tickOf, tickAt}
+use Rattle.script.specs.Reads.{Reads}
+use Rattle.script.specs.Walk.{freeTicks}
+use Rattle.script.specs.declared.Entry.{Entry}
+use Rattle.script.specs.declared.ScriptTick.{ScriptTick}
+use Rattle.script.proofs.Free.{Free, free-is}
+use Rattle.script.proofs.Ticks.{reads-tick, reads-next}
+use Rattle.listing.specs.Sents.{sentIn}
+use Rattle.listing.specs.Lines.{quietMonitor}
+use Rattle.listing.specs.Promises.{TickLinesAre}
+use Rattle.listing.specs.Rows.{rowsSent, rowsListed, heardSoFar, allHeard, ticksLines, rowsLines}
+use Rattle.listing.specs.declared.Monitor.{Monitor}
+use Rattle.listing.proofs.Listens.{ticks-silent}
+use Rattle.listing.proofs.Puts.{put-length}
+use Rattle.parties.specs.Stands.{Rows, linkOf, heres, callsOf, uncalled}
+use Rattle.parties.specs.declared.Calls.{Calls}
+use Rattle.parties.specs.declared.Link.{Link}
+use Rattle.parties.specs.declared.Slot.{Slot}
+use Rattle.parties.specs.declared.Ticked.{Ticked}
+use Rattle.link_ticks.specs.Ticks.{upToTold, callsFirst, atMost, stepsOf, linkBehind, SendBytes, RunIs}
+use Rattle.link_rests.specs.Rests.{slotRested, linkRests, linkRested}
+use Rattle.link_rests.proofs.RestingLink.{rested-agrees, rested-sent}
+use Rattle.player_calls.specs.Calls.{zeroBytes, callsFor}
+use Rattle.player_calls.proofs.Wanteds.{calls-stand}
+use Rattle.player.specs.Ticks.{Stands, restedFor, PlaysOn}
+use Rattle.player.specs.declared.Playing.{Playing}
+use Rattle.player.proofs.Runs.{WantsNone, uncalled-run, first-run, run-count, Front, front, left-on, after-run}
+use Rattle.player.proofs.Sent.{SixTick, six-run, six-here, listed-sent, silent-run}
+
+-- ---- a link that rests
+
+here-still : (n : ℕ) (ss : List Slot) → heres (map (slotRested n) ss) ≡ heres ss
+here-still n [] = refl
+here-still n (s ∷ ss) = ap (λ (hs : List Bool). s .here ∷ hs) (here-still n ss)
+
+pub quiet-heard : allHeard (replicate 8 quietMonitor) ≡ replicate 8 quietMonitor
+unfolding allHeard heardSoFar if_then_else_
+quiet-heard = refl
+
+heard-eight : (ms : List Monitor) → length ms ≡ 8 → length (allHeard ms) ≡ 8
+unfolding allHeard
+heard-eight ms e = length-map ms heardSoFar ∙ e
+
+module _ (script : List ℕ) (stop ticks : ℕ) (p : Playing) (x : Rows) (out : List ℕ) (k : Stands script p) (free : Free script (p .next) (p .tick) stop ticks) (rests : linkRests (p .link) ≡ true) (eight : length (p .monitors) ≡ 8) where
+  abbrev start : L.Link
+  start = linkOf (p .link) x
+
+  abbrev es : List Entry
+  es = recordsOf script
+
+  rest-on-by : (n : ℕ) → ticks ≡ suc n → PlaysOn script stop p x out (restedFor (suc n) p) x out
+  rest-on-by n e =
+      let some : 0 < ticks = omega (arith, e) in
+      let fits : p .tick + suc n ≤ stop = omega (arith, free .before-it some, e) in
+      let wants : WantsNone es (p .tick) (suc n) = λ i party h. free .wants-none i party (omega (arith, e, h)) in
+      let same : run 255 start (replicate (suc n) uncalled) ≡ run 255 start (callsFrom (p .tick) (suc n) es) = uncalled-run es (suc n) (p .tick) start (free .some-tick some) wants in
+      let sent : sentIn (run 255 start (callsFrom (p .tick) (suc n) es)) ≡ replicate (suc n) (replicate 8 Silent) =
+      ap sentIn (sym same) ∙ silent-run (suc n) start (six-here x (p .link .devices) (k .there)) (λ i. rested-sent (p .link) x i rests) in
+      let behind : linkOf (linkRested (suc n) (p .link)) x ≡ linkBehind start (run 255 start (callsFrom (p .tick) (suc n) es)) =
+      rested-agrees (p .link) x n rests ∙ after-run (suc n) start ∙ ap (linkBehind start) same in
+      let lines : TickLinesAre (ticksLines (p .tick) (allHeard (p .monitors)) (sentIn (run 255 start (callsFrom (p .tick) (suc n) es)))) out (p .at) (allHeard (replicate 8 quietMonitor)) (p .at) out =
+      subst (λ (ms : List Monitor). TickLinesAre (ticksLines (p .tick) (allHeard (p .monitors)) (sentIn (run 255 start (callsFrom (p .tick) (suc n) es)))) out (p .at) ms (p .at) out) (sym quiet-heard)
+      (subst (λ (ts : List (List Sent)). TickLinesAre (ticksLines (p .tick) (allHeard (p .monitors)) ts) out (p .at) (replicate 8 quietMonitor) (p .at) out) (sym sent)
+      (ticks-silent n (p .tick) (allHeard (p .monitors)) out (p .at) (heard-eight (p .monitors) eight))) in
+      record {
+        later = omega arith;
+        within = fits;
+        same-length = refl;
+        stands = record {
+          reads = free .reads-on (suc n) (omega (arith, e));
+          there = here-still (suc n) (p .link .devices) ∙ k .there;
+        };
+        left = left-on es (suc n) (p .tick) stop start (linkOf (linkRested (suc n) (p .link)) x) (allHeard (p .monitors)) (allHeard (replicate 8 quietMonitor)) out out (p .at) (p .at) fits behind lines;
+      }
+
+pub rests-on : (script : List ℕ) (stop ticks : ℕ) (p : Playing) (x : Rows) (out : List ℕ) (b : Bool) (r : Playing) → Stands script p → ticks ≡ freeTicks script (p .next) (p .tick) stop → 0 < ticks
+    → b ≡ linkRests (p .link) → b ≡ true → r ≡ restedFor ticks p → length (p .monitors) ≡ 8 → PlaysOn script stop p x out r x out
+rests-on script stop ticks p x out b r k f h q e g l =
+    let free = free-is script (p .next) (p .tick) stop ticks (k .reads) f in
+    let one : ticks ≡ suc (ticks - 1) = omega arith in
+    subst (λ (z : Playing). PlaysOn script stop p x out z x out) (sym (g ∙ ap (λ (n : ℕ). restedFor n p) one))
+    (rest-on-by script stop ticks p x out k free (sym q ∙ e) l (ticks - 1) one)
+
+pub rested-is : (n : ℕ) (p : Playing) (l : Link) (ms : List Monitor) → l ≡ linkRested n (p .link) → ms ≡ replicate 8 quietMonitor
+    → _≡_ {A = Playing} (record { link = l; monitors = ms; tick = p .tick + n; next = p .next; at = p .at }) (restedFor n p)
+rested-is n p l ms e f = λ i. record { link = e i; monitors = f i; tick = p .tick + n; next = p .next; at = p .at }
+
+-- the ticks of a play are 16-bit numbers
+pub rest-room : (script : List ℕ) (stop ticks : ℕ) (p : Playing) → Stands script p × (p .tick < stop) → ticks ≡ freeTicks script (p .next) (p .tick) stop → 0 < ticks → stop < 65536 → p .tick + ticks < 65536
+rest-room script stop ticks p k f h s = omega (arith, free-is script (p .next) (p .tick) stop ticks (k .0 .reads) f .before-it h)
+
+-- ---- some ticks of a link
+
+at-most-64 : (most : ℕ) → atMost most ≤ 64
+unfolding if_then_else_
+at-most-64 most = by (most <? 64) refl
+  where
+    by : (t : Bool) → (most <? 64) ≡ t → (if t then most else 64) ≤ 64
+    by true e = omega (arith, ltb-true most 64 e)
+    by false e = omega arith
+
+at-most-most : (most : ℕ) → atMost most ≤ most
+unfolding if_then_else_
+at-most-most most = by (most <? 64) refl
+  where
+    by : (t : Bool) → (most <? 64) ≡ t → (if t then most else 64) ≤ most
+    by true e = omega arith
+    by false e = ltb-false most 64 e
+
+at-most-some : (most : ℕ) → 1 ≤ most → 1 ≤ atMost most
+unfolding if_then_else_
+at-most-some most h = by (most <? 64)
+  where
+    by : (t : Bool) → 1 ≤ (if t then most else 64)
+    by true = h
+    by false = omega arith
+
+-- they end before the stop
+ticks-within : (script : List ℕ) (stop : ℕ) (p : Playing) (w : ScriptTick) (n : ℕ) → Stands script p × (p .tick < stop) → w ≡ tickAt script (p .next) (p .tick) → n ≡ freeTicks script (w .next) (p .tick + 1) stop → p .tick + (n + 1) ≤ stop
+ticks-within script stop p w n k wanted f = by n refl
+  where
+    by : (m : ℕ) → n ≡ m → p .tick + (n + 1) ≤ stop
+    by zero e = omega (arith, k .1, e)
+    by (suc m) e = omega (arith, free-is script (w .next) (p .tick + 1) stop n (reads-next script (p .next) (p .tick) w (k .0 .reads) wanted) f .before-it (omega (arith, e)))
+
+pub ticks-room : (script : List ℕ) (stop : ℕ) (p : Playing) (w : ScriptTick) (n : ℕ) → Stands script p × (p .tick < stop) → w ≡ tickAt script (p .next) (p .tick) → n ≡ freeTicks script (w .next) (p .tick + 1) stop → stop < 65536 → n + 1 < 65536
+ticks-room script stop p w n k wanted f s = omega (arith, ticks-within script stop p w n k wanted f)
+
+module _ (script : List ℕ) (stop : ℕ) (p : Playing) (x : Rows) (k : Stands script p) (h : p .tick < stop) (bytes : (i : ℕ) → getD script i 0 < 256)
+    (w : ScriptTick) (wanted : w ≡ tickAt script (p .next) (p .tick)) (n : ℕ) (f : n ≡ freeTicks script (w .next) (p .tick + 1) stop) where
+  reads-behind : Reads script (w .next) (p .tick + 1)
+  reads-behind = reads-next script (p .next) (p .tick) w (k .reads) wanted
+
+  free : Free script (w .next) (p .tick + 1) stop n
+  free = free-is script (w .next) (p .tick + 1) stop n reads-behind f
+
+  ticks-fit : p .tick + (n + 1) ≤ stop
+  ticks-fit = ticks-within script stop p w n (k, h) wanted f
+
+  module _ (c : Calls) (called : c ≡ callsFor (p .tick) w) (sent sent-after : List (List ℕ)) (t : Ticked) (x-after : Rows) (is : RunIs (p .link) c zeroBytes (n + 1) x sent t x-after sent-after) where
+    abbrev link : L.Link
+    link = linkOf (p .link) x
+
+    abbrev entries : List Entry
+    entries = recordsOf script
+
+    calls-are : callsOf zeroBytes (heres (p .link .devices)) c ≡ callsAt (p .tick) entries
+    calls-are =
+        (λ i. callsOf zeroBytes (k .there i) (called i))
+        ∙ ap (λ (v : ScriptTick). callsOf zeroBytes (replicate 6 true) (callsFor (p .tick) v)) (reads-tick script (p .next) (p .tick) w (k .reads) wanted)
+        ∙ calls-stand script (p .tick) (w .next) bytes
+
+    first : Front entries link (p .tick) (atMost (n + 1))
+    first = front entries (atMost (n + 1)) (p .tick) link
+
+    steps-are : stepsOf (p .link) c zeroBytes (n + 1) x ≡ run 255 link (callsFrom (p .tick) (first .count) entries)
+    steps-are =
+        ap (λ (z : L.Calls). upToTold (run 255 link (callsFirst (atMost (n + 1)) z))) calls-are
+        ∙ ap upToTold (first-run entries (atMost (n + 1)) (p .tick) link (λ i party g. free .wants-none i party (omega (arith, g, at-most-most (n + 1)))))
+        ∙ first .is
+
+    count-is : t .count ≡ first .count
+    count-is = is .count-is ∙ ap length steps-are ∙ run-count entries (first .count) (p .tick) link
+
+    pub count-fits : p .tick + t .count ≤ stop
+    count-fits = omega (arith, count-is, first .most, at-most-most (n + 1), ticks-fit)
+
+    some : 1 ≤ t .count
+    some = omega (arith, count-is, first .some (at-most-some (n + 1) (omega arith)))
+
+    few : t .count ≤ 64
+    few = omega (arith, count-is, first .most, at-most-64 (n + 1))
+
+    abbrev ran : List LinkStep
+    ran = run 255 link (callsFrom (p .tick) (t .count) entries)
+
+    ran-is : stepsOf (p .link) c zeroBytes (n + 1) x ≡ ran
+    ran-is = steps-are ∙ ap (λ (m : ℕ). run 255 link (callsFrom (p .tick) m entries)) (sym count-is)
+
+    rows-are : stop < 65536 → rowsSent (take (rowsListed (p .tick) (t .count)) sent-after) ≡ sentIn ran
+    rows-are s =
+        listed-sent (p .tick) (t .count) (heres (p .link .devices)) (stepsOf (p .link) c zeroBytes (n + 1) x) sent sent-after (k .there)
+        (subst (EachTick SixTick) (sym ran-is) (six-run (callsFrom (p .tick) (t .count) entries) link (six-here x (p .link .devices) (k .there))))
+        (is .bytes-sent) (is .count-is) few (omega (arith, count-fits, s)) (is .sent-is)
+        ∙ ap sentIn ran-is
+
+    pub ticks-on : (monitors : List Monitor) (at : ℕ) (out out-after : List ℕ) → stop < 65536
+        → TickLinesAre (rowsLines (p .tick) (allHeard (p .monitors)) (take (rowsListed (p .tick) (t .count)) sent-after)) out (p .at) (allHeard monitors) at out-after
+        → PlaysOn script stop p x out (record { link = t .link; monitors = monitors; tick = p .tick + t .count; next = w .next; at = at }) x-after out-after
+    ticks-on monitors at out out-after s lines =
+        let before : p .tick + 1 + (t .count - 1) ≡ p .tick + t .count = omega (arith, some) in
+        record {
+          later = omega (arith, some);
+          within = count-fits;
+          same-length = put-length _ _ _ _ _ (lines .text);
+          stands = record {
+            reads = subst (Reads script (w .next)) before (free .reads-on (t .count - 1) (omega (arith, count-is, first .most, at-most-most (n + 1))));
+            there = is .slots ∙ k .there;
+          };
+          left = left-on entries (t .count) (p .tick) stop link (linkOf (t .link) x-after) (allHeard (p .monitors)) (allHeard monitors) out out-after (p .at) at count-fits
+              (is .link-is ∙ ap (linkBehind link) ran-is)
+              (subst (λ (ts : List (List Sent)). TickLinesAre (ticksLines (p .tick) (allHeard (p .monitors)) ts) out (p .at) (allHeard monitors) at out-after) (rows-are s) lines);
+        }

@@ -1,2 +1,0 @@
--- The laws by which a tick of a play is proved.
-pub mod Steps

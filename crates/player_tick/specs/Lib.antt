@@ -1,2 +1,0 @@
--- One tick of a play.
-pub mod Step

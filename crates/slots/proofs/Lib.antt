@@ -1,4 +1,0 @@
--- The laws by which six slots are proved.
-pub mod Parts
-pub mod Slots
-pub mod Sixes
