@@ -1,6 +1,5 @@
 //! Runs recordings whose events were worked out beforehand through the archives and the oracles: the
-//! number of ticks and every event must be as recorded. Those of a device that bursts are the ones
-//! that the program burst_examples runs.
+//! number of ticks and every event must be as recorded.
 //!
 //! A line of a file is a recording in hexadecimal, two bytes for each tick, and a digit for each
 //! tick, with '|' between them. Another field may stand in front, '-' is an empty field, and a line
@@ -48,7 +47,7 @@ fn recorded(recording: &str, events: &str) -> Recorded {
     }
 }
 
-/// The recordings of a file that has both fields in a line.
+/// The recordings of a file.
 fn of_file(text: &str) -> Vec<Recorded> {
     let mut all = Vec::new();
     for line in text.lines().filter(|line| !line.starts_with('#')) {
@@ -56,26 +55,6 @@ fn of_file(text: &str) -> Vec<Recorded> {
         match fields[..] {
             [.., recording, events] => all.push(recorded(recording, events)),
             _ => panic!("no recording with its events: {line}"),
-        }
-    }
-    all
-}
-
-/// The recordings of a file that has one in a line, and their events in another.
-fn of_files(recordings: &str, events: &str) -> Vec<Recorded> {
-    assert_eq!(recordings.lines().count(), events.lines().count());
-    recordings
-        .lines()
-        .zip(events.lines())
-        .map(|(recording, events)| recorded(recording, events))
-        .collect()
-}
-
-/// With the call that gives burst content in tick 0, in place of any other.
-fn with_content(mut all: Vec<Recorded>) -> Vec<Recorded> {
-    for Recorded { recording, .. } in &mut all {
-        if let Some(first) = recording.first_mut() {
-            *first = *first & 0xE0 | device_oracle::BURST_CONTENT;
         }
     }
     all
@@ -110,10 +89,7 @@ fn main() -> ExitCode {
     let reader = of_file(include_str!("data/item-01/reader.txt"));
     let master = of_file(include_str!("data/item-01/master.txt"));
     let device = of_file(include_str!("data/item-01/device.txt"));
-    let burst = with_content(of_files(
-        include_str!("../crates/burst_examples/stdin"),
-        include_str!("../crates/burst_examples/stdout"),
-    ));
+    let burst = of_file(include_str!("data/item-01/bursting.txt"));
     let runs: [(&str, &[Recorded], Run); 8] = [
         ("reader, archive", &reader, line_archive::ticks),
         ("reader, oracle", &reader, tick_oracle::ticks),

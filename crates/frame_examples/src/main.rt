@@ -9,138 +9,171 @@ use frame::Read;
 use frame::STX;
 use frame::Written;
 use libc::STDOUT_FILENO;
+use texts::bit;
+use texts::put_all_spaced;
+use texts::put_bytes;
+use texts::put_field;
+use texts::put_spaced;
 
-fn text(words: &[u8]) {
-    io::write_all(STDOUT_FILENO, words);
+// Prints the line that ends at a place.
+fn print_line(out: &mut [u8], at: usize) {
+    let end = put_bytes(b"\n", out, at);
+    io::write_all(STDOUT_FILENO, texts::front(out, end));
 }
 
-// A name and a number.
-fn field(name: &[u8], n: u64) {
-    text(name);
-    io::print_decimal(STDOUT_FILENO, n);
+fn put_refused(why: Refusal, out: &mut [u8], at: usize) -> usize {
+    put_field(b": refused ", why.number() as u64, out, at)
 }
 
-fn flag(name: &[u8], on: bool) {
-    if on {
-        field(name, 1);
-    } else {
-        field(name, 0);
-    }
+fn put_header(h: Header, out: &mut [u8], at: usize) -> usize {
+    let mut place = put_field(b" type ", h.frame as u64, out, at);
+    place = put_field(b" long ", bit(h.long), out, place);
+    place = put_field(b" primary ", bit(h.primary), out, place);
+    place = put_field(b" burst ", bit(h.burst), out, place);
+    put_field(b" address ", h.address, out, place)
 }
 
-// A byte in hexadecimal, with a space in front.
-fn digits(byte: u8) {
-    text(b" ");
-    io::print_hex(STDOUT_FILENO, byte as u64, 2);
-}
-
-fn hexadecimal(bytes: &[u8]) {
-    let mut i = 0;
-    while i < bytes.len() {
-        digits(bytes[i]);
-        i += 1;
-    }
-}
-
-fn refused(why: Refusal) {
-    field(b": refused ", why.number() as u64);
-}
-
-fn found(f: Found) {
+// The numbers behind the header.
+fn put_rest(f: Found, out: &mut [u8], at: usize) -> usize {
     let h = f.header;
-    field(b": preamble ", f.preamble as u64);
-    field(b" type ", h.frame as u64);
-    flag(b" long ", h.long);
-    flag(b" primary ", h.primary);
-    flag(b" burst ", h.burst);
-    field(b" address ", h.address);
-    field(b" expansion ", f.expansion as u64);
-    field(b" command ", h.command as u64);
-    field(b" start ", f.start as u64);
-    field(b" count ", f.count as u64);
-    field(b" end ", f.end as u64);
+    let mut place = put_field(b" expansion ", f.expansion as u64, out, at);
+    place = put_field(b" command ", h.command as u64, out, place);
+    place = put_field(b" start ", f.start as u64, out, place);
+    place = put_field(b" count ", f.count as u64, out, place);
+    put_field(b" end ", f.end as u64, out, place)
+}
+
+fn put_found(f: Found, out: &mut [u8], at: usize) -> usize {
+    let h = f.header;
+    let mut place = put_field(b": preamble ", f.preamble as u64, out, at);
+    place = put_header(h, out, place);
+    put_rest(f, out, place)
+}
+
+fn put_delimiter(delimiter: Delimiter, out: &mut [u8], at: usize) -> usize {
+    match delimiter {
+        Delimiter::Is(frame, long, expansion) => {
+            let mut place = put_field(b": type ", frame as u64, out, at);
+            place = put_field(b" long ", bit(long), out, place);
+            put_field(b" expansion ", expansion as u64, out, place)
+        }
+        Delimiter::Not => put_bytes(b": none", out, at),
+    }
+}
+
+fn print_delimiter(byte: u8, out: &mut [u8]) {
+    let mut place = put_bytes(b"delimiter", out, 0);
+    place = put_spaced(byte, out, place);
+    let delimiter = frame::delimiter_of(byte);
+    place = put_delimiter(delimiter, out, place);
+    print_line(out, place);
 }
 
 // What a byte says in the delimiter's place.
 fn show_delimiter(byte: u8) {
-    text(b"delimiter");
-    digits(byte);
-    let delimiter = frame::delimiter_of(byte);
-    match delimiter {
-        Delimiter::Is(frame, long, expansion) => {
-            field(b": type ", frame as u64);
-            flag(b" long ", long);
-            field(b" expansion ", expansion as u64);
-        }
-        Delimiter::Not => text(b": none"),
-    }
-    text(b"\n");
+    let mut out = io::buffer();
+    print_delimiter(byte, &mut out);
+}
+
+fn print_check(bytes: &[u8], out: &mut [u8]) {
+    let mut place = put_bytes(b"check", out, 0);
+    place = put_all_spaced(bytes, out, place);
+    place = put_bytes(b":", out, place);
+    place = put_spaced(check_words::xor_from(0, bytes), out, place);
+    print_line(out, place);
 }
 
 // The check byte of some bytes from the delimiter on.
 fn show_check(bytes: &[u8]) {
-    text(b"check");
-    hexadecimal(bytes);
-    text(b":");
-    digits(check_words::xor_from(0, bytes));
-    text(b"\n");
+    let mut out = io::buffer();
+    print_check(bytes, &mut out);
+}
+
+fn put_read(bytes: &[u8], read: Read, out: &mut [u8], at: usize) -> usize {
+    match read {
+        Read::Frame(f) => {
+            let mut place = put_found(f, out, at);
+            place = put_bytes(b" data", out, place);
+            put_all_spaced(frame_read::part(bytes, f.start, f.count), out, place)
+        }
+        Read::Refused(why) => put_refused(why, out, at),
+    }
+}
+
+fn print_read(bytes: &[u8], out: &mut [u8]) {
+    let mut place = put_bytes(b"read", out, 0);
+    place = put_all_spaced(bytes, out, place);
+    let read = frame_read::read(bytes);
+    place = put_read(bytes, read, out, place);
+    print_line(out, place);
 }
 
 // What is read from some bytes, and the data.
 fn show_read(bytes: &[u8]) {
-    text(b"read");
-    hexadecimal(bytes);
-    let read = frame_read::read(bytes);
-    match read {
-        Read::Frame(f) => {
-            found(f);
-            text(b" data");
-            hexadecimal(frame_read::part(bytes, f.start, f.count));
-        }
-        Read::Refused(why) => refused(why),
+    let mut out = io::buffer();
+    print_read(bytes, &mut out);
+}
+
+fn put_written(buffer: &[u8], written: Written, out: &mut [u8], at: usize) -> usize {
+    match written {
+        Written::To(end) => put_all_spaced(frame_read::part(buffer, 0, end), out, at),
+        Written::Refused(why) => put_refused(why, out, at),
     }
-    text(b"\n");
+}
+
+fn print_write(buffer: &mut [u8], preamble: usize, h: Header, bytes: &[u8], out: &mut [u8]) {
+    let mut place = put_bytes(b"write", out, 0);
+    let written = frame_write::write(preamble, h, bytes, buffer, 0);
+    place = put_written(buffer, written, out, place);
+    print_line(out, place);
 }
 
 // What is written into a buffer from its front.
-fn show_write(
+fn show_write(preamble: usize, h: Header, bytes: &[u8]) {
+    let mut buffer = [0u8; 300];
+    let mut out = io::buffer();
+    print_write(&mut buffer, preamble, h, bytes, &mut out);
+}
+
+fn put_end(written: Written, out: &mut [u8], at: usize) -> usize {
+    match written {
+        Written::To(end) => put_field(b": to ", end as u64, out, at),
+        Written::Refused(why) => put_refused(why, out, at),
+    }
+}
+
+fn print_length(
     buffer: &mut [u8],
+    start: usize,
     preamble: usize,
-    frame: u8,
-    long: bool,
-    primary: bool,
-    burst: bool,
-    address: u64,
-    command: u8,
+    h: Header,
     bytes: &[u8],
+    out: &mut [u8],
 ) {
-    let h = Header {
+    let mut place = put_field(b"data bytes ", bytes.len() as u64, out, 0);
+    place = put_field(b" at ", start as u64, out, place);
+    let written = frame_write::write(preamble, h, bytes, buffer, start);
+    place = put_end(written, out, place);
+    print_line(out, place);
+}
+
+// How long a frame is that is written into a buffer from a place on.
+fn show_length(start: usize, preamble: usize, h: Header, bytes: &[u8]) {
+    let mut buffer = [0u8; 300];
+    let mut out = io::buffer();
+    print_length(&mut buffer, start, preamble, h, bytes, &mut out);
+}
+
+// A header by its fields.
+fn header(frame: u8, long: bool, primary: bool, burst: bool, address: u64, command: u8) -> Header {
+    Header {
         frame: frame,
         long: long,
         primary: primary,
         burst: burst,
         address: address,
         command: command,
-    };
-    text(b"write");
-    let written = frame_write::write(preamble, h, bytes, buffer, 0);
-    match written {
-        Written::To(end) => hexadecimal(frame_read::part(buffer, 0, end)),
-        Written::Refused(why) => refused(why),
     }
-    text(b"\n");
-}
-
-// How long a frame is that is written into a buffer from a place on.
-fn show_length(buffer: &mut [u8], place: usize, preamble: usize, h: Header, bytes: &[u8]) {
-    field(b"data bytes ", bytes.len() as u64);
-    field(b" at ", place as u64);
-    let written = frame_write::write(preamble, h, bytes, buffer, place);
-    match written {
-        Written::To(end) => field(b": to ", end as u64),
-        Written::Refused(why) => refused(why),
-    }
-    text(b"\n");
 }
 
 // The standard's three frame types with each address, expansion bytes, and what is no delimiter.
@@ -165,48 +198,35 @@ fn checks() {
 }
 
 // The same three as frames, a BACK, and the largest polling address.
-fn writes(buffer: &mut [u8]) {
-    show_write(buffer, 5, STX, false, true, false, 0, 0, b"");
-    show_write(buffer, 5, STX, true, true, false, 2, 3, b"");
-    show_write(buffer, 5, ACK, false, true, false, 0, 0, b"\x00\x00");
+fn writes() {
+    show_write(5, header(STX, false, true, false, 0, 0), b"");
+    show_write(5, header(STX, true, true, false, 2, 3), b"");
+    show_write(5, header(ACK, false, true, false, 0, 0), b"\x00\x00");
     show_write(
-        buffer,
         5,
-        BACK,
-        true,
-        false,
-        true,
-        274877906943,
-        3,
+        header(BACK, true, false, true, 274877906943, 3),
         b"\x00\x40\x07",
     );
-    show_write(buffer, 5, STX, false, true, false, 63, 0, b"");
+    show_write(5, header(STX, false, true, false, 63, 0), b"");
 }
 
 // Each refusal of the fields.
-fn refusals(buffer: &mut [u8]) {
-    show_write(buffer, 4, STX, false, true, false, 63, 0, b"");
-    show_write(buffer, 5, STX, false, true, false, 64, 0, b"");
-    show_write(buffer, 5, STX, true, true, false, 274877906944, 0, b"");
-    show_write(buffer, 5, ACK, false, true, false, 0, 0, b"\x00");
-    show_write(buffer, 5, 3, false, true, false, 0, 0, b"");
+fn refusals() {
+    show_write(4, header(STX, false, true, false, 63, 0), b"");
+    show_write(5, header(STX, false, true, false, 64, 0), b"");
+    show_write(5, header(STX, true, true, false, 274877906944, 0), b"");
+    show_write(5, header(ACK, false, true, false, 0, 0), b"\x00");
+    show_write(5, header(3, false, true, false, 0, 0), b"");
 }
 
 // 255 data bytes and 256; the longest frame, and a buffer that is one byte too short for it.
-fn lengths(buffer: &mut [u8], zeros: &[u8]) {
-    let h = Header {
-        frame: STX,
-        long: true,
-        primary: true,
-        burst: false,
-        address: 2,
-        command: 3,
-    };
-    show_length(buffer, 0, 20, h, frame_read::part(zeros, 0, 255));
-    show_length(buffer, 16, 20, h, frame_read::part(zeros, 0, 255));
-    show_length(buffer, 17, 20, h, frame_read::part(zeros, 0, 255));
-    show_length(buffer, 0, 20, h, zeros);
-    show_length(buffer, 301, 20, h, b"");
+fn lengths(zeros: &[u8]) {
+    let h = header(STX, true, true, false, 2, 3);
+    show_length(0, 20, h, frame_read::part(zeros, 0, 255));
+    show_length(16, 20, h, frame_read::part(zeros, 0, 255));
+    show_length(17, 20, h, frame_read::part(zeros, 0, 255));
+    show_length(0, 20, h, zeros);
+    show_length(301, 20, h, b"");
 }
 
 // Frames that are read, and each refusal.
@@ -227,12 +247,11 @@ fn reads() {
 }
 
 fn main() {
-    let mut buffer = [0u8; 300];
     let zeros = [0u8; 256];
     delimiters();
     checks();
-    writes(&mut buffer);
-    refusals(&mut buffer);
-    lengths(&mut buffer, &zeros);
+    writes();
+    refusals();
+    lengths(&zeros);
     reads();
 }

@@ -11,7 +11,7 @@ use Rattle.base.specs.Refusal.{number, Called, accepted, refused}
 use Rattle.base.specs.declared.Refusal.{Refusal}
 use Rattle.line.specs.declared.Heard.{Heard}
 use Rattle.line.specs.declared.Profile.{Profile}
-use Rattle.line_c.specs.Recording.{RunIs}
+use Rattle.recording.specs.Recording.{RunIs}
 use Rattle.turns.specs.Master.{masterStarts}
 use Rattle.turns.specs.Link.{DeviceSide, LinkStep}
 use Rattle.turns.specs.Run.{All, none, and, Distinct, DeviceStarts, EachTick, count, senders}

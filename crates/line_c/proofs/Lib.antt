@@ -1,3 +1,2 @@
--- The laws by which a run over a recording is proved.
-pub mod Runs
+-- The laws by which the reader's run over a recording is proved.
 pub mod Reader

@@ -7,8 +7,8 @@ use Rattle.line.specs.Reader.{passing, taken}
 use Rattle.line.specs.declared.Heard.{Heard}
 use Rattle.line.specs.declared.Receiver.{Receiver}
 use Rattle.line.specs.declared.Taken.{Taken}
-use Rattle.line_c.specs.Recording.{eventNumber, step, ticked, told}
-use Rattle.line_c.proofs.Runs.{Running, begun, goes-on, run-ended, run-full}
+use Rattle.line_c.specs.Told.{eventNumber, step, ticked, told}
+use Rattle.recording.proofs.Runs.{Running, begun, goes-on, run-ended, run-full}
 
 -- a tick of what was heard
 pub step-same : (r : Receiver) (h : Heard) (g : Heard) (t : Taken) → h ≡ g → t ≡ taken r h → t ≡ taken r g

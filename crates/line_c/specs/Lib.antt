@@ -1,2 +1,2 @@
 -- The tick reader over a recording of the line.
-pub mod Recording
+pub mod Told

@@ -1,30 +1,10 @@
 // The tick reader for programs in C and Rust: over a recording of the line, with a number for what it tells in each tick.
-use line::Damage;
 use line::Event;
-use line::Heard;
 use line::Receiver;
 use line::Taken;
 ghost use mathlib.Core.Path.{_≡_};
-ghost use Rattle.line_c.specs.Recording.{heardOf, eventNumber, step, told, RunIs};
-
-// What a tick of a recording says was heard: silence, a character, or a damaged one.
-pub fn heard_of(kind: u8, c: u8) -> Heard
-    ensures { λ r. ⌜ r ≡ heardOf kind c ⌝ }
-{
-    if kind == 1 {
-        return Heard::Character(c);
-    }
-    if kind == 2 {
-        return Heard::Damaged(c, Damage::Parity);
-    }
-    if kind == 3 {
-        return Heard::Damaged(c, Damage::Overrun);
-    }
-    if kind == 4 {
-        return Heard::Damaged(c, Damage::Framing);
-    }
-    Heard::Silence
-}
+ghost use Rattle.recording.specs.Recording.{RunIs};
+ghost use Rattle.line_c.specs.Told.{eventNumber, step, told};
 
 // What the reader tells, as a number.
 fn event_number(event: Event) -> u8
@@ -43,7 +23,7 @@ fn event_number(event: Event) -> u8
 fn stepped(r: Receiver, first: u8, c: u8, bytes: &mut [u8; 255]) -> Taken
     ensures { λ t. ⌜ t ≡ step r first c ⌝ }
 {
-    let heard = heard_of(first / 32, c);
+    let heard = recording::heard_of(first / 32, c);
     tick_reader::take(r, heard, bytes)
 }
 

@@ -1,92 +1,87 @@
 // Feeds recorded ticks to the tick reader, and prints each tick in which it tells something.
+use frame::Header;
 use libc::STDOUT_FILENO;
 use line::Event;
 use line::FrameDamage;
 use line::Whole;
+use texts::bit;
+use texts::put_all_spaced;
+use texts::put_bytes;
+use texts::put_field;
 
-fn text(words: &[u8]) {
-    io::write_all(STDOUT_FILENO, words);
+// Prints the line that ends at a place.
+fn print_line(out: &mut [u8], at: usize) {
+    let end = put_bytes(b"\n", out, at);
+    io::write_all(STDOUT_FILENO, texts::front(out, end));
 }
 
-// A name and a number.
-fn field(name: &[u8], n: u64) {
-    text(name);
-    io::print_decimal(STDOUT_FILENO, n);
+fn put_header(h: Header, out: &mut [u8], at: usize) -> usize {
+    let mut place = put_field(b" type ", h.frame as u64, out, at);
+    place = put_field(b" long ", bit(h.long), out, place);
+    place = put_field(b" primary ", bit(h.primary), out, place);
+    place = put_field(b" burst ", bit(h.burst), out, place);
+    put_field(b" address ", h.address, out, place)
 }
 
-fn flag(name: &[u8], on: bool) {
-    if on {
-        field(name, 1);
-    } else {
-        field(name, 0);
-    }
-}
-
-// A byte in hexadecimal, with a space in front.
-fn digits(byte: u8) {
-    text(b" ");
-    io::print_hex(STDOUT_FILENO, byte as u64, 2);
-}
-
-// The first count bytes of the reader's buffer.
-fn hexadecimal(bytes: &[u8; 255], count: u8) {
-    let mut i: u8 = 0;
-    while i < count {
-        digits(bytes[i as usize]);
-        i += 1;
-    }
-}
-
-fn fields(w: Whole) {
+fn put_fields(w: Whole, out: &mut [u8], at: usize) -> usize {
     let h = w.header;
-    field(b" type ", h.frame as u64);
-    flag(b" long ", h.long);
-    flag(b" primary ", h.primary);
-    flag(b" burst ", h.burst);
-    field(b" address ", h.address);
-    field(b" expansion ", w.expansion as u64);
-    field(b" command ", h.command as u64);
-    field(b" count ", w.count as u64);
+    let mut place = put_header(h, out, at);
+    place = put_field(b" expansion ", w.expansion as u64, out, place);
+    place = put_field(b" command ", h.command as u64, out, place);
+    put_field(b" count ", w.count as u64, out, place)
 }
 
-fn frame_heard(w: Whole, bytes: &[u8; 255]) {
-    fields(w);
-    text(b" data");
-    hexadecimal(bytes, w.count);
+// A frame, with the data that are the first bytes of the reader's buffer.
+fn put_frame(w: Whole, bytes: &[u8; 255], out: &mut [u8], at: usize) -> usize {
+    let mut place = put_fields(w, out, at);
+    place = put_bytes(b" data", out, place);
+    put_all_spaced(texts::front(bytes, w.count as usize), out, place)
 }
 
-fn isDamaged(m: FrameDamage) {
-    flag(b" harm parity ", m.parity);
-    flag(b" overrun ", m.overrun);
-    flag(b" framing ", m.framing);
-    flag(b" check ", m.check);
-    flag(b" address ", m.address);
+fn put_damage(m: FrameDamage, out: &mut [u8], at: usize) -> usize {
+    let mut place = put_field(b" harm parity ", bit(m.parity), out, at);
+    place = put_field(b" overrun ", bit(m.overrun), out, place);
+    place = put_field(b" framing ", bit(m.framing), out, place);
+    place = put_field(b" check ", bit(m.check), out, place);
+    put_field(b" address ", bit(m.address), out, place)
+}
+
+// What a line begins with.
+fn put_told(tick: usize, what: &[u8], out: &mut [u8]) -> usize {
+    let mut place = put_field(b"  tick ", tick as u64, out, 0);
+    place = put_bytes(b": ", out, place);
+    put_bytes(what, out, place)
+}
+
+fn print_event(tick: usize, event: Event, bytes: &[u8; 255], out: &mut [u8]) {
+    match event {
+        Event::Nothing => {}
+        Event::PassedOver => {
+            let place = put_told(tick, b"passed over", out);
+            print_line(out, place);
+        }
+        Event::Broken => {
+            let place = put_told(tick, b"broken", out);
+            print_line(out, place);
+        }
+        Event::Frame(w) => {
+            let mut place = put_told(tick, b"whole", out);
+            place = put_frame(w, bytes, out, place);
+            print_line(out, place);
+        }
+        Event::Damaged(w, m) => {
+            let mut place = put_told(tick, b"damaged", out);
+            place = put_frame(w, bytes, out, place);
+            place = put_damage(m, out, place);
+            print_line(out, place);
+        }
+    }
 }
 
 // A line for what the reader tells in a tick.
-fn show(tick: usize, what: &[u8]) {
-    field(b"  tick ", tick as u64);
-    text(b": ");
-    text(what);
-}
-
 fn show_event(tick: usize, event: Event, bytes: &[u8; 255]) {
-    match event {
-        Event::Nothing => {}
-        Event::PassedOver => show(tick, b"passed over\n"),
-        Event::Broken => show(tick, b"broken\n"),
-        Event::Frame(w) => {
-            show(tick, b"whole");
-            frame_heard(w, bytes);
-            text(b"\n");
-        }
-        Event::Damaged(w, m) => {
-            show(tick, b"damaged");
-            frame_heard(w, bytes);
-            isDamaged(m);
-            text(b"\n");
-        }
-    }
+    let mut out = io::buffer();
+    print_event(tick, event, bytes, &mut out);
 }
 
 // The reader over a recording, from its start on.
@@ -94,7 +89,7 @@ fn run(recording: &[u8], bytes: &mut [u8; 255]) {
     let mut r = tick_reader::passing_reader();
     let mut at = 0;
     while 2 <= recording.len() - at {
-        let heard = line_c::heard_of(recording[at] / 32, recording[at + 1]);
+        let heard = recording::heard_of(recording[at] / 32, recording[at + 1]);
         let taken = tick_reader::take(r, heard, bytes);
         let event = taken.event;
         show_event(at / 2, event, bytes);
@@ -106,8 +101,8 @@ fn run(recording: &[u8], bytes: &mut [u8; 255]) {
 // A recording has two bytes for each tick. The first is \x00 for silence, a space for a character, and for a damaged one P for parity, o for overrun, \x80 for framing.
 fn show_run(name: &[u8], recording: &[u8]) {
     let mut bytes = [0u8; 255];
-    text(name);
-    text(b"\n");
+    io::write_all(STDOUT_FILENO, name);
+    io::write_all(STDOUT_FILENO, b"\n");
     run(recording, &mut bytes);
 }
 

@@ -7,8 +7,8 @@ use mathlib.Core.List.{List, [], _∷_}
 use lib.ListN.{length, drop, set, length-drop}
 use Rattle.turns.specs.Link.{Calls, linkTick, linkAfter, run}
 use Rattle.turns.specs.Link as L
-use Rattle.line_c.specs.Recording.{RunIs}
-use Rattle.line_c.proofs.Runs.{Filling, filling-begun, filling-more, filling-ended, filling-full}
+use Rattle.recording.specs.Recording.{RunIs}
+use Rattle.recording.proofs.Runs.{Filling, filling-begun, filling-more, filling-ended, filling-full}
 use Rattle.parties.specs.Stands.{Rows, linkOf, heres}
 use Rattle.parties.specs.declared.Link.{Link}
 use Rattle.parties.specs.declared.Slot.{Slot}

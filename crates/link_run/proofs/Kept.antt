@@ -9,7 +9,7 @@ use Rattle.base.specs.Store.{stored}
 use Rattle.base.specs.Refusal.{number, Called, accepted, refused}
 use Rattle.base.specs.declared.Refusal.{Refusal}
 use Rattle.line.specs.declared.Profile.{Profile}
-use Rattle.line_c.specs.Recording.{RunIs}
+use Rattle.recording.specs.Recording.{RunIs}
 use Rattle.turns.specs.Run.{Distinct, EachTick, no-tick, OneBursts, NoTwoSend}
 use Rattle.turns.specs.Demand3.{Premises, WaitIn}
 use Rattle.turns.proofs.Wait as W

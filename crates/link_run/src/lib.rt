@@ -10,7 +10,7 @@ ghost use mathlib.Core.Path.{_≡_};
 ghost use Prim.Native.Nat.{_+_, _*_, _≤_};
 ghost use lib.ListN.{length};
 ghost use Rattle.base.specs.Lent.{before, after};
-ghost use Rattle.line_c.specs.Recording.{RunIs};
+ghost use Rattle.recording.specs.Recording.{RunIs};
 ghost use Rattle.parties.specs.Stands.{rowsOf, heres};
 ghost use Rattle.link_start.specs.Fresh.{lentFresh};
 ghost use Rattle.tick_list.specs.Ticks.{ticksOf};

@@ -7,6 +7,7 @@ use mathlib.Core.Path.{_≡_, refl}
 use mathlib.Core.List.{List, [], _∷_, _++_}
 use lib.ListN.{length, length-append}
 use Rattle.base.specs.Choice.{if_then_else_, _<?_, _=?_}
+use Rattle.texts.specs.Decimal.{decimalOf}
 use Rattle.frame.specs.Delimiter.{stx, ack}
 use Rattle.line.specs.Reader.{taken}
 use Rattle.line.specs.declared.Event.{Event}
@@ -18,7 +19,7 @@ use Rattle.turns.specs.Run.{count}
 use Rattle.turns.specs.declared.Sent.{Sent}
 use Rattle.turns.specs.declared.Sent.the-variants.{Silent}
 use Rattle.listing.specs.Lines.{Line, frameEnds, endsBy, endsWith, oneMore, listens, linesOf, senders, isLone, tickLines, linesFrom}
-use Rattle.listing.specs.Text.{decimalOf, decimal, headLine, typeName, masterDigit, word, lineText, linesText}
+use Rattle.listing.specs.Text.{decimal, headLine, typeName, masterDigit, word, lineText, linesText}
 use Rattle.listing.specs.declared.Monitor.{Monitor}
 
 -- ---- a line

@@ -9,6 +9,8 @@ use lib.ListN.{length, take, drop, getD, set, replicate, length-set, drop-of-len
 use lib.Seq.{drop-cons, drop-set-lt, take-all, take-suc-set}
 use Rattle.base.specs.Choice.{if_then_else_, _≤?_}
 use Rattle.base.proofs.Choices.{if-is-true, if-is-false}
+use Rattle.texts.specs.Put.{Out, outOf, put, PutIs}
+use Rattle.texts.proofs.Puts.{put-append, put-none, put-same, put-then, put-length}
 use Rattle.line.specs.Reader.{idle, character, taken}
 use Rattle.line.specs.declared.Event.{Event}
 use Rattle.line.specs.declared.Event.the-variants.{Nothing, PassedOver, Broken, Frame, Damaged}
@@ -20,12 +22,10 @@ use Rattle.turns.specs.Run.{count}
 use Rattle.turns.specs.declared.Sent.{Sent}
 use Rattle.turns.specs.declared.Sent.the-variants.{Silent}
 use Rattle.listing.specs.Lines.{Line, lineOf, quietMonitor, PartyLines, goesOn, frameEnds, endsBy, endsWith, oneMore, listens, TickLines, besides, linesOf, senders, tickLines, linesFrom, monitorsFrom}
-use Rattle.listing.specs.Put.{Out, outOf, put, PutIs}
 use Rattle.listing.specs.Text.{lineText, linesText}
 use Rattle.listing.specs.Promises.{SendsIs, PartyIs, TickLinesAre}
 use Rattle.listing.specs.Rows.{ticksLines}
 use Rattle.listing.specs.declared.Monitor.{Monitor}
-use Rattle.listing.proofs.Puts.{put-append, put-none, put-same, put-then, put-length}
 
 -- quiet monitors
 pub quiet-reader : (r : Receiver) → r ≡ idle → record { receiver = r; count = 0; alone = true } ≡ quietMonitor

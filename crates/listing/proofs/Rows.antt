@@ -10,6 +10,8 @@ use lib.ListN.{length, take, drop, getD, set, length-set, length-map, List·getD
 use lib.Seq.{drop-cons, map-set-same}
 use Rattle.base.specs.Choice.{if_then_else_, _<?_, _≤?_}
 use Rattle.base.proofs.Choices.{if-below, if-not-below, if-equal, if-unequal}
+use Rattle.texts.specs.Put.{outOf, put}
+use Rattle.texts.proofs.Puts.{put-length}
 use Rattle.line.specs.Reader.{taken}
 use Rattle.line.specs.declared.Event.{Event}
 use Rattle.line.specs.declared.Event.the-variants.{Nothing, PassedOver, Broken, Frame, Damaged}
@@ -19,12 +21,10 @@ use Rattle.line.specs.declared.Taken.{Taken}
 use Rattle.turns.specs.declared.Sent.{Sent}
 use Rattle.turns.specs.declared.Sent.the-variants.{Silent}
 use Rattle.listing.specs.Lines.{quietMonitor, goesOn, frameEnds, endsBy, endsWith, oneMore, listens, linesOf, senders, tickLines, linesFrom, monitorsFrom}
-use Rattle.listing.specs.Put.{outOf, put}
 use Rattle.listing.specs.Text.{linesText}
 use Rattle.listing.specs.Promises.{SendsIs, PartyIs, TickLinesAre}
 use Rattle.listing.specs.Rows.{sentFor, rowSent, rowsSent, lesser, rowsListed, heardSoFar, allHeard, rowsLines, RowIs}
 use Rattle.listing.specs.declared.Monitor.{Monitor}
-use Rattle.listing.proofs.Puts.{put-length}
 use Rattle.listing.proofs.Listens.{Counting, counting-none, counting-more, counting-all, Listening, listening-none, listening-more, listening-all, listens-silent, listens-character, tick-goes-on}
 
 -- ---- how many rows

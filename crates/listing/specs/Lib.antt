@@ -3,6 +3,5 @@ pub mod Sents
 pub mod Lines
 pub mod FrameLines
 pub mod Text
-pub mod Put
 pub mod Promises
 pub mod Rows

@@ -3,10 +3,10 @@
 use Prim.Native.Nat.{ℕ, _≤_}
 use mathlib.Core.List.{List}
 use mathlib.Core.Path.{_≡_}
+use Rattle.texts.specs.Put.{PutIs}
 use Rattle.turns.specs.Run.{count}
 use Rattle.turns.specs.declared.Sent.{Sent}
 use Rattle.listing.specs.Lines.{PartyLines, TickLines}
-use Rattle.listing.specs.Put.{PutIs}
 use Rattle.listing.specs.Text.{linesText}
 use Rattle.listing.specs.declared.Monitor.{Monitor}
 

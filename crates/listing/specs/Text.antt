@@ -1,17 +1,14 @@
 -- To be believed: what the engine must do, or what is claimed of it.
 -- Document 01, "The player": the text of the output, a line for each frame behind the header line.
-use Prim.Native.Nat.{ℕ, _+_, _/_, _%_, zero, suc}
+use Prim.Native.Nat.{ℕ}
 use mathlib.Core.Bool.{Bool}
 use mathlib.Core.List.{List, [], _∷_, _++_}
-use Rattle.base.specs.Choice.{if_then_else_, _<?_, _=?_}
+use Rattle.base.specs.Choice.{if_then_else_, _=?_}
+use Rattle.texts.specs.Decimal.{decimalOf}
 use Rattle.frame.specs.Delimiter.{stx, ack}
 use Rattle.listing.specs.Lines.{Line}
 
--- a number in decimal, up to this many digits
-unfoldable pub decimalOf : ℕ → ℕ → List ℕ
-decimalOf zero n = []
-decimalOf (suc digits) n = if n <? 10 then (48 + n) ∷ [] else decimalOf digits (n / 10) ++ ((48 + n % 10) ∷ [])
-
+-- a number in decimal: of 16 bits it has at most five digits
 abbrev pub decimal : ℕ → List ℕ
 decimal n = decimalOf 5 n
 

@@ -3,6 +3,9 @@ use frame::Header;
 use line::Event;
 use line::Receiver;
 use line::Taken;
+use texts::put_byte;
+use texts::put_bytes;
+use texts::put_digits;
 use turns::Sent;
 ghost use mathlib.Core.Path.{_≡_};
 ghost use mathlib.Core.List.{[], _∷_};
@@ -11,9 +14,9 @@ ghost use lib.ListN.{length, replicate};
 ghost use Prim.Native.Nat.{_<_, _+_};
 ghost use Rattle.base.specs.Choice.{if_then_else_};
 ghost use Rattle.base.specs.Lent.{before};
+ghost use Rattle.texts.specs.Put.{PutIs};
 ghost use Rattle.listing.specs.Lines.{lineOf, quietMonitor, frameEnds, endsWith, oneMore, listens};
-ghost use Rattle.listing.specs.Text.{decimalOf, decimal, headLine, typeName, masterDigit, word, lineText};
-ghost use Rattle.listing.specs.Put.{PutIs};
+ghost use Rattle.listing.specs.Text.{decimal, headLine, typeName, masterDigit, word, lineText};
 ghost use Rattle.listing.specs.Promises.{PartyIs};
 ghost use Rattle.listing.specs.Rows.{lesser, rowsListed, heardSoFar, RowIs, RowsAre};
 
@@ -41,57 +44,11 @@ pub struct MonitorHeard {
     pub at: usize,
 }
 
-// A byte at a place of the output, if there is room for it; the next place.
-fn put_byte(b: u8, out: &mut [u8], at: usize) -> usize
-    ensures { λ r. ⌜ PutIs (b ∷ []) (now (out .entry)) at r (now (out .exit)) ⌝ }
-{
-    if at < out.len() {
-        out[at] = b;
-        return at + 1;
-    }
-    at
-}
-
-// Bytes, one behind the other.
-pub fn put_bytes(text: &[u8], out: &mut [u8], at: usize) -> usize
-    ensures { λ r. ⌜ PutIs (now (text .entry)) (now (out .entry)) at r (now (out .exit)) ⌝ }
-{
-    let mut place = at;
-    let mut i = 0;
-    while i < text.len() {
-        place = put_byte(text[i], out, place);
-        i += 1;
-    }
-    place
-}
-
-// A digit, 0 to 9.
-fn put_digit(n: u16, out: &mut [u8], at: usize) -> usize
-    requires { ⌜ n < 10 ⌝ }
-    ensures { λ r. ⌜ PutIs ((48 + n) ∷ []) (now (out .entry)) at r (now (out .exit)) ⌝ }
-{
-    put_byte((48 + n) as u8, out, at)
-}
-
-// A number in decimal, up to this many digits.
-fn put_digits(digits: u8, n: u16, out: &mut [u8], at: usize) -> usize
-    ensures { λ r. ⌜ PutIs (decimalOf digits n) (now (out .entry)) at r (now (out .exit)) ⌝ }
-{
-    if digits == 0 {
-        return at;
-    }
-    if n < 10 {
-        return put_digit(n, out, at);
-    }
-    let place = put_digits(digits - 1, n / 10, out, at);
-    put_digit(n % 10, out, place)
-}
-
 // A number in decimal.
 fn put_decimal(n: u16, out: &mut [u8], at: usize) -> usize
     ensures { λ r. ⌜ PutIs (decimal n) (now (out .entry)) at r (now (out .exit)) ⌝ }
 {
-    put_digits(5, n, out, at)
+    put_digits(5, n as u64, out, at)
 }
 
 // The header line.

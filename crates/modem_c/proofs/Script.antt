@@ -8,8 +8,8 @@ use Rattle.base.specs.Choice.{if_then_else_, _<?_, _=?_}
 use Rattle.base.specs.Refusal.{number}
 use Rattle.base.specs.declared.Refusal.{Refusal}
 use Rattle.base.proofs.Choices.{if-below, if-not-below}
-use Rattle.line_c.specs.Recording.{Ticked, trace}
-use Rattle.line_c.proofs.Runs.{Running, begun, goes-on, run-ended, run-full}
+use Rattle.recording.specs.Recording.{Ticked, trace}
+use Rattle.recording.proofs.Runs.{Running, begun, goes-on, run-ended, run-full}
 use Rattle.modem.specs.Chip.{freshChip, arrives, tickEnds}
 use Rattle.modem.specs.Accesses.{readAs, writtenAs, registerRead, registerWritten, looks}
 use Rattle.modem.specs.declared.Carried.{Carried}

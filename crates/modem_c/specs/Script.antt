@@ -5,7 +5,7 @@ use mathlib.Core.List.{List}
 use mathlib.Core.Path.{_≡_}
 use Rattle.base.specs.Choice.{if_then_else_, _<?_, _=?_}
 use Rattle.base.specs.Refusal.{Called, accepted, refused}
-use Rattle.line_c.specs.Recording.{Ticked, trace}
+use Rattle.recording.specs.Recording.{Ticked, trace}
 use Rattle.modem.specs.Chip.{freshChip, arrives, goesOut, chipAfter}
 use Rattle.modem.specs.Accesses.{registerRead, registerWritten, looks, puts}
 use Rattle.modem.specs.declared.Carried.{Carried}

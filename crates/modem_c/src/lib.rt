@@ -5,7 +5,7 @@ use modem::Mark;
 use modem::RegisterRead;
 use modem::RegisterWritten;
 ghost use mathlib.Core.Path.{_≡_};
-ghost use Rattle.line_c.specs.Recording.{RunIs};
+ghost use Rattle.recording.specs.Recording.{RunIs};
 ghost use Rattle.modem.specs.Chip.{goesOut, chipAfter};
 ghost use Rattle.modem.specs.Accesses.{registerRead, registerWritten};
 ghost use Rattle.modem_c.specs.Script.{gives, accessedAs, registerOf, readRefusal, writeRefusal, onRegister, markOf, outNumber, outCharacter, counting, onTick, accessed, answers};

@@ -8,42 +8,11 @@ use modem::Carried;
 use modem::Chip;
 use modem::Mark;
 use party::CallStatus;
+use texts::put_bytes;
+use texts::put_decimal;
+use texts::put_field;
+use texts::put_hexadecimal;
 use turns::Master;
-
-fn text(words: &[u8]) {
-    io::write_all(STDOUT_FILENO, words);
-}
-
-fn digit(n: u8) {
-    match n {
-        0 => text(b"0"),
-        1 => text(b"1"),
-        2 => text(b"2"),
-        3 => text(b"3"),
-        4 => text(b"4"),
-        5 => text(b"5"),
-        6 => text(b"6"),
-        7 => text(b"7"),
-        8 => text(b"8"),
-        9 => text(b"9"),
-        10 => text(b"A"),
-        11 => text(b"B"),
-        12 => text(b"C"),
-        13 => text(b"D"),
-        14 => text(b"E"),
-        _ => text(b"F"),
-    }
-}
-
-fn byte(n: u8) {
-    digit(n / 16);
-    digit(n % 16);
-}
-
-fn decimal(n: u8) {
-    digit(n / 10 % 10);
-    digit(n % 10);
-}
 
 fn sound(c: u8) -> Carried {
     Carried::Nine(c, modem::ninth_bit(c), Mark::Sound)
@@ -108,56 +77,69 @@ fn is_shown(carried: Carried, sent: Carried, result: CallStatus) -> bool {
     true
 }
 
-fn show_sent(sent: Carried) {
+fn put_sent(sent: Carried, out: &mut [u8], at: usize) -> usize {
     match sent {
-        Carried::Silence => text(b"-"),
-        Carried::Nine(c, _, _) => byte(c),
-    }
-}
-
-fn show_answer(result: CallStatus) {
-    match result {
-        CallStatus::Nothing => text(b"\n"),
-        CallStatus::Taken => text(b" taken\n"),
-        CallStatus::Refused(why) => {
-            text(b" refused ");
-            digit((why.number() % 10) as u8);
-            text(b"\n");
+        Carried::Silence => put_bytes(b"  -", out, at),
+        Carried::Nine(c, _, _) => {
+            let place = put_bytes(b"  ", out, at);
+            put_hexadecimal(true, c, out, place)
         }
     }
 }
 
-fn register(x: Chip, n: usize) {
-    let looked = modem::look(x, n);
-    byte(looked.value);
+fn put_answer(result: CallStatus, out: &mut [u8], at: usize) -> usize {
+    match result {
+        CallStatus::Nothing => put_bytes(b"\n", out, at),
+        CallStatus::Taken => put_bytes(b" taken\n", out, at),
+        CallStatus::Refused(why) => {
+            let place = put_field(b" refused ", why.number() as u64, out, at);
+            put_bytes(b"\n", out, place)
+        }
+    }
 }
 
-fn show_registers(tick: u8, x: Chip) {
-    decimal(tick);
-    text(b"    ");
-    register(x, 0);
-    text(b"     ");
-    register(x, 1);
-    text(b"      ");
-    register(x, 2);
-    text(b"   ");
-    register(x, 3);
-    text(b"   ");
-    register(x, 4);
-    text(b" ");
-    register(x, 5);
-    text(b" ");
-    register(x, 6);
-    text(b" ");
-    register(x, 7);
-    text(b"  ");
+// A register, behind some spaces.
+fn put_register(spaces: &[u8], x: Chip, n: usize, out: &mut [u8], at: usize) -> usize {
+    let place = put_bytes(spaces, out, at);
+    let looked = modem::look(x, n);
+    put_hexadecimal(true, looked.value, out, place)
+}
+
+// A tick in two digits.
+fn put_tick(tick: u8, out: &mut [u8]) -> usize {
+    let place = put_decimal((tick / 10) as u64, out, 0);
+    put_decimal((tick % 10) as u64, out, place)
+}
+
+// Status, control, data and kind.
+fn put_first(x: Chip, out: &mut [u8], at: usize) -> usize {
+    let mut place = put_register(b"    ", x, 0, out, at);
+    place = put_register(b"     ", x, 1, out, place);
+    place = put_register(b"      ", x, 2, out, place);
+    put_register(b"   ", x, 3, out, place)
+}
+
+// The tick count.
+fn put_count(x: Chip, out: &mut [u8], at: usize) -> usize {
+    let mut place = put_register(b"   ", x, 4, out, at);
+    place = put_register(b" ", x, 5, out, place);
+    place = put_register(b" ", x, 6, out, place);
+    put_register(b" ", x, 7, out, place)
+}
+
+fn print_tick(tick: u8, x: Chip, sent: Carried, result: CallStatus, out: &mut [u8]) {
+    let mut place = put_tick(tick, out);
+    place = put_first(x, out, place);
+    place = put_count(x, out, place);
+    place = put_sent(sent, out, place);
+    place = put_answer(result, out, place);
+    io::write_all(STDOUT_FILENO, texts::front(out, place));
 }
 
 fn show(tick: u8, x: Chip, carried: Carried, sent: Carried, result: CallStatus) {
     if is_shown(carried, sent, result) {
-        show_registers(tick, modem::arrive(x, carried));
-        show_sent(sent);
-        show_answer(result);
+        let mut out = io::buffer();
+        print_tick(tick, modem::arrive(x, carried), sent, result, &mut out);
     }
 }
 
@@ -196,6 +178,9 @@ fn main() {
     let MasterStarted::Started(m) = master::start(Profile::fsk(), true, 3) else {
         return;
     };
-    text(b"tick  status control data kind count        sent\n");
+    io::write_all(
+        STDOUT_FILENO,
+        b"tick  status control data kind count        sent\n",
+    );
     run(m, &mut frame, &mut bytes);
 }

@@ -7,8 +7,8 @@ use Rattle.base.specs.Refusal.{Called}
 use Rattle.base.specs.declared.Refusal.{Refusal}
 use Rattle.line.specs.Profile.{fskProfile}
 use Rattle.line.specs.declared.Profile.{Profile}
-use Rattle.line_c.specs.Recording.{trace, RunIs}
-use Rattle.line_c.proofs.Runs.{Running, begun, goes-on, run-ended, run-full, run-none}
+use Rattle.recording.specs.Recording.{trace, RunIs}
+use Rattle.recording.proofs.Runs.{Running, begun, goes-on, run-ended, run-full, run-none}
 use Rattle.modem.specs.Chip.{freshChip, arrives}
 use Rattle.modem.specs.Driver.{hears}
 use Rattle.modem.specs.declared.Carried.{Carried}
@@ -25,7 +25,8 @@ use Rattle.modem_party.specs.Behind.{Step, Behind, closes, behindTick}
 use Rattle.modem_party.specs.Ticks.{deviceStep, DeviceBehindIs}
 use Rattle.modem_party.specs.declared.DeviceBehind.{DeviceBehind}
 use Rattle.modem_party_c.specs.Wanted.{Placed, lineOf}
-use Rattle.modem_party_c.specs.Device.{answerAt, behindAt, numberOf, placedBy, ticked, placed, behindOf, StepIs, numbersBy, deviceNumbers}
+use Rattle.party_c.specs.Device.{answerAt}
+use Rattle.modem_party_c.specs.Device.{behindAt, numberOf, placedBy, ticked, placed, behindOf, StepIs, numbersBy, deviceNumbers}
 
 -- a tick of what the line carried and of what was called
 pub step-is : (x : Chip) (d : Device) (frame bytes contents frame-after bytes-after contents-after : List ℕ) (first c : ℕ) (w : Carried) (call : DeviceHostCall) (r : DeviceBehind)

@@ -8,8 +8,8 @@ use Rattle.base.specs.Refusal.{Called}
 use Rattle.base.specs.declared.Refusal.{Refusal}
 use Rattle.line.specs.Profile.{fskProfile}
 use Rattle.line.specs.declared.Profile.{Profile}
-use Rattle.line_c.specs.Recording.{trace, RunIs}
-use Rattle.line_c.proofs.Runs.{Running, begun, goes-on, run-ended, run-full, run-none}
+use Rattle.recording.specs.Recording.{trace, RunIs}
+use Rattle.recording.proofs.Runs.{Running, begun, goes-on, run-ended, run-full, run-none}
 use Rattle.modem.specs.Chip.{freshChip, arrives}
 use Rattle.modem.specs.Driver.{hears}
 use Rattle.modem.specs.declared.Carried.{Carried}

@@ -8,7 +8,7 @@ use Rattle.base.specs.declared.Refusal.{Refusal}
 use Rattle.line.specs.declared.Damage.{Damage}
 use Rattle.line.specs.declared.Damage.the-variants.{Parity}
 use Rattle.line.specs.declared.Heard.{Heard}
-use Rattle.line_c.specs.Recording.{heardOf}
+use Rattle.recording.specs.Recording.{heardOf}
 use Rattle.modem.specs.Parity.{ninth}
 use Rattle.modem.specs.Driver.{other, wire}
 use Rattle.modem.specs.declared.Carried.{Carried}

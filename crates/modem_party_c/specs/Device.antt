@@ -5,32 +5,21 @@ use mathlib.Core.List.{List, [], _∷_}
 use mathlib.Core.Path.{_≡_}
 use lib.ListN.{replicate}
 use Rattle.base.specs.Refusal.{Called, accepted, refused}
-use Rattle.base.specs.Choice.{if_then_else_, _=?_}
 use Rattle.frame.specs.Limits.{mostData, longestFrame}
 use Rattle.line.specs.Profile.{fskProfile}
-use Rattle.line_c.specs.Recording.{Ticked, trace}
+use Rattle.recording.specs.Recording.{Ticked, trace}
 use Rattle.modem.specs.Chip.{freshChip}
 use Rattle.modem.specs.declared.Chip.{Chip}
 use Rattle.turns.specs.Device.{deviceStarts}
 use Rattle.turns.specs.Told.{deviceTells}
 use Rattle.turns.specs.Link.{DeviceSide, DeviceStep}
 use Rattle.turns.specs.declared.Device.{Device}
-use Rattle.turns.specs.declared.Wish.the-variants.{Same, On, Off}
 use Rattle.device_tick.specs.Tick.{callOf, sideOf, stepOf}
-use Rattle.device_tick.specs.declared.DeviceHostCall.{DeviceHostCall}
+use Rattle.party_c.specs.Device.{answerAt}
 use Rattle.modem_party.specs.Behind.{Behind, behindTick}
 use Rattle.modem_party.specs.Ticks.{deviceStep}
 use Rattle.modem_party.specs.declared.DeviceBehind.{DeviceBehind}
 use Rattle.modem_party_c.specs.Wanted.{Placed, lineOf, answerNumber, wanted}
-
--- with two zero bytes: 1 answers, 2 and 3 answer with burst on and off, 4 gives burst content of command 3; anything else nothing
-abbrev pub answerAt : ℕ → DeviceHostCall
-answerAt call =
-    if call =? 1 then DeviceHostCall.Answers Same else
-    if call =? 2 then DeviceHostCall.Answers On else
-    if call =? 3 then DeviceHostCall.Answers Off else
-    if call =? 4 then DeviceHostCall.Content 3 else
-    DeviceHostCall.Nothing
 
 -- a tick, by the two bytes
 abbrev pub behindAt : Placed DeviceSide → ℕ → ℕ → Behind DeviceSide DeviceStep

@@ -9,7 +9,7 @@ use Rattle.base.specs.Refusal.{Called, accepted, refused}
 use Rattle.base.specs.Choice.{if_then_else_, _=?_}
 use Rattle.frame.specs.Limits.{mostData, longestFrame}
 use Rattle.line.specs.Profile.{fskProfile}
-use Rattle.line_c.specs.Recording.{Ticked, trace}
+use Rattle.recording.specs.Recording.{Ticked, trace}
 use Rattle.modem.specs.Chip.{freshChip}
 use Rattle.modem.specs.declared.Chip.{Chip}
 use Rattle.turns.specs.Master.{masterStarts}

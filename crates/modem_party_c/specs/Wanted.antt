@@ -2,7 +2,7 @@
 -- What the line carries in a tick of a recording, and which number of a tick is wanted.
 use Prim.Native.Nat.{ℕ, _/_, _%_}
 use Rattle.base.specs.Choice.{if_then_else_, _=?_}
-use Rattle.line_c.specs.Recording.{heardOf}
+use Rattle.recording.specs.Recording.{heardOf}
 use Rattle.modem.specs.Driver.{wire}
 use Rattle.modem.specs.declared.Carried.{Carried}
 use Rattle.modem.specs.declared.Chip.{Chip}

@@ -12,19 +12,16 @@ use modem_party::DeviceBehind;
 use modem_party::MasterBehind;
 use party::CallStatus;
 use turns::Device;
-use turns::DeviceTold;
 use turns::Master;
-use turns::MasterTold;
-use turns::Wish;
 ghost use mathlib.Core.Path.{_≡_};
-ghost use Rattle.line_c.specs.Recording.{trace, RunIs};
+ghost use Rattle.recording.specs.Recording.{trace, RunIs};
 ghost use Rattle.modem.specs.Driver.{other, wire};
 ghost use Rattle.turns.specs.Told.{masterTells, deviceTells};
 ghost use Rattle.party.specs.Calls.{resultOf};
 ghost use Rattle.modem_party_c.specs.Wanted.{lineOf, answerNumber, wanted};
 ghost use Rattle.modem_party_c.specs.Master.{requestAt, masterNumbers};
 ghost use Rattle.modem_party_c.specs.Master as SM;
-ghost use Rattle.modem_party_c.specs.Device.{answerAt, deviceNumbers};
+ghost use Rattle.modem_party_c.specs.Device.{deviceNumbers};
 ghost use Rattle.modem_party_c.specs.Device as SD;
 
 fn other_bit(bit: bool) -> bool
@@ -60,7 +57,7 @@ fn wire_of(heard: Heard, bit: bool) -> Carried
 fn line_of(first: u8, c: u8) -> Carried
     ensures { λ r. ⌜ r ≡ lineOf first c ⌝ }
 {
-    wire_of(line_c::heard_of(first / 32, c), c % 2 == 1)
+    wire_of(recording::heard_of(first / 32, c), c % 2 == 1)
 }
 
 fn answer_number(result: CallStatus) -> u8
@@ -123,17 +120,6 @@ fn request_at(call: u8) -> master::MasterHostCall
     master::MasterHostCall::Nothing
 }
 
-fn master_told(told: MasterTold) -> u8
-    ensures { λ r. ⌜ r ≡ masterTells told .number ⌝ }
-{
-    match told {
-        MasterTold::Nothing => 0,
-        MasterTold::Answered(_) => 1,
-        MasterTold::GivenUp(_) => 2,
-        MasterTold::BroadcastSent => 3,
-    }
-}
-
 // A tick of a master, by the two bytes of a recording.
 fn master_stepped(
     x: Chip,
@@ -158,7 +144,12 @@ fn master_number(which: u8, b: MasterBehind) -> u8
     let carried = ended.carried;
     let told = ticked.told;
     let result = ticked.result;
-    number_wanted(which, carried, master_told(told), answer_number(result))
+    number_wanted(
+        which,
+        carried,
+        party_c::master_told(told),
+        answer_number(result),
+    )
 }
 
 // A master behind a chip over a recording, from this state on.
@@ -212,35 +203,6 @@ pub extern "C" fn nengapiko_chip_master(recording: &[u8], events: &mut [u8]) -> 
     }
 }
 
-// The host's call in a tick: 1 answers, 2 with burst on, 3 with burst off; 4 gives burst content.
-fn answer_at(call: u8) -> device_tick::DeviceHostCall
-    ensures { λ r. ⌜ r ≡ answerAt call ⌝ }
-{
-    if call == 1 {
-        return device_tick::DeviceHostCall::Answers(Wish::Same);
-    }
-    if call == 2 {
-        return device_tick::DeviceHostCall::Answers(Wish::On);
-    }
-    if call == 3 {
-        return device_tick::DeviceHostCall::Answers(Wish::Off);
-    }
-    if call == 4 {
-        return device_tick::DeviceHostCall::Content(3);
-    }
-    device_tick::DeviceHostCall::Nothing
-}
-
-fn device_told(told: DeviceTold) -> u8
-    ensures { λ r. ⌜ r ≡ deviceTells told .number ⌝ }
-{
-    match told {
-        DeviceTold::Nothing => 0,
-        DeviceTold::Request(_) => 1,
-        DeviceTold::Broadcast(_) => 2,
-    }
-}
-
 // A tick of a device, by the two bytes of a recording.
 fn device_stepped(
     x: Chip,
@@ -254,7 +216,7 @@ fn device_stepped(
     ensures { λ r. ⌜ SD.StepIs x d (now (frame .entry)) (now (bytes .entry)) (now (contents .entry)) first c r (now (frame .exit)) (now (bytes .exit)) (now (contents .exit)) ⌝ }
 {
     let carried = line_of(first, c);
-    let call = answer_at(first / 4 % 8);
+    let call = party_c::answer_at(first / 4 % 8);
     modem_party::device_tick(x, carried, d, call, &[0, 0], contents, frame, bytes)
 }
 
@@ -266,7 +228,12 @@ fn device_number(which: u8, b: DeviceBehind) -> u8
     let carried = ended.carried;
     let told = ticked.told;
     let result = ticked.result;
-    number_wanted(which, carried, device_told(told), answer_number(result))
+    number_wanted(
+        which,
+        carried,
+        party_c::device_told(told),
+        answer_number(result),
+    )
 }
 
 // A device behind a chip over a recording, from this state on.

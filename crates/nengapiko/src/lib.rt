@@ -7,7 +7,7 @@ ghost use mathlib.Core.Path.{_≡_};
 ghost use Rattle.base.specs.Lent.{before, after};
 ghost use Rattle.frame_c.specs.Numbers.{WriteCall, ReadCall};
 ghost use Rattle.line.specs.Reader.{passing};
-ghost use Rattle.line_c.specs.Recording.{heardOf};
+ghost use Rattle.recording.specs.Recording.{heardOf};
 ghost use Rattle.words.specs.Reader.{receiverWords};
 ghost use Rattle.master_c.specs.Tick.{MasterStarts, MasterTicks};
 ghost use Rattle.device_c.specs.Tick.{DeviceStarts, DeviceTicks};
@@ -69,7 +69,7 @@ pub extern "C" fn nengapiko_reader_tick(
 )
     ensures { λ _. ⌜ ReaderTicks state bytes (heardOf kind character) results ⌝ }
 {
-    let heard = line_c::heard_of(kind, character);
+    let heard = recording::heard_of(kind, character);
     reader_c::tick(state, bytes, heard, results)
 }
 
@@ -144,7 +144,7 @@ pub extern "C" fn nengapiko_master_tick(
 ) -> u32
     ensures { λ r. ⌜ MasterTicks state frame bytes (heardOf kind character) (requestOf requests preamble revision long address command) (before put) results r ⌝ }
 {
-    let heard = line_c::heard_of(kind, character);
+    let heard = recording::heard_of(kind, character);
     let call = request_of(requests, preamble, revision, long, address, command);
     master_c::tick(state, frame, bytes, heard, call, put, results)
 }
@@ -202,7 +202,7 @@ pub extern "C" fn nengapiko_device_tick(
 ) -> u32
     ensures { λ r. ⌜ DeviceTicks state frame bytes contents (heardOf kind character) (givenBy call command) (before put) results r ⌝ }
 {
-    let heard = line_c::heard_of(kind, character);
+    let heard = recording::heard_of(kind, character);
     let given = given_by(call, command);
     device_c::tick(state, frame, bytes, contents, heard, given, put, results)
 }

@@ -8,8 +8,8 @@ use Rattle.base.specs.declared.Refusal.{Refusal}
 use Rattle.line.specs.Profile.{fskProfile}
 use Rattle.line.specs.declared.Heard.{Heard}
 use Rattle.line.specs.declared.Profile.{Profile}
-use Rattle.line_c.specs.Recording.{heardOf, trace, RunIs}
-use Rattle.line_c.proofs.Runs.{Running, begun, goes-on, run-ended, run-full, run-none}
+use Rattle.recording.specs.Recording.{heardOf, trace, RunIs}
+use Rattle.recording.proofs.Runs.{Running, begun, goes-on, run-ended, run-full, run-none}
 use Rattle.turns.specs.Device.{deviceStarts}
 use Rattle.turns.specs.Link.{DeviceStep, deviceTick}
 use Rattle.turns.specs.declared.Device.{Device}

@@ -8,7 +8,7 @@ use Rattle.base.specs.Refusal.{Called, accepted, refused}
 use Rattle.base.specs.Choice.{if_then_else_, _=?_}
 use Rattle.frame.specs.Limits.{mostData, longestFrame}
 use Rattle.line.specs.Profile.{fskProfile}
-use Rattle.line_c.specs.Recording.{heardOf, Ticked, trace}
+use Rattle.recording.specs.Recording.{heardOf, Ticked, trace}
 use Rattle.turns.specs.Device.{deviceStarts}
 use Rattle.turns.specs.Told.{deviceTells}
 use Rattle.turns.specs.Link.{DeviceSide, DeviceStep, deviceTick}

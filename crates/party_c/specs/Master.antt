@@ -9,7 +9,7 @@ use Rattle.base.specs.Refusal.{Called, accepted, refused}
 use Rattle.base.specs.Choice.{if_then_else_, _=?_}
 use Rattle.frame.specs.Limits.{mostData, longestFrame}
 use Rattle.line.specs.Profile.{fskProfile}
-use Rattle.line_c.specs.Recording.{heardOf, Ticked, trace}
+use Rattle.recording.specs.Recording.{heardOf, Ticked, trace}
 use Rattle.turns.specs.Master.{masterStarts}
 use Rattle.turns.specs.Told.{masterTells}
 use Rattle.turns.specs.Link.{MasterSide, MasterStep, masterTick}

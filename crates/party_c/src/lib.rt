@@ -14,7 +14,8 @@ use turns::Wish;
 ghost use mathlib.Core.Path.{_≡_};
 ghost use Prim.Native.Nat.{_≤_};
 ghost use lib.ListN.{take, replicate};
-ghost use Rattle.line_c.specs.Recording.{trace, RunIs};
+ghost use Rattle.recording.specs.Recording.{trace, RunIs};
+ghost use Rattle.turns.specs.Told.{masterTells, deviceTells};
 ghost use Rattle.master.specs.Tick as M;
 ghost use Rattle.device_tick.specs.Tick as D;
 ghost use Rattle.party_c.specs.Master.{requestAt, tagAt, masterNumber, masterNumbers};
@@ -47,8 +48,9 @@ fn request_at(low: u8) -> master::MasterHostCall
     master::MasterHostCall::Nothing
 }
 
-fn master_told(told: MasterTold) -> u8
-    ensures { λ r. ⌜ r ≡ masterNumber Sent.Silent told ⌝ }
+// What a master tells its host, as a number.
+pub fn master_told(told: MasterTold) -> u8
+    ensures { λ r. ⌜ r ≡ masterTells told .number ⌝ }
 {
     match told {
         MasterTold::Nothing => 0,
@@ -88,7 +90,7 @@ fn master_stepped(
 ) -> MasterTicked
     ensures { λ t. ⌜ SM.MasterStepIs m (now (frame .entry)) (now (bytes .entry)) first c t (now (frame .exit)) (now (bytes .exit)) ⌝ }
 {
-    let heard = line_c::heard_of(first / 32, c);
+    let heard = recording::heard_of(first / 32, c);
     let call = request_at(first % 32);
     let tag = [0u8; 6];
     let length = tag_length(first % 32);
@@ -141,7 +143,7 @@ pub extern "C" fn nengapiko_master(recording: &[u8], events: &mut [u8]) -> usize
 }
 
 // The host's call in a tick: 1 answers, 2 with burst on, 3 with burst off; 4 gives burst content.
-fn answer_at(low: u8) -> device_tick::DeviceHostCall
+pub fn answer_at(low: u8) -> device_tick::DeviceHostCall
     ensures { λ r. ⌜ r ≡ answerAt low ⌝ }
 {
     if low == 1 {
@@ -159,8 +161,9 @@ fn answer_at(low: u8) -> device_tick::DeviceHostCall
     device_tick::DeviceHostCall::Nothing
 }
 
-fn device_told(told: DeviceTold) -> u8
-    ensures { λ r. ⌜ r ≡ deviceNumber Sent.Silent told ⌝ }
+// What a device tells its host, as a number.
+pub fn device_told(told: DeviceTold) -> u8
+    ensures { λ r. ⌜ r ≡ deviceTells told .number ⌝ }
 {
     match told {
         DeviceTold::Nothing => 0,
@@ -190,7 +193,7 @@ fn device_stepped(
 ) -> DeviceTicked
     ensures { λ t. ⌜ SD.DeviceStepIs d (now (frame .entry)) (now (bytes .entry)) (now (contents .entry)) first c t (now (frame .exit)) (now (bytes .exit)) (now (contents .exit)) ⌝ }
 {
-    let heard = line_c::heard_of(first / 32, c);
+    let heard = recording::heard_of(first / 32, c);
     let call = answer_at(first % 32);
     device_tick::tick(d, heard, call, &[0, 0], contents, frame, bytes)
 }

@@ -12,6 +12,7 @@ mod show;
 use device::DeviceStarted;
 use device_tick::DeviceTicked;
 use libc::STDIN_FILENO;
+use libc::STDOUT_FILENO;
 use line::Damage;
 use line::Event;
 use line::Heard;
@@ -58,18 +59,6 @@ struct Both {
     log: [u16; 3000],
 }
 
-// The value of a hexadecimal digit.
-fn digit(c: u8) -> u8 {
-    if c < b'a' {
-        return c % 16;
-    }
-    (c % 16) + 9
-}
-
-fn two_digits(a: u8, b: u8) -> u8 {
-    (digit(a) % 16) * 16 + digit(b) % 16
-}
-
 fn three_digits(a: u8, b: u8, c: u8) -> u16 {
     ((a % 16) as u16) * 100 + ((b % 16) as u16) * 10 + ((c % 16) as u16)
 }
@@ -82,7 +71,7 @@ fn look(script: &[u8], tick: u16, whom: u8) -> Order {
             if three_digits(script[at], script[at + 1], script[at + 2]) == tick {
                 return Order {
                     what: script[at + 4],
-                    number: two_digits(script[at + 5], script[at + 6]),
+                    number: texts::byte_of(script[at + 5], script[at + 6]),
                 };
             }
         }
@@ -145,14 +134,6 @@ fn other_sends(script: &[u8], tick: u16) -> Sent {
     Sent::Character(o.number)
 }
 
-// The first bytes, so many, or all if there are fewer.
-fn front<'a>(bytes: &'a [u8], count: usize) -> &'a [u8] {
-    if count <= bytes.len() {
-        return &bytes[0..count];
-    }
-    bytes
-}
-
 fn wanted(long: bool, address: u8, command: u8) -> master::MasterHostCall {
     master::MasterHostCall::Requests(RequestFields {
         preamble: 5,
@@ -184,14 +165,14 @@ fn data_count(o: Order) -> usize {
     0
 }
 
-fn master_ticks(side: MasterSide, reception: Reception, script: &[u8], tick: u16) -> MasterSide {
+fn master_ticks(side: MasterSide, input: Reception, script: &[u8], tick: u16) -> MasterSide {
     let t = side.ticked;
     let mut frame = side.frame;
     let mut bytes = side.bytes;
-    let heard = reception.heard;
+    let heard = input.heard;
     let o = look(script, tick, b'm');
     let fives = [5u8; 6];
-    let put = front(&fives, data_count(o));
+    let put = texts::front(&fives, data_count(o));
     let ticked = master::tick(t.master, heard, master_call(o), put, &mut frame, &mut bytes);
     MasterSide {
         ticked: ticked,
@@ -211,15 +192,15 @@ fn device_call(o: Order) -> device_tick::DeviceHostCall {
     }
 }
 
-fn device_ticks(side: DeviceSide, reception: Reception, script: &[u8], tick: u16) -> DeviceSide {
+fn device_ticks(side: DeviceSide, input: Reception, script: &[u8], tick: u16) -> DeviceSide {
     let t = side.ticked;
     let mut contents = side.contents;
     let mut frame = side.frame;
     let mut bytes = side.bytes;
-    let heard = reception.heard;
+    let heard = input.heard;
     let o = look(script, tick, b'd');
     let zeros = [0u8; 255];
-    let put = front(&zeros, o.number as usize);
+    let put = texts::front(&zeros, o.number as usize);
     let call = device_call(o);
     let ticked = device_tick::tick(
         t.device,
@@ -336,15 +317,15 @@ fn device_side(d: Device) -> DeviceSide {
 }
 
 fn both_of(m: Master, d: Device) -> Both {
-    let reception = Reception {
+    let silence = Reception {
         heard: Heard::Silence,
         changed: false,
     };
     Both {
         m: master_side(m),
         d: device_side(d),
-        to_m: reception,
-        to_d: reception,
+        to_m: silence,
+        to_d: silence,
         log: [0; 3000],
     }
 }
@@ -368,7 +349,7 @@ fn line(words: &[u8]) {
             return;
         }
     }
-    show::text(words);
+    io::write_all(STDOUT_FILENO, words);
 }
 
 fn lines(words: &[u8]) {

@@ -7,9 +7,14 @@ use line::Heard;
 use line::Whole;
 use master::MasterTicked;
 use party::CallStatus;
+use texts::put_all_spaced;
+use texts::put_bytes;
+use texts::put_field;
+use texts::put_spaced;
 use turns::DeviceTold;
 use turns::MasterTold;
 ghost use mathlib.Core.Path.{_≡_};
+ghost use Prim.Native.Nat.{_<_};
 ghost use Rattle.party_examples.specs.Lines.{eventShows, tellsHost, refusedBy, hasLine};
 
 // What a party hears in a tick, and whether the script changed it.
@@ -18,44 +23,24 @@ pub struct Reception {
     pub changed: bool,
 }
 
-pub fn text(words: &[u8]) {
-    io::write_all(STDOUT_FILENO, words);
-}
-
-// A name and a number.
-fn field(name: &[u8], n: u64) {
-    text(name);
-    io::print_decimal(STDOUT_FILENO, n);
-}
-
-// A byte in hexadecimal, with a space in front.
-fn digits(byte: u8) {
-    text(b" ");
-    io::print_hex(STDOUT_FILENO, byte as u64, 2);
-}
-
-// The bytes from a place to another.
-fn hexadecimal(bytes: &[u8], from: usize, to: usize) {
-    let mut i = from;
-    while i < bytes.len() {
-        if to <= i {
-            return;
-        }
-        digits(bytes[i]);
-        i += 1;
-    }
+// Prints the line that ends at a place.
+fn print_line(out: &mut [u8], at: usize) {
+    let end = put_bytes(b"\n", out, at);
+    io::write_all(STDOUT_FILENO, texts::front(out, end));
 }
 
 // The characters of a row of the log, from a tick to another.
-fn characters(row: &[u16], from: usize, to: usize) {
+fn put_characters(row: &[u16], from: usize, to: usize, out: &mut [u8], at: usize) -> usize {
+    let mut place = at;
     let mut i = from;
     while i < row.len() {
         if to <= i {
-            return;
+            return place;
         }
-        digits((row[i] % 256) as u8);
+        place = put_spaced((row[i] % 256) as u8, out, place);
         i += 1;
     }
+    place
 }
 
 // The tick in which that began which ended in front of this tick, or this tick if nothing did.
@@ -78,16 +63,23 @@ fn began(row: &[u16], tick: usize) -> usize {
     0
 }
 
+fn print_speech(name: &[u8], row: &[u16], from: usize, to: usize, out: &mut [u8])
+    requires { ⌜ from < to ⌝ }
+{
+    let mut place = put_field(b"  ", from as u64, out, 0);
+    place = put_field(b"-", (to - 1) as u64, out, place);
+    place = put_bytes(name, out, place);
+    place = put_characters(row, from, to, out, place);
+    print_line(out, place);
+}
+
 // A line for what one sent without a pause until the tick before this.
 fn show_speech(name: &[u8], row: &[u16], tick: u16) {
     let to = tick as usize;
     let from = began(row, to);
     if from < to {
-        field(b"  ", from as u64);
-        field(b"-", (to - 1) as u64);
-        text(name);
-        characters(row, from, to);
-        text(b"\n");
+        let mut out = io::buffer();
+        print_speech(name, row, from, to, &mut out);
     }
 }
 
@@ -99,64 +91,61 @@ fn show_speeches(tick: u16, log: &[u16]) {
     }
 }
 
-fn damage_name(kind: Damage) {
+fn put_damage(kind: Damage, out: &mut [u8], at: usize) -> usize {
     match kind {
-        Damage::Parity => text(b"parity"),
-        Damage::Overrun => text(b"overrun"),
-        Damage::Framing => text(b"framing"),
+        Damage::Parity => put_bytes(b"parity", out, at),
+        Damage::Overrun => put_bytes(b"overrun", out, at),
+        Damage::Framing => put_bytes(b"framing", out, at),
     }
 }
 
-fn show_heard(reception: Reception) {
-    let heard = reception.heard;
-    if reception.changed {
-        text(b" hears ");
-        match heard {
-            Heard::Silence => text(b"silence"),
-            Heard::Character(c) => {
-                text(b"character");
-                digits(c);
-            }
-            Heard::Damaged(c, kind) => {
-                damage_name(kind);
-                digits(c);
-            }
+fn put_heard(heard: Heard, out: &mut [u8], at: usize) -> usize {
+    let place = put_bytes(b" hears ", out, at);
+    match heard {
+        Heard::Silence => put_bytes(b"silence", out, place),
+        Heard::Character(c) => {
+            let behind = put_bytes(b"character", out, place);
+            put_spaced(c, out, behind)
+        }
+        Heard::Damaged(c, kind) => {
+            let behind = put_damage(kind, out, place);
+            put_spaced(c, out, behind)
         }
     }
 }
 
-fn show_event(event: Event) {
+fn put_event(event: Event, out: &mut [u8], at: usize) -> usize {
     match event {
-        Event::Nothing => {}
-        Event::PassedOver => {}
-        Event::Broken => text(b" broken"),
-        Event::Frame(_) => text(b" whole"),
-        Event::Damaged(_, _) => text(b" damaged"),
+        Event::Nothing => at,
+        Event::PassedOver => at,
+        Event::Broken => put_bytes(b" broken", out, at),
+        Event::Frame(_) => put_bytes(b" whole", out, at),
+        Event::Damaged(_, _) => put_bytes(b" damaged", out, at),
     }
 }
 
 // Command and data of a frame.
-fn show_frame(name: &[u8], w: Whole, bytes: &[u8; 255]) {
+fn put_frame(name: &[u8], w: Whole, bytes: &[u8; 255], out: &mut [u8], at: usize) -> usize {
     let h = w.header;
-    field(name, h.command as u64);
-    text(b" data");
-    hexadecimal(bytes, 0, w.count as usize);
+    let mut place = put_field(name, h.command as u64, out, at);
+    place = put_bytes(b" data", out, place);
+    put_all_spaced(texts::front(bytes, w.count as usize), out, place)
 }
 
-fn show_master_told(told: MasterTold, bytes: &[u8; 255]) {
+fn put_master_told(told: MasterTold, bytes: &[u8; 255], out: &mut [u8], at: usize) -> usize {
     match told {
-        MasterTold::Nothing => {}
-        MasterTold::Answered(w) => show_frame(b" answered ", w, bytes),
-        MasterTold::GivenUp(attempts) => field(b" given up ", attempts as u64),
-        MasterTold::BroadcastSent => text(b" broadcast sent"),
+        MasterTold::Nothing => at,
+        MasterTold::Answered(w) => put_frame(b" answered ", w, bytes, out, at),
+        MasterTold::GivenUp(attempts) => put_field(b" given up ", attempts as u64, out, at),
+        MasterTold::BroadcastSent => put_bytes(b" broadcast sent", out, at),
     }
 }
 
-fn show_device_told(told: DeviceTold, bytes: &[u8; 255]) {
+fn put_device_told(told: DeviceTold, bytes: &[u8; 255], out: &mut [u8], at: usize) -> usize {
     match told {
-        DeviceTold::Nothing => {}
-        DeviceTold::Request(w) => show_frame(b" request ", w, bytes),
-        DeviceTold::Broadcast(w) => show_frame(b" broadcast ", w, bytes),
+        DeviceTold::Nothing => at,
+        DeviceTold::Request(w) => put_frame(b" request ", w, bytes, out, at),
+        DeviceTold::Broadcast(w) => put_frame(b" broadcast ", w, bytes, out, at),
     }
 }
 
@@ -171,11 +160,11 @@ fn refused_by(result: CallStatus) -> u32
     }
 }
 
-fn show_end(refused: u32) {
+fn put_refused(refused: u32, out: &mut [u8], at: usize) -> usize {
     if 0 < refused {
-        field(b" refused ", refused as u64);
+        return put_field(b" refused ", refused as u64, out, at);
     }
-    text(b"\n");
+    at
 }
 
 fn event_shows(event: Event) -> bool
@@ -202,10 +191,10 @@ fn tells(told: MasterTold) -> bool
 }
 
 // Whether a party has a line in this tick. A device tells its host only of a frame that it found.
-fn has_line(reception: Reception, event: Event, refused: u32) -> bool
-    ensures { λ r. ⌜ r ≡ hasLine (reception .changed) event refused ⌝ }
+fn has_line(input: Reception, event: Event, refused: u32) -> bool
+    ensures { λ r. ⌜ r ≡ hasLine (input .changed) event refused ⌝ }
 {
-    if reception.changed {
+    if input.changed {
         return true;
     }
     if event_shows(event) {
@@ -214,48 +203,79 @@ fn has_line(reception: Reception, event: Event, refused: u32) -> bool
     0 < refused
 }
 
-// What a line of a party begins with.
-fn show_begin(tick: u16, name: &[u8], reception: Reception, event: Event) {
-    field(b"  ", tick as u64);
-    text(name);
-    show_heard(reception);
-    show_event(event);
+// What a party hears, if the script changed it.
+fn put_input(input: Reception, out: &mut [u8], at: usize) -> usize {
+    let heard = input.heard;
+    if input.changed {
+        return put_heard(heard, out, at);
+    }
+    at
 }
 
-fn master_line(
+// What a line of a party begins with.
+fn put_begin(tick: u16, name: &[u8], input: Reception, event: Event, out: &mut [u8]) -> usize {
+    let mut place = put_field(b"  ", tick as u64, out, 0);
+    place = put_bytes(name, out, place);
+    place = put_input(input, out, place);
+    put_event(event, out, place)
+}
+
+fn print_master(
     tick: u16,
-    reception: Reception,
+    input: Reception,
     event: Event,
     told: MasterTold,
     refused: u32,
     bytes: &[u8; 255],
+    out: &mut [u8],
 ) {
-    show_begin(tick, b" master", reception, event);
-    show_master_told(told, bytes);
-    show_end(refused);
+    let begun = put_begin(tick, b" master", input, event, out);
+    let behind = put_master_told(told, bytes, out, begun);
+    let place = put_refused(refused, out, behind);
+    print_line(out, place);
 }
 
-fn show_master(tick: u16, reception: Reception, t: MasterTicked, bytes: &[u8; 255]) {
+fn master_has_line(input: Reception, event: Event, refused: u32, told: MasterTold) -> bool {
+    if has_line(input, event, refused) {
+        return true;
+    }
+    tells(told)
+}
+
+fn show_master(tick: u16, input: Reception, t: MasterTicked, bytes: &[u8; 255]) {
     let told = t.told;
     let event = t.event;
     let result = t.result;
     let refused = refused_by(result);
-    if has_line(reception, event, refused) {
-        master_line(tick, reception, event, told, refused, bytes);
-    } else if tells(told) {
-        master_line(tick, reception, event, told, refused, bytes);
+    if master_has_line(input, event, refused, told) {
+        let mut out = io::buffer();
+        print_master(tick, input, event, told, refused, bytes, &mut out);
     }
 }
 
-fn show_device(tick: u16, reception: Reception, t: DeviceTicked, bytes: &[u8; 255]) {
+fn print_device(
+    tick: u16,
+    input: Reception,
+    event: Event,
+    told: DeviceTold,
+    refused: u32,
+    bytes: &[u8; 255],
+    out: &mut [u8],
+) {
+    let begun = put_begin(tick, b" device", input, event, out);
+    let behind = put_device_told(told, bytes, out, begun);
+    let place = put_refused(refused, out, behind);
+    print_line(out, place);
+}
+
+fn show_device(tick: u16, input: Reception, t: DeviceTicked, bytes: &[u8; 255]) {
     let told = t.told;
     let event = t.event;
     let result = t.result;
     let refused = refused_by(result);
-    if has_line(reception, event, refused) {
-        show_begin(tick, b" device", reception, event);
-        show_device_told(told, bytes);
-        show_end(refused);
+    if has_line(input, event, refused) {
+        let mut out = io::buffer();
+        print_device(tick, input, event, told, refused, bytes, &mut out);
     }
 }
 

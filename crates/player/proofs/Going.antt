@@ -4,11 +4,11 @@ use native.Mathlib.Omega.{arith}
 use mathlib.Core.Path.{_≡_, refl, ap, _∙_}
 use mathlib.Core.List.{List}
 use lib.ListN.{length}
+use Rattle.texts.specs.Put.{outOf, put, PutIs}
 use Rattle.turns.specs.Link.{run}
 use Rattle.script.specs.Script.{recordsOf, callsFrom}
 use Rattle.listing.specs.Sents.{sentIn}
 use Rattle.listing.specs.Lines.{linesFrom}
-use Rattle.listing.specs.Put.{outOf, put, PutIs}
 use Rattle.listing.specs.Rows.{allHeard}
 use Rattle.listing.specs.Text.{linesText}
 use Rattle.parties.specs.Stands.{Rows, linkOf}

@@ -7,6 +7,7 @@ use mathlib.Core.Path.{_≡_, refl, sym, ap, subst, _∙_}
 use mathlib.Core.List.{List, [], _∷_, map}
 use lib.ListN.{length, take, getD, replicate, length-map}
 use Rattle.base.specs.Choice.{if_then_else_, _<?_}
+use Rattle.texts.proofs.Puts.{put-length}
 use Rattle.turns.specs.Link.{LinkStep, run}
 use Rattle.turns.specs.Link as L
 use Rattle.turns.specs.Run.{EachTick}
@@ -25,7 +26,6 @@ use Rattle.listing.specs.Promises.{TickLinesAre}
 use Rattle.listing.specs.Rows.{rowsSent, rowsListed, heardSoFar, allHeard, ticksLines, rowsLines}
 use Rattle.listing.specs.declared.Monitor.{Monitor}
 use Rattle.listing.proofs.Listens.{ticks-silent}
-use Rattle.listing.proofs.Puts.{put-length}
 use Rattle.parties.specs.Stands.{Rows, linkOf, heres, callsOf, uncalled}
 use Rattle.parties.specs.declared.Calls.{Calls}
 use Rattle.parties.specs.declared.Link.{Link}

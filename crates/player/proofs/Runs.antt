@@ -8,6 +8,7 @@ use lib.ListN.{length, replicate}
 use borrow.Author.Tests.{ne-eqb}
 use Rattle.base.specs.Choice.{if_then_else_, _=?_}
 use Rattle.base.proofs.Choices.{if-is-true, if-is-false}
+use Rattle.texts.specs.Put.{outOf, put}
 use Rattle.line.specs.declared.Heard.{Heard}
 use Rattle.turns.specs.Link.{no-call, DeviceSide, DeviceStep, Calls, LinkStep, deviceTick, deviceTicks, linkTick, linkAfter, run}
 use Rattle.turns.specs.Link as L
@@ -16,7 +17,6 @@ use Rattle.script.specs.Script.{wantedAt, masterCall, deviceCall, deviceCallAt,
 use Rattle.script.specs.declared.Entry.{Entry}
 use Rattle.script.specs.declared.ScriptCall.the-variants.{Nothing}
 use Rattle.listing.specs.Sents.{sentOf, sentIn}
-use Rattle.listing.specs.Put.{outOf, put}
 use Rattle.listing.specs.Promises.{TickLinesAre}
 use Rattle.listing.specs.Rows.{ticksLines}
 use Rattle.listing.specs.Lines.{linesFrom}

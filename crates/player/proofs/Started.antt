@@ -7,17 +7,17 @@ use mathlib.Core.List.{List, [], _∷_, _++_}
 use lib.ListN.{replicate}
 use Rattle.base.specs.Choice.{if_then_else_}
 use Rattle.base.specs.Refusal.{accepted}
+use Rattle.texts.specs.Put.{PutIs}
+use Rattle.texts.proofs.Puts.{put-then}
 use Rattle.line.specs.Profile.{fskProfile}
 use Rattle.line.specs.declared.Profile.{Profile}
 use Rattle.turns.specs.Link as L
 use Rattle.script.specs.Script.{recordsOf, goodScript, stopOf}
 use Rattle.script.proofs.Ticks.{reads-start}
 use Rattle.listing.specs.Lines.{quietMonitor}
-use Rattle.listing.specs.Put.{PutIs}
 use Rattle.listing.specs.Rows.{allHeard}
 use Rattle.listing.specs.Text.{headLine}
 use Rattle.listing.specs.declared.Monitor.{Monitor}
-use Rattle.listing.proofs.Puts.{put-then}
 use Rattle.parties.specs.Stands.{devicesFrom, heres}
 use Rattle.parties.specs.declared.Link.{Link}
 use Rattle.link_start.specs.Fresh.{rowsFresh, lentFresh}

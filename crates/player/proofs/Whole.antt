@@ -10,16 +10,16 @@ use Rattle.base.specs.Refusal.{Called, accepted, refused}
 use Rattle.base.specs.Store.{stored}
 use Rattle.base.proofs.Stores.{length-stored}
 use Rattle.base.proofs.Choices.{if-is-true, if-is-false}
+use Rattle.texts.specs.Decimal.{decimalOf}
+use Rattle.texts.specs.Put.{Out, outOf, PutIs}
+use Rattle.texts.proofs.Puts.{put-front}
 use Rattle.turns.specs.Link.{linkTick, linkAfter, run}
 use Rattle.turns.specs.Link as L
 use Rattle.turns.proofs.Bursting.{if-both}
 use Rattle.script.specs.Script.{recordsOf, goodScript, stopOf, callsAt, callsFrom}
 use Rattle.script.specs.declared.Entry.{Entry}
 use Rattle.listing.specs.Lines.{quietMonitor}
-use Rattle.listing.specs.Put.{Out, outOf, PutIs}
-use Rattle.listing.specs.Text.{decimalOf}
 use Rattle.listing.proofs.Lengths.{listing-most}
-use Rattle.listing.proofs.Puts.{put-front}
 use Rattle.player.specs.Play.{readyLink, listing, outputOf, play, PlayIs}
 use Rattle.listing.specs.Sents.{sentIn}
 

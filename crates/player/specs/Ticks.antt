@@ -6,6 +6,7 @@ use mathlib.Core.List.{List}
 use mathlib.Core.Path.{_≡_}
 use lib.ListN.{length, replicate}
 use Rattle.base.specs.Lent.{Lent, before, after}
+use Rattle.texts.specs.Put.{outOf, put, PutIs}
 use Rattle.frame.specs.Limits.{mostData}
 use Rattle.turns.specs.Link.{run}
 use Rattle.turns.specs.Link as L
@@ -14,7 +15,6 @@ use Rattle.script.specs.declared.Entry.{Entry}
 use Rattle.script.specs.Reads.{Reads}
 use Rattle.listing.specs.Sents.{sentIn}
 use Rattle.listing.specs.Lines.{quietMonitor, linesFrom}
-use Rattle.listing.specs.Put.{outOf, put, PutIs}
 use Rattle.listing.specs.Rows.{allHeard}
 use Rattle.listing.specs.Text.{linesText}
 use Rattle.listing.specs.declared.Monitor.{Monitor}

@@ -8,8 +8,8 @@ ghost use mathlib.Core.Bool.{true};
 ghost use Prim.Native.Nat.{_+_, _≤_, _<_};
 ghost use lib.ListN.{length};
 ghost use Rattle.base.specs.Lent.{before, after};
+ghost use Rattle.texts.specs.Put.{PutIs};
 ghost use Rattle.script.specs.Script.{recordsOf, goodScript};
-ghost use Rattle.listing.specs.Put.{PutIs};
 ghost use Rattle.player.specs.Play.{listing, play, PlayIs};
 ghost use Rattle.player.specs.Ready.{settingOf, settings, readyStart};
 ghost use Rattle.player.specs.Ticks.{restedFor, Stands, OnwardIs, PlaysAll};
@@ -199,7 +199,7 @@ pub fn play_into(script: &[u8], out: &mut [u8]) -> usize
     if script::is_good(script) {
         return play_good(script, out);
     }
-    listing::put_bytes(b"16\n", out, 0)
+    texts::put_bytes(b"16\n", out, 0)
 }
 
 // The longest listing: the header line, and a line of 25 bytes for each of 65,535 ticks.

@@ -1,5 +1,5 @@
 // The player for programs in C and Rust.
-ghost use Rattle.listing.specs.Put.{PutIs};
+ghost use Rattle.texts.specs.Put.{PutIs};
 ghost use Rattle.player.specs.Play.{play};
 
 // Plays a script: what it prints at the front of out, as much as there is room for, and how much that is.

@@ -3,6 +3,7 @@ use mathlib.Core.Path.{_≡_, refl}
 use mathlib.Core.List.{[], _∷_, _++_}
 use Rattle.base.specs.Choice.{if_then_else_}
 use Rattle.base.specs.Store.{stored}
+use Rattle.texts.specs.Decimal.{decimalOf}
 use Rattle.frame.specs.Check.{xorFrom}
 use Rattle.frame.specs.Delimiter.{delimiterOf}
 use Rattle.frame.specs.Frame.{frameBytes, preambleBytes, bodyBytes, protectedBytes, headerBytes}
@@ -12,7 +13,7 @@ use Rattle.turns.specs.Master.{requested, requestedUpTo, masterTakes, masterSen
 use Rattle.turns.specs.Device.{deviceTakes, deviceSends, answered, contentGiven}
 use Rattle.turns.specs.Link.{masterTick, deviceTick, deviceTicks, sides, carried, linkTick, run}
 use Rattle.listing.specs.Lines.{frameEnds, endsWith, listens, linesOf, senders, tickLines, linesFrom}
-use Rattle.listing.specs.Text.{decimalOf, lineText, linesText, headLine}
+use Rattle.listing.specs.Text.{lineText, linesText, headLine}
 use Rattle.script.specs.Script.{recordsOf, isIn, isGood, goodScript, wantedAt, stopOf, callsFrom}
 use Rattle.listing.specs.Sents.{devicesSent, sentIn}
 use Rattle.player.specs.Play.{readyLink, play}

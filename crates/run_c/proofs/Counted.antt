@@ -7,7 +7,7 @@ use lib.Seq.{take-nil}
 use Rattle.base.specs.Refusal.{number, Called, accepted, refused}
 use Rattle.base.specs.declared.Refusal.{Refusal}
 use Rattle.line.specs.declared.Profile.{Profile}
-use Rattle.line_c.specs.Recording.{RunIs}
+use Rattle.recording.specs.Recording.{RunIs}
 use Rattle.parties.specs.declared.Link.{Link}
 use Rattle.link_start.specs.Start.{linkStarts}
 use Rattle.link_start.specs.declared.Setting.{Setting}

@@ -5,7 +5,7 @@ use mathlib.Core.List.{List, [], _∷_}
 use Rattle.base.specs.Choice.{_<?_}
 use Rattle.base.specs.Lent.{Lent, before, after}
 use Rattle.line.specs.declared.Profile.{Profile}
-use Rattle.line_c.specs.Recording.{RunIs}
+use Rattle.recording.specs.Recording.{RunIs}
 use Rattle.link_start.specs.declared.Setting.{Setting}
 use Rattle.link_run.specs.Run.{numbersOf}
 use Rattle.late_run.specs.Late.{lateSteps}

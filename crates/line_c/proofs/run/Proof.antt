@@ -1,8 +1,8 @@
 use Prim.Native.Nat.{_-_}
 use lib.ListN.{length}
 use borrow.Author.Needs.{needs}
-use Rattle.line_c.specs.Recording.{ticked, told}
-use Rattle.line_c.proofs.Runs.{Running}
+use Rattle.line_c.specs.Told.{ticked, told}
+use Rattle.recording.proofs.Runs.{Running}
 use Rattle.line_c.proofs.Reader.{runs}
 use Rattle.line_c.proofs.run.Statement.{statement}
 use Rattle.line_c.proofs.run.Tie as tie

@@ -1,5 +1,5 @@
 use borrow.Author.Needs.{needs}
-use Rattle.listing.proofs.Puts.{put-word}
+use Rattle.listing.proofs.Words.{put-word}
 use Rattle.listing.proofs.put_master_word.Statement.{statement}
 use Rattle.listing.proofs.put_master_word.Tie as tie
 

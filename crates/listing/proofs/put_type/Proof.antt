@@ -1,6 +1,6 @@
 use borrow.Author.Needs.{needs}
 use Rattle.base.proofs.Choices.{choices}
-use Rattle.listing.proofs.Puts.{put-same}
+use Rattle.texts.proofs.Puts.{put-same}
 use Rattle.listing.proofs.put_type.Statement.{statement}
 use Rattle.listing.proofs.put_type.Tie as tie
 

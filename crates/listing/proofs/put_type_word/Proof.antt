@@ -1,5 +1,5 @@
 use borrow.Author.Needs.{needs}
-use Rattle.listing.proofs.Puts.{put-then}
+use Rattle.texts.proofs.Puts.{put-then}
 use Rattle.listing.proofs.put_type_word.Statement.{statement}
 use Rattle.listing.proofs.put_type_word.Tie as tie
 

@@ -1,7 +1,7 @@
 use Prim.Native.Nat.{_-_}
 use lib.ListN.{length}
 use borrow.Author.Needs.{needs}
-use Rattle.line_c.proofs.Runs.{Running}
+use Rattle.recording.proofs.Runs.{Running}
 use Rattle.modem_c.specs.Script.{accessed, answers}
 use Rattle.modem_c.proofs.Script.{runs}
 use Rattle.modem_c.proofs.nengapiko_modem.Statement.{statement}

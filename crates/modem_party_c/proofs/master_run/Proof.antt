@@ -1,8 +1,8 @@
 use borrow.Author.Needs.{needs}
 use Prim.Native.Nat.{_-_}
 use lib.ListN.{length}
-use Rattle.line_c.specs.Recording.{trace}
-use Rattle.line_c.proofs.Runs.{Running}
+use Rattle.recording.specs.Recording.{trace}
+use Rattle.recording.proofs.Runs.{Running}
 use Rattle.modem_party_c.specs.Master.{ticked, placed}
 use Rattle.modem_party_c.proofs.Master.{runs}
 use Rattle.modem_party_c.proofs.master_run.Statement.{statement}

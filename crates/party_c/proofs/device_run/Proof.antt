@@ -2,8 +2,8 @@ use Prim.Native.Nat.{_-_}
 use lib.ListN.{length}
 use borrow.Author.Needs.{needs}
 use Rattle.device_tick.specs.Tick.{sideOf}
-use Rattle.line_c.specs.Recording.{trace}
-use Rattle.line_c.proofs.Runs.{Running}
+use Rattle.recording.specs.Recording.{trace}
+use Rattle.recording.proofs.Runs.{Running}
 use Rattle.party_c.specs.Device.{ticked}
 use Rattle.party_c.proofs.Device.{runs}
 use Rattle.party_c.proofs.device_run.Statement.{statement}

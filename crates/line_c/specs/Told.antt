@@ -1,0 +1,29 @@
+-- How the code stands for what is to be believed.
+-- What the tick reader tells over a recording.
+use Prim.Native.Nat.{ℕ, _/_}
+use mathlib.Core.List.{List}
+use Rattle.line.specs.Reader.{passing, taken}
+use Rattle.line.specs.declared.Event.{Event}
+use Rattle.line.specs.declared.Event.the-variants.{Nothing, PassedOver, Broken, Frame, Damaged}
+use Rattle.line.specs.declared.Receiver.{Receiver}
+use Rattle.line.specs.declared.Taken.{Taken}
+use Rattle.recording.specs.Recording.{heardOf, Ticked, trace}
+
+-- what the reader tells, as a number
+abbrev pub eventNumber : Event → ℕ
+eventNumber Nothing = 0
+eventNumber PassedOver = 1
+eventNumber Broken = 2
+eventNumber (Frame w) = 3
+eventNumber (Damaged w m) = 4
+
+-- a tick of the reader, by the two bytes
+abbrev pub step : Receiver → ℕ → ℕ → Taken
+step r first c = taken r (heardOf (first / 32) c)
+
+abbrev pub ticked : Receiver → ℕ → ℕ → Ticked Receiver
+ticked r first c = record { number = eventNumber (step r first c .event); behind = step r first c .receiver }
+
+-- what the reader tells in each tick of a recording, from its start on
+abbrev pub told : List ℕ → List ℕ
+told recording = trace ticked passing recording

@@ -1,0 +1,2 @@
+-- Laws of text that is put into a lent buffer.
+pub mod Puts
