@@ -134,6 +134,19 @@ size_t nengapiko_run(uint16_t sto, uint16_t hold, uint16_t rt2, uint16_t rt1_pri
                      const uint8_t *NENGAPIKO_RESTRICT ticks, size_t size,
                      uint8_t *NENGAPIKO_RESTRICT events, size_t room) NENGAPIKO_NONNULL;
 
+/*
+ * Writes a load, a script for the player (docs/LOAD.md).
+ *
+ *   seed          1 to 4,294,967,295
+ *   count         how many records, the stop among them: 1 to 65,536
+ *   buffer, room  the script goes to the front, four bytes a record; what is behind it, and all of
+ *                 the buffer on a refusal, is left as it was
+ *
+ * Returns 0; or 18 for seed 0, no records or above 65,536; or 15 for a buffer too short: the first
+ * of these that applies.
+ */
+uint32_t nengapiko_load(uint32_t seed, uint32_t count, uint8_t *buffer, size_t room) NENGAPIKO_NONNULL;
+
 #ifdef __cplusplus
 }
 #endif

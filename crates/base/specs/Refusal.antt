@@ -2,7 +2,7 @@
 -- Document 01, "Refusals, by where each is checked": the table, and what a call comes to.
 use Prim.Native.Nat.{ℕ}
 use Rattle.base.specs.declared.Refusal.{Refusal}
-use Rattle.base.specs.declared.Refusal.the-variants.{BadProfile, BadRetries, PreambleLength, Address, Command, DataLong, MessageInHand, NoRequest, DataLength, BurstWish, FewPreambles, NoDelimiter, EndsEarly, Unsound, BufferShort, Revision, Register}
+use Rattle.base.specs.declared.Refusal.the-variants.{BadProfile, BadRetries, PreambleLength, Address, Command, DataLong, MessageInHand, NoRequest, DataLength, BurstWish, FewPreambles, NoDelimiter, EndsEarly, Unsound, BufferShort, Revision, BadLoad, Register}
 
 -- "A refusal gives its number only." 16, "bad script", is the player's, whose answer is a text: crates/player/specs/Play.antt.
 abbrev pub number : Refusal → ℕ
@@ -38,6 +38,8 @@ number Unsound = 14
 number BufferShort = 15
 -- revision outside 3 to 7
 number Revision = 17
+-- document 02, item 4: seed 0, no records, or above 65,536
+number BadLoad = 18
 -- document 02, item 5: a write to one of the modem chip's bytes 0, 3 and 4 to 7, or any byte above 7
 number Register = 19
 

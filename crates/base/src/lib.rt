@@ -3,7 +3,7 @@ ghost use mathlib.Core.Path.{_≡_};
 ghost use Rattle.base.specs.Choice.{_outside_to_};
 ghost use Rattle.base.specs.Refusal.{number};
 
-// Why a call is refused. Each is a number of document 01's table, the last of document 02, item 5.
+// Why a call is refused. Each is a number of document 01's table, the last three of document 02, items 2, 4 and 5.
 pub enum Refusal {
     BadProfile,
     BadRetries,
@@ -21,6 +21,7 @@ pub enum Refusal {
     Unsound,
     BufferShort,
     Revision,
+    BadLoad,
     Register,
 }
 
@@ -46,6 +47,7 @@ impl Refusal {
             Refusal::Unsound => 14,
             Refusal::BufferShort => 15,
             Refusal::Revision => 17,
+            Refusal::BadLoad => 18,
             Refusal::Register => 19,
         }
     }

@@ -24,6 +24,8 @@ number-spec =
     (λ c. search needs)
     (λ c. search needs)
     (λ c. search needs)
+    (λ c. search needs)
+    (λ c. search (needs, numbers))
     (λ c. search (needs, numbers))
     (λ c. search (needs, numbers))
     (λ c. search (needs, numbers))

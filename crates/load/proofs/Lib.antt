@@ -1,0 +1,2 @@
+-- The laws of reading a number.
+pub mod Numbers

@@ -1,0 +1,2 @@
+-- The program's arguments.
+pub mod Arguments

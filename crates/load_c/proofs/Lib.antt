@@ -1,0 +1,2 @@
+-- The law of the writer's answer in C.
+pub mod Calls

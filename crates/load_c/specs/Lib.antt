@@ -1,0 +1,2 @@
+-- The writer of loads for C.
+pub mod Numbers

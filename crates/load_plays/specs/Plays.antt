@@ -1,0 +1,48 @@
+-- To be believed: what the engine must do, or what is claimed of it.
+-- Document 02, item 4: what is claimed of the play of every load. The run is the one that the player lists (crates/player/specs/Play.antt).
+use Prim.Native.Nat.{ℕ, _≤_}
+use mathlib.Core.Path.{_≡_}
+use mathlib.Core.List.{List, _++_}
+use lib.ListN.{replicate}
+use Rattle.frame.specs.Limits.{mostData}
+use Rattle.line.specs.Profile.{fskProfile}
+use Rattle.turns.specs.Link.{LinkStep, Calls, run}
+use Rattle.turns.specs.Run.{EachTick, NoTwoSend}
+use Rattle.turns.specs.Demand3.{Premises, WaitIn}
+use Rattle.script.specs.Script.{stopOf, callsFrom}
+use Rattle.listing.specs.Lines.{quietMonitor, linesFrom}
+use Rattle.listing.specs.Text.{headLine, linesText}
+use Rattle.listing.specs.Sents.{sentIn}
+use Rattle.player.specs.Play.{readyLink, play}
+use Rattle.load_writer.specs.Load.{load, scriptBytes}
+use Rattle.load_writer.specs.Write.{mostRecords}
+use Rattle.load_plays.specs.Occur.{EachKind}
+
+-- the calls of the ticks before the stop
+abbrev pub callsOf : ℕ → ℕ → List Calls
+callsOf seed count = callsFrom 0 (stopOf (load seed count)) (load seed count)
+
+-- the play
+unfoldable pub playOf : ℕ → ℕ → List LinkStep
+playOf seed count = run mostData readyLink (callsOf seed count)
+
+-- the player prints its listing
+abbrev pub PlaysIt : Type 0
+PlaysIt =
+    (seed count : ℕ) → 1 ≤ count → count ≤ mostRecords
+    → play (scriptBytes (load seed count)) ≡ headLine ++ linesText (linesFrom 0 (replicate 8 quietMonitor) (sentIn (playOf seed count)))
+
+-- "within the premises on which the longest wait rests"
+abbrev pub WithinPremises : Type 0
+WithinPremises = (seed count : ℕ) → Premises mostData fskProfile 3 readyLink (callsOf seed count)
+
+-- so demand 3 holds of it
+abbrev pub NoTwoSendInAPlay : Type 0
+NoTwoSendInAPlay = (seed count : ℕ) → EachTick NoTwoSend (playOf seed count)
+
+abbrev pub WaitInAPlay : Type 0
+WaitInAPlay = (seed count : ℕ) → WaitIn mostData fskProfile 3 (playOf seed count)
+
+-- "in every play each kind listed occurs": so from 13 records on, where document 02 asks it from 64 on
+abbrev pub KindsOccur : Type 0
+KindsOccur = (seed count : ℕ) → 13 ≤ count → EachKind readyLink (fskProfile .sto) 3 (callsOf seed count) (playOf seed count)

@@ -1,0 +1,1 @@
+// The plays of loads, as theorems in proofs/. No functions.
