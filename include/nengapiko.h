@@ -32,7 +32,7 @@
  *   nengapiko_reader_start           8
  *   nengapiko_reader_tick          440
  *   nengapiko_master_start         328
- *   nengapiko_master_tick          776
+ *   nengapiko_master_tick          792
  *   nengapiko_device_start         288
  *   nengapiko_device_tick          824
  */

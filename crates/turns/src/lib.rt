@@ -50,8 +50,8 @@ pub struct Noted {
 }
 
 pub struct Master {
-    pub primary: bool,
     pub profile: Profile,
+    pub primary: bool,
     // retries after the first attempt
     pub retries: u8,
     // it sent in the tick before, or is fresh, and hears nothing in this one
