@@ -1,6 +1,7 @@
 -- The laws and theorems of the frame's definitions.
 pub mod Checks
 pub mod Delimiters
+pub mod Growing
 pub mod Lengths
 pub mod Longest
 pub mod Prefix

@@ -6,3 +6,4 @@ pub mod Check
 pub mod Frame
 pub mod Write
 pub mod Read
+pub mod Growing
