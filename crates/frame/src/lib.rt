@@ -89,7 +89,7 @@ pub fn delimiter_of(byte: u8) -> Delimiter
 }
 
 // Whether a number is the type of a frame that a device sends.
-pub fn from_device(n: u8) -> bool
+fn from_device(n: u8) -> bool
     ensures { λ r. ⌜ r ≡ fromDevice n ⌝ }
 {
     if n == ACK {

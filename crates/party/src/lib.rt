@@ -39,7 +39,7 @@ pub fn one_less(n: u32) -> u32
 }
 
 // The byte at a place, or 0 behind the last.
-pub fn byte_at(bytes: &[u8], place: usize) -> u8
+fn byte_at(bytes: &[u8], place: usize) -> u8
     ensures { λ r. ⌜ r ≡ byteAt (now (bytes .entry)) place ⌝ }
 {
     if place < bytes.len() {
