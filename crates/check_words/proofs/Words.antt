@@ -7,10 +7,10 @@ use mathlib.Core.List.{List, [], _∷_, _++_}
 use lib.Arith.{digits-lt}
 use lib.Bits.{bitXor, xor-zero-r}
 use lib.ListN.{length, take, drop, getD, take-append-drop, length-take, length-drop}
-use lib.Pow.{high, pow-add, pow-pos}
+use lib.Pow.{high, pow-add, pow-pos, shr-shr}
 use lib.Seq.{take-add, take-at, take-all, drop-at, drop-drop, drop-cons, length-take-le}
 use Rattle.frame.specs.Check.{xorFrom, exclusiveOr}
-use Rattle.check_words.specs.Words.{xorAt, everyOther, halves, folded, number, Bytes, none, byte-and, NumberIs}
+use Rattle.check_words.specs.Words.{xorAt, everyOther, everyOtherOf16, halves, folded, xorOnto, inBlocks, inWords, number, Bytes, none, byte-and, NumberIs}
 use Rattle.frame.proofs.Checks.{xor-append}
 use Rattle.check_words.proofs.Xors.{xor-assoc, xor-swap, xor-pairs, halves-xor, halves-join, folded-small, folded-xor}
 
@@ -169,64 +169,79 @@ four-words bytes i a b c d r p q u v e =
     ∙ ap₂ bitXor (folded-xor a b ∙ ap₂ bitXor (word-folds bytes i a p) (word-folds bytes (i + 16) b q))
     (folded-xor c d ∙ ap₂ bitXor (word-folds bytes (i + 32) c u) (word-folds bytes (i + 48) d v))
 
+-- neighbouring parts
+both : (bytes : List ℕ) (i m n : ℕ) → bitXor (xorAt bytes i m) (xorAt bytes (i + m) n) ≡ xorAt bytes i (m + n)
+both bytes i m n = taken-at 0 bytes i m n
+
 -- both halves of eight words
 eight-words : (bytes : List ℕ) (i : ℕ) → bitXor (everyOther bytes i) (everyOther bytes (i + 8)) ≡ xorAt bytes i 64
 eight-words bytes i =
     xor-pairs (eight i) (eight (i + 16)) (eight (i + 32)) (eight (i + 48)) (eight (i + 8)) (eight (i + 8 + 16)) (eight (i + 8 + 32)) (eight (i + 8 + 48))
-    ∙ ap₂ bitXor (ap₂ bitXor (both i 8 8) (two 16) ∙ both i 16 16) (ap₂ bitXor (two 32) (two 48) ∙ behind)
-    ∙ both i 32 32
+    ∙ ap₂ bitXor (ap₂ bitXor (both bytes i 8 8) (two 16) ∙ both bytes i 16 16) (ap₂ bitXor (two 32) (two 48) ∙ behind)
+    ∙ both bytes i 32 32
   where
     eight : ℕ → ℕ
     eight j = xorAt bytes j 8
-
-    both : (i m n : ℕ) → bitXor (xorAt bytes i m) (xorAt bytes (i + m) n) ≡ xorAt bytes i (m + n)
-    both i m n = taken-at 0 bytes i m n
 
     shift : (k : ℕ) → i + 8 + k ≡ i + k + 8
     shift k = omega arith
 
     two : (k : ℕ) → bitXor (xorAt bytes (i + k) 8) (xorAt bytes (i + 8 + k) 8) ≡ xorAt bytes (i + k) 16
-    two k = ap (λ (j : ℕ). bitXor (xorAt bytes (i + k) 8) (xorAt bytes j 8)) (shift k) ∙ both (i + k) 8 8
+    two k = ap (λ (j : ℕ). bitXor (xorAt bytes (i + k) 8) (xorAt bytes j 8)) (shift k) ∙ both bytes (i + k) 8 8
 
     place : i + 48 ≡ i + 32 + 16
     place = omega arith
 
     behind : bitXor (xorAt bytes (i + 32) 16) (xorAt bytes (i + 48) 16) ≡ xorAt bytes (i + 32) 32
-    behind = ap (λ (j : ℕ). bitXor (xorAt bytes (i + 32) 16) (xorAt bytes j 16)) place ∙ both (i + 32) 16 16
+    behind = ap (λ (j : ℕ). bitXor (xorAt bytes (i + 32) 16) (xorAt bytes j 16)) place ∙ both bytes (i + 32) 16 16
+
+-- every other word of sixteen
+pub eight-of-16 : (bytes : List ℕ) (i a b r : ℕ) → folded a ≡ everyOther bytes i → folded b ≡ everyOther bytes (i + 64) → r ≡ bitXor a b → folded r ≡ everyOtherOf16 bytes i
+eight-of-16 bytes i a b r p q e = ap folded e ∙ folded-xor a b ∙ ap₂ bitXor p q
+
+-- both halves of sixteen words
+sixteen-words : (bytes : List ℕ) (i : ℕ) → bitXor (everyOtherOf16 bytes i) (everyOtherOf16 bytes (i + 8)) ≡ xorAt bytes i 128
+sixteen-words bytes i =
+    xor-swap (everyOther bytes i) (everyOther bytes (i + 64)) (everyOther bytes (i + 8)) (everyOther bytes (i + 8 + 64))
+    ∙ ap₂ bitXor (eight-words bytes i) (ap (λ (j : ℕ). bitXor (everyOther bytes (i + 64)) (everyOther bytes j)) place ∙ eight-words bytes (i + 64))
+    ∙ both bytes i 64 64
+  where
+    place : i + 8 + 64 ≡ i + 64 + 8
+    place = omega arith
 
 -- ---- the loops
 
--- over blocks of eight words, with two sums
+-- over blocks of sixteen words, with two sums
 pub record Blocked (x : ℕ) (bytes : List ℕ) (n a b i : ℕ) : Type 0 where
   pub within : i ≤ n
-  pub so-far : folded (bitXor a b) ≡ xorFrom x (take (i * 64) bytes)
+  pub so-far : folded (bitXor a b) ≡ xorFrom x (take (i * 128) bytes)
 
 pub blocked-none : (x w : ℕ) (bytes : List ℕ) (n : ℕ) → w ≡ x → w ≤ 255 → Blocked x bytes n w 0 0
 unfolding xorFrom
 blocked-none x w bytes n e h = record { within = omega arith; so-far = ap folded (xor-zero-r w) ∙ folded-byte w (omega arith) ∙ e }
 
-pub blocked-more : (x : ℕ) (bytes : List ℕ) (n a b i c d : ℕ) → Blocked x bytes n a b i → i < n → folded c ≡ everyOther bytes (i * 64) → folded d ≡ everyOther bytes (i * 64 + 8) → Blocked x bytes n (bitXor a c) (bitXor b d) (i + 1)
+pub blocked-more : (x : ℕ) (bytes : List ℕ) (n a b i c d : ℕ) → Blocked x bytes n a b i → i < n → folded c ≡ everyOtherOf16 bytes (i * 128) → folded d ≡ everyOtherOf16 bytes (i * 128 + 8) → Blocked x bytes n (bitXor a c) (bitXor b d) (i + 1)
 blocked-more x bytes n a b i c d v h p q = record {
   within = omega arith;
   so-far =
       ap folded (xor-swap a c b d) ∙ folded-xor (bitXor a b) (bitXor c d)
-      ∙ ap₂ bitXor (v .so-far) (folded-xor c d ∙ ap₂ bitXor p q ∙ eight-words bytes (i * 64))
-      ∙ taken x bytes (i * 64) 64
+      ∙ ap₂ bitXor (v .so-far) (folded-xor c d ∙ ap₂ bitXor p q ∙ sixteen-words bytes (i * 128))
+      ∙ taken x bytes (i * 128) 128
       ∙ ap (λ (m : ℕ). xorFrom x (take m bytes)) (next i);
 }
   where
-    next : (i : ℕ) → i * 64 + 64 ≡ (i + 1) * 64
+    next : (i : ℕ) → i * 128 + 128 ≡ (i + 1) * 128
     next i = omega arith
 
-pub blocked-all : (x : ℕ) (bytes : List ℕ) (n a b i r : ℕ) → Blocked x bytes n a b i → n ≤ i → r ≡ bitXor a b → folded r ≡ xorFrom x (take (n * 64) bytes)
+pub blocked-all : (x : ℕ) (bytes : List ℕ) (n a b i r : ℕ) → Blocked x bytes n a b i → n ≤ i → r ≡ bitXor a b → folded r ≡ xorFrom x (take (n * 128) bytes)
 blocked-all x bytes n a b i r v h e =
     let same : i ≡ n = omega (arith, v .within) in
-    ap folded e ∙ v .so-far ∙ ap (λ (m : ℕ). xorFrom x (take (m * 64) bytes)) same
+    ap folded e ∙ v .so-far ∙ ap (λ (m : ℕ). xorFrom x (take (m * 128) bytes)) same
 
 -- over words, from a place on
 pub record Worded (first : ℕ) (bytes : List ℕ) (start count sum i : ℕ) : Type 0 where
   pub within : i ≤ count
-  pub so-far : folded sum ≡ xorFrom (folded first) (take (i * 8) (drop start bytes))
+  pub so-far : folded sum ≡ xorOnto first bytes start (i * 8)
 
 pub worded-none : (first : ℕ) (bytes : List ℕ) (start count : ℕ) → Worded first bytes start count first 0
 unfolding xorFrom
@@ -243,16 +258,72 @@ worded-more first bytes start count sum i w v h e = record {
     next : (i : ℕ) → i * 8 + 8 ≡ (i + 1) * 8
     next i = omega arith
 
-pub worded-all : (first : ℕ) (bytes : List ℕ) (start count sum i : ℕ) → Worded first bytes start count sum i → count ≤ i → folded sum ≡ xorFrom (folded first) (take (count * 8) (drop start bytes))
+pub worded-all : (first : ℕ) (bytes : List ℕ) (start count sum i : ℕ) → Worded first bytes start count sum i → count ≤ i → folded sum ≡ xorOnto first bytes start (count * 8)
 worded-all first bytes start count sum i v h =
     let same : i ≡ count = omega (arith, v .within) in
     v .so-far ∙ ap (λ (m : ℕ). xorFrom (folded first) (take (m * 8) (drop start bytes))) same
 
--- ---- the last word: the bytes behind the whole words are the high ones of the last eight
+-- ---- the half block
 
-pub last-word : (bytes : List ℕ) (w r : ℕ) → 8 ≤ length bytes → NumberIs bytes (length bytes - 8) 8 w → r ≡ w / 2 ^ ((64 - length bytes % 8 * 8) % 64) → folded r ≡ exclusiveOr (drop ((length bytes - 1) / 8 * 8) bytes)
-last-word bytes w r h v e =
-    ap folded (e ∙ ap₂ (λ (n k : ℕ). n / 2 ^ k) (v .is) bits ∙ number-above above eight (v .of-bytes))
+pub no-half : (first : ℕ) (bytes : List ℕ) → length bytes % 128 < 64 → folded first ≡ xorOnto first bytes (inBlocks bytes) (length bytes % 128 / 64 * 64)
+unfolding xorFrom
+no-half first bytes h = ap (λ (n : ℕ). xorOnto first bytes (inBlocks bytes) n) none-left
+  where
+    none-left : 0 ≡ length bytes % 128 / 64 * 64
+    none-left = omega arith
+
+pub half-more : (first : ℕ) (bytes : List ℕ) (a b r : ℕ)
+    → 64 ≤ length bytes % 128
+    → folded a ≡ everyOther bytes (inBlocks bytes)
+    → folded b ≡ everyOther bytes (inBlocks bytes + 8)
+    → r ≡ bitXor (bitXor first a) b
+    → folded r ≡ xorOnto first bytes (inBlocks bytes) (length bytes % 128 / 64 * 64)
+half-more first bytes a b r h p q e =
+    ap folded (e ∙ xor-assoc first a b) ∙ folded-xor first (bitXor a b)
+    ∙ ap (bitXor (folded first)) (folded-xor a b ∙ ap₂ bitXor p q ∙ eight-words bytes (inBlocks bytes))
+    ∙ xor-onto (folded first) 0 (take 64 (drop (inBlocks bytes) bytes))
+    ∙ ap₂ (λ (x n : ℕ). xorFrom x (take n (drop (inBlocks bytes) bytes))) (xor-zero-r (folded first)) one
+  where
+    one : 64 ≡ length bytes % 128 / 64 * 64
+    one = omega arith
+
+-- ---- all whole words
+
+-- what was worked out of the first m bytes goes on with the n behind them
+goes-on : (x : ℕ) (bytes : List ℕ) (m n a b : ℕ) → folded a ≡ xorFrom x (take m bytes) → folded b ≡ xorOnto a bytes m n → folded b ≡ xorFrom x (take (m + n) bytes)
+goes-on x bytes m n a b p q =
+    q ∙ ap (λ (y : ℕ). xorFrom y (take n (drop m bytes))) p ∙ sym (xor-append x (take m bytes) (take n (drop m bytes))) ∙ ap (xorFrom x) (sym (take-add m n bytes))
+
+-- blocks alone
+pub blocks-alone : (x : ℕ) (bytes : List ℕ) (a : ℕ) → length bytes % 128 < 8 → folded a ≡ xorFrom x (take (inBlocks bytes) bytes) → folded a ≡ xorFrom x (take (inWords bytes) bytes)
+blocks-alone x bytes a h p = p ∙ ap (λ (n : ℕ). xorFrom x (take n bytes)) same
+  where
+    same : inBlocks bytes ≡ inWords bytes
+    same = omega arith
+
+-- blocks, half a block, and the words behind them
+pub all-words : (x : ℕ) (bytes : List ℕ) (a b c : ℕ)
+    → folded a ≡ xorFrom x (take (inBlocks bytes) bytes)
+    → folded b ≡ xorOnto a bytes (inBlocks bytes) (length bytes % 128 / 64 * 64)
+    → folded c ≡ xorOnto b bytes (length bytes / 64 * 64) (length bytes % 64 / 8 * 8)
+    → folded c ≡ xorFrom x (take (inWords bytes) bytes)
+all-words x bytes a b c p q u =
+    goes-on x bytes (length bytes / 64 * 64) (length bytes % 64 / 8 * 8) b c
+    (goes-on x bytes (inBlocks bytes) (length bytes % 128 / 64 * 64) a b p q ∙ ap (λ (n : ℕ). xorFrom x (take n bytes)) halves-end)
+    u
+    ∙ ap (λ (n : ℕ). xorFrom x (take n bytes)) words-end
+  where
+    halves-end : inBlocks bytes + length bytes % 128 / 64 * 64 ≡ length bytes / 64 * 64
+    halves-end = omega arith
+
+    words-end : length bytes / 64 * 64 + length bytes % 64 / 8 * 8 ≡ inWords bytes
+    words-end = omega arith
+
+-- ---- the last bytes: those behind the whole words are the high ones of the last eight
+
+pub last-bytes : (bytes : List ℕ) (w r : ℕ) → 8 ≤ length bytes → NumberIs bytes (length bytes - 8) 8 w → r ≡ w / 2 ^ 8 / 2 ^ (56 - length bytes % 8 * 8) → folded r ≡ exclusiveOr (drop (inWords bytes) bytes)
+last-bytes bytes w r h v e =
+    ap folded (e ∙ shr-shr w 8 (56 - length bytes % 8 * 8) ∙ ap₂ (λ (n k : ℕ). n / 2 ^ k) (v .is) bits ∙ number-above above eight (v .of-bytes))
     ∙ folds-word (drop above eight) (bytes-drop above eight (v .of-bytes)) (omega (arith, length-drop above eight, length-take 8 (drop from bytes)))
     ∙ ap exclusiveOr (ap (drop above) (take-all 8 (drop from bytes) (omega (arith, length-drop from bytes))) ∙ drop-drop above from bytes ∙ ap (λ (i : ℕ). drop i bytes) place)
   where
@@ -260,57 +331,58 @@ last-word bytes w r h v e =
     from = length bytes - 8
 
     above : ℕ
-    above = 7 - (length bytes - 1) % 8
+    above = 8 - length bytes % 8
 
-    bits : (64 - length bytes % 8 * 8) % 64 ≡ 8 * above
+    bits : 8 + (56 - length bytes % 8 * 8) ≡ 8 * above
     bits = omega arith
 
     eight : List ℕ
     eight = take 8 (drop from bytes)
 
-    place : from + above ≡ (length bytes - 1) / 8 * 8
+    place : from + above ≡ inWords bytes
     place = omega arith
 
--- one word and the last word
-pub two-words : (x : ℕ) (bytes : List ℕ) (w a c r : ℕ)
-    → (length bytes - 1) / 8 ≡ 1
+pub last-added : (sum : ℕ) (bytes : List ℕ) (end r : ℕ) → folded end ≡ exclusiveOr (drop (inWords bytes) bytes) → r ≡ folded (bitXor sum end) → r ≡ xorFrom (folded sum) (drop (inWords bytes) bytes)
+last-added sum bytes end r u e =
+    e ∙ folded-xor sum end ∙ ap (bitXor (folded sum)) u ∙ xor-onto (folded sum) 0 (drop (inWords bytes) bytes)
+    ∙ ap (λ (x : ℕ). xorFrom x (drop (inWords bytes) bytes)) (xor-zero-r (folded sum))
+
+-- whole words, and the bytes behind them
+pub with-last : (x : ℕ) (bytes : List ℕ) (sum r : ℕ) → folded sum ≡ xorFrom x (take (inWords bytes) bytes) → r ≡ xorFrom (folded sum) (drop (inWords bytes) bytes) → r ≡ xorFrom x bytes
+with-last x bytes sum r p e =
+    e ∙ ap (λ (y : ℕ). xorFrom y (drop (inWords bytes) bytes)) p ∙ sym (xor-append x (take (inWords bytes) bytes) (drop (inWords bytes) bytes))
+    ∙ ap (xorFrom x) (take-append-drop (inWords bytes) bytes)
+
+-- one word
+pub one-word : (x : ℕ) (bytes : List ℕ) (w a r : ℕ)
+    → 8 ≤ length bytes
+    → length bytes < 16
     → w ≡ x
     → w ≤ 255
     → NumberIs bytes 0 8 a
-    → folded c ≡ exclusiveOr (drop ((length bytes - 1) / 8 * 8) bytes)
-    → r ≡ folded (bitXor (bitXor w a) c)
+    → r ≡ xorFrom (folded (bitXor w a)) (drop (inWords bytes) bytes)
     → r ≡ xorFrom x bytes
 unfolding xorFrom
-two-words x bytes w a c r k same small v u e =
-    e ∙ folded-xor (bitXor w a) c
-    ∙ ap₂ bitXor (folded-xor w a ∙ ap₂ bitXor (folded-byte w (omega arith) ∙ same) (word-folds bytes 0 a v) ∙ taken x bytes 0 8) (u ∙ ap (λ (n : ℕ). exclusiveOr (drop (n * 8) bytes)) k)
-    ∙ joined x (take 8 bytes) (drop 8 bytes)
-    ∙ ap (xorFrom x) (take-append-drop 8 bytes)
-
--- blocks, the words behind them, and the last word
-pub all-words : (x : ℕ) (bytes : List ℕ) (a b c r : ℕ)
-    → folded a ≡ xorFrom x (take ((length bytes - 1) / 64 * 64) bytes)
-    → folded b ≡ xorFrom (folded a) (take ((length bytes - 1) % 64 / 8 * 8) (drop ((length bytes - 1) / 64 * 64) bytes))
-    → folded c ≡ exclusiveOr (drop ((length bytes - 1) / 8 * 8) bytes)
-    → r ≡ folded (bitXor b c)
-    → r ≡ xorFrom x bytes
-all-words x bytes a b c r p q u e =
-    e ∙ folded-xor b c ∙ ap₂ bitXor whole u ∙ joined x (take words bytes) (drop words bytes) ∙ ap (xorFrom x) (take-append-drop words bytes)
+one-word x bytes w a r h k same small v e = with-last x bytes (bitXor w a) r word e
   where
-    blocks : ℕ
-    blocks = (length bytes - 1) / 64 * 64
+    eight : 8 ≡ inWords bytes
+    eight = omega arith
 
-    behind : ℕ
-    behind = (length bytes - 1) % 64 / 8 * 8
+    word : folded (bitXor w a) ≡ xorFrom x (take (inWords bytes) bytes)
+    word =
+        folded-xor w a ∙ ap₂ bitXor (folded-byte w (omega arith) ∙ same) (word-folds bytes 0 a v) ∙ taken x bytes 0 8
+        ∙ ap (λ (n : ℕ). xorFrom x (take n bytes)) eight
 
-    words : ℕ
-    words = (length bytes - 1) / 8 * 8
-
-    place : blocks + behind ≡ words
-    place = omega arith
-
-    whole : folded b ≡ xorFrom x (take words bytes)
-    whole =
-        q ∙ ap (λ (y : ℕ). xorFrom y (take behind (drop blocks bytes))) p
-        ∙ sym (xor-append x (take blocks bytes) (take behind (drop blocks bytes)))
-        ∙ ap (xorFrom x) (sym (take-add blocks behind bytes) ∙ ap (λ (n : ℕ). take n bytes) place)
+-- two to seven
+pub few-words : (x : ℕ) (bytes : List ℕ) (w sum r : ℕ)
+    → length bytes < 64
+    → w ≡ x
+    → w ≤ 255
+    → folded sum ≡ xorOnto w bytes 0 (length bytes % 64 / 8 * 8)
+    → r ≡ xorFrom (folded sum) (drop (inWords bytes) bytes)
+    → r ≡ xorFrom x bytes
+few-words x bytes w sum r h same small p e =
+    with-last x bytes sum r (p ∙ ap₂ (λ (y n : ℕ). xorFrom y (take n bytes)) (folded-byte w (omega arith) ∙ same) count) e
+  where
+    count : length bytes % 64 / 8 * 8 ≡ inWords bytes
+    count = omega arith

@@ -4,8 +4,8 @@ use Prim.Native.Nat.{ℕ, _+_, _*_, _/_, _%_, _^_, _<_}
 use mathlib.Core.Path.{_≡_}
 use mathlib.Core.List.{List, [], _∷_}
 use lib.Bits.{bitXor}
-use lib.ListN.{take, drop}
-use Rattle.frame.specs.Check.{exclusiveOr}
+use lib.ListN.{length, take, drop}
+use Rattle.frame.specs.Check.{xorFrom, exclusiveOr}
 
 -- the exclusive-or of so many bytes from a place on
 abbrev pub xorAt : List ℕ → ℕ → ℕ → ℕ
@@ -15,6 +15,10 @@ xorAt bytes i count = exclusiveOr (take count (drop i bytes))
 abbrev pub everyOther : List ℕ → ℕ → ℕ
 everyOther bytes i = bitXor (bitXor (xorAt bytes i 8) (xorAt bytes (i + 16) 8)) (bitXor (xorAt bytes (i + 32) 8) (xorAt bytes (i + 48) 8))
 
+-- of the sixteen words from a place on
+abbrev pub everyOtherOf16 : List ℕ → ℕ → ℕ
+everyOtherOf16 bytes i = bitXor (everyOther bytes i) (everyOther bytes (i + 64))
+
 -- of a number's low k bits and the bits above them
 unfoldable pub halves : ℕ → ℕ → ℕ
 halves k n = bitXor (n % 2 ^ k) (n / 2 ^ k)
@@ -22,6 +26,18 @@ halves k n = bitXor (n % 2 ^ k) (n / 2 ^ k)
 -- of a word's eight bytes
 abbrev pub folded : ℕ → ℕ
 folded word = halves 8 (halves 16 (halves 32 word))
+
+-- of a word's bytes and so many bytes from a place on
+abbrev pub xorOnto : ℕ → List ℕ → ℕ → ℕ → ℕ
+xorOnto word bytes i count = xorFrom (folded word) (take count (drop i bytes))
+
+-- how many bytes are in whole blocks of sixteen words
+abbrev pub inBlocks : List ℕ → ℕ
+inBlocks bytes = length bytes / 128 * 128
+
+-- how many are in whole words
+abbrev pub inWords : List ℕ → ℕ
+inWords bytes = length bytes / 8 * 8
 
 -- bytes as one number, the first the least significant
 unfoldable pub number : List ℕ → ℕ
