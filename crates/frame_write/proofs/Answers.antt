@@ -36,8 +36,11 @@ large-short polling h e = ap (λ (n : ℕ). n <? h .address) (sym (largest-short
 pub unique-fits : (h : Header) → h .long ≡ true → h .address ≤ largestAddress (h .long) → h .address < 2 ^ 38
 unique-fits h e r = omega (arith, largest-long largestPolling (h .long) e)
 
-pub polling-fits : (h : Header) → h .long ≡ false → h .address ≤ largestAddress (h .long) → h .address ≤ largestPolling
-polling-fits h e r = omega (arith, largest-short largestPolling (h .long) e)
+pub polling-bits : (h : Header) → h .long ≡ false → h .address ≤ largestAddress (h .long) → h .address < 64
+polling-bits h e r = omega (arith, largest-short largestPolling (h .long) e)
+
+pub polling-byte : (h : Header) → h .long ≡ false → h .address ≤ largestAddress (h .long) → h .address < 2 ^ 8
+polling-byte h e r = omega (arith, polling-bits h e r)
 
 pub header-long : (h : Header) → h .long ≡ true → 8 ≡ headerLength h
 header-long h e = omega (arith, if-is-true {A = ℕ} (h .long) 5 1 e)

@@ -1,10 +1,11 @@
--- Laws of the writer's parts: what each field's part holds, and what stands in the buffer when they have come back.
+-- Laws of the writer's parts: what each field's part holds, what its exclusive-or adds, and what stands in the buffer when they have come back.
 use Prim.Native.Nat.{ℕ, _+_, _-_, _/_, _%_, _^_, _≤_, _<_}
 use native.Mathlib.Omega.{arith}
 use mathlib.Core.Path.{_≡_, refl, sym, ap, _∙_}
 use mathlib.Core.Bool.{true, false}
 use mathlib.Core.List.{List, [], _∷_, _++_, append-assoc}
 use lib.ListN.{length, take, drop, set, getD, getD-replicate, length-append, length-set}
+use lib.Bits.{bitXor}
 use lib.Seq.{take-all, drop-drop, length-take-le}
 use borrow.Rule.Slice.PartMut.{putMid}
 use Rattle.base.specs.Choice.{if_then_else_}
@@ -15,8 +16,10 @@ use Rattle.frame.specs.Delimiter.{delimiterByte}
 use Rattle.frame.specs.Address.{firstByte, longAddress, shortAddress, addressBytes, addressLength}
 use Rattle.frame.specs.Check.{xorFrom, exclusiveOr}
 use Rattle.frame.specs.Frame.{headerBytes, protectedBytes, bodyBytes, preambleBytes, frameBytes, headerLength, frameLength}
+use Rattle.frame.proofs.Checks.{xor-append, Passed, passed-none, passed-more, passed-all}
 use Rattle.frame.proofs.Lengths.{header-count, preamble-count}
 use Rattle.frame.specs.declared.Header.{Header}
+use Rattle.frame_write.specs.Puts.{PartIs}
 
 -- bytes that fill a buffer are all of it
 pub stored-whole : (xs vs : List ℕ) → length vs ≡ length xs → stored xs 0 vs ≡ vs
@@ -42,22 +45,21 @@ part-joins a k xs ys zs us vs p e q f h =
     ∙ stored-parts a rest xs ys back us vs p e refl (omega arith)
 
 -- one byte in a part of one
-pub byte-put : (xs : List ℕ) (b : ℕ) → length xs ≡ 1 → set xs 0 b ≡ b ∷ []
-unfolding stored
-byte-put xs b e = stored-whole xs (b ∷ []) (sym e)
+pub byte-put : (xs : List ℕ) (x b r : ℕ) → length xs ≡ 1 → r ≡ bitXor x b → PartIs x (b ∷ []) (set xs 0 b) r
+unfolding stored xorFrom
+byte-put xs x b r e q = record { holds = stored-whole xs (b ∷ []) (sym e); check = q }
 
-pub delimiter-put : (xs : List ℕ) (h : Header) (bit : ℕ) → length xs ≡ 1 → bit ≡ (if h .long then 128 else 0) → set xs 0 (bit + h .frame) ≡ delimiterByte (h .frame) (h .long) ∷ []
-delimiter-put xs h bit e q = byte-put xs (bit + h .frame) e ∙ ap (λ (b : ℕ). (b + h .frame) ∷ []) q
-
-pub short-address-put : (xs : List ℕ) (h : Header) (first : ℕ) → length xs ≡ 1 → first ≡ firstByte h (h .address) → set xs 0 first ≡ shortAddress h
-short-address-put xs h first e q = byte-put xs first e ∙ ap (λ (b : ℕ). b ∷ []) q
-
-pub long-address-put : (xs : List ℕ) (h : Header) (first : ℕ) → length xs ≡ 5 → first ≡ firstByte h (h .address / 2 ^ 32)
-    → set (set (set (set (set xs 0 first) 1 (h .address / 2 ^ 24 % 256)) 2 (h .address / 2 ^ 16 % 256)) 3 (h .address / 2 ^ 8 % 256)) 4 (h .address % 256) ≡ longAddress h
-unfolding stored
-long-address-put xs h first e q =
-    ap (λ (b : ℕ). set (set (set (set (set xs 0 b) 1 (h .address / 2 ^ 24 % 256)) 2 (h .address / 2 ^ 16 % 256)) 3 (h .address / 2 ^ 8 % 256)) 4 (h .address % 256)) q
-    ∙ stored-whole xs (longAddress h) (sym e)
+pub long-address-put : (xs : List ℕ) (x : ℕ) (h : Header) (first r : ℕ) → length xs ≡ 5 → first ≡ firstByte h (h .address / 2 ^ 32)
+    → r ≡ bitXor (bitXor (bitXor (bitXor (bitXor x first) (h .address / 2 ^ 24 % 256)) (h .address / 2 ^ 16 % 256)) (h .address / 2 ^ 8 % 256)) (h .address % 256)
+    → PartIs x (longAddress h) (set (set (set (set (set xs 0 first) 1 (h .address / 2 ^ 24 % 256)) 2 (h .address / 2 ^ 16 % 256)) 3 (h .address / 2 ^ 8 % 256)) 4 (h .address % 256)) r
+unfolding stored xorFrom
+long-address-put xs x h first r e q s = record {
+  holds =
+      ap (λ (b : ℕ). set (set (set (set (set xs 0 b) 1 (h .address / 2 ^ 24 % 256)) 2 (h .address / 2 ^ 16 % 256)) 3 (h .address / 2 ^ 8 % 256)) 4 (h .address % 256)) q
+      ∙ stored-whole xs (longAddress h) (sym e);
+  check =
+      s ∙ ap (λ (b : ℕ). bitXor (bitXor (bitXor (bitXor (bitXor x b) (h .address / 2 ^ 24 % 256)) (h .address / 2 ^ 16 % 256)) (h .address / 2 ^ 8 % 256)) (h .address % 256)) q;
+}
 
 -- a place of five, when four have been set
 pub place-inside-5 : (xs : List ℕ) (a b c d i : ℕ) → length xs ≡ 5 → i < 5 → i < length (set (set (set (set xs 0 a) 1 b) 2 c) 3 d)
@@ -69,6 +71,16 @@ long-part h n e p = p ∙ if-is-true {A = ℕ} (h .long) 5 1 e
 
 pub short-part : (h : Header) (n : ℕ) → h .long ≡ false → n ≡ addressLength (h .long) → n ≡ 1
 short-part h n e p = p ∙ if-is-false {A = ℕ} (h .long) 5 1 e
+
+same-part : (x : ℕ) (us vs part : List ℕ) (r : ℕ) → us ≡ vs → PartIs x us part r → PartIs x vs part r
+same-part x us vs part r e v = record { holds = v .holds ∙ e; check = v .check ∙ ap (xorFrom x) e }
+
+pub long-put : (x : ℕ) (h : Header) (part : List ℕ) (r : ℕ) → h .long ≡ true → PartIs x (longAddress h) part r → PartIs x (addressBytes h) part r
+long-put x h part r e v = same-part x (longAddress h) (addressBytes h) part r (sym (if-is-true (h .long) (longAddress h) (shortAddress h) e)) v
+
+pub short-put : (x : ℕ) (h : Header) (first : ℕ) (part : List ℕ) (r : ℕ) → h .long ≡ false → first ≡ firstByte h (h .address) → PartIs x (first ∷ []) part r → PartIs x (addressBytes h) part r
+short-put x h first part r e q v =
+    same-part x (first ∷ []) (addressBytes h) part r (ap (λ (b : ℕ). b ∷ []) q ∙ sym (if-is-false (h .long) (longAddress h) (shortAddress h) e)) v
 
 -- a loop that stores bytes which fill the part
 pub storing-whole : (xs us : List ℕ) (n : ℕ) (ys : List ℕ) (i : ℕ) → Storing xs us n ys i → n ≡ length xs → length ys ≤ i → ys ≡ us
@@ -83,24 +95,34 @@ preamble-more xs ys n i v e h =
 
 pub ruleset preambles = (refl, storing-none, storing-whole, preamble-count, preamble-more)
 
--- the loop that stores the data
-pub data-none : (xs us : List ℕ) → length xs ≡ length us → Storing xs us (length xs) xs 0
-data-none xs us e = storing-none xs us (length xs) e (omega arith)
+-- the loop that stores the data: i of them are stored, and sum is the exclusive-or of x and them
+pub record Copied (x : ℕ) (xs us ys : List ℕ) (sum i : ℕ) : Type 0 where
+  pub put : Storing xs us (length xs) ys i
+  pub passed : Passed x us sum i
 
-pub data-more : (xs us ys : List ℕ) (i : ℕ) → Storing xs us (length xs) ys i → i < length us → Storing xs us (length xs) (set ys i (getD us i 0)) (i + 1)
-data-more xs us ys i v h = storing-more xs us (length xs) ys i (getD us i 0) v (omega (arith, v .count)) refl
+pub copied-none : (x : ℕ) (xs us : List ℕ) → length xs ≡ length us → Copied x xs us xs x 0
+copied-none x xs us e = record { put = storing-none xs us (length xs) e (omega arith); passed = passed-none x us }
 
-pub data-all : (xs us ys : List ℕ) (i : ℕ) → Storing xs us (length xs) ys i → length us ≤ i → ys ≡ us
-data-all xs us ys i v h = storing-whole xs us (length xs) ys i v refl (omega (arith, v .count, v .same-length))
+pub copied-more : (x : ℕ) (xs us ys : List ℕ) (sum i : ℕ) → Copied x xs us ys sum i → i < length us → Copied x xs us (set ys i (getD us i 0)) (bitXor sum (getD us i 0)) (i + 1)
+copied-more x xs us ys sum i v h = record {
+  put = storing-more xs us (length xs) ys i (getD us i 0) (v .put) (omega (arith, v .put .count)) refl;
+  passed = passed-more x us sum i (v .passed) h;
+}
 
-pub ruleset copying = (data-none, data-more, data-all)
+pub copied-all : (x : ℕ) (xs us ys : List ℕ) (sum i : ℕ) → Copied x xs us ys sum i → length us ≤ i → PartIs x us ys sum
+copied-all x xs us ys sum i v h = record {
+  holds = storing-whole xs us (length xs) ys i (v .put) refl (omega (arith, v .put .count, v .put .same-length));
+  check = passed-all x us sum i (v .passed) h;
+}
+
+pub ruleset copying = (copied-none, copied-more, copied-all)
 
 -- the header's four parts
 address-count : (h : Header) → length (addressBytes h) ≡ addressLength (h .long)
 unfolding headerBytes
 address-count h = omega (arith, header-count h 0, length-append (addressBytes h) (h .command ∷ 0 ∷ []))
 
-pub header-put : (h : Header) (count p q k l m : ℕ) (xs ds os cs ns : List ℕ) → length xs ≡ headerLength h
+header-put : (h : Header) (count p q k l m : ℕ) (xs ds os cs ns : List ℕ) → length xs ≡ headerLength h
     → ds ≡ delimiterByte (h .frame) (h .long) ∷ [] → os ≡ addressBytes h → cs ≡ h .command ∷ [] → ns ≡ count ∷ []
     → p ≡ length xs - 2 → q ≡ length xs - 1 → k ≡ p - 1 → l ≡ q - p → m ≡ length (putMid p l (putMid 1 k (putMid 0 1 xs ds) os) cs) - q
     → putMid q m (putMid p l (putMid 1 k (putMid 0 1 xs ds) os) cs) ns ≡ headerBytes h count
@@ -119,21 +141,33 @@ header-put h count p q k l m xs ds os cs ns e d a c n p-is q-is k-is l-is m-is =
     ∙ ap (λ (bytes : List ℕ). stored xs 0 (first ∷ bytes)) (append-assoc address (h .command ∷ []) (count ∷ []))
     ∙ stored-whole xs (first ∷ (address ++ (h .command ∷ count ∷ []))) (omega (arith, address-count h, length-append address (h .command ∷ count ∷ [])))
 
+pub header-is : (h : Header) (count byte p q k l m u v w r : ℕ) (xs ds os cs ns : List ℕ) → length xs ≡ headerLength h
+    → byte ≡ delimiterByte (h .frame) (h .long) → PartIs 0 (byte ∷ []) ds u → PartIs u (addressBytes h) os v → PartIs v (h .command ∷ []) cs w → PartIs w (count ∷ []) ns r
+    → p ≡ length xs - 2 → q ≡ length xs - 1 → k ≡ p - 1 → l ≡ q - p → m ≡ length (putMid p l (putMid 1 k (putMid 0 1 xs ds) os) cs) - q
+    → PartIs 0 (headerBytes h count) (putMid q m (putMid p l (putMid 1 k (putMid 0 1 xs ds) os) cs) ns) r
+unfolding headerBytes xorFrom
+header-is h count byte p q k l m u v w r xs ds os cs ns e b d a c n p-is q-is k-is l-is m-is = record {
+  holds = header-put h count p q k l m xs ds os cs ns e (d .holds ∙ ap (λ (y : ℕ). y ∷ []) b) (a .holds) (c .holds) (n .holds) p-is q-is k-is l-is m-is;
+  check =
+      n .check ∙ ap (λ (y : ℕ). bitXor y count) (c .check ∙ ap (λ (y : ℕ). bitXor y (h .command)) (a .check ∙ ap (λ (y : ℕ). xorFrom y (addressBytes h)) (d .check ∙ b)))
+      ∙ sym (xor-append (delimiterByte (h .frame) (h .long)) (addressBytes h) (h .command ∷ count ∷ []));
+}
+
 -- header, data and check byte
-pub body-put : (h : Header) (n j k l check : ℕ) (bytes xs hs ds cs : List ℕ)
-    → n ≡ headerLength h → headerLength h + length bytes + 1 ≤ length xs → hs ≡ headerBytes h (length bytes) → ds ≡ bytes
-    → check ≡ xorFrom 0 (take (n + length bytes) (putMid n k (putMid 0 j xs hs) ds)) → cs ≡ check ∷ [] → j ≡ n - 0 → k ≡ n + length bytes - n → l ≡ n + length bytes + 1 - (n + length bytes)
+pub body-put : (h : Header) (n j k l header-sum check r : ℕ) (bytes xs hs ds cs : List ℕ)
+    → n ≡ headerLength h → headerLength h + length bytes + 1 ≤ length xs → PartIs 0 (headerBytes h (length bytes)) hs header-sum
+    → PartIs header-sum bytes ds check → PartIs 0 (check ∷ []) cs r → j ≡ n - 0 → k ≡ n + length bytes - n → l ≡ n + length bytes + 1 - (n + length bytes)
     → putMid (n + length bytes) l (putMid n k (putMid 0 j xs hs) ds) cs ≡ stored xs 0 (bodyBytes h bytes)
 unfolding bodyBytes protectedBytes
-body-put h n j k l check bytes xs hs ds cs e room p d r c j-is k-is l-is =
+body-put h n j k l header-sum check r bytes xs hs ds cs e room p d c j-is k-is l-is =
     let header : List ℕ = headerBytes h (length bytes) in
     let count : n ≡ length header = e ∙ header-count h (length bytes) in
     let end : n + length bytes ≡ length (header ++ bytes) = omega (arith, count, length-append header bytes) in
-    let one : putMid 0 j xs hs ≡ stored xs 0 header = part-holds 0 j xs hs header p (omega arith) (omega arith) in
-    let two : putMid n k (putMid 0 j xs hs) ds ≡ stored xs 0 (header ++ bytes) = part-joins n k xs (putMid 0 j xs hs) ds header bytes one count d (omega arith) (omega arith) in
-    let sum : check ≡ exclusiveOr (header ++ bytes) = r ∙ ap exclusiveOr (stored-front (n + length bytes) xs (putMid n k (putMid 0 j xs hs) ds) (header ++ bytes) two end (omega arith)) in
+    let one : putMid 0 j xs hs ≡ stored xs 0 header = part-holds 0 j xs hs header (p .holds) (omega arith) (omega arith) in
+    let two : putMid n k (putMid 0 j xs hs) ds ≡ stored xs 0 (header ++ bytes) = part-joins n k xs (putMid 0 j xs hs) ds header bytes one count (d .holds) (omega arith) (omega arith) in
+    let sum : check ≡ exclusiveOr (header ++ bytes) = d .check ∙ ap (λ (y : ℕ). xorFrom y bytes) (p .check) ∙ sym (xor-append 0 header bytes) in
     part-joins (n + length bytes) l xs (putMid n k (putMid 0 j xs hs) ds) cs (header ++ bytes) (exclusiveOr (header ++ bytes) ∷ []) two
-    end (c ∙ ap (λ (y : ℕ). y ∷ []) sum) (omega arith) (omega arith)
+    end (c .holds ∙ ap (λ (y : ℕ). y ∷ []) sum) (omega arith) (omega arith)
 
 -- the body behind the preamble
 pub frame-put : (preamble : ℕ) (h : Header) (j k : ℕ) (bytes xs ps zs : List ℕ)

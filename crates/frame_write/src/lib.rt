@@ -8,11 +8,12 @@ ghost use Prim.Native.Nat.{_+_, _^_, _≤_, _<_};
 ghost use lib.ListN.{length};
 ghost use Rattle.base.specs.Choice.{if_then_else_};
 ghost use Rattle.base.specs.Store.{stored};
-ghost use Rattle.frame.specs.Limits.{mostPreambles, largestPolling, mostData, longestFrame};
-ghost use Rattle.frame.specs.Address.{addressLength, longAddress, shortAddress, addressBytes, addressAbove, largestAddress, firstByte};
+ghost use Rattle.frame.specs.Limits.{mostPreambles, mostData, longestFrame};
+ghost use Rattle.frame.specs.Address.{addressLength, longAddress, addressBytes, addressAbove, largestAddress, firstByte};
 ghost use Rattle.frame.specs.Delimiter.{delimiterByte};
 ghost use Rattle.frame.specs.Frame.{headerBytes, bodyBytes, preambleBytes, frameBytes, headerLength, frameLength};
 ghost use Rattle.frame.specs.Write.{byRoom, writeAnswer, writtenAs, WriteIs};
+ghost use Rattle.frame_write.specs.Puts.{PartIs, WithinLimits};
 
 // The preamble: every byte of its part is 0xFF.
 fn put_preamble(part: &mut [u8])
@@ -44,93 +45,79 @@ fn first_byte(h: Header, bits: u8) -> u8
 }
 
 // The delimiter.
-fn put_delimiter(part: &mut [u8], h: Header)
-    requires { ⌜ (length (now part) ≡ 1) × (h .frame ≤ 6) ⌝ }
-    ensures { λ _. ⌜ now (part .exit) ≡ delimiterByte (h .frame) (h .long) ∷ [] ⌝ }
+fn delimiter_byte(h: Header) -> u8
+    requires { ⌜ h .frame ≤ 6 ⌝ }
+    ensures { λ r. ⌜ r ≡ delimiterByte (h .frame) (h .long) ⌝ }
 {
-    part[0] = flag(h.long, 128) + h.frame;
+    flag(h.long, 128) + h.frame
+}
+
+// A field of one byte. As each function that puts a field, it gives the exclusive-or of x and what it put.
+fn put_byte(part: &mut [u8], x: u8, byte: u8) -> u8
+    requires { ⌜ length (now part) ≡ 1 ⌝ }
+    ensures { λ r. ⌜ PartIs x (byte ∷ []) (now (part .exit)) r ⌝ }
+{
+    part[0] = byte;
+    x ^ byte
 }
 
 // A unique address.
-fn put_long_address(part: &mut [u8], h: Header)
+fn put_long_address(part: &mut [u8], x: u8, h: Header) -> u8
     requires { ⌜ (length (now part) ≡ 5) × (h .address < 2 ^ 38) ⌝ }
-    ensures { λ _. ⌜ now (part .exit) ≡ longAddress h ⌝ }
+    ensures { λ r. ⌜ PartIs x (longAddress h) (now (part .exit)) r ⌝ }
 {
     let a = h.address;
-    part[0] = first_byte(h, (a / 4294967296) as u8);
-    part[1] = (a / 16777216 % 256) as u8;
-    part[2] = (a / 65536 % 256) as u8;
-    part[3] = (a / 256 % 256) as u8;
-    part[4] = (a % 256) as u8;
-}
-
-// A polling address.
-fn put_short_address(part: &mut [u8], h: Header)
-    requires { ⌜ (length (now part) ≡ 1) × (h .address ≤ largestPolling) ⌝ }
-    ensures { λ _. ⌜ now (part .exit) ≡ shortAddress h ⌝ }
-{
-    part[0] = first_byte(h, h.address as u8);
+    let first = first_byte(h, (a / 4294967296) as u8);
+    let second = (a / 16777216 % 256) as u8;
+    let third = (a / 65536 % 256) as u8;
+    let fourth = (a / 256 % 256) as u8;
+    let fifth = (a % 256) as u8;
+    part[0] = first;
+    part[1] = second;
+    part[2] = third;
+    part[3] = fourth;
+    part[4] = fifth;
+    x ^ first ^ second ^ third ^ fourth ^ fifth
 }
 
 // The address.
-fn put_address(part: &mut [u8], h: Header)
+fn put_address(part: &mut [u8], x: u8, h: Header) -> u8
     requires { ⌜ (length (now part) ≡ addressLength (h .long)) × (h .address ≤ largestAddress (h .long)) ⌝ }
-    ensures { λ _. ⌜ now (part .exit) ≡ addressBytes h ⌝ }
+    ensures { λ r. ⌜ PartIs x (addressBytes h) (now (part .exit)) r ⌝ }
 {
     if h.long {
-        put_long_address(part, h);
-        return;
+        return put_long_address(part, x, h);
     }
-    put_short_address(part, h);
-}
-
-// The command.
-fn put_command(part: &mut [u8], command: u8)
-    requires { ⌜ length (now part) ≡ 1 ⌝ }
-    ensures { λ _. ⌜ now (part .exit) ≡ command ∷ [] ⌝ }
-{
-    part[0] = command;
-}
-
-// The byte count.
-fn put_count(part: &mut [u8], count: u8)
-    requires { ⌜ length (now part) ≡ 1 ⌝ }
-    ensures { λ _. ⌜ now (part .exit) ≡ count ∷ [] ⌝ }
-{
-    part[0] = count;
+    put_byte(part, x, first_byte(h, h.address as u8))
 }
 
 // Delimiter, address, command and byte count.
-fn put_header(part: &mut [u8], h: Header, count: u8)
+fn put_header(part: &mut [u8], h: Header, count: u8) -> u8
     requires { ⌜ (length (now part) ≡ headerLength h) × (h .frame ≤ 6) × (h .address ≤ largestAddress (h .long)) ⌝ }
-    ensures { λ _. ⌜ now (part .exit) ≡ headerBytes h count ⌝ }
+    ensures { λ r. ⌜ PartIs 0 (headerBytes h count) (now (part .exit)) r ⌝ }
 {
     let address_end = part.len() - 2;
     let command_end = part.len() - 1;
-    put_delimiter(&mut part[0..1], h);
-    put_address(&mut part[1..address_end], h);
-    put_command(&mut part[address_end..command_end], h.command);
-    put_count(&mut part[command_end..], count);
+    let delimiter = put_byte(&mut part[0..1], 0, delimiter_byte(h));
+    let address = put_address(&mut part[1..address_end], delimiter, h);
+    let command = put_byte(&mut part[address_end..command_end], address, h.command);
+    put_byte(&mut part[command_end..], command, count)
 }
 
 // The data.
-fn put_data(part: &mut [u8], bytes: &[u8])
+fn put_data(part: &mut [u8], x: u8, bytes: &[u8]) -> u8
     requires { ⌜ length (now part) ≡ length (now bytes) ⌝ }
-    ensures { λ _. ⌜ now (part .exit) ≡ now (bytes .entry) ⌝ }
+    ensures { λ r. ⌜ PartIs x (now (bytes .entry)) (now (part .exit)) r ⌝ }
 {
+    let mut sum = x;
     let mut i = 0;
     while i < bytes.len() {
-        part[i] = bytes[i];
+        let byte = bytes[i];
+        part[i] = byte;
+        sum = sum ^ byte;
         i += 1;
     }
-}
-
-// The check byte.
-fn put_check(part: &mut [u8], check: u8)
-    requires { ⌜ length (now part) ≡ 1 ⌝ }
-    ensures { λ _. ⌜ now (part .exit) ≡ check ∷ [] ⌝ }
-{
-    part[0] = check;
+    sum
 }
 
 // How many bytes delimiter, address, command and byte count are.
@@ -145,20 +132,19 @@ fn header_length(h: Header) -> usize
 
 // Delimiter to check byte, at the front of part.
 fn put_body(part: &mut [u8], h: Header, bytes: &[u8])
-    requires { ⌜ (headerLength h + length (now bytes) + 1 ≤ length (now part)) × (h .frame ≤ 6) × (h .address ≤ largestAddress (h .long)) × (length (now bytes) ≤ mostData) ⌝ }
+    requires { ⌜ (headerLength h + length (now bytes) + 1 ≤ length (now part)) × WithinLimits h (length (now bytes)) ⌝ }
     ensures { λ _. ⌜ now (part .exit) ≡ stored (now (part .entry)) 0 (bodyBytes h (now (bytes .entry))) ⌝ }
 {
     let start = header_length(h);
     let end = start + bytes.len();
-    put_header(&mut part[0..start], h, bytes.len() as u8);
-    put_data(&mut part[start..end], bytes);
-    let check = frame::xor_bytes(0, &part[..end]);
-    put_check(&mut part[end..end + 1], check);
+    let header = put_header(&mut part[0..start], h, bytes.len() as u8);
+    let check = put_data(&mut part[start..end], header, bytes);
+    put_byte(&mut part[end..end + 1], 0, check);
 }
 
 // The whole frame, at the front of part.
 fn put_frame(part: &mut [u8], preamble: usize, h: Header, bytes: &[u8])
-    requires { ⌜ (frameLength preamble h (length (now bytes)) ≤ length (now part)) × (h .frame ≤ 6) × (h .address ≤ largestAddress (h .long)) × (length (now bytes) ≤ mostData) ⌝ }
+    requires { ⌜ (frameLength preamble h (length (now bytes)) ≤ length (now part)) × WithinLimits h (length (now bytes)) ⌝ }
     ensures { λ _. ⌜ now (part .exit) ≡ stored (now (part .entry)) 0 (frameBytes preamble h (now (bytes .entry))) ⌝ }
 {
     put_preamble(&mut part[0..preamble]);

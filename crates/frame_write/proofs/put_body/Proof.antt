@@ -1,6 +1,4 @@
 use Rattle.frame_write.proofs.Puts.{body-put}
-use native.Mathlib.Omega.{arith}
-use Rattle.base.proofs.Stores.{take-length-is}
 use borrow.Author.Needs.{needs}
 use Rattle.frame_write.proofs.put_body.Statement.{statement}
 use Rattle.frame_write.proofs.put_body.Tie as tie
@@ -19,9 +17,6 @@ put-body-spec =
     (λ c. search needs)
     (λ c. search needs)
     (λ c. search needs)
-    (λ c κs. search needs)
-    (λ c. search needs)
-    (λ c. take-length-is _ _ (omega arith))
     (λ c κs. search needs)
     (λ c. search needs)
     (λ c. search needs)

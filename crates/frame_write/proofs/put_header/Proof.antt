@@ -1,5 +1,5 @@
+use Rattle.frame_write.proofs.Puts.{header-is}
 use borrow.Author.Needs.{needs}
-use Rattle.frame_write.proofs.Puts.{header-put}
 use Rattle.frame_write.proofs.put_header.Statement.{statement}
 use Rattle.frame_write.proofs.put_header.Tie as tie
 
@@ -13,9 +13,6 @@ put-header-spec =
     (λ c. search needs)
     (λ c. search needs)
     (λ c κs. search needs)
-    (λ c. search needs)
-    (λ c. search needs)
-    (λ c. search needs)
     (λ c κs. search needs)
     (λ c. search needs)
     (λ c. search needs)
@@ -26,4 +23,8 @@ put-header-spec =
     (λ c. search needs)
     (λ c κs. search needs)
     (λ c. search needs)
-    (λ c. search (needs, header-put)))
+    (λ c. search needs)
+    (λ c. search needs)
+    (λ c κs. search needs)
+    (λ c. search needs)
+    (λ c. search (needs, header-is)))

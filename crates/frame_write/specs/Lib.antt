@@ -1,0 +1,2 @@
+-- What the functions that put a frame's parts promise.
+pub mod Puts
