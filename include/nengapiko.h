@@ -27,7 +27,7 @@
  * (tests/stack works it out from the archive). On top come the arguments that are passed on the stack,
  * 64 bytes at most, and the two functions of the C library.
  *
- *   nengapiko_write                192
+ *   nengapiko_write                208
  *   nengapiko_read                  72
  *   nengapiko_reader_start           8
  *   nengapiko_reader_tick          440
