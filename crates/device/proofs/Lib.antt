@@ -2,3 +2,4 @@
 pub mod Answers
 pub mod Starts
 pub mod Puts
+pub mod Sending

@@ -1,4 +1,6 @@
 // A HART device: a slave, with burst mode. The functions follow the definitions of crates/turns/specs/Device.antt, in their order.
+mod sends;
+
 use base::Refusal;
 use frame::Header;
 use line::Event;
@@ -215,7 +217,7 @@ fn put_answer(d: Device, wish: Wish, bytes: &[u8], frame: &mut [u8; 284])
     let request = d.request;
     put_frame(
         d.preamble,
-        answer_header(request, device_sends::wished_burst(d.burst, wish)),
+        answer_header(request, sends::wished_burst(d.burst, wish)),
         bytes,
         frame,
     );
@@ -279,7 +281,7 @@ pub fn send(d: Device, contents: &[u8; 255], frame: &mut [u8; 284]) -> DeviceSen
     ensures { λ s. ⌜ SendIs d (now (contents .entry)) (now (frame .entry)) s (now (frame .exit)) ⌝ }
 {
     put_begun(d, contents, frame);
-    device_sends::sends_by(d, frame)
+    sends::sends_by(d, frame)
 }
 
 // A device with burst off, no request in hand, and no burst content.

@@ -19,10 +19,8 @@ use Rattle.turns.specs.Device.{deviceWith, endedBy, dueAfter, tells, afterChara
 use Rattle.turns.specs.declared.Change.{Change}
 use Rattle.turns.specs.declared.Content.{Content}
 use Rattle.turns.specs.declared.Device.{Device}
-use Rattle.turns.specs.declared.DeviceSent.{DeviceSent}
 use Rattle.turns.specs.declared.DeviceTaken.{DeviceTaken}
 use Rattle.turns.specs.declared.DeviceTold.{DeviceTold}
-use Rattle.turns.specs.declared.Sent.{Sent}
 use Rattle.turns.specs.declared.Turn.{Turn}
 use Rattle.turns.specs.declared.Wish.{Wish}
 use Rattle.turns.specs.declared.Wish.the-variants.{Same}
@@ -58,10 +56,6 @@ deviceOf p preamble polling unique r deaf turn request wish length burst primary
 module _ (p q : Profile) (preamble polling unique : ℕ) (r : Receiver) (deaf : Bool) (turn : Turn) (request : Header) (wish : Wish) (length : ℕ) (burst primary : Bool) (due : ℕ) (content : Content) where
   pub profile-same : p ≡ q → deviceOf p preamble polling unique r deaf turn request wish length burst primary due content ≡ deviceOf q preamble polling unique r deaf turn request wish length burst primary due content
   profile-same e = λ i. deviceOf (e i) preamble polling unique r deaf turn request wish length burst primary due content
-
-  pub sent-same : (sent : Sent) → p ≡ q
-      → _≡_ {A = DeviceSent} (record { device = deviceOf p preamble polling unique r deaf turn request wish length burst primary due content; sent = sent }) (record { device = deviceOf q preamble polling unique r deaf turn request wish length burst primary due content; sent = sent })
-  sent-same sent e = λ i. record { device = profile-same e i; sent = sent }
 
 pub change-same : (turn : Turn) (request q : Header) (length n : ℕ) (told : DeviceTold) → request ≡ q → length ≡ n
     → _≡_ {A = Change} (record { turn = turn; request = request; length = length; told = told }) (record { turn = turn; request = q; length = n; told = told })

@@ -1,2 +1,3 @@
--- The laws by which a device's tick is proved.
+-- The laws by which a device's burst content and its tick are proved.
+pub mod Contents
 pub mod Ticks

@@ -16,7 +16,7 @@ use Rattle.turns.specs.declared.Wish.{Wish}
 use Rattle.device.specs.declared.DeviceCalled.{DeviceCalled}
 use Rattle.device.specs.Calls.{calledAs, bufferBehind}
 use Rattle.device.specs.Promises.{DeviceTakeIs, AnswerIs, SendIs}
-use Rattle.device_content.specs.Content.{ContentIs}
+use Rattle.device_tick.specs.Content.{ContentIs}
 use Rattle.device_tick.specs.declared.DeviceTicked.{DeviceTicked}
 use Rattle.device_tick.specs.declared.DeviceHostCall.{DeviceHostCall}
 use Rattle.party.specs.Calls.{resultOf}

@@ -1,2 +1,3 @@
--- A tick of a device, by the definitions of turns.
+-- A device's burst content and its tick, by the definitions of turns.
+pub mod Content
 pub mod Tick

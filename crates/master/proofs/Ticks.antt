@@ -20,7 +20,7 @@ use Rattle.turns.specs.declared.MasterTaken.{MasterTaken}
 use Rattle.turns.specs.declared.MasterTold.{MasterTold}
 use Rattle.turns.specs.declared.Message.{Message}
 use Rattle.turns.specs.declared.Noted.{Noted}
-use Rattle.master_heard.specs.Takes.{heardBytes, MasterTakeIs}
+use Rattle.master.specs.Takes.{heardBytes, MasterTakeIs}
 use Rattle.master.specs.Answers.{asks, asked, askedFrame, RequestIs}
 use Rattle.master.specs.declared.MasterRequested.{MasterRequested}
 use Rattle.party.specs.Calls.{resultOf}

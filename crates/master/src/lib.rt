@@ -1,4 +1,6 @@
 // A master: its start, its host's requests, what it sends, and its tick: it takes what was heard, then a request, then sends a character or none.
+mod hears;
+
 use base::Refusal;
 use frame::Header;
 use frame::Written;
@@ -288,7 +290,7 @@ fn sends_waiting(m: Master, frame: &[u8; 284]) -> MasterSent
 }
 
 // Sends a character of the STX that stands in the lent frame buffer, or none.
-pub fn send(m: Master, frame: &[u8; 284]) -> MasterSent
+fn send(m: Master, frame: &[u8; 284]) -> MasterSent
     ensures { λ x. ⌜ x ≡ masterSends m (now (frame .entry)) ⌝ }
 {
     let g = m.message;
@@ -447,7 +449,7 @@ pub fn tick(
     ensures { λ r. ⌜ MasterTickIs m heard call (now (put .entry)) (now (frame .entry)) (now (bytes .entry)) r (now (frame .exit)) (now (bytes .exit)) ⌝ }
 {
     let own = same_master(m);
-    let t = master_heard::take(own, heard, bytes);
+    let t = hears::take(own, heard, bytes);
     let taken = t.master;
     let told = t.told;
     let event = t.event;

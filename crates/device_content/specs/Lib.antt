@@ -1,2 +1,0 @@
--- What a device's burst content promises, by the definitions of turns.
-pub mod Content

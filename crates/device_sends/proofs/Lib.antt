@@ -1,2 +1,0 @@
--- The laws by which what a device sends is proved.
-pub mod Sends

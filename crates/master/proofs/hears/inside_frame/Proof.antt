@@ -1,0 +1,12 @@
+use borrow.Author.Needs.{needs}
+use Rattle.master.proofs.Takes.{events}
+use Rattle.master.proofs.hears.inside_frame.Statement.{statement}
+use Rattle.master.proofs.hears.inside_frame.Tie as tie
+
+pub inside-frame-spec : {M : Type 1} → statement M
+inside-frame-spec =
+    tie.close
+    (tie.spec
+    (λ c κs. search needs)
+    (λ c κs. search needs)
+    (λ c. search (needs, events)))

@@ -1,2 +1,0 @@
--- What taking what was heard promises, and names for parts of its definitions.
-pub mod Takes
