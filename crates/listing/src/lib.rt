@@ -193,27 +193,19 @@ fn ends_with(
         count: count,
         alone: alone,
     };
+    let on = MonitorHeard {
+        monitor: monitor,
+        at: at,
+    };
     match event {
-        Event::Nothing => MonitorHeard {
-            monitor: monitor,
-            at: at,
-        },
-        Event::PassedOver => MonitorHeard {
-            monitor: monitor,
-            at: at,
-        },
-        Event::Broken => MonitorHeard {
-            monitor: monitor,
-            at: at,
-        },
+        Event::Nothing => on,
+        Event::PassedOver => on,
+        Event::Broken => on,
         Event::Frame(w) => {
             let header = w.header;
             frame_ends(tick, party, header, count, alone, out, at)
         }
-        Event::Damaged(_, _) => MonitorHeard {
-            monitor: monitor,
-            at: at,
-        },
+        Event::Damaged(_, _) => on,
     }
 }
 
@@ -320,26 +312,20 @@ pub fn list_ticks(
     let mut place = at;
     let mut k: u16 = 0;
     while k < most {
-        let row = k as usize;
-        let lone = row_is_lone(&sent[row]);
+        let lone = row_is_lone(&sent[k as usize]);
         let mut next = 0;
         while next < 8 {
             let i = next;
             next += 1;
-            let c = sent[row][i];
+            let c = sent[k as usize][i];
             if c < 256 {
-                let m = list[i];
-                let begun = heard_so_far(m);
+                let begun = heard_so_far(list[i]);
                 let h = hear(tick + k, i as u16, lone, begun, c as u8, out, place);
                 let behind = h.monitor;
                 list[i] = behind;
                 place = h.at;
-            } else {
-                let m = list[i];
-                if 0 < m.count {
-                    let quiet = quiet_monitor();
-                    list[i] = quiet;
-                }
+            } else if 0 < list[i].count {
+                list[i] = quiet_monitor();
             }
         }
         k += 1;

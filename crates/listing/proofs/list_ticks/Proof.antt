@@ -8,10 +8,10 @@ use Rattle.listing.proofs.list_ticks.Statement.{statement}
 use Rattle.listing.proofs.list_ticks.Tie as tie
 
 abbrev Inv-loop2 : tie.InvT-loop2
-Inv-loop2 tick count sent out₀ at most list₀ place₀ k row lone next₀ out list place next = RowHeard (tick + k) lone (getD sent row []) list₀ out₀ place₀ list out place next
+Inv-loop2 tick count sent out₀ at most list₀ place₀ k lone next₀ out list place next = RowHeard (tick + k) lone (getD sent k []) list₀ out₀ place₀ list out place next
 
 abbrev μ-loop2 : tie.MeasureT-loop2
-μ-loop2 tick count sent out₀ at most list₀ place₀ k row lone next₀ out list place next = 8 - next
+μ-loop2 tick count sent out₀ at most list₀ place₀ k lone next₀ out list place next = 8 - next
 
 abbrev Inv-loop : tie.InvT-loop
 Inv-loop tick count sent out₀ at most list₀ place₀ k₀ out list place k = RowsListed tick most sent list₀ out₀ place₀ list out place k
@@ -29,7 +29,7 @@ loop2-again : tie.Need-loop2-again Inv-loop2 μ-loop2 Inv-loop μ-loop
 loop2-again c = party-sends _ _ (c .before .before .before .before .before .before .before .before .before .before .loop2 .inv) (search needs) (search needs) (c .before .before .before .before .before .heard-so-far .ensures) (c .before .before .before .hear .ensures)
 
 loop2-again-2 : tie.Need-loop2-again-2 Inv-loop2 μ-loop2 Inv-loop μ-loop
-loop2-again-2 c = party-falls-silent quietMonitor 0 (c .before .before .before .before .before .before .before .loop2 .inv) (search needs) (search needs) (c .quiet-monitor .ensures)
+loop2-again-2 c = party-falls-silent quietMonitor 0 (c .before .before .before .before .before .loop2 .inv) (search needs) (search needs) (c .quiet-monitor .ensures)
 
 loop2-again-3 : tie.Need-loop2-again-3 Inv-loop2 μ-loop2 Inv-loop μ-loop
 loop2-again-3 c = search (needs, party-stays-silent)
@@ -56,6 +56,7 @@ list-ticks-spec =
     (λ c. search needs)
     (λ c κs. search needs)
     loop2-holds
+    (λ c. search needs)
     (λ c. search needs)
     (λ c. search needs)
     (λ c. search needs)
