@@ -9,6 +9,7 @@ use Rattle.base.specs.Choice.{if_then_else_, _=?_}
 use Rattle.base.specs.Lent as B
 use Rattle.base.specs.Lent.{Lent}
 use Rattle.frame.specs.Limits.{mostData}
+use Rattle.recording.specs.Recording.{RunIs}
 use Rattle.turns.specs.Link.{LinkStep, linkAfter}
 use Rattle.turns.specs.Late.{lateTick, lateRun}
 use Rattle.turns.specs.declared.Master.{Master}
@@ -64,6 +65,10 @@ pub record LateReady (s : StartTicks) (l : Link) : Type 0 where
 -- the numbers of a whole run from a link on
 abbrev pub lateNumbers : Link → StartTicks → Rows → List ℕ → List ℕ
 lateNumbers l starts x ticks = numbersOf (lateRun mostData (starts .primary) (starts .secondary) (linkOf l x) (ticksOf (heres (l .devices)) ticks))
+
+abbrev pub LateRunIs : Link → StartTicks → List ℕ → Lent (List ℕ) → Lent (List (List ℕ)) → Lent (List (List ℕ)) → Lent (List (List ℕ)) → ℕ → Type 0
+LateRunIs l starts ticks events frames bytes contents r =
+    RunIs (lateNumbers l starts (rowsOf (B.before frames) (B.before bytes) (B.before contents)) ticks) (B.before events) r (B.after events)
 
 -- the tick that turns gives for the calls at this place of the list
 abbrev pub stepAt : Link → StartTicks → Rows → List ℕ → ℕ → LinkStep

@@ -10,13 +10,11 @@ use parties::MasterCall;
 use turns::Master;
 ghost use mathlib.Core.Path.{_≡_};
 ghost use Prim.Native.Nat.{_-_};
-ghost use lib.ListN.{length};
 ghost use Rattle.base.specs.Lent.{before, after};
 ghost use Rattle.recording.specs.Recording.{RunIs};
-ghost use Rattle.parties.specs.Stands.{rowsOf};
 ghost use Rattle.link_start.specs.Fresh.{rowsFresh};
 ghost use Rattle.late_run.specs.Late.{LateKeeps};
-ghost use Rattle.late_run.specs.Step.{callTaken, requestsTaken, callsTaken, masterBehind, mastersBehind, linkBehind, startsBehind, LateReady, LateStepIs, lateNumbers};
+ghost use Rattle.late_run.specs.Step.{callTaken, requestsTaken, callsTaken, masterBehind, mastersBehind, linkBehind, startsBehind, LateReady, LateStepIs, lateNumbers, LateRunIs};
 
 // In how many ticks each master starts: 0 for one that has started.
 pub struct StartTicks {
@@ -148,7 +146,7 @@ fn run_from(
     contents: &mut [[u8; 255]; 6],
 ) -> usize
     requires { ⌜ LateReady starts start ⌝ }
-    ensures { λ r. ⌜ RunIs (lateNumbers start starts (rowsOf (before frames) (before bytes) (before contents)) (before ticks)) (before events) r (after events) ⌝ }
+    ensures { λ r. ⌜ LateRunIs start starts (before ticks) events frames bytes contents r ⌝ }
 {
     let mut sent = [[256u16; 8]; 64];
     let mut l = start;

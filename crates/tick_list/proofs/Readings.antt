@@ -24,7 +24,7 @@ use Rattle.parties.specs.declared.DeviceCall.{DeviceCall}
 use Rattle.parties.specs.declared.MasterCall.{MasterCall}
 use Rattle.parties.specs.declared.Part.{Part}
 use Rattle.tick_list.specs.Ticks.{kindIn, lengthIn, dataIn, requestIn, answerIn, behindCall, Here, deviceCallIn, slotsIn, behind, callsIn}
-use Rattle.tick_list.specs.Read.{partIn, masterCallAt, deviceCallAt, forward, nextIn, callsFrom, placeBehind, tickFrom, tickAt}
+use Rattle.tick_list.specs.Read.{partIn, masterCallAt, deviceCallAt, forward, nextIn, callsFrom, placeBehind, CallsRead, tickFrom, tickAt}
 use Rattle.tick_list.specs.declared.TickRead.{TickRead}
 
 -- a call, its parts told
@@ -80,25 +80,26 @@ module _ {A : Type 0} where
           place-left = ap (placeBehind ticks (most - (n + 1))) q ∙ ap (λ (m : ℕ). placeBehind ticks m at) less ∙ v .place-left;
         }
 
-    pub reading-calls : most ≤ n → calls ≡ callsFrom call ticks most start
-    unfolding callsFrom
-    reading-calls h =
+    pub reading-all : most ≤ n → CallsRead call ticks most start calls at
+    unfolding callsFrom placeBehind
+    reading-all h =
         let none : 0 ≡ most - n = omega (arith, h) in
-        sym (append-nil calls)
-        ∙ ap (λ (l : List A). l ++ []) (sym (take-all n calls (omega (arith, v .room, h))))
-        ∙ ap (λ (m : ℕ). take n calls ++ callsFrom call ticks m at) none
-        ∙ v .calls-left
+        record {
+          calls-are =
+              sym (append-nil calls)
+              ∙ ap (λ (l : List A). l ++ []) (sym (take-all n calls (omega (arith, v .room, h))))
+              ∙ ap (λ (m : ℕ). take n calls ++ callsFrom call ticks m at) none
+              ∙ v .calls-left;
+          next-is = ap (λ (m : ℕ). placeBehind ticks m at) none ∙ v .place-left;
+          inside = v .inside;
+        }
 
-    pub reading-place : most ≤ n → at ≡ placeBehind ticks most start
-    unfolding placeBehind
-    reading-place h = let none : 0 ≡ most - n = omega (arith, h) in ap (λ (m : ℕ). placeBehind ticks m at) none ∙ v .place-left
-
-pub tick-is : (ticks : List ℕ) (at middle next : ℕ) (ms : List MasterCall) (ds : List DeviceCall) → ms ≡ callsFrom masterCallAt ticks 2 at → middle ≡ placeBehind ticks 2 at
-    → ds ≡ callsFrom deviceCallAt ticks 6 middle → next ≡ placeBehind ticks 6 middle → record { calls = record { masters = ms; devices = ds }; next = next } ≡ tickFrom ticks at
+pub tick-is : (ticks : List ℕ) (at middle next : ℕ) (ms : List MasterCall) (ds : List DeviceCall) → CallsRead masterCallAt ticks 2 at ms middle → CallsRead deviceCallAt ticks 6 middle ds next
+    → record { calls = record { masters = ms; devices = ds }; next = next } ≡ tickFrom ticks at
 unfolding placeBehind
-tick-is ticks at middle next ms ds e f g h = λ i. record {
-  calls = record { masters = e i; devices = (g ∙ ap (callsFrom deviceCallAt ticks 6) f) i };
-  next = (h ∙ ap (placeBehind ticks 6) f) i;
+tick-is ticks at middle next ms ds m d = λ i. record {
+  calls = record { masters = m .calls-are i; devices = (d .calls-are ∙ ap (callsFrom deviceCallAt ticks 6) (m .next-is)) i };
+  next = (d .next-is ∙ ap (placeBehind ticks 6) (m .next-is)) i;
 }
 
 -- behind the end of the list
@@ -108,7 +109,7 @@ tick-inside ticks at r h e = e ∙ ap (tickFrom ticks) (if-below at (length tick
 pub tick-behind : (ticks : List ℕ) (at : ℕ) (r : TickRead) → length ticks ≤ at → r ≡ tickFrom ticks (length ticks) → r ≡ tickAt ticks at
 tick-behind ticks at r h e = e ∙ ap (tickFrom ticks) (if-not-below at (length ticks) (length ticks) at (length ticks) h refl)
 
-pub ruleset readings = (refl, master-call-is, device-call-is, reading-none, reading-more, reading-calls, reading-place, tick-is, tick-inside, tick-behind)
+pub ruleset readings = (refl, master-call-is, device-call-is, reading-none, reading-more, reading-all, tick-is, tick-inside, tick-behind)
 
 -- ---- what is read at a place
 

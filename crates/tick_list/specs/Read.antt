@@ -1,7 +1,8 @@
 -- How the code stands for what is to be believed.
 -- What is read of a list of ticks at a place of it: the calls of the tick that stands there, each with the part of the list that is its data, and the place behind them. That these are the calls of Ticks.antt is proved in proofs/Readings.antt.
-use Prim.Native.Nat.{ℕ, zero, suc, _+_, _-_}
+use Prim.Native.Nat.{ℕ, zero, suc, _+_, _-_, _≤_}
 use mathlib.Core.List.{List, [], _∷_}
+use mathlib.Core.Path.{_≡_}
 use lib.ListN.{length, drop}
 use Rattle.base.specs.Choice.{if_then_else_, _<?_, _=?_}
 use Rattle.parties.specs.declared.DeviceCall.{DeviceCall}
@@ -40,6 +41,12 @@ callsFrom call ticks (suc n) at = call ticks at ∷ callsFrom call ticks n (next
 unfoldable pub placeBehind : List ℕ → ℕ → ℕ → ℕ
 placeBehind ticks zero at = at
 placeBehind ticks (suc n) at = placeBehind ticks n (nextIn ticks at)
+
+-- what is promised of so many calls that were read from a place on
+pub record CallsRead {A : Type 0} (call : List ℕ → ℕ → A) (ticks : List ℕ) (n at : ℕ) (calls : List A) (next : ℕ) : Type 0 where
+  pub calls-are : calls ≡ callsFrom call ticks n at
+  pub next-is : next ≡ placeBehind ticks n at
+  pub inside : next ≤ length ticks
 
 -- ---- a tick: two calls to the masters, then six to the slots
 

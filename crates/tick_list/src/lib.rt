@@ -11,7 +11,7 @@ ghost use lib.ListN.{length, drop};
 ghost use Rattle.base.specs.Lent.{before};
 ghost use Rattle.frame.specs.Address.{byteAt};
 ghost use Rattle.tick_list.specs.Ticks.{lengthIn, addressIn, requestOf, requestBy, requestIn, answerBy, answerIn};
-ghost use Rattle.tick_list.specs.Read.{partIn, forward, nextIn, masterCallAt, deviceCallAt, callsFrom, placeBehind, tickFrom, tickAt};
+ghost use Rattle.tick_list.specs.Read.{partIn, forward, nextIn, masterCallAt, deviceCallAt, CallsRead, tickFrom, tickAt};
 
 fn wide(x: u8) -> u64
     ensures { λ r. ⌜ r ≡ x ⌝ }
@@ -204,7 +204,7 @@ pub struct DevicesRead {
 
 fn masters_read(ticks: &[u8], start: usize) -> MastersRead
     requires { ⌜ start ≤ length (now ticks) ⌝ }
-    ensures { λ r. ⌜ (r .calls ≡ callsFrom masterCallAt (before ticks) 2 start) × (r .next ≡ placeBehind (before ticks) 2 start) × (r .next ≤ length (before ticks)) ⌝ }
+    ensures { λ r. ⌜ CallsRead masterCallAt (before ticks) 2 start (r .calls) (r .next) ⌝ }
 {
     let none = parties::no_master_call();
     let mut calls = [none; 2];
@@ -224,7 +224,7 @@ fn masters_read(ticks: &[u8], start: usize) -> MastersRead
 
 fn devices_read(ticks: &[u8], start: usize) -> DevicesRead
     requires { ⌜ start ≤ length (now ticks) ⌝ }
-    ensures { λ r. ⌜ (r .calls ≡ callsFrom deviceCallAt (before ticks) 6 start) × (r .next ≡ placeBehind (before ticks) 6 start) ⌝ }
+    ensures { λ r. ⌜ CallsRead deviceCallAt (before ticks) 6 start (r .calls) (r .next) ⌝ }
 {
     let none = parties::no_device_call();
     let mut calls = [none; 6];
