@@ -285,7 +285,7 @@ pub fn send(d: Device, contents: &[u8; 255], frame: &mut [u8; 284]) -> DeviceSen
 }
 
 // A device with burst off, no request in hand, and no burst content.
-fn fresh(profile: Profile, preamble: u8, polling: u8, unique: u64) -> Device
+pub fn fresh(profile: Profile, preamble: u8, polling: u8, unique: u64) -> Device
     ensures { λ r. ⌜ r ≡ freshDevice profile preamble polling unique ⌝ }
 {
     let receiver = tick_reader::passing_reader();

@@ -6,23 +6,14 @@ use mathlib.Core.List.{List, [], _∷_}
 use mathlib.Core.Path.{_≡_, refl, sym, ap, subst, _∙_}
 use lib.ListN.{length, drop, getD, set, replicate, length-set, drop-of-length-le}
 use lib.Seq.{drop-cons, drop-set-lt, getD-set-same}
-use Rattle.base.specs.Choice.{if_then_else_}
 use Rattle.base.specs.Refusal.{number, Called, accepted, refused}
 use Rattle.base.specs.declared.Refusal.{Refusal}
 use Rattle.base.proofs.Choices.{if-true, if-false, if-at-most, if-above}
-use Rattle.frame.specs.declared.Header.{Header}
-use Rattle.line.specs.Reader.{passing, noHeader}
 use Rattle.line.specs.declared.Profile.{Profile}
-use Rattle.line.specs.declared.Receiver.{Receiver}
-use Rattle.turns.specs.Master.{masterStarts, noMessage, timer}
-use Rattle.turns.specs.Device.{deviceStarts}
+use Rattle.turns.specs.Master.{masterStarts, freshMaster}
+use Rattle.turns.specs.Device.{deviceStarts, freshDevice}
 use Rattle.turns.specs.declared.Device.{Device}
 use Rattle.turns.specs.declared.Master.{Master}
-use Rattle.turns.specs.declared.Message.{Message}
-use Rattle.turns.specs.declared.Stage.the-variants.{Free}
-use Rattle.turns.specs.declared.Timer.{Timer}
-use Rattle.turns.specs.declared.Turn.the-variants.{Listens}
-use Rattle.turns.specs.declared.Wish.the-variants.{Same}
 use Rattle.device.specs.Calls.{startedAs}
 use Rattle.device.specs.declared.DeviceStarted.{DeviceStarted}
 use Rattle.master.specs.Answers.{started}
@@ -46,48 +37,12 @@ module _ (v w a b : ℕ) (p : a ≡ v) (q : b ≡ w) where
 pub refused-same : {A : Type 0} (x y : ℕ) → x ≡ y → _≡_ {A = Called A} (refused x) (refused y)
 refused-same {A} x y e = λ i. refused (e i)
 
--- where no party was started: records with equal parts
-pub message-none : (h : Header) → h ≡ noHeader → _≡_ {A = Message} (record { stage = Free; header = h; length = 0; attempts = 0 }) noMessage
-message-none h e = λ i. record { stage = Free; header = e i; length = 0; attempts = 0 }
+-- where no party was started
+pub master-any : (p : Profile) (m : Master) → p ≡ noProfile → m ≡ freshMaster p true 0 → m ≡ anyMaster
+master-any p m e f = f ∙ ap (λ (q : Profile). freshMaster q true 0) e
 
-pub master-any : (p : Profile) (r : Receiver) (t : Timer) (g : Message) → p ≡ noProfile → r ≡ passing → t ≡ timer 0 → g ≡ noMessage
-    → _≡_ {A = Master} (record { primary = true; profile = p; retries = 0; receiver = r; deaf = true; burst = false; noted = record { long = false; address = 0 }; timer = t; message = g }) anyMaster
-unfolding if_then_else_
-master-any p r t g e f h k = λ i. record { primary = true; profile = e i; retries = 0; receiver = f i; deaf = true; burst = false; noted = record { long = false; address = 0 }; timer = h i; message = k i }
-
-pub device-any : (p : Profile) (r : Receiver) (h : Header) → p ≡ noProfile → r ≡ passing → h ≡ noHeader
-    → _≡_ {A = Device} (record {
-      profile = p;
-      preamble = 0;
-      polling = 0;
-      unique = 0;
-      receiver = r;
-      deaf = true;
-      turn = Listens;
-      request = h;
-      wish = Same;
-      length = 0;
-      burst = false;
-      primary = true;
-      due = 0;
-      content = record { given = false; command = 0; count = 0 };
-    }) anyDevice
-device-any p r h e f g = λ i. record {
-  profile = e i;
-  preamble = 0;
-  polling = 0;
-  unique = 0;
-  receiver = f i;
-  deaf = true;
-  turn = Listens;
-  request = g i;
-  wish = Same;
-  length = 0;
-  burst = false;
-  primary = true;
-  due = 0;
-  content = record { given = false; command = 0; count = 0 };
-}
+pub device-any : (p : Profile) (d : Device) → p ≡ noProfile → d ≡ freshDevice p 0 0 0 → d ≡ anyDevice
+device-any p d e f = f ∙ ap (λ (q : Profile). freshDevice q 0 0 0) e
 
 pub slot-absent : (d : Device) → d ≡ anyDevice → _≡_ {A = Slot} (record { device = d; here = false }) absent
 slot-absent d e = λ i. record { device = e i; here = false }
@@ -214,6 +169,6 @@ module _ (p : Profile) (retries : ℕ) (ss : List Setting) (ms : List Master) (s
       let is : _≡_ {A = Called Link} (refused (number why)) (linkStarts p retries ss) = ap (made (freshLink ms slots)) (sym q) ∙ link-made p retries ss ms slots x y v e f g in
       record { answer-is = is; link-is = k ∙ ap linkOr is }
 
-pub ruleset parts = (refl, message-none, master-any, device-any, slot-absent, link-empty)
+pub ruleset parts = (refl, master-any, device-any, slot-absent, link-empty)
 
 pub ruleset starts = (refl, lower-first, lower-second, refused-same, lowest-taken, lowest-first, lowest-second, master-begins, masters-begin, device-begins, none-begins, one-begins, begun-none, begun-more, begun-all, link-started, link-refused)

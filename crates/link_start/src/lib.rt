@@ -1,23 +1,15 @@
 // The start of a link.
 use base::Refusal;
-use frame::Header;
 use line::Heard;
 use line::Profile;
 use master::MasterStarted;
 use parties::Link;
 use parties::Slot;
-use turns::Content;
 use turns::Device;
 use turns::Master;
-use turns::Message;
-use turns::Noted;
-use turns::Stage;
-use turns::Turn;
-use turns::Wish;
 ghost use mathlib.Core.Path.{_≡_};
 ghost use Rattle.base.specs.Refusal.{number, accepted, refused};
-ghost use Rattle.turns.specs.Master.{masterStarts, noMessage};
-ghost use Rattle.line.specs.Reader.{noHeader};
+ghost use Rattle.turns.specs.Master.{masterStarts};
 ghost use Rattle.parties.specs.Stands.{anyMaster};
 ghost use Rattle.link_start.specs.Start.{noProfile, anyDevice, absent, emptyLink, lower, both, deviceSlot, slotStarts, devicesStart, mastersStart, made, answerAs, lowest, StartedIs};
 
@@ -76,82 +68,18 @@ fn no_profile() -> Profile
     }
 }
 
-fn no_header() -> Header
-    ensures { λ r. ⌜ r ≡ noHeader ⌝ }
-{
-    Header {
-        frame: 0,
-        long: false,
-        primary: false,
-        burst: false,
-        address: 0,
-        command: 0,
-    }
-}
-
-fn no_message() -> Message
-    ensures { λ r. ⌜ r ≡ noMessage ⌝ }
-{
-    let header = no_header();
-    Message {
-        stage: Stage::Free,
-        header: header,
-        length: 0,
-        attempts: 0,
-    }
-}
-
 fn any_master() -> Master
     ensures { λ r. ⌜ r ≡ anyMaster ⌝ }
 {
     let profile = no_profile();
-    let receiver = tick_reader::passing_reader();
-    let timer = master_rules::timer_of(0);
-    let message = no_message();
-    let noted = Noted {
-        long: false,
-        address: 0,
-    };
-    Master {
-        primary: true,
-        profile: profile,
-        retries: 0,
-        receiver: receiver,
-        deaf: true,
-        burst: false,
-        noted: noted,
-        timer: timer,
-        message: message,
-    }
+    master::fresh_master(profile, true, 0)
 }
 
 fn any_device() -> Device
     ensures { λ r. ⌜ r ≡ anyDevice ⌝ }
 {
     let profile = no_profile();
-    let receiver = tick_reader::passing_reader();
-    let request = no_header();
-    let content = Content {
-        given: false,
-        command: 0,
-        count: 0,
-    };
-    Device {
-        profile: profile,
-        preamble: 0,
-        polling: 0,
-        unique: 0,
-        receiver: receiver,
-        deaf: true,
-        turn: Turn::Listens,
-        request: request,
-        wish: Wish::Same,
-        length: 0,
-        burst: false,
-        primary: true,
-        due: 0,
-        content: content,
-    }
+    device::fresh(profile, 0, 0, 0)
 }
 
 fn absent_slot() -> Slot

@@ -322,7 +322,8 @@ fn no_message() -> Message
     }
 }
 
-fn fresh_master(p: Profile, primary: bool, retries: u8) -> Master
+// A master that hears nothing in its first tick, with no message.
+pub fn fresh_master(p: Profile, primary: bool, retries: u8) -> Master
     ensures { λ m. ⌜ m ≡ freshMaster p primary retries ⌝ }
 {
     let receiver = tick_reader::passing_reader();
