@@ -1,6 +1,4 @@
--- Runs without command 11 and with one device that is told to burst; the plays of loads.
-pub mod OtherCommands
-pub mod OneWishes
+-- The plays of loads.
 pub mod Opening
 pub mod First
 pub mod Occurring

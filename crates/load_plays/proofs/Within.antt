@@ -31,10 +31,10 @@ use Rattle.player.specs.Play.{ready, readyLink}
 use Rattle.load_writer.specs.Load.{call, opening, mark, pairTick, lengthOf, lower, upperParty, upper, stopAt, draw, load}
 use Rattle.load_writer.proofs.Records.{lower-either, Each, and, tests, each-front, each-load}
 use Rattle.load_plays.specs.Plays.{callsOf, playOf, WithinPremises, NoTwoSendInAPlay, WaitInAPlay}
-use Rattle.load_plays.proofs.OtherCommands.{OtherCall, asks-nothing, asks-other, OtherCalls, other-and, other-finds}
-use Rattle.load_plays.proofs.OtherCommands as O
-use Rattle.load_plays.proofs.OneWishes.{same, off, NotOnCall, no-one, replies, given, SideStaysOff, OneWishes, one-wishes}
-use Rattle.load_plays.proofs.OneWishes as W
+use Rattle.turns.proofs.OtherCommands.{OtherCall, asks-nothing, asks-other, OtherCalls, other-and, other-finds}
+use Rattle.turns.proofs.OtherCommands as O
+use Rattle.turns.proofs.OneWishes.{same, off, NotOnCall, no-one, replies, given, SideStaysOff, OneWishes, one-wishes}
+use Rattle.turns.proofs.OneWishes as W
 
 -- ---- records that turn burst on are for party 2
 

@@ -33,6 +33,8 @@ pub mod GapRuns
 pub mod Gaps
 pub mod NoneOn
 pub mod OneOn
+pub mod OneWishes
+pub mod OtherCommands
 pub mod Idle
 pub mod Item14
 pub mod Kept

@@ -148,8 +148,8 @@ any-device : (xs : List DeviceSide) → All (λ (x : DeviceSide). x ≡ x) xs
 any-device [] = none
 any-device (x ∷ xs) = and refl (any-device xs)
 
-pub silence-together : (limit : ℕ) (xs : List DeviceSide) (cs : List DeviceCall) → ToldTogether (deviceTicks limit Silence xs cs)
-silence-together limit xs cs = none-told (each-told limit Silence cs (λ x q. hears-silence (x .device)) (any-device xs))
+pub silence-untold : (limit : ℕ) (xs : List DeviceSide) (cs : List DeviceCall) → EachTold NoTag (deviceTicks limit Silence xs cs)
+silence-untold limit xs cs = each-told limit Silence cs (λ x q. hears-silence (x .device)) (any-device xs)
 
 -- a frame w that says `message`, behind its first k characters
 module _ (limit : ℕ) (p : Profile) (w : List ℕ) (message : Whole) (k : ℕ) (sp : Spoken w message) (u : ℕ) (cs : List DeviceCall) where
@@ -169,19 +169,24 @@ module _ (limit : ℕ) (p : Profile) (w : List ℕ) (message : Whole) (k : ℕ) 
       ap (λ (t : DeviceTaken). t .told) (hears-character (x .device) (getD w k 0) _ (h .listens .hears) e)
 
   -- an STX
-  pub stx-together : (suc k < length w) ⊎ (suc k ≡ length w) → message .header .frame ≡ stx → message .expansion ≡ 0 → {xs : List DeviceSide} → All (DeviceHears p (readerAfter idle (take k w)) u) xs → ToldTogether (deviceTicks limit (Character (getD w k 0)) xs cs)
+  pub stx-untold : (suc k < length w) ⊎ (suc k ≡ length w) → seeksTag (message .header) ≡ false → {xs : List DeviceSide} → All (DeviceHears p (readerAfter idle (take k w)) u) xs → EachTold NoTag (deviceTicks limit (Character (getD w k 0)) xs cs)
+  unfolding Hears
+  stx-untold (inl below) tag hs = each-told limit (Character (getD w k 0)) cs (mid-told below) hs
+  stx-untold (inr last) tag hs = each-told limit (Character (getD w k 0)) cs (λ x h. subst NoTag (sym (end-told last x h)) (other-told (x .device) message tag)) hs
+
+  stx-together : (suc k < length w) ⊎ (suc k ≡ length w) → message .header .frame ≡ stx → message .expansion ≡ 0 → {xs : List DeviceSide} → All (DeviceHears p (readerAfter idle (take k w)) u) xs → ToldTogether (deviceTicks limit (Character (getD w k 0)) xs cs)
   unfolding Hears
   stx-together (inl below) type none-more hs = none-told (each-told limit (Character (getD w k 0)) cs (mid-told below) hs)
   stx-together (inr last) type none-more {xs} hs = go (seeksTag (message .header)) refl
     where
       go : (tag : Bool) → seeksTag (message .header) ≡ tag → ToldTogether (deviceTicks limit (Character (getD w k 0)) xs cs)
       go true tag = all-told message tag (each-told limit (Character (getD w k 0)) cs (λ x h. end-told last x h ∙ stx-told (x .device) message type none-more tag) hs)
-      go false tag = none-told (each-told limit (Character (getD w k 0)) cs (λ x h. subst NoTag (sym (end-told last x h)) (other-told (x .device) message tag)) hs)
+      go false tag = none-told (stx-untold (inr last) tag hs)
 
   -- an ACK or a BACK
-  pub device-together : (f : Frames) (on : Bool) → (message .header .frame =? stx) ≡ false → {xs : List DeviceSide} → OneOf (DeviceSpeaks p f k w message u on) (DeviceHears p (readerAfter idle (take k w)) u) xs → ToldTogether (deviceTicks limit (Character (getD w k 0)) xs cs)
+  pub device-untold : (f : Frames) (on : Bool) → (message .header .frame =? stx) ≡ false → {xs : List DeviceSide} → OneOf (DeviceSpeaks p f k w message u on) (DeviceHears p (readerAfter idle (take k w)) u) xs → EachTold NoTag (deviceTicks limit (Character (getD w k 0)) xs cs)
   unfolding Hears
-  device-together f on type {xs} o = none-told (each-told limit (Character (getD w k 0)) cs (λ x q. by x (place-of o) q) (one-all o))
+  device-untold f on type {xs} o = each-told limit (Character (getD w k 0)) cs (λ x q. by x (place-of o) q) (one-all o)
     where
       by : (x : DeviceSide) → (suc k < length w) ⊎ (suc k ≡ length w) → DeviceSpeaks p f k w message u on x ⊎ DeviceHears p (readerAfter idle (take k w)) u x → NoTag (deviceTakes (x .device) (Character (getD w k 0)) .told)
       by x place (inl s) = deaf-told (x .device) (Character (getD w k 0)) (s .deaf-is)
@@ -190,17 +195,17 @@ module _ (limit : ℕ) (p : Profile) (w : List ℕ) (message : Whole) (k : ℕ) 
 
 -- ---- a tick, and a run
 
-master-place : {k : ℕ} {w : List ℕ} {x : MasterSide} → MasterPlace k w x → (suc k < length w) ⊎ (suc k ≡ length w)
+pub master-place : {k : ℕ} {w : List ℕ} {x : MasterSide} → MasterPlace k w x → (suc k < length w) ⊎ (suc k ≡ length w)
 master-place (S.MasterPlace.inside below t) = inl below
 master-place (S.MasterPlace.finished last t u v) = inr last
 
-is-not-stx : {on burst next : Bool} {h : Header} {a b : MasterSide} {f : Frames} → FrameIs on burst next h a b f → (h .frame =? stx) ≡ false
+pub is-not-stx : {on burst next : Bool} {h : Header} {a b : MasterSide} {f : Frames} → FrameIs on burst next h a b f → (h .frame =? stx) ≡ false
 is-not-stx {h = h} (is-ack e pa pb) = ap (λ (n : ℕ). n =? stx) e
 is-not-stx {h = h} (is-back e on set turn) = ap (λ (n : ℕ). n =? stx) e
 
 phase-together : (limit : ℕ) (p : Profile) (e : ℕ) (l : Link) (c : Calls) → Phase p e l → ToldTogether (linkTick limit l c .for-devices)
 unfolding heardTick
-phase-together limit p e l c (silent q o) = subst (λ (s : LinkStep). ToldTogether (s .for-devices)) (sym (tick-is limit l Silence c q)) (silence-together limit (l .devices) (c .for-devices))
+phase-together limit p e l c (silent q o) = subst (λ (s : LinkStep). ToldTogether (s .for-devices)) (sym (tick-is limit l Silence c q)) (none-told (silence-untold limit (l .devices) (c .for-devices)))
 phase-together limit p e l c (primary-sends burst noted next k w message q o) =
     subst (λ (s : LinkStep). ToldTogether (s .for-devices)) (sym (tick-is limit l (Character (getD w k 0)) c q))
     (stx-together limit p w message k (o .speaks .held .speaks) 0 (c .for-devices) (master-place (o .speaks .place)) (o .speaks .type-is) (o .speaks .no-expansion) (o .devices))
@@ -209,10 +214,10 @@ phase-together limit p e l c (secondary-sends burst noted next k w message q o) 
     (stx-together limit p w message k (o .speaks .held .speaks) 0 (c .for-devices) (master-place (o .speaks .place)) (o .speaks .type-is) (o .speaks .no-expansion) (o .devices))
 phase-together limit p e l c (ack-sent burst noted next k w message u on q o) =
     subst (λ (s : LinkStep). ToldTogether (s .for-devices)) (sym (tick-is limit l (Character (getD w k 0)) c q))
-    (device-together limit p w message k (spoken-of (o .devices)) u (c .for-devices) an-ack on (is-not-stx (o .frame-is)) (o .devices))
+    (none-told (device-untold limit p w message k (spoken-of (o .devices)) u (c .for-devices) an-ack on (is-not-stx (o .frame-is)) (o .devices)))
 phase-together limit p e l c (back-sent burst noted next k w message u q o) =
     subst (λ (s : LinkStep). ToldTogether (s .for-devices)) (sym (tick-is limit l (Character (getD w k 0)) c q))
-    (device-together limit p w message k (spoken-of (o .devices)) u (c .for-devices) a-back true (is-not-stx (o .frame-is)) (o .devices))
+    (none-told (device-untold limit p w message k (spoken-of (o .devices)) u (c .for-devices) a-back true (is-not-stx (o .frame-is)) (o .devices)))
 
 together-run : (limit : ℕ) → 2 ≤ limit → limit ≤ 255 → (p : Profile) → Valid p → (e : ℕ) (l : Link) (ticks : List Calls) → Phase p e l → EachTick Fair (run limit l ticks) → EachTick (λ (s : LinkStep). ToldTogether (s .for-devices)) (run limit l ticks)
 unfolding run

@@ -1,66 +1,48 @@
 -- A run in which no master asks a command 11: no device is told one, so no ledger holds one, and item 6's premise holds of the run.
-use Prim.Native.Nat.{ℕ, suc, _+_, _-_, _/_, _≤_, _<_}
+use Prim.Native.Nat.{ℕ, _+_, _-_, _/_, _≤_}
 use native.Mathlib.Omega.{arith}
 use mathlib.Core.Path.{_≡_, refl, sym, ap, subst, _∙_}
 use mathlib.Core.Bool.{Bool, true, false}
 use mathlib.Core.List.{List, [], _∷_}
-use mathlib.Core.Logic.{_⊎_, inl, inr}
-use lib.ListN.{length, take, getD}
+use lib.ListN.{length, getD}
 use borrow.Author.Tests.{ne-eqb}
 use Rattle.base.specs.Refusal.{Called}
 use Rattle.base.specs.Choice.{if_then_else_, _≤?_, _=?_, _<?_, _outside_to_}
-use Rattle.base.proofs.Choices.{true-false}
 use Rattle.frame.specs.Address.{byteAt, addressAbove}
-use Rattle.frame.specs.Delimiter.{stx}
 use Rattle.frame.specs.Frame.{frameBytes}
 use Rattle.frame.specs.Limits.{fewestPreambles, mostPreambles}
 use Rattle.frame.specs.declared.Header.{Header}
-use Rattle.line.specs.Reader.{idle, taken, insideFrame}
+use Rattle.line.specs.Reader.{taken, insideFrame}
 use Rattle.line.specs.declared.Event.{Event}
 use Rattle.line.specs.declared.Event.the-variants.{Nothing, PassedOver, Broken, Frame, Damaged}
 use Rattle.line.specs.declared.Heard.{Heard}
 use Rattle.line.specs.declared.Heard.the-variants.{Silence, Character}
 use Rattle.line.specs.declared.Profile.{Profile}
 use Rattle.line.specs.declared.Receiver.{Receiver}
-use Rattle.line.specs.declared.Taken.{Taken}
 use Rattle.line.specs.declared.Whole.{Whole}
-use Rattle.line.proofs.Leads.{readerAfter}
 use Rattle.turns.specs.Party.{isBroadcast, seeksTag, Request, CallResult, none, was-taken, was-refused}
 use Rattle.turns.specs.Master as M
 use Rattle.turns.specs.Master.{atBreak, atFrame, answersMessage, ifAwaiting, afterBreak, counts, rt1Ends, withReader, masterTakes, requestHeader, hasMessage, commandRefused, pollingUpTo, requestedUpTo, requested, sendsAt, masterSends}
-use Rattle.turns.specs.Device as D
-use Rattle.turns.specs.Device.{mayAnswer, hasError, deviceTakes}
 use Rattle.turns.specs.Link.{MasterCall, no-request, requests, DeviceCall, no-call, gives-answer, gives-content, MasterSide, DeviceSide, DeviceStep, Link, Calls, masterCalled, masterData, masterTick, deviceTicks, linkTick, linkAfter, run}
-use Rattle.turns.specs.Run.{All, Starts, EachTick, tick-and, OneBursts}
-use Rattle.turns.specs.Run as R
+use Rattle.turns.specs.Run.{Starts, EachTick, tick-and, OneBursts}
 use Rattle.turns.specs.Ledgers.{Ledger, blank, told, given, toldBy, answeredWith, calledBy, ledgerAfter, ledgersAfter, blanks, found, finders, OneFinds}
 use Rattle.turns.specs.Ledgers as G
-use Rattle.turns.specs.declared.Change.{Change}
-use Rattle.turns.specs.declared.Device.{Device}
-use Rattle.turns.specs.declared.DeviceTaken.{DeviceTaken}
 use Rattle.turns.specs.declared.DeviceTold.{DeviceTold}
 use Rattle.turns.specs.declared.DeviceTold.the-variants.{Broadcast}
 use Rattle.turns.specs.declared.Ending.{Ending}
 use Rattle.turns.specs.declared.Master.{Master}
 use Rattle.turns.specs.declared.MasterSent.{MasterSent}
 use Rattle.turns.specs.declared.MasterTaken.{MasterTaken}
 use Rattle.turns.specs.declared.MasterTold.{MasterTold}
 use Rattle.turns.specs.declared.Stage.{Stage}
 use Rattle.turns.specs.declared.Stage.the-variants.{Free, Waiting, Sending, Awaiting}
 use Rattle.turns.proofs.Bursting.{if-both}
-use Rattle.turns.proofs.Masters.{if-cases}
-use Rattle.turns.proofs.Spoken.{Spoken}
-use Rattle.turns.proofs.Sending.{MasterPlace}
-use Rattle.turns.proofs.Sending as S
-use Rattle.turns.proofs.Beginning.{DeviceSpeaks, DeviceHears}
-use Rattle.turns.proofs.DeviceSpeaking.{Frames}
-use Rattle.turns.proofs.SilentTick.{FrameIs, is-ack, is-back}
-use Rattle.turns.proofs.AckBack.{spoken-of, place-of}
-use Rattle.turns.proofs.Booked.{one-all}
+use Rattle.turns.proofs.DeviceSpeaking.{an-ack, a-back}
+use Rattle.turns.proofs.AckBack.{spoken-of}
 use Rattle.turns.proofs.Windows.{Valid}
 use Rattle.turns.proofs.Tags.{AllOwe, all-tick, sole, fresh-owe}
-use Rattle.turns.proofs.Together.{EachTold, no-device, told-and, NoTag, tick-told}
+use Rattle.turns.proofs.Together.{EachTold, no-device, told-and, NoTag, silence-untold, stx-untold, device-untold, master-place, is-not-stx}
 use Rattle.turns.proofs.NoTwoSend.{Phase, silent, primary-sends, secondary-sends, ack-sent, back-sent, phase-tick, phase-first}
 
 -- not of a command 11 by broadcast
 abbrev pub Other : Header → Type 0
@@ -159,123 +141,25 @@ master-other limit x heard (requests q put) (asks-other f) h =
     no : (why : ℕ) → Other (masterSends (masterTakes (x .master) heard (masterData x heard) .master) (x .frame) .master .message .header)
     no why = ap seeksTag (sends-header (masterTakes (x .master) heard (masterData x heard) .master) (x .frame) ∙ takes-header (x .master) heard (masterData x heard)) ∙ h
 
--- ---- what a device is told
+-- ---- what the devices are told in a tick
 
-nothing-told : NoTag DeviceTold.Nothing
-nothing-told w e = absurd (let z : _≡_ {A = ℕ} 0 1 = cc in omega arith)
-
-broadcast-told : (v : Whole) → NoTag (Broadcast v)
-broadcast-told v w e = absurd (let z : _≡_ {A = ℕ} 0 1 = cc in omega arith)
-
-same-request : (v w : Whole) → DeviceTold.Request v ≡ DeviceTold.Request w → v ≡ w
-same-request v w e = ap by e
+tick-other : (limit : ℕ) (p : Profile) (e : ℕ) (l : Link) (c : Calls) → Phase p e l → Other (l .primary .master .message .header) → Other (l .secondary .master .message .header) → EachTold NoTag (linkTick limit l c .for-devices)
+unfolding linkTick
+tick-other limit p e l c phase a b = go phase
   where
-    by : DeviceTold → Whole
-    by DeviceTold.Nothing = v
-    by (DeviceTold.Request x) = x
-    by (Broadcast x) = x
+    at : (heard : Heard) → l .line ≡ heard → EachTold NoTag (deviceTicks limit heard (l .devices) (c .for-devices)) → EachTold NoTag (deviceTicks limit (l .line) (l .devices) (c .for-devices))
+    at heard q = subst (λ (h : Heard). EachTold NoTag (deviceTicks limit h (l .devices) (c .for-devices))) (sym q)
 
--- a frame that is told is no STX of a command 11
-abbrev OtherFrame : Whole → Type 0
-OtherFrame w = (w .header .frame =? stx) ≡ true → Other (w .header)
-
-abbrev OtherEvent : Event → Type 0
-OtherEvent e = (w : Whole) → e ≡ Frame w → OtherFrame w
-
-character-told : (d : Device) (r : Receiver) (e : Event) → OtherEvent e → NoTag (D.onCharacter d r e .told)
-character-told d r Nothing f = nothing-told
-character-told d r PassedOver f = nothing-told
-character-told d r Broken f = nothing-told
-character-told d r (Frame w) f =
-    let P : Change → Type 0 = λ c. NoTag (c .told) in
-    if-cases P (w .header .frame =? stx) _ _
-    (λ is.
-    if-both P (w .expansion =? 0) _ _
-    (if-both P (mayAnswer d (w .header)) _ _ (λ v e. ap (λ (z : Whole). seeksTag (z .header)) (sym (same-request w v e)) ∙ f w refl is)
-    (if-both P (isBroadcast (w .header)) _ _ (broadcast-told w) nothing-told))
-    nothing-told)
-    (λ is. nothing-told)
-character-told d r (Damaged w m) f = if-both (λ (c : Change). NoTag (c .told)) (hasError d w m) _ _ nothing-told nothing-told
-
-silent-told : (d : Device) → NoTag (deviceTakes d Silence .told)
-unfolding deviceTakes
-silent-told d =
-    let P : DeviceTaken → Type 0 = λ t. NoTag (t .told) in
-    if-both P (d .deaf) _ _ nothing-told (if-both P (insideFrame (d .receiver .place)) _ _ (if-both P (d .receiver .gap) _ _ nothing-told nothing-told) nothing-told)
-
-heard-told : (d : Device) (c : ℕ) → (d .deaf ≡ false → OtherEvent (taken (d .receiver) (Character c) .event)) → NoTag (deviceTakes d (Character c) .told)
-unfolding deviceTakes
-heard-told d c f = if-cases (λ (t : DeviceTaken). NoTag (t .told)) (d .deaf) _ _ (λ e. nothing-told) (λ e. character-told d (taken (d .receiver) (Character c) .receiver) (taken (d .receiver) (Character c) .event) (f e))
-
--- a frame w that says `message`, behind its first k characters
-nothing-frame : {w : Whole} → Nothing ≡ Frame w → ⊥
-nothing-frame e = absurd (let z : _≡_ {A = ℕ} 0 1 = cc in omega arith)
-
-same-frame : (v w : Whole) → Frame v ≡ Frame w → v ≡ w
-same-frame v w e = ap by e
-  where
-    by : Event → Whole
-    by Nothing = v
-    by PassedOver = v
-    by Broken = v
-    by (Frame x) = x
-    by (Damaged x m) = v
-
-reader-told : (w : List ℕ) (message : Whole) (k : ℕ) → Spoken w message → (suc k < length w) ⊎ (suc k ≡ length w) → OtherFrame message → (r : Receiver) → r ≡ readerAfter idle (take k w) → OtherEvent (taken r (Character (getD w k 0)) .event)
-reader-told w message k sp (inl below) f r e v q =
-    absurd (nothing-frame (sym (ap (λ (z : Receiver). taken z (Character (getD w k 0)) .event) e ∙ ap (λ (t : Taken). t .event) (sp .mid k below)) ∙ q))
-reader-told w message k sp (inr last) f r e v q =
-    subst OtherFrame (same-frame message v (sym (ap (λ (z : Receiver). taken z (Character (getD w k 0)) .event) e ∙ ap (λ (t : Taken). t .event) (sp .end k last)) ∙ q)) f
-
--- ---- all devices in a tick
-
-each-told : (limit : ℕ) (heard : Heard) {xs : List DeviceSide} (cs : List DeviceCall) → All (λ (x : DeviceSide). NoTag (deviceTakes (x .device) heard .told)) xs → EachTold NoTag (deviceTicks limit heard xs cs)
-unfolding deviceTicks
-each-told limit heard cs R.none = no-device
-each-told limit heard [] (R.and {x = x} q qs) = told-and (subst NoTag (sym (tick-told limit x heard no-call)) q) (each-told limit heard [] qs)
-each-told limit heard (c ∷ cs) (R.and {x = x} q qs) = told-and (subst NoTag (sym (tick-told limit x heard c)) q) (each-told limit heard cs qs)
-
-all-of : {P Q : DeviceSide → Type 0} {xs : List DeviceSide} → ((x : DeviceSide) → P x → Q x) → All P xs → All Q xs
-all-of f R.none = R.none
-all-of f (R.and p ps) = R.and (f _ p) (all-of f ps)
-
-each-silent : (xs : List DeviceSide) → All (λ (x : DeviceSide). NoTag (deviceTakes (x .device) Silence .told)) xs
-each-silent [] = R.none
-each-silent (x ∷ xs) = R.and (silent-told (x .device)) (each-silent xs)
-
-master-place : {k : ℕ} {w : List ℕ} {x : MasterSide} → MasterPlace k w x → (suc k < length w) ⊎ (suc k ≡ length w)
-master-place (S.MasterPlace.inside below t) = inl below
-master-place (S.MasterPlace.finished last t u v) = inr last
-
-not-stx : (w : Whole) {on burst next : Bool} {a b : MasterSide} {f : Frames} → FrameIs on burst next (w .header) a b f → OtherFrame w
-not-stx w (is-ack e pa pb) is = absurd (true-false (sym is ∙ ap (λ (n : ℕ). n =? stx) e))
-not-stx w (is-back e on set turn) is = absurd (true-false (sym is ∙ ap (λ (n : ℕ). n =? stx) e))
-
-module _ (limit : ℕ) (p : Profile) where
-  tick-other : (e : ℕ) (l : Link) (c : Calls) → Phase p e l → Other (l .primary .master .message .header) → Other (l .secondary .master .message .header) → EachTold NoTag (linkTick limit l c .for-devices)
-  unfolding linkTick
-  tick-other e l c phase a b = go phase
-    where
-      at : (heard : Heard) → l .line ≡ heard → All (λ (x : DeviceSide). NoTag (deviceTakes (x .device) heard .told)) (l .devices) → EachTold NoTag (deviceTicks limit (l .line) (l .devices) (c .for-devices))
-      at heard q all = subst (λ (h : Heard). EachTold NoTag (deviceTicks limit h (l .devices) (c .for-devices))) (sym q) (each-told limit heard (c .for-devices) all)
-
-      hears : (w : List ℕ) (message : Whole) (k u : ℕ) → Spoken w message → (suc k < length w) ⊎ (suc k ≡ length w) → OtherFrame message → (x : DeviceSide) → DeviceHears p (readerAfter idle (take k w)) u x → NoTag (deviceTakes (x .device) (Character (getD w k 0)) .told)
-      hears w message k u sp place f x h = heard-told (x .device) (getD w k 0) (λ z. reader-told w message k sp place f (x .device .receiver) (h .receiver-is))
-
-      either : (w : List ℕ) (message : Whole) (k u : ℕ) (f : Frames) (on : Bool) → Spoken w message → (suc k < length w) ⊎ (suc k ≡ length w) → OtherFrame message → (x : DeviceSide) → DeviceSpeaks p f k w message u on x ⊎ DeviceHears p (readerAfter idle (take k w)) u x → NoTag (deviceTakes (x .device) (Character (getD w k 0)) .told)
-      either w message k u f on sp place g x (inl s) = heard-told (x .device) (getD w k 0) (λ z. absurd (true-false (sym (s .deaf-is) ∙ z)))
-      either w message k u f on sp place g x (inr h) = hears w message k u sp place g x h
-
-      go : Phase p e l → EachTold NoTag (deviceTicks limit (l .line) (l .devices) (c .for-devices))
-      go (silent q o) = at Silence q (each-silent (l .devices))
-      go (primary-sends burst noted next k w message q o) =
-          at (Character (getD w k 0)) q (all-of (hears w message k 0 (o .speaks .held .speaks) (master-place (o .speaks .place)) (λ z. ap seeksTag (o .speaks .header-is) ∙ a)) (o .devices))
-      go (secondary-sends burst noted next k w message q o) =
-          at (Character (getD w k 0)) q (all-of (hears w message k 0 (o .speaks .held .speaks) (master-place (o .speaks .place)) (λ z. ap seeksTag (o .speaks .header-is) ∙ b)) (o .devices))
-      go (ack-sent burst noted next k w message u on q o) =
-          at (Character (getD w k 0)) q (all-of (either w message k u _ on (spoken-of (o .devices)) (place-of (o .devices)) (not-stx message (o .frame-is))) (one-all (o .devices)))
-      go (back-sent burst noted next k w message u q o) =
-          at (Character (getD w k 0)) q (all-of (either w message k u _ true (spoken-of (o .devices)) (place-of (o .devices)) (not-stx message (o .frame-is))) (one-all (o .devices)))
+    go : Phase p e l → EachTold NoTag (deviceTicks limit (l .line) (l .devices) (c .for-devices))
+    go (silent q o) = at Silence q (silence-untold limit (l .devices) (c .for-devices))
+    go (primary-sends burst noted next k w message q o) =
+        at (Character (getD w k 0)) q (stx-untold limit p w message k (o .speaks .held .speaks) 0 (c .for-devices) (master-place (o .speaks .place)) (ap seeksTag (o .speaks .header-is) ∙ a) (o .devices))
+    go (secondary-sends burst noted next k w message q o) =
+        at (Character (getD w k 0)) q (stx-untold limit p w message k (o .speaks .held .speaks) 0 (c .for-devices) (master-place (o .speaks .place)) (ap seeksTag (o .speaks .header-is) ∙ b) (o .devices))
+    go (ack-sent burst noted next k w message u on q o) =
+        at (Character (getD w k 0)) q (device-untold limit p w message k (spoken-of (o .devices)) u (c .for-devices) an-ack on (is-not-stx (o .frame-is)) (o .devices))
+    go (back-sent burst noted next k w message u q o) =
+        at (Character (getD w k 0)) q (device-untold limit p w message k (spoken-of (o .devices)) u (c .for-devices) a-back true (is-not-stx (o .frame-is)) (o .devices))
 
 -- ---- the ledgers
 
@@ -376,4 +260,4 @@ module _ (limit : ℕ) (low : 2 ≤ limit) (high : limit ≤ 255) (p : Profile) 
       G.tick-and (few next) (finds (p .rt1s) _ (linkAfter (linkTick limit l c)) cs (phase-first limit low high p v retries l c s) next o ds)
     where
       first : (l : Link) (c : Calls) → l .line ≡ Silence → EachTold NoTag (linkTick limit l c .for-devices)
-      first l c q = subst (λ (h : Heard). EachTold NoTag (deviceTicks limit h (l .devices) (c .for-devices))) (sym q) (each-told limit Silence (c .for-devices) (each-silent (l .devices)))
+      first l c q = subst (λ (h : Heard). EachTold NoTag (deviceTicks limit h (l .devices) (c .for-devices))) (sym q) (silence-untold limit (l .devices) (c .for-devices))
