@@ -1,6 +1,7 @@
-// What every layer shares: the refusals of documents 01 and 02, and a range test.
+// What every layer shares: the refusals of documents 01 and 02, a range test, and whether both of two hold.
 ghost use mathlib.Core.Path.{_≡_};
-ghost use Rattle.base.specs.Choice.{_outside_to_};
+ghost use mathlib.Core.Bool.{false};
+ghost use Rattle.base.specs.Choice.{if_then_else_, _outside_to_};
 ghost use Rattle.base.specs.Refusal.{number};
 
 // Why a call is refused. Each is a number of document 01's table, the last three of document 02, items 2, 4 and 5.
@@ -61,4 +62,14 @@ pub fn outside(x: usize, low: usize, high: usize) -> bool
         return true;
     }
     high < x
+}
+
+// Whether both hold.
+pub fn both(a: bool, b: bool) -> bool
+    ensures { λ r. ⌜ r ≡ (if a then b else false) ⌝ }
+{
+    if a {
+        return b;
+    }
+    false
 }

@@ -9,10 +9,8 @@ use turns::Master;
 use turns::Timer;
 use turns::Turn;
 ghost use mathlib.Core.Path.{_≡_};
-ghost use mathlib.Core.Bool.{false};
 ghost use mathlib.Core.List.{map};
 ghost use Prim.Native.Nat.{_-_};
-ghost use Rattle.base.specs.Choice.{if_then_else_};
 ghost use Rattle.link_rests.specs.Rests.{onlyCounts, deviceRests, masterRests, slotRests, slotsRest, mastersRest, linkRests};
 ghost use Rattle.link_rests.specs.Rests.{deviceRested, timerRested, masterRested, slotRested, mastersRested, linkRested};
 
@@ -51,16 +49,6 @@ fn slot_rests(s: Slot) -> bool
     true
 }
 
-// Whether both hold.
-fn both(a: bool, b: bool) -> bool
-    ensures { λ r. ⌜ r ≡ (if a then b else false) ⌝ }
-{
-    if a {
-        return b;
-    }
-    false
-}
-
 fn slots_rest(slots: [Slot; 6]) -> bool
     ensures { λ r. ⌜ r ≡ slotsRest slots ⌝ }
 {
@@ -69,7 +57,7 @@ fn slots_rest(slots: [Slot; 6]) -> bool
     while i < 6 {
         let s = slots[i];
         let rests = slot_rests(s);
-        rest = both(rest, rests);
+        rest = base::both(rest, rests);
         i += 1;
     }
     rest

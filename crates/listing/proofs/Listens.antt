@@ -6,9 +6,10 @@ use mathlib.Core.Bool.{Bool, true, false}
 use mathlib.Core.Path.{_≡_, refl, sym, ap, subst, _∙_}
 use mathlib.Core.List.{List, [], _∷_, _++_, append-nil, append-assoc}
 use lib.ListN.{length, take, drop, getD, set, replicate, length-set, drop-of-length-le}
-use lib.Seq.{drop-cons, drop-set-lt, take-all, take-suc-set}
+use lib.Seq.{drop-cons, drop-set-lt, take-all}
 use Rattle.base.specs.Choice.{if_then_else_, _≤?_}
 use Rattle.base.proofs.Choices.{if-is-true, if-is-false}
+use Rattle.base.proofs.Lists.{front-more}
 use Rattle.texts.specs.Put.{Out, outOf, put, PutIs}
 use Rattle.texts.proofs.Puts.{put-append, put-none, put-same, put-then, put-length}
 use Rattle.line.specs.Reader.{idle, character, taken}
@@ -157,12 +158,6 @@ tick-besides x y before between after at m r e es p q = record {
 tick-none : (before : List ℕ) (at : ℕ) → TickLinesAre (record { monitors = []; lines = [] }) before at [] at before
 unfolding linesText
 tick-none before at = record { monitors-are = refl; text = put-none before at }
-
-front-more : (es fs : List Monitor) (i : ℕ) (e : Monitor) → i < length es → take i es ++ (e ∷ fs) ≡ take (i + 1) (set es i e) ++ fs
-front-more es fs i e h =
-    sym (append-assoc (take i es) (e ∷ []) fs)
-    ∙ ap (λ (l : List Monitor). l ++ fs) (sym (take-suc-set es i e h))
-    ∙ ap (λ (n : ℕ). take n (set es i e) ++ fs) (sym (add-one i))
 
 -- a loop over eight parties: what is left gives what the whole gives
 pub record Listening (whole : TickLines) (tick : ℕ) (lone : Bool) (ss : List Sent) (before : List ℕ) (at : ℕ) (es : List Monitor) (bytes : List ℕ) (place i : ℕ) : Type 0 where

@@ -9,10 +9,8 @@ use texts::put_digits;
 use turns::Sent;
 ghost use mathlib.Core.Path.{_≡_};
 ghost use mathlib.Core.List.{[], _∷_};
-ghost use mathlib.Core.Bool.{false};
 ghost use lib.ListN.{length, replicate};
 ghost use Prim.Native.Nat.{_<_, _+_};
-ghost use Rattle.base.specs.Choice.{if_then_else_};
 ghost use Rattle.base.specs.Lent.{before};
 ghost use Rattle.texts.specs.Put.{PutIs};
 ghost use Rattle.listing.specs.Lines.{lineOf, quietMonitor, frameEnds, endsWith, oneMore, listens};
@@ -209,16 +207,6 @@ fn ends_with(
     }
 }
 
-// Whether both hold.
-fn both(a: bool, b: bool) -> bool
-    ensures { λ r. ⌜ r ≡ (if a then b else false) ⌝ }
-{
-    if a {
-        return b;
-    }
-    false
-}
-
 // A party sends a character.
 fn hear(
     tick: u16,
@@ -234,7 +222,7 @@ fn hear(
     let r = monitor.receiver;
     let t = tick_reader::heard_character(r, c);
     let count = one_more(monitor.count);
-    let alone = both(monitor.alone, lone);
+    let alone = base::both(monitor.alone, lone);
     ends_with(tick, party, count, alone, t, out, at)
 }
 

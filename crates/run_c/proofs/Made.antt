@@ -2,10 +2,11 @@
 use Prim.Native.Nat.{ℕ, _+_, _≤_, _<_}
 use native.Mathlib.Numerals.{add-one}
 use native.Mathlib.Omega.{arith}
-use mathlib.Core.List.{List, [], _∷_, _++_, append-nil, append-assoc}
+use mathlib.Core.List.{List, [], _∷_, _++_, append-nil}
 use mathlib.Core.Path.{_≡_, refl, sym, ap, _∙_}
 use lib.ListN.{length, take, drop, getD, set, length-set, drop-of-length-le}
-use lib.Seq.{drop-cons, take-all, take-suc-set}
+use lib.Seq.{drop-cons, take-all}
+use Rattle.base.proofs.Lists.{front-more}
 use Rattle.link_start.specs.declared.Setting.{Setting}
 use Rattle.run_c.specs.Settings.{settingOf, settingsOf}
 
@@ -19,12 +20,6 @@ pub record Making (preambles pollings uniques : List ℕ) (settings : List Setti
 
 pub making-none : (preambles pollings uniques : List ℕ) (settings : List Setting) → length preambles ≡ 6 → length pollings ≡ 6 → length uniques ≡ 6 → length settings ≡ 6 → Making preambles pollings uniques settings 0
 making-none preambles pollings uniques settings p q u s = record { preambles-six = p; pollings-six = q; uniques-six = u; six = s; within = omega arith; left = refl }
-
-front-more : (es fs : List Setting) (i : ℕ) (e : Setting) → i < length es → take i es ++ (e ∷ fs) ≡ take (i + 1) (set es i e) ++ fs
-front-more es fs i e h =
-    sym (append-assoc (take i es) (e ∷ []) fs)
-    ∙ ap (λ (l : List Setting). l ++ fs) (sym (take-suc-set es i e h))
-    ∙ ap (λ (n : ℕ). take n (set es i e) ++ fs) (sym (add-one i))
 
 pub making-more : (preambles pollings uniques : List ℕ) (settings : List Setting) (n : ℕ) (e : Setting) → Making preambles pollings uniques settings n → n < 6
     → e ≡ settingOf (getD preambles n 0) (getD pollings n 0) (getD uniques n 0) → Making preambles pollings uniques (set settings n e) (n + 1)

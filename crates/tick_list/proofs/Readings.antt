@@ -1,17 +1,15 @@
 -- Laws of reading calls, one behind the other: the loops, and that what is read at a place are the calls of Ticks.antt.
 use Prim.Native.Nat.{ℕ, zero, suc, _+_, _-_, _≤_, _<_}
-use native.Mathlib.Numerals.{add-one}
 use native.Mathlib.Omega.{arith}
 use mathlib.Core.Bool.{Bool, true, false}
-use mathlib.Core.List.{List, [], _∷_, _++_, append-nil, append-assoc}
-use mathlib.Core.Path.{_≡_, refl, sym, ap, subst, _∙_}
+use mathlib.Core.List.{List, [], _∷_, _++_, append-nil}
+use mathlib.Core.Path.{_≡_, refl, sym, ap, _∙_}
 use lib.ListN.{length, take, drop, getD, set, length-set, length-drop}
-use lib.Seq.{drop-drop, take-all, take-nil, take-suc-set}
-use borrow.Author.Tests.{ltb-true, ltb-false, le-ltb}
+use lib.Seq.{drop-drop, take-all, take-nil}
+use borrow.Author.Tests.{ltb-true, ltb-false}
 use Rattle.base.specs.Choice.{if_then_else_, _<?_, _=?_}
 use Rattle.base.proofs.Choices.{if-is-true, if-is-false, if-below, if-not-below}
-use Rattle.turns.proofs.Bursting.{if-both}
-use Rattle.turns.specs.Link as L
+use Rattle.base.proofs.Lists.{front-more}
 use Rattle.master.specs.Tick as M
 use Rattle.master.specs.declared.MasterHostCall as MasterHost
 use Rattle.device_tick.specs.Tick as D
@@ -19,11 +17,10 @@ use Rattle.device_tick.specs.declared.DeviceHostCall as DeviceHost
 use Rattle.parties.specs.Part.{dataOf}
 use Rattle.parties.specs.Stands.{ifHere, noDeviceCall, deviceCallOf, deviceCallsFrom, callsOf}
 use Rattle.parties.proofs.Parts.{past-end}
-use Rattle.parties.specs.declared.Calls.{Calls}
 use Rattle.parties.specs.declared.DeviceCall.{DeviceCall}
 use Rattle.parties.specs.declared.MasterCall.{MasterCall}
 use Rattle.parties.specs.declared.Part.{Part}
-use Rattle.tick_list.specs.Ticks.{kindIn, lengthIn, dataIn, requestIn, answerIn, behindCall, Here, deviceCallIn, slotsIn, behind, callsIn}
+use Rattle.tick_list.specs.Ticks.{kindIn, lengthIn, dataIn, requestIn, answerIn, behindCall, Here, slotsIn, behind, callsIn}
 use Rattle.tick_list.specs.Read.{partIn, masterCallAt, deviceCallAt, forward, nextIn, callsFrom, placeBehind, CallsRead, tickFrom, tickAt}
 use Rattle.tick_list.specs.declared.TickRead.{TickRead}
 
@@ -56,12 +53,6 @@ module _ {A : Type 0} where
         calls-left = ap (λ (n : ℕ). callsFrom call ticks n start) whole;
         place-left = ap (λ (n : ℕ). placeBehind ticks n start) whole;
       }
-
-  front-more : (es fs : List A) (i : ℕ) (e : A) → i < length es → take i es ++ (e ∷ fs) ≡ take (i + 1) (set es i e) ++ fs
-  front-more es fs i e h =
-      sym (append-assoc (take i es) (e ∷ []) fs)
-      ∙ ap (λ (l : List A). l ++ fs) (sym (take-suc-set es i e h))
-      ∙ ap (λ (n : ℕ). take n (set es i e) ++ fs) (sym (add-one i))
 
   module _ (call : List ℕ → ℕ → A) (ticks : List ℕ) (most start : ℕ) (calls : List A) (at n : ℕ) (v : Reading call ticks most start calls at n) where
     pub reading-more : (e : A) (next : ℕ) → n < most → e ≡ call ticks at → next ≡ nextIn ticks at → next ≤ length ticks → Reading call ticks most start (set calls n e) next (n + 1)

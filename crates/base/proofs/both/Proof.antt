@@ -1,7 +1,7 @@
 use borrow.Author.Needs.{needs}
 use Rattle.base.proofs.Choices.{choices}
-use Rattle.listing.proofs.both.Statement.{statement}
-use Rattle.listing.proofs.both.Tie as tie
+use Rattle.base.proofs.both.Statement.{statement}
+use Rattle.base.proofs.both.Tie as tie
 
 pub both-spec : {M : Type 1} → statement M
 both-spec =
