@@ -27,14 +27,14 @@
  * (tests/stack works it out from the archive). On top come the arguments that are passed on the stack,
  * 64 bytes at most, and the two functions of the C library.
  *
- *   nengapiko_write                208
- *   nengapiko_read                  72
+ *   nengapiko_write                 96
+ *   nengapiko_read                  56
  *   nengapiko_reader_start           8
- *   nengapiko_reader_tick          440
+ *   nengapiko_reader_tick          312
  *   nengapiko_master_start         328
- *   nengapiko_master_tick          792
+ *   nengapiko_master_tick          744
  *   nengapiko_device_start         288
- *   nengapiko_device_tick          824
+ *   nengapiko_device_tick          688
  */
 #ifndef NENGAPIKO_H
 #define NENGAPIKO_H

@@ -1,4 +1,4 @@
--- A start by what was answered, and a tick by what its parts gave.
+-- A start by what was answered, a tick by what its parts gave, and one with what was made of its arguments.
 use Prim.Native.Nat.{ℕ}
 use mathlib.Core.List.{List}
 use mathlib.Core.Path.{_≡_, refl, sym, ap, subst, _∙_}
@@ -69,3 +69,15 @@ tick-is before frame bytes contents d heard call put t frame-after bytes-after c
           ((v .found ∙ ap (λ (x : Device). deviceTakes x heard .event) e) i));
       returned = q ∙ ap (λ (s : DeviceStep). callNumber (s .result)) step;
     }
+
+abbrev Steps : List ℕ → List ℕ → List ℕ → List ℕ → List ℕ → List ℕ → List ℕ → List ℕ → List ℕ → List ℕ → ℕ → Heard → DeviceHostCall → Type 0
+Steps before frame bytes contents put words frame-after bytes-after contents-after results r heard call =
+    StepIs (deviceTick mostData (sideOf (unpacked before) frame bytes contents) heard (callOf call put)) (deviceTakes (unpacked before) heard .event)
+    words frame-after bytes-after contents-after results r
+
+pub tick-called : (before frame bytes contents put words frame-after bytes-after contents-after results : List ℕ) (r : ℕ) (h heard : Heard) (c call : DeviceHostCall) → h ≡ heard → c ≡ call
+    → Steps before frame bytes contents put words frame-after bytes-after contents-after results r h c
+    → Steps before frame bytes contents put words frame-after bytes-after contents-after results r heard call
+tick-called before frame bytes contents put words frame-after bytes-after contents-after results r h heard c call d e v =
+    subst (λ (x : DeviceHostCall). Steps before frame bytes contents put words frame-after bytes-after contents-after results r heard x) e
+    (subst (λ (x : Heard). Steps before frame bytes contents put words frame-after bytes-after contents-after results r x c) d v)

@@ -3,6 +3,7 @@
 use Prim.Native.Nat.{ℕ}
 use mathlib.Core.List.{List}
 use mathlib.Core.Path.{_≡_}
+use Rattle.base.specs.Choice.{if_then_else_, _=?_}
 use Rattle.base.specs.Lent.{Lent, before, after}
 use Rattle.base.specs.Refusal.{Called, accepted, refused}
 use Rattle.frame.specs.Limits.{mostData}
@@ -17,19 +18,32 @@ use Rattle.turns.specs.Told.{deviceTells}
 use Rattle.turns.specs.declared.Device.{Device}
 use Rattle.turns.specs.declared.DeviceTold.{DeviceTold}
 use Rattle.turns.specs.declared.DeviceTold.the-variants.{Nothing, Request, Broadcast}
+use Rattle.turns.specs.declared.Wish.the-variants.{Same, On, Off}
 use Rattle.device_tick.specs.Tick.{callOf, sideOf}
 use Rattle.device_tick.specs.declared.DeviceHostCall.{DeviceHostCall}
 use Rattle.words.specs.Numbers.{tickNumbers, sentNumber, callNumber}
 use Rattle.words.specs.Start.{StartIs}
 use Rattle.device_c.specs.Words.{packed, unpacked}
 
--- the start: 1 for the profile, then 3 and 4
+-- ---- the start: 1 for the profile, then 3 and 4
+
 abbrev pub startsBy : Called Profile → ℕ → ℕ → ℕ → Called Device
 startsBy (accepted p) preamble polling unique = deviceStarts p preamble polling unique
 startsBy (refused why) preamble polling unique = refused why
 
 abbrev pub DeviceStarts : Profile → ℕ → ℕ → ℕ → Lent (List ℕ) → ℕ → Type 0
 DeviceStarts p preamble polling unique words r = StartIs packed (startsBy (profileMade p) preamble polling unique) (before words) (after words) r
+
+-- ---- the tick
+
+-- what the host gives, by the numbers of `enum nengapiko_device_call`: an answer with its wish, or burst content of this command; any other number is nothing
+abbrev pub givenBy : ℕ → ℕ → DeviceHostCall
+givenBy call command =
+    if call =? 1 then DeviceHostCall.Answers Same else
+    if call =? 2 then DeviceHostCall.Answers On else
+    if call =? 3 then DeviceHostCall.Answers Off else
+    if call =? 4 then DeviceHostCall.Content command else
+    DeviceHostCall.Nothing
 
 -- what a call leaves behind a tick: the words and the three lent buffers, the results and what it returns
 pub record StepIs (s : DeviceStep) (event : Event) (words frame bytes contents results : List ℕ) (r : ℕ) : Type 0 where
@@ -42,10 +56,10 @@ pub record StepIs (s : DeviceStep) (event : Event) (words frame bytes contents r
   pub returned : r ≡ callNumber (s .result)
 
 -- the step of the device that the words before were, and what its reader found; the data of the host's call are `put`
-abbrev pub DeviceTicks : Lent (List ℕ) → Lent (List ℕ) → Lent (List ℕ) → Lent (List ℕ) → Heard → DeviceHostCall → List ℕ → Lent (List ℕ) → ℕ → Type 0
+abbrev pub DeviceTicks : Lent (List ℕ) → Lent (List ℕ) → Lent (List ℕ) → Lent (List ℕ) → Heard → DeviceHostCall → Lent (List ℕ) → Lent (List ℕ) → ℕ → Type 0
 DeviceTicks words frame bytes contents heard call put results r =
     StepIs
-    (deviceTick mostData (sideOf (unpacked (before words)) (before frame) (before bytes) (before contents)) heard (callOf call put))
+    (deviceTick mostData (sideOf (unpacked (before words)) (before frame) (before bytes) (before contents)) heard (callOf call (before put)))
     (deviceTakes (unpacked (before words)) heard .event)
     (after words) (after frame) (after bytes) (after contents) (after results) r
 

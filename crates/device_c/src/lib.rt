@@ -14,13 +14,14 @@ use turns::Wish;
 ghost use Prim.Native.Nat.{_<_, _^_};
 ghost use mathlib.Core.Path.{_≡_};
 ghost use Rattle.base.specs.Lent.{before, after};
+ghost use Rattle.recording.specs.Recording.{heardOf};
 ghost use Rattle.turns.specs.Told.{deviceTells};
 ghost use Rattle.device.specs.Calls.{startedAs};
-ghost use Rattle.words.specs.Start.{StartIs};
+ghost use Rattle.words.specs.Start.{profile, StartIs};
 ghost use Rattle.device_c.specs.Words.{turnWord, turnBy, turnOf, wishWord, wishOf, settingsWords, settingsAt};
 ghost use Rattle.device_c.specs.Words.{answeringWords, answeringAt, burstingWords, contentAt, burstingAt, packed, joined, unpacked};
 ghost use Rattle.device_c.specs.Fits.{TurnFits, ContentFits, NumbersFit, DeviceFits};
-ghost use Rattle.device_c.specs.Tick.{DeviceStarts, DeviceTicks};
+ghost use Rattle.device_c.specs.Tick.{DeviceStarts, givenBy, DeviceTicks};
 
 // What a device was started with.
 pub struct Settings {
@@ -190,7 +191,7 @@ fn join(s: Settings, r: Receiver, a: Answering, b: Bursting) -> Device
 }
 
 // The device that some words are.
-pub fn unpack(words: &[u64; 40]) -> Device
+fn unpack(words: &[u64; 40]) -> Device
     ensures { λ d. ⌜ d ≡ unpacked (before words) ⌝ }
 {
     let settings = settings_at(words);
@@ -250,7 +251,7 @@ fn bursting_words(d: Device) -> [u64; 6]
 }
 
 // The words of a device.
-pub fn pack(words: &mut [u64; 40], d: Device)
+fn pack(words: &mut [u64; 40], d: Device)
     ensures { λ _. ⌜ after words ≡ packed d ⌝ }
 {
     let p = d.profile;
@@ -320,19 +321,24 @@ fn started_by(result: DeviceStarted, words: &mut [u64; 40]) -> u32
     }
 }
 
-// The words of a fresh device, or refusal 1, 3 or 4 and the words as they were.
-pub fn start(
-    profile: Profile,
+// A fresh device; or refusal 1, 3 or 4, and the words as they were.
+#[no_mangle]
+pub extern "C" fn nengapiko_device_start(
+    sto: u16,
+    hold: u16,
+    rt2: u16,
+    rt1p: u16,
+    rt1s: u16,
     preamble: usize,
     polling: u8,
     unique: u64,
-    words: &mut [u64; 40],
+    state: &mut [u64; 40],
 ) -> u32
-    ensures { λ r. ⌜ DeviceStarts profile preamble polling unique words r ⌝ }
+    ensures { λ r. ⌜ DeviceStarts (profile sto hold rt2 rt1p rt1s) preamble polling unique state r ⌝ }
 {
-    let made = profile.checked();
+    let made = words::made_profile(sto, hold, rt2, rt1p, rt1s);
     match made {
-        MadeProfile::Made(p) => started_by(device::start(p, preamble, polling, unique), words),
+        MadeProfile::Made(p) => started_by(device::start(p, preamble, polling, unique), state),
         MadeProfile::Refused(why) => why.number(),
     }
 }
@@ -348,7 +354,7 @@ fn told_number(told: DeviceTold) -> u64
 }
 
 // A tick of the device that the words are. Lent are the data of an answer or of a burst content, the burst content, the buffer that holds the device's ACK or BACK and the one for the data of the frame that it hears.
-pub fn tick(
+fn tick(
     words: &mut [u64; 40],
     frame: &mut [u8; 284],
     bytes: &mut [u8; 255],
@@ -358,7 +364,7 @@ pub fn tick(
     put: &[u8],
     results: &mut [u64; 17],
 ) -> u32
-    ensures { λ r. ⌜ DeviceTicks words frame bytes contents heard call (before put) results r ⌝ }
+    ensures { λ r. ⌜ DeviceTicks words frame bytes contents heard call put results r ⌝ }
 {
     let d = unpack(words);
     let t = device_tick::tick(d, heard, call, put, contents, frame, bytes);
@@ -371,4 +377,43 @@ pub fn tick(
     pack(words, next);
     *results = words::tick_numbers(words::sent_number(sent), told_number(told), 0, event);
     words::call_number(result)
+}
+
+fn given_by(call: u8, command: u8) -> DeviceHostCall
+    ensures { λ r. ⌜ r ≡ givenBy call command ⌝ }
+{
+    if call == 1 {
+        return DeviceHostCall::Answers(Wish::Same);
+    }
+    if call == 2 {
+        return DeviceHostCall::Answers(Wish::On);
+    }
+    if call == 3 {
+        return DeviceHostCall::Answers(Wish::Off);
+    }
+    if call == 4 {
+        return DeviceHostCall::Content(command);
+    }
+    DeviceHostCall::Nothing
+}
+
+// A tick of a device; gives 0, or the refusal's number of its host's answer or burst content.
+#[no_mangle]
+pub extern "C" fn nengapiko_device_tick(
+    state: &mut [u64; 40],
+    frame: &mut [u8; 284],
+    bytes: &mut [u8; 255],
+    contents: &mut [u8; 255],
+    kind: u8,
+    character: u8,
+    call: u8,
+    command: u8,
+    put: &[u8],
+    results: &mut [u64; 17],
+) -> u32
+    ensures { λ r. ⌜ DeviceTicks state frame bytes contents (heardOf kind character) (givenBy call command) put results r ⌝ }
+{
+    let heard = recording::heard_of(kind, character);
+    let given = given_by(call, command);
+    tick(state, frame, bytes, contents, heard, given, put, results)
 }

@@ -1,6 +1,7 @@
 -- How the code stands for what is to be believed.
 -- The numbers that stand for the writer's and the reader's answers where a program in C calls them.
 use Prim.Native.Nat.{ℕ}
+use mathlib.Core.Bool.{Bool}
 use mathlib.Core.Path.{_≡_}
 use mathlib.Core.List.{List, [], _∷_}
 use lib.ListN.{length}
@@ -11,6 +12,11 @@ use Rattle.frame.specs.Write.{writeAnswer, writeBuffer}
 use Rattle.frame.specs.Read.{readFrame}
 use Rattle.frame.specs.declared.Header.{Header}
 use Rattle.frame.specs.declared.Found.{Found}
+
+-- the header that a write is given, field by field
+abbrev pub header : ℕ → Bool → Bool → Bool → ℕ → ℕ → Header
+header frame long primary burst address command =
+    record { frame = frame; long = long; primary = primary; burst = burst; address = address; command = command }
 
 -- what a write or a read returns: 0, or the refusal's number
 abbrev pub returned : {A : Type 0} → Called A → ℕ

@@ -1,23 +1,37 @@
-// The frame writer and reader for programs in C: what each call is answered, as numbers.
+// The frame writer and reader for programs in C: a frame's fields as arguments, and what each call is answered as numbers.
 use frame::Found;
 use frame::Header;
 use frame::Read;
 use frame::Written;
 ghost use mathlib.Core.Path.{_≡_};
 ghost use Rattle.base.specs.Choice.{bit};
-ghost use Rattle.frame_c.specs.Numbers.{foundNumbers, WriteCall, ReadCall};
+ghost use Rattle.frame_c.specs.Numbers.{header, foundNumbers, WriteCall, ReadCall};
 
 // Writes a frame, and sets end to where it ends; or gives the refusal's number and changes nothing.
-pub fn write(
+#[no_mangle]
+pub extern "C" fn nengapiko_write(
     preamble: usize,
-    h: Header,
+    frame: u8,
+    long: bool,
+    primary: bool,
+    burst: bool,
+    address: u64,
+    command: u8,
     bytes: &[u8],
     buffer: &mut [u8],
     place: usize,
     end: &mut usize,
 ) -> u32
-    ensures { λ r. ⌜ WriteCall preamble h bytes buffer place end r ⌝ }
+    ensures { λ r. ⌜ WriteCall preamble (header frame long primary burst address command) bytes buffer place end r ⌝ }
 {
+    let h = Header {
+        frame: frame,
+        long: long,
+        primary: primary,
+        burst: burst,
+        address: address,
+        command: command,
+    };
     let written = frame_write::write(preamble, h, bytes, buffer, place);
     match written {
         Written::To(place_behind) => {
@@ -59,7 +73,8 @@ fn numbers_of(found: Found) -> [u64; 11]
 }
 
 // Reads the frame at the front of some bytes into its numbers; or gives the refusal's number and changes nothing.
-pub fn read(bytes: &[u8], fields: &mut [u64; 11]) -> u32
+#[no_mangle]
+pub extern "C" fn nengapiko_read(bytes: &[u8], fields: &mut [u64; 11]) -> u32
     ensures { λ r. ⌜ ReadCall bytes fields r ⌝ }
 {
     let read = frame_read::read(bytes);

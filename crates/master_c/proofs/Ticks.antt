@@ -1,4 +1,4 @@
--- A start by what was answered, and a tick by what its parts gave.
+-- A start by what was answered, a tick by what its parts gave, and one with what was made of its arguments.
 use Prim.Native.Nat.{ℕ}
 use mathlib.Core.Bool.{Bool}
 use mathlib.Core.List.{List}
@@ -68,3 +68,13 @@ tick-is before frame bytes m heard call put t frame-after bytes-after words resu
           ((v .found ∙ ap (λ (x : Master). masterTakes x heard bytes-after .event) d) i));
       returned = q ∙ ap (λ (s : MasterStep). callNumber (s .result)) step;
     }
+
+abbrev Steps : List ℕ → List ℕ → List ℕ → List ℕ → List ℕ → List ℕ → List ℕ → List ℕ → ℕ → Heard → MasterHostCall → Type 0
+Steps before frame bytes put words frame-after bytes-after results r heard call =
+    StepIs (masterTick mostData (sideOf (unpacked before) frame bytes) heard (callOf call put)) (masterTakes (unpacked before) heard bytes-after .event) words frame-after bytes-after results r
+
+pub tick-called : (before frame bytes put words frame-after bytes-after results : List ℕ) (r : ℕ) (h heard : Heard) (c call : MasterHostCall) → h ≡ heard → c ≡ call
+    → Steps before frame bytes put words frame-after bytes-after results r h c → Steps before frame bytes put words frame-after bytes-after results r heard call
+tick-called before frame bytes put words frame-after bytes-after results r h heard c call d e v =
+    subst (λ (x : MasterHostCall). Steps before frame bytes put words frame-after bytes-after results r heard x) e
+    (subst (λ (x : Heard). Steps before frame bytes put words frame-after bytes-after results r x c) d v)

@@ -4,6 +4,7 @@ use Prim.Native.Nat.{ℕ}
 use mathlib.Core.Bool.{Bool}
 use mathlib.Core.List.{List}
 use mathlib.Core.Path.{_≡_}
+use Rattle.base.specs.Choice.{if_then_else_}
 use Rattle.base.specs.Lent.{Lent, before, after}
 use Rattle.base.specs.Refusal.{Called, accepted, refused}
 use Rattle.frame.specs.Limits.{mostData}
@@ -34,6 +35,11 @@ MasterStarts p primary retries words r = StartIs packed (startsBy (profileMade p
 
 -- ---- the tick
 
+-- the host's request, field by field, or none
+abbrev pub requestOf : Bool → ℕ → ℕ → Bool → ℕ → ℕ → MasterHostCall
+requestOf requests preamble revision long address command =
+    if requests then MasterHostCall.Requests (record { preamble = preamble; revision = revision; long = long; address = address; command = command }) else MasterHostCall.Nothing
+
 -- the attempts of a message that is given up; 0 where the host is told anything else
 abbrev pub toldAttempts : MasterTold → ℕ
 toldAttempts Nothing = 0
@@ -51,9 +57,9 @@ pub record StepIs (s : MasterStep) (event : Event) (words frame bytes results : 
   pub returned : r ≡ callNumber (s .result)
 
 -- the step of the master that the words before were, and what its reader found; the data of the host's request are `put`
-abbrev pub MasterTicks : Lent (List ℕ) → Lent (List ℕ) → Lent (List ℕ) → Heard → MasterHostCall → List ℕ → Lent (List ℕ) → ℕ → Type 0
+abbrev pub MasterTicks : Lent (List ℕ) → Lent (List ℕ) → Lent (List ℕ) → Heard → MasterHostCall → Lent (List ℕ) → Lent (List ℕ) → ℕ → Type 0
 MasterTicks words frame bytes heard call put results r =
     StepIs
-    (masterTick mostData (sideOf (unpacked (before words)) (before frame) (before bytes)) heard (callOf call put))
+    (masterTick mostData (sideOf (unpacked (before words)) (before frame) (before bytes)) heard (callOf call (before put)))
     (masterTakes (unpacked (before words)) heard (after bytes) .event)
     (after words) (after frame) (after bytes) (after results) r

@@ -1,9 +1,9 @@
 // A master for programs in C: its state as words that the caller lends, its start and its tick.
 use line::Heard;
 use line::MadeProfile;
-use line::Profile;
 use master::MasterHostCall;
 use master::MasterStarted;
+use master::RequestFields;
 use turns::Master;
 use turns::MasterTold;
 use turns::Message;
@@ -13,12 +13,13 @@ use turns::Timer;
 ghost use Prim.Native.Nat.{_<_, _^_};
 ghost use mathlib.Core.Path.{_≡_};
 ghost use Rattle.base.specs.Lent.{before, after};
+ghost use Rattle.recording.specs.Recording.{heardOf};
 ghost use Rattle.turns.specs.Told.{masterTells};
 ghost use Rattle.master.specs.Answers.{started};
-ghost use Rattle.words.specs.Start.{StartIs};
+ghost use Rattle.words.specs.Start.{profile, StartIs};
 ghost use Rattle.master_c.specs.Words.{stageWord, stageBy, stageOf, messageAt, timerAt, notedAt, frontWords, endWords, packed, unpacked};
 ghost use Rattle.master_c.specs.Words.{StageFits, MessageFits, TimerFits, MasterFits};
-ghost use Rattle.master_c.specs.Tick.{MasterStarts, toldAttempts, MasterTicks};
+ghost use Rattle.master_c.specs.Tick.{MasterStarts, toldAttempts, requestOf, MasterTicks};
 
 fn stage_word(stage: Stage) -> u64
     ensures { λ r. ⌜ r ≡ stageWord stage ⌝ }
@@ -88,7 +89,7 @@ fn noted_at(words: &[u64], place: u16) -> Noted
 }
 
 // The master that some words are.
-pub fn unpack(words: &[u64; 39]) -> Master
+fn unpack(words: &[u64; 39]) -> Master
     ensures { λ m. ⌜ m ≡ unpacked (before words) ⌝ }
 {
     let profile = words::profile_at(words, 1);
@@ -153,7 +154,7 @@ fn end_words(m: Master) -> [u64; 11]
 }
 
 // The words of a master.
-pub fn pack(words: &mut [u64; 39], m: Master)
+fn pack(words: &mut [u64; 39], m: Master)
     ensures { λ _. ⌜ after words ≡ packed m ⌝ }
 {
     let r = m.receiver;
@@ -219,13 +220,23 @@ fn started_by(result: MasterStarted, words: &mut [u64; 39]) -> u32
     }
 }
 
-// The words of a fresh master, or refusal 1 or 2 and the words as they were.
-pub fn start(profile: Profile, primary: bool, retries: u8, words: &mut [u64; 39]) -> u32
-    ensures { λ r. ⌜ MasterStarts profile primary retries words r ⌝ }
+// A fresh master; or refusal 1 or 2, and the words as they were.
+#[no_mangle]
+pub extern "C" fn nengapiko_master_start(
+    sto: u16,
+    hold: u16,
+    rt2: u16,
+    rt1p: u16,
+    rt1s: u16,
+    primary: bool,
+    retries: u8,
+    state: &mut [u64; 39],
+) -> u32
+    ensures { λ r. ⌜ MasterStarts (profile sto hold rt2 rt1p rt1s) primary retries state r ⌝ }
 {
-    let made = profile.checked();
+    let made = words::made_profile(sto, hold, rt2, rt1p, rt1s);
     match made {
-        MadeProfile::Made(p) => started_by(master::start(p, primary, retries), words),
+        MadeProfile::Made(p) => started_by(master::start(p, primary, retries), state),
         MadeProfile::Refused(why) => why.number(),
     }
 }
@@ -253,7 +264,7 @@ fn told_attempts(told: MasterTold) -> u64
 }
 
 // A tick of the master that the words are. Lent are the data of a request, the buffer that holds the master's STX and the one for the data of the frame that it hears.
-pub fn tick(
+fn tick(
     words: &mut [u64; 39],
     frame: &mut [u8; 284],
     bytes: &mut [u8; 255],
@@ -262,7 +273,7 @@ pub fn tick(
     put: &[u8],
     results: &mut [u64; 17],
 ) -> u32
-    ensures { λ r. ⌜ MasterTicks words frame bytes heard call (before put) results r ⌝ }
+    ensures { λ r. ⌜ MasterTicks words frame bytes heard call put results r ⌝ }
 {
     let m = unpack(words);
     let t = master::tick(m, heard, call, put, frame, bytes);
@@ -280,4 +291,50 @@ pub fn tick(
         event,
     );
     words::call_number(result)
+}
+
+fn request_of(
+    requests: bool,
+    preamble: usize,
+    revision: u8,
+    long: bool,
+    address: u64,
+    command: u8,
+) -> MasterHostCall
+    ensures { λ r. ⌜ r ≡ requestOf requests preamble revision long address command ⌝ }
+{
+    if requests {
+        return MasterHostCall::Requests(RequestFields {
+            preamble: preamble,
+            revision: revision,
+            long: long,
+            address: address,
+            command: command,
+        });
+    }
+    MasterHostCall::Nothing
+}
+
+// A tick of a master; gives 0, or the refusal's number of the request.
+#[no_mangle]
+pub extern "C" fn nengapiko_master_tick(
+    state: &mut [u64; 39],
+    frame: &mut [u8; 284],
+    bytes: &mut [u8; 255],
+    kind: u8,
+    character: u8,
+    requests: bool,
+    preamble: usize,
+    revision: u8,
+    long: bool,
+    address: u64,
+    command: u8,
+    put: &[u8],
+    results: &mut [u64; 17],
+) -> u32
+    ensures { λ r. ⌜ MasterTicks state frame bytes (heardOf kind character) (requestOf requests preamble revision long address command) put results r ⌝ }
+{
+    let heard = recording::heard_of(kind, character);
+    let call = request_of(requests, preamble, revision, long, address, command);
+    tick(state, frame, bytes, heard, call, put, results)
 }

@@ -22,9 +22,10 @@ by-reader r heard before after words results t v f w n = record {
   results-are = n ∙ ap (λ (x : Taken). tickNumbers 0 0 0 (x .event)) (v .reader);
 }
 
--- of the reader that the words were
-pub tick-is : (old : List ℕ) (r : Receiver) (heard : Heard) (before after words results : List ℕ) (t : Taken)
-    → r ≡ unpacked old → ReaderTakeIs r heard before t after → ReceiverFits (t .receiver) → words ≡ receiverWords (t .receiver) → results ≡ tickNumbers 0 0 0 (t .event)
+-- of the reader that the words were, with what was heard
+pub tick-is : (old : List ℕ) (r : Receiver) (h heard : Heard) (before after words results : List ℕ) (t : Taken)
+    → r ≡ unpacked old → h ≡ heard → ReaderTakeIs r h before t after → ReceiverFits (t .receiver) → words ≡ receiverWords (t .receiver) → results ≡ tickNumbers 0 0 0 (t .event)
     → StepIs (unpacked old) heard before words after results
-tick-is old r heard before after words results t d v f w n =
-    subst (λ (x : Receiver). StepIs x heard before words after results) d (by-reader r heard before after words results t v f w n)
+tick-is old r h heard before after words results t d e v f w n =
+    subst (λ (x : Receiver). StepIs x heard before words after results) d
+    (subst (λ (x : Heard). StepIs r x before words after results) e (by-reader r h before after words results t v f w n))

@@ -3,6 +3,7 @@
 use mathlib.Core.List.{List}
 use mathlib.Core.Path.{_≡_}
 use Prim.Native.Nat.{ℕ}
+use Rattle.base.specs.Lent.{Lent, before, after}
 use Rattle.line.specs.Reader.{taken, takenData}
 use Rattle.line.specs.declared.Heard.{Heard}
 use Rattle.line.specs.declared.Receiver.{Receiver}
@@ -19,3 +20,7 @@ pub record StepIs (r : Receiver) (heard : Heard) (before words bytes results : L
   pub unpacked-is : unpacked words ≡ taken r heard .receiver
   pub bytes-are : bytes ≡ takenData r heard before
   pub results-are : results ≡ tickNumbers 0 0 0 (taken r heard .event)
+
+-- the tick of the reader that the words before were
+abbrev pub ReaderTicks : Lent (List ℕ) → Lent (List ℕ) → Heard → Lent (List ℕ) → Type 0
+ReaderTicks words bytes heard results = StepIs (unpacked (before words)) heard (before bytes) (after words) (after bytes) (after results)

@@ -1,9 +1,14 @@
 -- How the code stands for what is to be believed.
--- What a start leaves behind: of a master or a device that is `started`, or of none, with the refusal's number.
+-- The start of a master or a device: the profile that it is given, and what it leaves behind, of a party that is `started` or of none, with the refusal's number.
 use Prim.Native.Nat.{ℕ}
 use mathlib.Core.List.{List}
 use mathlib.Core.Path.{_≡_}
 use Rattle.base.specs.Refusal.{Called, accepted, refused}
+use Rattle.line.specs.declared.Profile.{Profile}
+
+-- the profile, number by number
+abbrev pub profile : ℕ → ℕ → ℕ → ℕ → ℕ → Profile
+profile sto hold rt2 rt1p rt1s = record { sto = sto; hold = hold; rt2 = rt2; rt1p = rt1p; rt1s = rt1s }
 
 -- what it returns: 0, or the refusal's number
 abbrev pub startNumber : {A : Type 0} → Called A → ℕ

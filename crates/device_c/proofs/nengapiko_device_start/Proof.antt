@@ -1,10 +1,10 @@
 use Rattle.device_c.proofs.Ticks.{starts}
 use borrow.Author.Needs.{needs}
-use Rattle.device_c.proofs.start.Statement.{statement}
-use Rattle.device_c.proofs.start.Tie as tie
+use Rattle.device_c.proofs.nengapiko_device_start.Statement.{statement}
+use Rattle.device_c.proofs.nengapiko_device_start.Tie as tie
 
-pub start-spec : {M : Type 1} → statement M
-start-spec =
+pub nengapiko-device-start-spec : {M : Type 1} → statement M
+nengapiko-device-start-spec =
     tie.close
     (tie.spec
     (λ c κs. search needs)

@@ -1,10 +1,10 @@
 use Rattle.master_c.proofs.Ticks.{starts}
 use borrow.Author.Needs.{needs}
-use Rattle.master_c.proofs.start.Statement.{statement}
-use Rattle.master_c.proofs.start.Tie as tie
+use Rattle.master_c.proofs.nengapiko_master_start.Statement.{statement}
+use Rattle.master_c.proofs.nengapiko_master_start.Tie as tie
 
-pub start-spec : {M : Type 1} → statement M
-start-spec =
+pub nengapiko-master-start-spec : {M : Type 1} → statement M
+nengapiko-master-start-spec =
     tie.close
     (tie.spec
     (λ c κs. search needs)

@@ -1,7 +1,7 @@
 use borrow.Author.Needs.{needs}
 use Rattle.base.proofs.Choices.{choices}
-use Rattle.nengapiko.proofs.request_of.Statement.{statement}
-use Rattle.nengapiko.proofs.request_of.Tie as tie
+use Rattle.master_c.proofs.request_of.Statement.{statement}
+use Rattle.master_c.proofs.request_of.Tie as tie
 
 pub request-of-spec : {M : Type 1} → statement M
 request-of-spec =

@@ -1,7 +1,7 @@
 use Rattle.base.proofs.Choices.{choices}
 use borrow.Author.Needs.{needs}
-use Rattle.nengapiko.proofs.given_by.Statement.{statement}
-use Rattle.nengapiko.proofs.given_by.Tie as tie
+use Rattle.device_c.proofs.given_by.Statement.{statement}
+use Rattle.device_c.proofs.given_by.Tie as tie
 
 pub given-by-spec : {M : Type 1} → statement M
 given-by-spec =

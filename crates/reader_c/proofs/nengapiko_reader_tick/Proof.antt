@@ -1,12 +1,13 @@
 use Rattle.reader_c.proofs.Ticks.{tick-is}
 use borrow.Author.Needs.{needs}
-use Rattle.reader_c.proofs.tick.Statement.{statement}
-use Rattle.reader_c.proofs.tick.Tie as tie
+use Rattle.reader_c.proofs.nengapiko_reader_tick.Statement.{statement}
+use Rattle.reader_c.proofs.nengapiko_reader_tick.Tie as tie
 
-pub tick-spec : {M : Type 1} → statement M
-tick-spec =
+pub nengapiko-reader-tick-spec : {M : Type 1} → statement M
+nengapiko-reader-tick-spec =
     tie.close
     (tie.spec
+    (λ c κs. search needs)
     (λ c κs. search needs)
     (λ c κs. search needs)
     (λ c κs. search needs)
