@@ -31,10 +31,10 @@
  *   nengapiko_read                  56
  *   nengapiko_reader_start           8
  *   nengapiko_reader_tick          312
- *   nengapiko_master_start         328
- *   nengapiko_master_tick          744
- *   nengapiko_device_start         288
- *   nengapiko_device_tick          688
+ *   nengapiko_master_start          16
+ *   nengapiko_master_tick          512
+ *   nengapiko_device_start          24
+ *   nengapiko_device_tick          496
  */
 #ifndef NENGAPIKO_H
 #define NENGAPIKO_H

@@ -72,3 +72,22 @@ tick-tells limit x heard (gives-content command put) =
 
 pub told-found : (limit : ℕ) (x : DeviceSide) (heard : Heard) (call : DeviceCall) → ToldIsFound (deviceTick limit x heard call .told) (deviceTakes (x .device) heard .event)
 told-found limit x heard call = subst (λ (t : DeviceTold). ToldIsFound t (deviceTakes (x .device) heard .event)) (sym (tick-tells limit x heard call)) (takes-found (x .device) heard)
+
+answer-data : (c : Called Device) (before : Device) (written frame bytes contents : List ℕ) (told : DeviceTold) → answerCalled c before written frame bytes contents told .side .bytes ≡ bytes
+answer-data (accepted d) before written frame bytes contents told = refl
+answer-data (refused why) before written frame bytes contents told = refl
+
+content-data : (c : Called Device) (before : Device) (put frame bytes contents : List ℕ) (told : DeviceTold) → contentCalled c before put frame bytes contents told .side .bytes ≡ bytes
+content-data (accepted d) before put frame bytes contents told = refl
+content-data (refused why) before put frame bytes contents told = refl
+
+-- the data buffer behind the tick is as the reader left it
+pub data-found : (limit : ℕ) (x : DeviceSide) (heard : Heard) (call : DeviceCall) → deviceTick limit x heard call .side .bytes ≡ deviceData x heard
+unfolding deviceTick
+data-found limit x heard no-call = refl
+data-found limit x heard (gives-answer wish put) =
+    answer-data (answered limit (deviceTakes (x .device) heard .device) wish (length put)) (deviceTakes (x .device) heard .device)
+    (answerFrame (deviceTakes (x .device) heard .device) wish put (heardFrame x heard)) (heardFrame x heard) (deviceData x heard) (x .contents) (deviceTakes (x .device) heard .told)
+data-found limit x heard (gives-content command put) =
+    content-data (contentGiven limit (deviceTakes (x .device) heard .device) command (length put)) (deviceTakes (x .device) heard .device)
+    put (heardFrame x heard) (deviceData x heard) (x .contents) (deviceTakes (x .device) heard .told)

@@ -1,4 +1,4 @@
--- The laws by which a device's words are packed and unpacked, started and ticked.
+-- The laws by which a device's words are packed, unpacked and ticked.
 pub mod Kept
 pub mod Packs
 pub mod Ticks

@@ -1,4 +1,4 @@
--- A device for programs in C: its state as words, its start and its tick.
+-- A device for programs in C: its state as words, and its tick.
 pub mod Words
 pub mod Fits
 pub mod Tick

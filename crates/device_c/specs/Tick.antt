@@ -1,40 +1,24 @@
 -- How the code stands for what is to be believed.
--- A device's start and its tick, over its words and lent buffers.
+-- A device's tick, over its words and lent buffers.
 use Prim.Native.Nat.{ℕ}
 use mathlib.Core.List.{List}
 use mathlib.Core.Path.{_≡_}
 use Rattle.base.specs.Choice.{if_then_else_, _=?_}
 use Rattle.base.specs.Lent.{Lent, before, after}
-use Rattle.base.specs.Refusal.{Called, accepted, refused}
 use Rattle.frame.specs.Limits.{mostData}
-use Rattle.line.specs.Profile.{profileMade}
 use Rattle.line.specs.declared.Event.{Event}
 use Rattle.line.specs.declared.Event.the-variants.{Frame}
 use Rattle.line.specs.declared.Heard.{Heard}
-use Rattle.line.specs.declared.Profile.{Profile}
-use Rattle.turns.specs.Device.{deviceStarts, deviceTakes}
+use Rattle.turns.specs.Device.{deviceTakes}
 use Rattle.turns.specs.Link.{DeviceStep, deviceTick}
 use Rattle.turns.specs.Told.{deviceTells}
-use Rattle.turns.specs.declared.Device.{Device}
 use Rattle.turns.specs.declared.DeviceTold.{DeviceTold}
 use Rattle.turns.specs.declared.DeviceTold.the-variants.{Nothing, Request, Broadcast}
 use Rattle.turns.specs.declared.Wish.the-variants.{Same, On, Off}
 use Rattle.device_tick.specs.Tick.{callOf, sideOf}
 use Rattle.device_tick.specs.declared.DeviceHostCall.{DeviceHostCall}
 use Rattle.words.specs.Numbers.{tickNumbers, sentNumber, callNumber}
-use Rattle.words.specs.Start.{StartIs}
 use Rattle.device_c.specs.Words.{packed, unpacked}
-
--- ---- the start: 1 for the profile, then 3 and 4
-
-abbrev pub startsBy : Called Profile → ℕ → ℕ → ℕ → Called Device
-startsBy (accepted p) preamble polling unique = deviceStarts p preamble polling unique
-startsBy (refused why) preamble polling unique = refused why
-
-abbrev pub DeviceStarts : Profile → ℕ → ℕ → ℕ → Lent (List ℕ) → ℕ → Type 0
-DeviceStarts p preamble polling unique words r = StartIs packed (startsBy (profileMade p) preamble polling unique) (before words) (after words) r
-
--- ---- the tick
 
 -- what the host gives, by the numbers of `enum nengapiko_device_call`: an answer with its wish, or burst content of this command; any other number is nothing
 abbrev pub givenBy : ℕ → ℕ → DeviceHostCall
@@ -63,7 +47,7 @@ DeviceTicks words frame bytes contents heard call put results r =
     (deviceTakes (unpacked (before words)) heard .event)
     (after words) (after frame) (after bytes) (after contents) (after results) r
 
--- a request or a broadcast that the host is told is the frame that the reader found in that tick, whose fields stand in the results (proofs/Found.antt)
+-- a request or a broadcast that the host is told is the frame that the reader found in that tick, whose fields stand in the results and whose data in the lent buffer (proofs/Found.antt)
 abbrev pub ToldIsFound : DeviceTold → Event → Type 0
 ToldIsFound Nothing event = Unit {0}
 ToldIsFound (Request w) event = event ≡ Frame w

@@ -1,9 +1,7 @@
-// A device for programs in C: its state as words that the caller lends, its start and its tick.
-use device::DeviceStarted;
+// A device for programs in C: its state as words that the caller lends, and its tick.
 use device_tick::DeviceHostCall;
 use frame::Header;
 use line::Heard;
-use line::MadeProfile;
 use line::Profile;
 use line::Receiver;
 use turns::Content;
@@ -16,12 +14,10 @@ ghost use mathlib.Core.Path.{_≡_};
 ghost use Rattle.base.specs.Lent.{before, after};
 ghost use Rattle.recording.specs.Recording.{heardOf};
 ghost use Rattle.turns.specs.Told.{deviceTells};
-ghost use Rattle.device.specs.Calls.{startedAs};
-ghost use Rattle.words.specs.Start.{profile, StartIs};
 ghost use Rattle.device_c.specs.Words.{turnWord, turnBy, turnOf, wishWord, wishOf, settingsWords, settingsAt};
 ghost use Rattle.device_c.specs.Words.{answeringWords, answeringAt, burstingWords, contentAt, burstingAt, packed, joined, unpacked};
 ghost use Rattle.device_c.specs.Fits.{TurnFits, ContentFits, NumbersFit, DeviceFits};
-ghost use Rattle.device_c.specs.Tick.{DeviceStarts, givenBy, DeviceTicks};
+ghost use Rattle.device_c.specs.Tick.{givenBy, DeviceTicks};
 
 // What a device was started with.
 pub struct Settings {
@@ -251,7 +247,7 @@ fn bursting_words(d: Device) -> [u64; 6]
 }
 
 // The words of a device.
-fn pack(words: &mut [u64; 40], d: Device)
+pub fn pack(words: &mut [u64; 40], d: Device)
     ensures { λ _. ⌜ after words ≡ packed d ⌝ }
 {
     let p = d.profile;
@@ -307,40 +303,6 @@ fn device_fits(d: Device)
     words::header_fits(request);
     content_fits(content);
     numbers_fit(d.preamble, d.polling, d.length, d.due);
-}
-
-fn started_by(result: DeviceStarted, words: &mut [u64; 40]) -> u32
-    ensures { λ r. ⌜ StartIs packed (startedAs result) (before words) (after words) r ⌝ }
-{
-    match result {
-        DeviceStarted::Started(d) => {
-            pack(words, d);
-            0
-        }
-        DeviceStarted::Refused(why) => why.number(),
-    }
-}
-
-// A fresh device; or refusal 1, 3 or 4, and the words as they were.
-#[no_mangle]
-pub extern "C" fn nengapiko_device_start(
-    sto: u16,
-    hold: u16,
-    rt2: u16,
-    rt1p: u16,
-    rt1s: u16,
-    preamble: usize,
-    polling: u8,
-    unique: u64,
-    state: &mut [u64; 40],
-) -> u32
-    ensures { λ r. ⌜ DeviceStarts (profile sto hold rt2 rt1p rt1s) preamble polling unique state r ⌝ }
-{
-    let made = words::made_profile(sto, hold, rt2, rt1p, rt1s);
-    match made {
-        MadeProfile::Made(p) => started_by(device::start(p, preamble, polling, unique), state),
-        MadeProfile::Refused(why) => why.number(),
-    }
 }
 
 fn told_number(told: DeviceTold) -> u64

@@ -1,3 +1,4 @@
--- The laws by which a master's words are packed and unpacked, started and ticked.
+-- The laws by which a master's words are packed, unpacked and ticked.
 pub mod Kept
 pub mod Ticks
+pub mod Found

@@ -1,52 +1,21 @@
--- A start by what was answered, a tick by what its parts gave, and one with what was made of its arguments.
+-- A tick by what its parts gave, and one with what was made of its arguments.
 use Prim.Native.Nat.{ℕ}
-use mathlib.Core.Bool.{Bool}
 use mathlib.Core.List.{List}
-use mathlib.Core.Path.{_≡_, refl, sym, ap, subst, _∙_}
-use Rattle.base.specs.declared.Refusal.{Refusal}
-use Rattle.base.specs.Refusal.{number, Called}
+use mathlib.Core.Path.{_≡_, ap, subst, _∙_}
 use Rattle.frame.specs.Limits.{mostData}
-use Rattle.line.specs.Profile.{profileMade, madeAs}
 use Rattle.line.specs.declared.Heard.{Heard}
-use Rattle.line.specs.declared.MadeProfile.{MadeProfile}
-use Rattle.line.specs.declared.Profile.{Profile}
 use Rattle.turns.specs.Link.{MasterStep, masterTick}
-use Rattle.turns.specs.Master.{masterStarts, masterTakes}
+use Rattle.turns.specs.Master.{masterTakes}
 use Rattle.turns.specs.Told.{masterTells}
 use Rattle.turns.specs.declared.Master.{Master}
 use Rattle.party.specs.Calls.{resultOf}
-use Rattle.master.specs.Answers.{started}
 use Rattle.master.specs.Tick.{callOf, sideOf, MasterTickIs}
 use Rattle.master.specs.declared.MasterHostCall.{MasterHostCall}
-use Rattle.master.specs.declared.MasterStarted.{MasterStarted}
 use Rattle.master.specs.declared.MasterTicked.{MasterTicked}
 use Rattle.words.specs.Numbers.{tickNumbers, sentNumber, callNumber}
-use Rattle.words.specs.Start.{StartIs}
-use Rattle.words.proofs.Starts.{taken, not-taken}
 use Rattle.master_c.specs.Words.{packed, unpacked, MasterFits}
-use Rattle.master_c.specs.Tick.{startsBy, toldAttempts, StepIs}
+use Rattle.master_c.specs.Tick.{toldAttempts, StepIs}
 use Rattle.master_c.proofs.Kept.{master-kept}
-
--- the fresh master's words, or the refusal
-pub start-taken : (x : MasterStarted) (m : Master) (before after : List ℕ) → x ≡ MasterStarted.Started m → after ≡ packed m → StartIs packed (started x) before after 0
-start-taken x m before after e p = subst (λ (y : MasterStarted). StartIs packed (started y) before after 0) (sym e) (taken packed m before after p)
-
-pub start-refused : (x : MasterStarted) (why : Refusal) (before : List ℕ) (r : ℕ) → x ≡ MasterStarted.Refused why → r ≡ number why → StartIs packed (started x) before before r
-start-refused x why before r e p = subst (λ (y : MasterStarted). StartIs packed (started y) before before r) (sym e) (not-taken packed (number why) before r p)
-
-pub profile-taken : (p q : Profile) (made : MadeProfile) (primary : Bool) (retries : ℕ) (x : MasterStarted) (before after : List ℕ) (r : ℕ)
-    → madeAs made ≡ profileMade p → made ≡ MadeProfile.Made q → started x ≡ masterStarts q primary retries → StartIs packed (started x) before after r
-    → StartIs packed (startsBy (profileMade p) primary retries) before after r
-profile-taken p q made primary retries x before after r d e s v =
-    subst (λ (c : Called Master). StartIs packed c before after r) (s ∙ ap (λ (y : Called Profile). startsBy y primary retries) (sym (ap madeAs e) ∙ d)) v
-
-pub profile-refused : (p : Profile) (why : Refusal) (made : MadeProfile) (primary : Bool) (retries : ℕ) (before : List ℕ) (r : ℕ)
-    → madeAs made ≡ profileMade p → made ≡ MadeProfile.Refused why → r ≡ number why
-    → StartIs packed (startsBy (profileMade p) primary retries) before before r
-profile-refused p why made primary retries before r d e n =
-    subst (λ (y : Called Profile). StartIs packed (startsBy y primary retries) before before r) (sym (ap madeAs e) ∙ d) (not-taken packed (number why) before r n)
-
-pub ruleset starts = (refl, start-taken, start-refused, profile-taken, profile-refused)
 
 -- a tick of the master that the words were
 pub tick-is : (before frame bytes : List ℕ) (m : Master) (heard : Heard) (call : MasterHostCall) (put : List ℕ) (t : MasterTicked) (frame-after bytes-after words results : List ℕ) (sent told attempts r : ℕ)

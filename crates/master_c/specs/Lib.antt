@@ -1,3 +1,3 @@
--- A master for programs in C: its state as words, its start and its tick.
+-- A master for programs in C: its state as words, and its tick.
 pub mod Words
 pub mod Tick

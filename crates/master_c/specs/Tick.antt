@@ -1,39 +1,24 @@
 -- How the code stands for what is to be believed.
--- A master's start and its tick, over its words and lent buffers.
+-- A master's tick, over its words and lent buffers.
 use Prim.Native.Nat.{ℕ}
 use mathlib.Core.Bool.{Bool}
 use mathlib.Core.List.{List}
 use mathlib.Core.Path.{_≡_}
 use Rattle.base.specs.Choice.{if_then_else_}
 use Rattle.base.specs.Lent.{Lent, before, after}
-use Rattle.base.specs.Refusal.{Called, accepted, refused}
 use Rattle.frame.specs.Limits.{mostData}
-use Rattle.line.specs.Profile.{profileMade}
 use Rattle.line.specs.declared.Event.{Event}
+use Rattle.line.specs.declared.Event.the-variants.{Frame}
 use Rattle.line.specs.declared.Heard.{Heard}
-use Rattle.line.specs.declared.Profile.{Profile}
 use Rattle.turns.specs.Link.{MasterStep, masterTick}
-use Rattle.turns.specs.Master.{masterStarts, masterTakes}
+use Rattle.turns.specs.Master.{masterTakes}
 use Rattle.turns.specs.Told.{masterTells}
-use Rattle.turns.specs.declared.Master.{Master}
 use Rattle.turns.specs.declared.MasterTold.{MasterTold}
 use Rattle.turns.specs.declared.MasterTold.the-variants.{Nothing, Answered, GivenUp, BroadcastSent}
 use Rattle.master.specs.Tick.{callOf, sideOf}
 use Rattle.master.specs.declared.MasterHostCall.{MasterHostCall}
 use Rattle.words.specs.Numbers.{tickNumbers, sentNumber, callNumber}
-use Rattle.words.specs.Start.{StartIs}
 use Rattle.master_c.specs.Words.{packed, unpacked}
-
--- ---- the start: 1 for the profile, then 2
-
-abbrev pub startsBy : Called Profile → Bool → ℕ → Called Master
-startsBy (accepted p) primary retries = masterStarts p primary retries
-startsBy (refused why) primary retries = refused why
-
-abbrev pub MasterStarts : Profile → Bool → ℕ → Lent (List ℕ) → ℕ → Type 0
-MasterStarts p primary retries words r = StartIs packed (startsBy (profileMade p) primary retries) (before words) (after words) r
-
--- ---- the tick
 
 -- the host's request, field by field, or none
 abbrev pub requestOf : Bool → ℕ → ℕ → Bool → ℕ → ℕ → MasterHostCall
@@ -63,3 +48,10 @@ MasterTicks words frame bytes heard call put results r =
     (masterTick mostData (sideOf (unpacked (before words)) (before frame) (before bytes)) heard (callOf call (before put)))
     (masterTakes (unpacked (before words)) heard (after bytes) .event)
     (after words) (after frame) (after bytes) (after results) r
+
+-- an ACK that the host is told is the frame that the reader found in that tick, whose fields stand in the results and whose data in the lent buffer (proofs/Found.antt)
+abbrev pub ToldIsFound : MasterTold → Event → Type 0
+ToldIsFound Nothing event = Unit {0}
+ToldIsFound (Answered w) event = event ≡ Frame w
+ToldIsFound (GivenUp n) event = Unit {0}
+ToldIsFound BroadcastSent event = Unit {0}

@@ -1,8 +1,6 @@
-// A master for programs in C: its state as words that the caller lends, its start and its tick.
+// A master for programs in C: its state as words that the caller lends, and its tick.
 use line::Heard;
-use line::MadeProfile;
 use master::MasterHostCall;
-use master::MasterStarted;
 use master::RequestFields;
 use turns::Master;
 use turns::MasterTold;
@@ -15,11 +13,9 @@ ghost use mathlib.Core.Path.{_≡_};
 ghost use Rattle.base.specs.Lent.{before, after};
 ghost use Rattle.recording.specs.Recording.{heardOf};
 ghost use Rattle.turns.specs.Told.{masterTells};
-ghost use Rattle.master.specs.Answers.{started};
-ghost use Rattle.words.specs.Start.{profile, StartIs};
 ghost use Rattle.master_c.specs.Words.{stageWord, stageBy, stageOf, messageAt, timerAt, notedAt, frontWords, endWords, packed, unpacked};
 ghost use Rattle.master_c.specs.Words.{StageFits, MessageFits, TimerFits, MasterFits};
-ghost use Rattle.master_c.specs.Tick.{MasterStarts, toldAttempts, requestOf, MasterTicks};
+ghost use Rattle.master_c.specs.Tick.{toldAttempts, requestOf, MasterTicks};
 
 fn stage_word(stage: Stage) -> u64
     ensures { λ r. ⌜ r ≡ stageWord stage ⌝ }
@@ -154,7 +150,7 @@ fn end_words(m: Master) -> [u64; 11]
 }
 
 // The words of a master.
-fn pack(words: &mut [u64; 39], m: Master)
+pub fn pack(words: &mut [u64; 39], m: Master)
     ensures { λ _. ⌜ after words ≡ packed m ⌝ }
 {
     let r = m.receiver;
@@ -206,39 +202,6 @@ fn master_fits(m: Master)
     timer_fits(timer);
     words::receiver_fits(receiver);
     message_fits(message);
-}
-
-fn started_by(result: MasterStarted, words: &mut [u64; 39]) -> u32
-    ensures { λ r. ⌜ StartIs packed (started result) (before words) (after words) r ⌝ }
-{
-    match result {
-        MasterStarted::Started(m) => {
-            pack(words, m);
-            0
-        }
-        MasterStarted::Refused(why) => why.number(),
-    }
-}
-
-// A fresh master; or refusal 1 or 2, and the words as they were.
-#[no_mangle]
-pub extern "C" fn nengapiko_master_start(
-    sto: u16,
-    hold: u16,
-    rt2: u16,
-    rt1p: u16,
-    rt1s: u16,
-    primary: bool,
-    retries: u8,
-    state: &mut [u64; 39],
-) -> u32
-    ensures { λ r. ⌜ MasterStarts (profile sto hold rt2 rt1p rt1s) primary retries state r ⌝ }
-{
-    let made = words::made_profile(sto, hold, rt2, rt1p, rt1s);
-    match made {
-        MadeProfile::Made(p) => started_by(master::start(p, primary, retries), state),
-        MadeProfile::Refused(why) => why.number(),
-    }
 }
 
 fn told_number(told: MasterTold) -> u64

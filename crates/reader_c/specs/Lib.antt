@@ -1,2 +1,2 @@
--- The tick reader for programs in C: its state as words, its start and its tick.
+-- The tick reader for programs in C: its state as words, and its tick.
 pub mod Tick

@@ -1,19 +1,6 @@
-// The tick reader for programs in C: its state as words that the caller lends, its start and its tick.
-ghost use mathlib.Core.Path.{_≡_};
-ghost use Rattle.base.specs.Lent.{after};
-ghost use Rattle.line.specs.Reader.{passing};
+// The tick reader for programs in C: a tick of it, with its state as words that the caller lends.
 ghost use Rattle.recording.specs.Recording.{heardOf};
-ghost use Rattle.words.specs.Reader.{receiverWords};
 ghost use Rattle.reader_c.specs.Tick.{ReaderTicks};
-
-// A reader at its start.
-#[no_mangle]
-pub extern "C" fn nengapiko_reader_start(state: &mut [u64; 16])
-    ensures { λ _. ⌜ after state ≡ receiverWords passing ⌝ }
-{
-    let r = tick_reader::passing_reader();
-    *state = words::receiver_words(r);
-}
 
 // A tick of the reader that the words are; bytes holds the data of the frame being heard.
 #[no_mangle]

@@ -3,4 +3,3 @@ pub mod Fields
 pub mod Reader
 pub mod Fits
 pub mod Numbers
-pub mod Start

@@ -2,7 +2,6 @@
 use frame::Header;
 use line::Event;
 use line::FrameDamage;
-use line::MadeProfile;
 use line::Place;
 use line::Profile;
 use line::Receiver;
@@ -14,12 +13,10 @@ ghost use mathlib.Core.Path.{_≡_};
 ghost use mathlib.Core.List.{_∷_};
 ghost use Rattle.base.specs.Lent.{before, after};
 ghost use Rattle.base.specs.Store.{stored};
-ghost use Rattle.line.specs.Profile.{profileMade, madeAs};
 ghost use Rattle.party.specs.Calls.{resultOf};
 ghost use Rattle.words.specs.Fields.{wordAt, numberAt, flagAt};
 ghost use Rattle.words.specs.Reader.{headerAt, profileAt, placeWord, placeBy, placeOf, damageAt, receiverWords, receiverAt};
 ghost use Rattle.words.specs.Numbers.{noFrame, tickNumbers, sentNumber, callNumber};
-ghost use Rattle.words.specs.Start.{profile};
 ghost use Rattle.words.specs.Fits.{HeaderFits, ProfileFits, PlaceFits, ReceiverFits};
 
 // The word at a place, or 0 behind the last.
@@ -360,18 +357,4 @@ pub fn call_number(result: CallStatus) -> u32
         CallStatus::Taken => 0,
         CallStatus::Refused(why) => why.number(),
     }
-}
-
-// The profile with these numbers, or refusal 1.
-pub fn made_profile(sto: u16, hold: u16, rt2: u16, rt1p: u16, rt1s: u16) -> MadeProfile
-    ensures { λ r. ⌜ madeAs r ≡ profileMade (profile sto hold rt2 rt1p rt1s) ⌝ }
-{
-    let p = Profile {
-        sto: sto,
-        hold: hold,
-        rt2: rt2,
-        rt1p: rt1p,
-        rt1s: rt1s,
-    };
-    p.checked()
 }

@@ -1,7 +1,7 @@
-use Rattle.device_c.proofs.Ticks.{starts}
+use Rattle.start_c.proofs.Starts.{devices}
 use borrow.Author.Needs.{needs}
-use Rattle.device_c.proofs.nengapiko_device_start.Statement.{statement}
-use Rattle.device_c.proofs.nengapiko_device_start.Tie as tie
+use Rattle.start_c.proofs.nengapiko_device_start.Statement.{statement}
+use Rattle.start_c.proofs.nengapiko_device_start.Tie as tie
 
 pub nengapiko-device-start-spec : {M : Type 1} → statement M
 nengapiko-device-start-spec =
@@ -13,5 +13,5 @@ nengapiko-device-start-spec =
     (λ c κs. search needs)
     (λ c. search needs)
     (λ c κs. search needs)
-    (λ c. search (needs, starts))
-    (λ c. search (needs, starts)))
+    (λ c. search (needs, devices))
+    (λ c. search (needs, devices)))

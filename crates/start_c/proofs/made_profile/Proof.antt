@@ -1,6 +1,6 @@
 use borrow.Author.Needs.{needs}
-use Rattle.words.proofs.made_profile.Statement.{statement}
-use Rattle.words.proofs.made_profile.Tie as tie
+use Rattle.start_c.proofs.made_profile.Statement.{statement}
+use Rattle.start_c.proofs.made_profile.Tie as tie
 
 pub made-profile-spec : {M : Type 1} → statement M
 made-profile-spec =

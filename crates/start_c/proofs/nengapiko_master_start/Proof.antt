@@ -1,7 +1,7 @@
-use Rattle.master_c.proofs.Ticks.{starts}
+use Rattle.start_c.proofs.Starts.{masters}
 use borrow.Author.Needs.{needs}
-use Rattle.master_c.proofs.nengapiko_master_start.Statement.{statement}
-use Rattle.master_c.proofs.nengapiko_master_start.Tie as tie
+use Rattle.start_c.proofs.nengapiko_master_start.Statement.{statement}
+use Rattle.start_c.proofs.nengapiko_master_start.Tie as tie
 
 pub nengapiko-master-start-spec : {M : Type 1} → statement M
 nengapiko-master-start-spec =
@@ -13,5 +13,5 @@ nengapiko-master-start-spec =
     (λ c κs. search needs)
     (λ c. search needs)
     (λ c κs. search needs)
-    (λ c. search (needs, starts))
-    (λ c. search (needs, starts)))
+    (λ c. search (needs, masters))
+    (λ c. search (needs, masters)))

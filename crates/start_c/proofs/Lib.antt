@@ -1,0 +1,2 @@
+-- The laws by which the starts are proved.
+pub mod Starts

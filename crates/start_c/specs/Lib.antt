@@ -1,0 +1,2 @@
+-- The starts for programs in C.
+pub mod Start

@@ -1,0 +1,58 @@
+-- How the code stands for what is to be believed.
+-- The start of a master or a device: the profile that it is given, and what it leaves behind, of a party that is `started` or of none, with the refusal's number.
+use Prim.Native.Nat.{ℕ}
+use mathlib.Core.Bool.{Bool}
+use mathlib.Core.List.{List}
+use mathlib.Core.Path.{_≡_}
+use Rattle.base.specs.Lent.{Lent, before, after}
+use Rattle.base.specs.Refusal.{Called, accepted, refused}
+use Rattle.line.specs.Profile.{profileMade}
+use Rattle.line.specs.declared.Profile.{Profile}
+use Rattle.turns.specs.Device.{deviceStarts}
+use Rattle.turns.specs.Master.{masterStarts}
+use Rattle.turns.specs.declared.Device.{Device}
+use Rattle.turns.specs.declared.Master.{Master}
+use Rattle.master_c.specs.Words as MasterWords
+use Rattle.device_c.specs.Words as DeviceWords
+
+-- the profile, number by number
+abbrev pub profile : ℕ → ℕ → ℕ → ℕ → ℕ → Profile
+profile sto hold rt2 rt1p rt1s = record { sto = sto; hold = hold; rt2 = rt2; rt1p = rt1p; rt1s = rt1s }
+
+-- what it returns: 0, or the refusal's number
+abbrev pub startNumber : {A : Type 0} → Called A → ℕ
+startNumber (accepted fresh) = 0
+startNumber (refused why) = why
+
+-- the words: those of the fresh party, or what was there
+abbrev pub startWords : {A : Type 0} → (A → List ℕ) → Called A → List ℕ → List ℕ
+startWords packed (accepted fresh) before = packed fresh
+startWords packed (refused why) before = before
+
+pub record StartIs {A : Type 0} (packed : A → List ℕ) (started : Called A) (before after : List ℕ) (r : ℕ) : Type 0 where
+  pub returned : r ≡ startNumber started
+  pub words-are : after ≡ startWords packed started before
+
+-- ---- a master: 1 for the profile, then 2
+
+abbrev pub masterBy : Called Profile → Bool → ℕ → Called Master
+masterBy (accepted p) primary retries = masterStarts p primary retries
+masterBy (refused why) primary retries = refused why
+
+abbrev pub MasterLeft : Called Master → Lent (List ℕ) → ℕ → Type 0
+MasterLeft started words r = StartIs MasterWords.packed started (before words) (after words) r
+
+abbrev pub MasterStarts : Profile → Bool → ℕ → Lent (List ℕ) → ℕ → Type 0
+MasterStarts p primary retries words r = MasterLeft (masterBy (profileMade p) primary retries) words r
+
+-- ---- a device: 1 for the profile, then 3 and 4
+
+abbrev pub deviceBy : Called Profile → ℕ → ℕ → ℕ → Called Device
+deviceBy (accepted p) preamble polling unique = deviceStarts p preamble polling unique
+deviceBy (refused why) preamble polling unique = refused why
+
+abbrev pub DeviceLeft : Called Device → Lent (List ℕ) → ℕ → Type 0
+DeviceLeft started words r = StartIs DeviceWords.packed started (before words) (after words) r
+
+abbrev pub DeviceStarts : Profile → ℕ → ℕ → ℕ → Lent (List ℕ) → ℕ → Type 0
+DeviceStarts p preamble polling unique words r = DeviceLeft (deviceBy (profileMade p) preamble polling unique) words r
