@@ -1,6 +1,5 @@
 -- A device behind a chip: it is deaf in the tick behind its own sending, and deaf it does what it does in silence.
 use Prim.Native.Nat.{ℕ, _+_}
-use native.Mathlib.Omega.{arith}
 use mathlib.Core.Bool.{Bool, true, false}
 use mathlib.Core.List.{List}
 use mathlib.Core.Path.{_≡_, refl, sym, ap, ap₂, _∙_}
@@ -22,7 +21,8 @@ use Rattle.turns.specs.declared.DeviceTaken.{DeviceTaken}
 use Rattle.turns.specs.declared.DeviceSent.{DeviceSent}
 use Rattle.turns.specs.declared.DeviceTold.{DeviceTold}
 use Rattle.modem_party.specs.Behind.{Step, HearsNot}
-use Rattle.modem_party.specs.Ticks.{deviceStep, deviceDeaf, DeviceSame}
+use Rattle.modem_party.specs.Ticks.{deviceDone, deviceStep, deviceDeaf, DeviceSame}
+use Rattle.modem_party.proofs.Deaf.{DeafIf, either, not-silent}
 use Rattle.modem_party.proofs.Same.{behind-chip-same}
 
 -- ---- deaf, it takes nothing
@@ -45,24 +45,22 @@ module _ (x : DeviceSide) (d : x .device .deaf ≡ true) where
 
 -- ---- if it sent, it is deaf
 
-abbrev DeafIf : DeviceSent → Type 0
-DeafIf u = (c : ℕ) → u .sent ≡ Sent.Character c → u .device .deaf ≡ true
+abbrev DeafSent : DeviceSent → Type 0
+DeafSent = DeafIf (λ (u : DeviceSent). u .sent) (λ (u : DeviceSent). u .device .deaf)
 
-either : (b : Bool) (u v : DeviceSent) → DeafIf u → DeafIf v → DeafIf (if b then u else v)
-unfolding if_then_else_
-either true u v p q = p
-either false u v p q = q
+abbrev DeafStep : DeviceStep → Type 0
+DeafStep = DeafIf (λ (u : DeviceStep). u .sent) (λ (u : DeviceStep). u .side .device .deaf)
 
-not-silent : {A : Type 0} (c : ℕ) → Sent.Silent ≡ Sent.Character c → A
-not-silent c e = let z : _≡_ {A = ℕ} 0 1 = cc in absurd (omega arith)
+one-of : (b : Bool) (u v : DeviceSent) → DeafSent u → DeafSent v → DeafSent (if b then u else v)
+one-of = either (λ (u : DeviceSent). u .sent) (λ (u : DeviceSent). u .device .deaf)
 
-answers-deaf : (d : Device) (frame : List ℕ) (n : ℕ) (burst primary : Bool) → DeafIf (answersFrom d frame n burst primary)
-answers-deaf d frame n burst primary = either (n + 1 <? d .length) _ _ (λ c e. refl) (λ c e. refl)
+answers-deaf : (d : Device) (frame : List ℕ) (n : ℕ) (burst primary : Bool) → DeafSent (answersFrom d frame n burst primary)
+answers-deaf d frame n burst primary = one-of (n + 1 <? d .length) _ _ (λ c e. refl) (λ c e. refl)
 
-bursts-deaf : (d : Device) (frame : List ℕ) (n length : ℕ) (primary : Bool) → DeafIf (burstsFrom d frame n length primary)
-bursts-deaf d frame n length primary = either (n + 1 <? length) _ _ (λ c e. refl) (λ c e. refl)
+bursts-deaf : (d : Device) (frame : List ℕ) (n length : ℕ) (primary : Bool) → DeafSent (burstsFrom d frame n length primary)
+bursts-deaf d frame n length primary = one-of (n + 1 <? length) _ _ (λ c e. refl) (λ c e. refl)
 
-by-deaf : (d : Device) (frame : List ℕ) (t : Turn) → DeafIf (sendsBy d frame t)
+by-deaf : (d : Device) (frame : List ℕ) (t : Turn) → DeafSent (sendsBy d frame t)
 by-deaf d frame Listens = λ c e. not-silent c e
 by-deaf d frame (Asked n) = λ c e. not-silent c e
 by-deaf d frame AnswerWaits = λ c e. not-silent c e
@@ -71,12 +69,9 @@ by-deaf d frame (Answers n) = answers-deaf d frame n (d .burst) (d .primary)
 by-deaf d frame Follows = bursts-deaf d frame 0 (backLength d) (if d .primary then false else true)
 by-deaf d frame (Bursts n) = bursts-deaf d frame n (d .length) (d .primary)
 
-sends-deaf : (d : Device) (frame : List ℕ) → DeafIf (deviceSends d frame)
+sends-deaf : (d : Device) (frame : List ℕ) → DeafSent (deviceSends d frame)
 unfolding deviceSends
 sends-deaf d frame = by-deaf d frame (d .turn)
-
-abbrev DeafStep : DeviceStep → Type 0
-DeafStep u = (c : ℕ) → u .sent ≡ Sent.Character c → u .side .device .deaf ≡ true
 
 answer-deaf : (r : Called Device) (d : Device) (written frame bytes contents : List ℕ) (told : DeviceTold) → DeafStep (answerCalled r d written frame bytes contents told)
 answer-deaf (accepted n) d written frame bytes contents told c e = sends-deaf _ _ c e
@@ -101,7 +96,7 @@ ticked-deaf limit x h k = calls-deaf limit (deviceTakes (x .device) h) k (heardF
 
 pub device-hears-not : (limit : ℕ) → HearsNot (deviceStep limit) deviceDeaf
 device-hears-not limit = record {
-  ignores = λ s h c d. ap (λ (u : DeviceStep). record { behind = u .side; sent = u .sent; told = u }) (ignores s d limit h c);
+  ignores = λ s h c d. ap deviceDone (ignores s d limit h c);
   sends-deaf = λ s h c k e. ticked-deaf limit s h c k e;
 }
 

@@ -1,6 +1,5 @@
 -- A master behind a chip: it is deaf in the tick behind its own sending, and deaf it does what it does in silence.
 use Prim.Native.Nat.{ℕ, _+_}
-use native.Mathlib.Omega.{arith}
 use mathlib.Core.Bool.{Bool, true, false}
 use mathlib.Core.List.{List}
 use mathlib.Core.Path.{_≡_, refl, sym, ap, ap₂, _∙_}
@@ -23,7 +22,8 @@ use Rattle.turns.specs.declared.MasterTaken.{MasterTaken}
 use Rattle.turns.specs.declared.MasterSent.{MasterSent}
 use Rattle.turns.specs.declared.MasterTold.{MasterTold}
 use Rattle.modem_party.specs.Behind.{Step, HearsNot}
-use Rattle.modem_party.specs.Ticks.{masterStep, masterDeaf, MasterSame}
+use Rattle.modem_party.specs.Ticks.{masterDone, masterStep, masterDeaf, MasterSame}
+use Rattle.modem_party.proofs.Deaf.{DeafIf, either, not-silent}
 use Rattle.modem_party.proofs.Same.{behind-chip-same}
 
 -- ---- deaf, it takes nothing
@@ -45,32 +45,27 @@ module _ (x : MasterSide) (d : x .master .deaf ≡ true) where
 
 -- ---- if it sent, it is deaf
 
-abbrev DeafIf : MasterSent → Type 0
-DeafIf u = (c : ℕ) → u .sent ≡ Sent.Character c → u .master .deaf ≡ true
+abbrev DeafSent : MasterSent → Type 0
+DeafSent = DeafIf (λ (u : MasterSent). u .sent) (λ (u : MasterSent). u .master .deaf)
 
-either : (b : Bool) (u v : MasterSent) → DeafIf u → DeafIf v → DeafIf (if b then u else v)
-unfolding if_then_else_
-either true u v p q = p
-either false u v p q = q
+abbrev DeafStep : MasterStep → Type 0
+DeafStep = DeafIf (λ (u : MasterStep). u .sent) (λ (u : MasterStep). u .side .master .deaf)
 
-not-silent : {A : Type 0} (c : ℕ) → Sent.Silent ≡ Sent.Character c → A
-not-silent c e = let z : _≡_ {A = ℕ} 0 1 = cc in absurd (omega arith)
+one-of : (b : Bool) (u v : MasterSent) → DeafSent u → DeafSent v → DeafSent (if b then u else v)
+one-of = either (λ (u : MasterSent). u .sent) (λ (u : MasterSent). u .master .deaf)
 
-at-deaf : (m : Master) (frame : List ℕ) (n attempts : ℕ) → DeafIf (sendsAt m frame n attempts)
-at-deaf m frame n attempts = either (n + 1 <? m .message .length) _ _ (λ c e. refl) (λ c e. refl)
+at-deaf : (m : Master) (frame : List ℕ) (n attempts : ℕ) → DeafSent (sendsAt m frame n attempts)
+at-deaf m frame n attempts = one-of (n + 1 <? m .message .length) _ _ (λ c e. refl) (λ c e. refl)
 
-by-deaf : (m : Master) (frame : List ℕ) (s : Stage) → DeafIf (sendsBy m frame s)
+by-deaf : (m : Master) (frame : List ℕ) (s : Stage) → DeafSent (sendsBy m frame s)
 by-deaf m frame Free = λ c e. not-silent c e
-by-deaf m frame Waiting = either (0 <? m .timer .window) _ _ (at-deaf m frame 0 (oneMore (m .retries) (m .message .attempts))) (λ c e. not-silent c e)
+by-deaf m frame Waiting = one-of (0 <? m .timer .window) _ _ (at-deaf m frame 0 (oneMore (m .retries) (m .message .attempts))) (λ c e. not-silent c e)
 by-deaf m frame (Sending n) = at-deaf m frame n (m .message .attempts)
 by-deaf m frame (Awaiting n) = λ c e. not-silent c e
 
-sends-deaf : (m : Master) (frame : List ℕ) → DeafIf (masterSends m frame)
+sends-deaf : (m : Master) (frame : List ℕ) → DeafSent (masterSends m frame)
 unfolding masterSends
 sends-deaf m frame = by-deaf m frame (m .message .stage)
-
-abbrev DeafStep : MasterStep → Type 0
-DeafStep u = (c : ℕ) → u .sent ≡ Sent.Character c → u .side .master .deaf ≡ true
 
 called-deaf : (r : Called Master) (m : Master) (put frame bytes : List ℕ) (told : MasterTold) → DeafStep (masterCalled r m put frame bytes told)
 called-deaf (accepted n) m put frame bytes told c e = sends-deaf _ _ c e
@@ -88,7 +83,7 @@ ticked-deaf limit x h k = calls-deaf limit (masterTakes (x .master) h (masterDat
 
 pub master-hears-not : (limit : ℕ) → HearsNot (masterStep limit) masterDeaf
 master-hears-not limit = record {
-  ignores = λ s h c d. ap (λ (u : MasterStep). record { behind = u .side; sent = u .sent; told = u }) (ignores s d limit h c);
+  ignores = λ s h c d. ap masterDone (ignores s d limit h c);
   sends-deaf = λ s h c k e. ticked-deaf limit s h c k e;
 }
 

@@ -2,16 +2,18 @@
 use Prim.Native.Nat.{ℕ}
 use mathlib.Core.Bool.{Bool, true, false}
 use mathlib.Core.List.{List, [], _∷_}
-use mathlib.Core.Path.{_≡_, refl, sym, ap, ap₂, _∙_}
+use mathlib.Core.Path.{_≡_, refl, sym, ap, ap₂, subst, _∙_}
 use Rattle.base.proofs.Choices.{true-false}
 use Rattle.line.specs.declared.Heard.{Heard}
-use Rattle.modem.specs.Chip.{freshChip, arrives, chipAfter, goesOut}
+use Rattle.modem.specs.Chip.{freshChip, arrives, chipAfter, goesOut, tickEnds}
 use Rattle.modem.specs.Driver.{hears, wire}
 use Rattle.modem.specs.declared.Carried.{Carried}
 use Rattle.modem.specs.declared.Chip.{Chip}
+use Rattle.modem.specs.declared.ChipHeard.{ChipHeard}
+use Rattle.modem.specs.declared.TickEnded.{TickEnded}
 use Rattle.modem.proofs.Driving.{behind-is, wire-heard, deaf-heard, arrived-ready, arrived-sending, transmits-is, silent-chip, character-out, silence-out}
 use Rattle.turns.specs.declared.Sent.{Sent}
-use Rattle.modem_party.specs.Behind.{Step, Tick, plain, HearsNot, says, closes, behindTick, OnLine, onLine, chipped, wireSent, wired, Rests, BehindSame}
+use Rattle.modem_party.specs.Behind.{Step, Tick, plain, HearsNot, says, closes, behindTick, OnLine, onLine, chipped, wireSent, wired, Rests, BehindSame, BehindIs}
 
 -- ---- one access behind the other
 
@@ -45,18 +47,18 @@ fresh-rests deaf = record { read-out = refl; ready = refl; nothing-left = refl; 
 -- ---- a tick
 
 module _ {S C T : Type 0} (step : S → Heard → C → Step S T) (deaf : S → Bool) (p : HearsNot step deaf) (x : Chip) (s : S) (h : Heard) (bit : Bool) (c : C) (v : Rests x (deaf s)) where
-  pub same-step : step s (hears (arrives x (wire h bit)) .heard) c ≡ step s h c
+  same-step : step s (hears (arrives x (wire h bit)) .heard) c ≡ step s h c
   same-step = go (x .deaf) refl
     where
       go : (b : Bool) → x .deaf ≡ b → step s (hears (arrives x (wire h bit)) .heard) c ≡ step s h c
       go true e = ap (λ (g : Heard). step s g c) (deaf-heard x (v .read-out) h bit e) ∙ sym (p .ignores s h c (v .deaf-too e))
       go false e = ap (λ (g : Heard). step s g c) (wire-heard x (v .read-out) h bit e)
 
-  pub same-sent : (q : Sent) → goesOut (says (hears (arrives x (wire h bit)) .chip) q) ≡ wireSent q
+  same-sent : (q : Sent) → goesOut (says (hears (arrives x (wire h bit)) .chip) q) ≡ wireSent q
   same-sent q = says-sent (hears (arrives x (wire h bit)) .chip) (read-ready x (wire h bit) ∙ v .ready) (read-sending x (wire h bit) ∙ v .nothing-left) q
 
   -- behind a tick in which the party did `u`
-  pub rests-after : (u : Step S T) → u ≡ step s h c → Rests (chipAfter (says (hears (arrives x (wire h bit)) .chip) (u .sent))) (deaf (u .behind))
+  rests-after : (u : Step S T) → u ≡ step s h c → Rests (chipAfter (says (hears (arrives x (wire h bit)) .chip) (u .sent))) (deaf (u .behind))
   rests-after u e = record {
     read-out = says-received (hears (arrives x (wire h bit)) .chip) (read-ready x (wire h bit) ∙ v .ready) (u .sent) ∙ read-received x (wire h bit);
     ready = refl;
@@ -73,6 +75,35 @@ module _ {S C T : Type 0} (step : S → Heard → C → Step S T) (deaf : S → 
           ∙ read-sending x (wire h bit)
           ∙ v .nothing-left))
       too (Sent.Character k) f d = ap (λ (a : Step S T). deaf (a .behind)) e ∙ p .sends-deaf s h c k (ap (λ (a : Step S T). a .sent) (sym e) ∙ f)
+
+-- ---- a tick that the code made: `z` behind what the line carried, `g` behind the driver's reads, `y` behind its writes
+
+module _ {S C T : Type 0} (step : S → Heard → C → Step S T) (deaf : S → Bool) (p : HearsNot step deaf) (x : Chip) (w : Carried) (s : S) (c : C) (z y : Chip) (g : ChipHeard) (u : Step S T) (e : TickEnded) where
+  pub made-behind : z ≡ arrives x w → g ≡ hears z → u ≡ step s (g .heard) c → y ≡ says (g .chip) (u .sent) → e ≡ tickEnds y → BehindIs step deaf x w s c u e
+  made-behind a b i k n = record { ticks = ticks; ends = ends; same = same; sends = sends; rests = rests }
+    where
+      heard-is : g ≡ hears (arrives x w)
+      heard-is = b ∙ ap hears a
+
+      ticks : u ≡ step s (hears (arrives x w) .heard) c
+      ticks = i ∙ ap (λ (v : ChipHeard). step s (v .heard) c) heard-is
+
+      ends : e ≡ tickEnds (says (hears (arrives x w) .chip) (u .sent))
+      ends = n ∙ ap tickEnds (k ∙ ap (λ (v : ChipHeard). says (v .chip) (u .sent)) heard-is)
+
+      same : (h : Heard) (bit : Bool) → w ≡ wire h bit → Rests x (deaf s) → u ≡ step s h c
+      same h bit l v = ticks ∙ ap (λ (q : Carried). step s (hears (arrives x q) .heard) c) l ∙ same-step step deaf p x s h bit c v
+
+      sends : (h : Heard) (bit : Bool) → w ≡ wire h bit → Rests x (deaf s) → e .carried ≡ wireSent (u .sent)
+      sends h bit l v =
+          ap (λ (q : TickEnded). q .carried) ends
+          ∙ ap (λ (q : Carried). goesOut (says (hears (arrives x q) .chip) (u .sent))) l
+          ∙ same-sent step deaf p x s h bit c v (u .sent)
+
+      rests : (h : Heard) (bit : Bool) → w ≡ wire h bit → Rests x (deaf s) → Rests (e .chip) (deaf (u .behind))
+      rests h bit l v =
+          subst (λ (q : Chip). Rests q (deaf (u .behind))) (sym (ap (λ (q : TickEnded). q .chip) ends ∙ ap (λ (q : Carried). chipAfter (says (hears (arrives x q) .chip) (u .sent))) l))
+          (rests-after step deaf p x s h bit c v u (same h bit l v))
 
 -- ---- a list of ticks
 

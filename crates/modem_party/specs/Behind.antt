@@ -7,12 +7,13 @@ use mathlib.Core.Path.{_≡_}
 use Rattle.line.specs.declared.Heard.{Heard}
 use Rattle.line.specs.declared.Heard.the-variants.{Silence}
 use Rattle.modem.specs.Parity.{ninth}
-use Rattle.modem.specs.Chip.{arrives, chipAfter, goesOut}
+use Rattle.modem.specs.Chip.{arrives, chipAfter, goesOut, tickEnds}
 use Rattle.modem.specs.Driver.{hears, transmits, staysSilent, wire}
 use Rattle.modem.specs.declared.Carried.{Carried}
 use Rattle.modem.specs.declared.Carried.the-variants.{Nine}
 use Rattle.modem.specs.declared.Chip.{Chip}
 use Rattle.modem.specs.declared.Mark.{Mark}
+use Rattle.modem.specs.declared.TickEnded.{TickEnded}
 use Rattle.turns.specs.declared.Sent.{Sent}
 
 -- ---- a party, and a list of ticks without the chip
@@ -92,3 +93,14 @@ pub record Rests (x : Chip) (deaf : Bool) : Type 0 where
 
 abbrev pub BehindSame : {S C T : Type 0} → (S → Heard → C → Step S T) → (S → Bool) → Type 0
 BehindSame {S} {C} {T} step deaf = (x : Chip) (s : S) (ts : List (Tick C)) → Rests x (deaf s) → chipped step x s ts ≡ wired (plain step s ts)
+
+-- ---- one tick that the code made: the party did `u`, and its chip ended the tick as `e`
+
+pub record BehindIs {S C T : Type 0} (step : S → Heard → C → Step S T) (deaf : S → Bool) (x : Chip) (w : Carried) (s : S) (c : C) (u : Step S T) (e : TickEnded) : Type 0 where
+  -- the party's tick with what the driver heard, and the chip's end of the tick with what the party sends
+  pub ticks : u ≡ step s (hears (arrives x w) .heard) c
+  pub ends : e ≡ tickEnds (says (hears (arrives x w) .chip) (u .sent))
+  -- and so: what it does without the chip, where the chip rests
+  pub same : (h : Heard) (bit : Bool) → w ≡ wire h bit → Rests x (deaf s) → u ≡ step s h c
+  pub sends : (h : Heard) (bit : Bool) → w ≡ wire h bit → Rests x (deaf s) → e .carried ≡ wireSent (u .sent)
+  pub rests : (h : Heard) (bit : Bool) → w ≡ wire h bit → Rests x (deaf s) → Rests (e .chip) (deaf (u .behind))

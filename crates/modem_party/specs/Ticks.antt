@@ -3,14 +3,13 @@
 use Prim.Native.Nat.{ℕ}
 use mathlib.Core.Bool.{Bool}
 use mathlib.Core.List.{List}
-use mathlib.Core.Path.{_≡_}
+use Rattle.base.specs.Lent.{Lent, before, after}
 use Rattle.frame.specs.Limits.{mostData}
 use Rattle.line.specs.declared.Heard.{Heard}
-use Rattle.modem.specs.Chip.{arrives, tickEnds}
-use Rattle.modem.specs.Driver.{hears, wire}
+use Rattle.modem.specs.Chip.{arrives}
+use Rattle.modem.specs.Driver.{hears}
 use Rattle.modem.specs.declared.Carried.{Carried}
 use Rattle.modem.specs.declared.Chip.{Chip}
-use Rattle.modem.specs.declared.TickEnded.{TickEnded}
 use Rattle.turns.specs.Link.{MasterCall, MasterSide, MasterStep, masterTick, DeviceCall, DeviceSide, DeviceStep, deviceTick}
 use Rattle.turns.specs.declared.Master.{Master}
 use Rattle.turns.specs.declared.Device.{Device}
@@ -18,17 +17,23 @@ use Rattle.master.specs.Tick as M
 use Rattle.master.specs.declared.MasterHostCall as MC
 use Rattle.device_tick.specs.Tick as D
 use Rattle.device_tick.specs.declared.DeviceHostCall as DC
-use Rattle.modem_party.specs.Behind.{Step, says, wireSent, Rests, BehindSame}
+use Rattle.modem_party.specs.Behind.{Step, BehindSame, BehindIs}
 use Rattle.modem_party.specs.declared.MasterBehind.{MasterBehind}
 use Rattle.modem_party.specs.declared.DeviceBehind.{DeviceBehind}
 
 -- ---- the two parties; all that a tick tells is the whole of it
 
+abbrev pub masterDone : MasterStep → Step MasterSide MasterStep
+masterDone u = record { behind = u .side; sent = u .sent; told = u }
+
 abbrev pub masterStep : ℕ → MasterSide → Heard → MasterCall → Step MasterSide MasterStep
-masterStep limit s h c = record { behind = masterTick limit s h c .side; sent = masterTick limit s h c .sent; told = masterTick limit s h c }
+masterStep limit s h c = masterDone (masterTick limit s h c)
+
+abbrev pub deviceDone : DeviceStep → Step DeviceSide DeviceStep
+deviceDone u = record { behind = u .side; sent = u .sent; told = u }
 
 abbrev pub deviceStep : ℕ → DeviceSide → Heard → DeviceCall → Step DeviceSide DeviceStep
-deviceStep limit s h c = record { behind = deviceTick limit s h c .side; sent = deviceTick limit s h c .sent; told = deviceTick limit s h c }
+deviceStep limit s h c = deviceDone (deviceTick limit s h c)
 
 abbrev pub masterDeaf : MasterSide → Bool
 masterDeaf s = s .master .deaf
@@ -43,22 +48,19 @@ MasterSame limit = BehindSame (masterStep limit) masterDeaf
 abbrev pub DeviceSame : ℕ → Type 0
 DeviceSame limit = BehindSame (deviceStep limit) deviceDeaf
 
--- ---- what a tick of the code promises: the party's tick with what the driver heard, and the chip's end of the tick with what the party sends
+-- ---- what a tick of the code promises: the party's tick, each frame that its reader found in it, and what holds of any party behind a chip
 
 pub record MasterBehindIs (x : Chip) (w : Carried) (m : Master) (call : MC.MasterHostCall) (put frame bytes : List ℕ) (r : MasterBehind) (frame-after bytes-after : List ℕ) : Type 0 where
   pub ticks : M.MasterTickIs m (hears (arrives x w) .heard) call put frame bytes (r .ticked) frame-after bytes-after
-  pub ends : r .ended ≡ tickEnds (says (hears (arrives x w) .chip) (r .ticked .sent))
-  -- and so: what it does without the chip, where the chip rests
-  pub same : (h : Heard) (bit : Bool) → w ≡ wire h bit → Rests x (m .deaf)
-      → M.stepOf (r .ticked) frame-after bytes-after ≡ masterTick mostData (M.sideOf m frame bytes) h (M.callOf call put)
-  pub sends : (h : Heard) (bit : Bool) → w ≡ wire h bit → Rests x (m .deaf) → r .ended .carried ≡ wireSent (r .ticked .sent)
-  pub rests : (h : Heard) (bit : Bool) → w ≡ wire h bit → Rests x (m .deaf) → Rests (r .ended .chip) (r .ticked .master .deaf)
+  pub behind : BehindIs (masterStep mostData) masterDeaf x w (M.sideOf m frame bytes) (M.callOf call put) (masterDone (M.stepOf (r .ticked) frame-after bytes-after)) (r .ended)
+
+abbrev pub MasterTicks : Chip → Carried → Master → MC.MasterHostCall → Lent (List ℕ) → Lent (List ℕ) → Lent (List ℕ) → MasterBehind → Type 0
+MasterTicks x w m call put frame bytes r = MasterBehindIs x w m call (before put) (before frame) (before bytes) r (after frame) (after bytes)
 
 pub record DeviceBehindIs (x : Chip) (w : Carried) (d : Device) (call : DC.DeviceHostCall) (put frame bytes contents : List ℕ) (r : DeviceBehind) (frame-after bytes-after contents-after : List ℕ) : Type 0 where
   pub ticks : D.DeviceTickIs d (hears (arrives x w) .heard) call put frame bytes contents (r .ticked) frame-after bytes-after contents-after
-  pub ends : r .ended ≡ tickEnds (says (hears (arrives x w) .chip) (r .ticked .sent))
-  -- and so: what it does without the chip, where the chip rests
-  pub same : (h : Heard) (bit : Bool) → w ≡ wire h bit → Rests x (d .deaf)
-      → D.stepOf (r .ticked) frame-after bytes-after contents-after ≡ deviceTick mostData (D.sideOf d frame bytes contents) h (D.callOf call put)
-  pub sends : (h : Heard) (bit : Bool) → w ≡ wire h bit → Rests x (d .deaf) → r .ended .carried ≡ wireSent (r .ticked .sent)
-  pub rests : (h : Heard) (bit : Bool) → w ≡ wire h bit → Rests x (d .deaf) → Rests (r .ended .chip) (r .ticked .device .deaf)
+  pub behind : BehindIs (deviceStep mostData) deviceDeaf x w (D.sideOf d frame bytes contents) (D.callOf call put) (deviceDone (D.stepOf (r .ticked) frame-after bytes-after contents-after)) (r .ended)
+
+abbrev pub DeviceTicks : Chip → Carried → Device → DC.DeviceHostCall → Lent (List ℕ) → Lent (List ℕ) → Lent (List ℕ) → Lent (List ℕ) → DeviceBehind → Type 0
+DeviceTicks x w d call put frame bytes contents r =
+    DeviceBehindIs x w d call (before put) (before frame) (before bytes) (before contents) r (after frame) (after bytes) (after contents)

@@ -9,7 +9,7 @@ use turns::Master;
 use turns::Sent;
 ghost use mathlib.Core.Path.{_≡_};
 ghost use Rattle.modem_party.specs.Behind.{says};
-ghost use Rattle.modem_party.specs.Ticks.{MasterBehindIs, DeviceBehindIs};
+ghost use Rattle.modem_party.specs.Ticks.{MasterTicks, DeviceTicks};
 
 // A master behind a tick, and its chip with what goes out.
 pub struct MasterBehind {
@@ -43,7 +43,7 @@ pub fn master_tick(
     frame: &mut [u8; 284],
     bytes: &mut [u8; 255],
 ) -> MasterBehind
-    ensures { λ r. ⌜ MasterBehindIs x carried m call (now (put .entry)) (now (frame .entry)) (now (bytes .entry)) r (now (frame .exit)) (now (bytes .exit)) ⌝ }
+    ensures { λ r. ⌜ MasterTicks x carried m call put frame bytes r ⌝ }
 {
     let h = modem::hear(modem::arrive(x, carried));
     let chip = h.chip;
@@ -68,7 +68,7 @@ pub fn device_tick(
     frame: &mut [u8; 284],
     bytes: &mut [u8; 255],
 ) -> DeviceBehind
-    ensures { λ r. ⌜ DeviceBehindIs x carried d call (now (put .entry)) (now (frame .entry)) (now (bytes .entry)) (now (contents .entry)) r (now (frame .exit)) (now (bytes .exit)) (now (contents .exit)) ⌝ }
+    ensures { λ r. ⌜ DeviceTicks x carried d call put frame bytes contents r ⌝ }
 {
     let h = modem::hear(modem::arrive(x, carried));
     let chip = h.chip;

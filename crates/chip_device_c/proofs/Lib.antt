@@ -1,0 +1,2 @@
+-- The laws by which a device's run behind a chip is proved.
+pub mod Device

@@ -1,4 +1,0 @@
--- The laws by which runs behind a chip are proved.
-pub mod Wanted
-pub mod Master
-pub mod Device

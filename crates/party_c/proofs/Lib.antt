@@ -1,3 +1,0 @@
--- The laws by which runs over a recording are proved.
-pub mod Master
-pub mod Device

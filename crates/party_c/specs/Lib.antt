@@ -1,3 +1,0 @@
--- A master and a device over a recording of what they hear. A recording has two bytes for each tick: 32 times the kind of what is heard plus the host's call, and the character.
-pub mod Master
-pub mod Device

@@ -1,0 +1,2 @@
+-- The laws by which the two starts are proved, and what an accepted and a refused one say.
+pub mod Starts
