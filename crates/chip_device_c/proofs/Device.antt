@@ -11,7 +11,7 @@ use Rattle.modem.specs.Chip.{freshChip}
 use Rattle.modem.specs.declared.Carried.{Carried}
 use Rattle.modem.specs.declared.Chip.{Chip}
 use Rattle.turns.specs.Told.{deviceTells}
-use Rattle.turns.specs.Link.{DeviceSide, DeviceStep}
+use Rattle.turns.specs.Link.{DeviceStep}
 use Rattle.turns.specs.declared.Device.{Device}
 use Rattle.device.specs.Calls.{startedAs}
 use Rattle.device.specs.declared.DeviceStarted.{DeviceStarted}
@@ -21,7 +21,7 @@ use Rattle.recorded_party.specs.Device.{recordedDevice, freshDevice, answerAt, 
 use Rattle.recorded_party.proofs.Starts.{device-accepted, device-refused}
 use Rattle.modem_party.specs.Ticks.{deviceDone, deviceStep, DeviceBehindIs}
 use Rattle.modem_party.specs.declared.DeviceBehind.{DeviceBehind}
-use Rattle.chip_recording.specs.Wanted.{Placed, lineOf, freshPlaced, numberOf, placedBy}
+use Rattle.chip_recording.specs.Wanted.{lineOf, freshPlaced, numberOf, placedBy}
 use Rattle.chip_recording.proofs.Wanted.{behind-at-is}
 use Rattle.chip_device_c.specs.Device.{step, ticked, deviceNumbers, placed, behindOf, deviceWanted}
 

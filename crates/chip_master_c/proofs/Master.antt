@@ -11,7 +11,7 @@ use Rattle.modem.specs.Chip.{freshChip}
 use Rattle.modem.specs.declared.Carried.{Carried}
 use Rattle.modem.specs.declared.Chip.{Chip}
 use Rattle.turns.specs.Told.{masterTells}
-use Rattle.turns.specs.Link.{MasterSide, MasterStep}
+use Rattle.turns.specs.Link.{MasterStep}
 use Rattle.turns.specs.declared.Master.{Master}
 use Rattle.master.specs.Answers.{started}
 use Rattle.master.specs.declared.MasterStarted.{MasterStarted}
@@ -21,7 +21,7 @@ use Rattle.recorded_party.specs.Master.{recordedMaster, freshMaster}
 use Rattle.recorded_party.proofs.Starts.{master-accepted, master-refused}
 use Rattle.modem_party.specs.Ticks.{masterDone, masterStep, MasterBehindIs}
 use Rattle.modem_party.specs.declared.MasterBehind.{MasterBehind}
-use Rattle.chip_recording.specs.Wanted.{Placed, lineOf, freshPlaced, numberOf, placedBy}
+use Rattle.chip_recording.specs.Wanted.{lineOf, freshPlaced, numberOf, placedBy}
 use Rattle.chip_recording.proofs.Wanted.{behind-at-is}
 use Rattle.chip_master_c.specs.Master.{requestAt, masterCallAt, step, ticked, masterNumbers, placed, behindOf, masterWanted}
 

@@ -20,7 +20,7 @@ use Rattle.modem.specs.declared.TickEnded.{TickEnded}
 use Rattle.party.specs.Calls.{resultOf}
 use Rattle.party.specs.declared.CallStatus.{CallStatus}
 use Rattle.modem_party.specs.Behind.{Step, Behind, says, closes, behindTick}
-use Rattle.chip_recording.specs.Wanted.{lineOf, answerNumber, wanted, Placed, behindAt}
+use Rattle.chip_recording.specs.Wanted.{lineOf, answerNumber, wanted, behindAt}
 
 pub wire-at : (p q : Heard) (bit : Bool) (r : Carried) → p ≡ q → r ≡ wire q bit → r ≡ wire p bit
 wire-at p q bit r e f = f ∙ ap (λ (h : Heard). wire h bit) (sym e)

@@ -13,14 +13,13 @@ use Rattle.line.specs.declared.Heard.{Heard}
 use Rattle.line.specs.declared.Heard.the-variants.{Silence}
 use Rattle.turns.specs.Device.{tells, onHeard, deviceTakes, errorFrame, answered, answerFrame, contentGiven, wished, firstFor, answersFrom, burstsFrom, backLength, sendsBy, deviceSends}
 use Rattle.turns.specs.Link.{DeviceSide, DeviceStep, DeviceCall, no-call, gives-answer, gives-content, deviceData, answerCalled, contentCalled, deviceCalls, heardFrame, deviceTick}
-use Rattle.turns.specs.declared.Sent.{Sent}
 use Rattle.turns.specs.declared.Turn.{Turn}
 use Rattle.turns.specs.declared.Turn.the-variants.{Listens, Asked, AnswerWaits, Begins, Answers, Follows, Bursts}
 use Rattle.turns.specs.declared.Device.{Device}
 use Rattle.turns.specs.declared.DeviceTaken.{DeviceTaken}
 use Rattle.turns.specs.declared.DeviceSent.{DeviceSent}
 use Rattle.turns.specs.declared.DeviceTold.{DeviceTold}
-use Rattle.modem_party.specs.Behind.{Step, HearsNot}
+use Rattle.modem_party.specs.Behind.{HearsNot}
 use Rattle.modem_party.specs.Ticks.{deviceDone, deviceStep, deviceDeaf, DeviceSame}
 use Rattle.modem_party.proofs.Deaf.{DeafIf, either, not-silent}
 use Rattle.modem_party.proofs.Same.{behind-chip-same}

@@ -1,27 +1,25 @@
 -- A master behind a chip: it is deaf in the tick behind its own sending, and deaf it does what it does in silence.
 use Prim.Native.Nat.{ℕ, _+_}
-use mathlib.Core.Bool.{Bool, true, false}
+use mathlib.Core.Bool.{Bool, true}
 use mathlib.Core.List.{List}
 use mathlib.Core.Path.{_≡_, refl, sym, ap, ap₂, _∙_}
 use lib.ListN.{length}
 use Rattle.base.specs.Refusal.{Called, accepted, refused}
 use Rattle.base.specs.Choice.{if_then_else_, _<?_}
 use Rattle.base.proofs.Choices.{if-is-true}
-use Rattle.frame.specs.Frame.{frameBytes}
 use Rattle.line.specs.Reader.{takenData}
 use Rattle.line.specs.declared.Event.{Event}
 use Rattle.line.specs.declared.Heard.{Heard}
 use Rattle.line.specs.declared.Heard.the-variants.{Silence}
-use Rattle.turns.specs.Master.{masterTakes, masterSends, requested, onHeard, tells, oneMore, sendsBy, sendsAt, requestHeader}
+use Rattle.turns.specs.Master.{masterTakes, masterSends, requested, onHeard, tells, oneMore, sendsBy, sendsAt}
 use Rattle.turns.specs.Link.{MasterSide, MasterStep, MasterCall, no-request, requests, masterData, masterCalled, masterCalls, masterTick}
-use Rattle.turns.specs.declared.Sent.{Sent}
 use Rattle.turns.specs.declared.Stage.{Stage}
 use Rattle.turns.specs.declared.Stage.the-variants.{Free, Waiting, Sending, Awaiting}
 use Rattle.turns.specs.declared.Master.{Master}
 use Rattle.turns.specs.declared.MasterTaken.{MasterTaken}
 use Rattle.turns.specs.declared.MasterSent.{MasterSent}
 use Rattle.turns.specs.declared.MasterTold.{MasterTold}
-use Rattle.modem_party.specs.Behind.{Step, HearsNot}
+use Rattle.modem_party.specs.Behind.{HearsNot}
 use Rattle.modem_party.specs.Ticks.{masterDone, masterStep, masterDeaf, MasterSame}
 use Rattle.modem_party.proofs.Deaf.{DeafIf, either, not-silent}
 use Rattle.modem_party.proofs.Same.{behind-chip-same}

@@ -8,7 +8,7 @@ use Rattle.base.specs.declared.Refusal.{Refusal}
 use Rattle.line.specs.declared.Heard.{Heard}
 use Rattle.recording.specs.Recording.{heardOf, trace, RunIs}
 use Rattle.recording.proofs.Runs.{Running, begun, steps-on, run-ended, run-full, run-accepted, run-refused}
-use Rattle.turns.specs.Link.{DeviceSide, DeviceStep, deviceTick}
+use Rattle.turns.specs.Link.{DeviceStep, deviceTick}
 use Rattle.turns.specs.declared.Device.{Device}
 use Rattle.device.specs.Calls.{startedAs}
 use Rattle.device.specs.declared.DeviceStarted.{DeviceStarted}

@@ -9,7 +9,7 @@ use Rattle.base.proofs.Choices.{if-equal, if-unequal}
 use Rattle.line.specs.declared.Heard.{Heard}
 use Rattle.recording.specs.Recording.{heardOf, trace, RunIs}
 use Rattle.recording.proofs.Runs.{Running, begun, steps-on, run-ended, run-full, run-accepted, run-refused}
-use Rattle.turns.specs.Link.{MasterSide, MasterStep, masterTick}
+use Rattle.turns.specs.Link.{MasterStep, masterTick}
 use Rattle.turns.specs.declared.Master.{Master}
 use Rattle.master.specs.Answers.{started}
 use Rattle.master.specs.declared.MasterStarted.{MasterStarted}
