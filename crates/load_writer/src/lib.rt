@@ -18,7 +18,7 @@ pub enum Loaded {
 }
 
 // The number that a number draws.
-pub fn draw(x: u32) -> u32
+fn draw(x: u32) -> u32
     ensures { λ r. ⌜ r ≡ draw x ⌝ }
 {
     let a = x ^ (x << 13);

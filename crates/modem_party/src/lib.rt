@@ -24,7 +24,7 @@ pub struct DeviceBehind {
 }
 
 // What the driver does with what a party sends.
-pub fn say(x: Chip, sent: Sent) -> Chip
+fn say(x: Chip, sent: Sent) -> Chip
     ensures { λ r. ⌜ r ≡ says x sent ⌝ }
 {
     match sent {

@@ -99,7 +99,7 @@ pub fn profile_at(words: &[u64], place: u16) -> Profile
     }
 }
 
-pub fn place_word(place: Place) -> u64
+fn place_word(place: Place) -> u64
     ensures { λ r. ⌜ r ≡ placeWord place ⌝ }
 {
     match place {
