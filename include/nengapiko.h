@@ -27,14 +27,14 @@
  * (tests/stack works it out from the archive). On top come the arguments that are passed on the stack,
  * 64 bytes at most, and the two functions of the C library.
  *
- *   nengapiko_write                 96
+ *   nengapiko_write                 80
  *   nengapiko_read                  56
  *   nengapiko_reader_start           8
  *   nengapiko_reader_tick          312
  *   nengapiko_master_start          16
  *   nengapiko_master_tick          512
  *   nengapiko_device_start          24
- *   nengapiko_device_tick          496
+ *   nengapiko_device_tick          608
  */
 #ifndef NENGAPIKO_H
 #define NENGAPIKO_H
