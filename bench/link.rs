@@ -1,8 +1,10 @@
-//! Ticks per second of the player, with two masters and six devices, over long scripts, through the
-//! archive and by the oracle in plain Rust.
+//! Ticks per second of the player, with two masters and six devices, over long scripts, and of a run
+//! of the link one tick at a time, through the archive and by the oracles in plain Rust.
 
 #[path = "../tests/called.rs"]
 mod called;
+#[path = "../tests/late_oracle.rs"]
+mod late_oracle;
 #[path = "../tests/link_archive.rs"]
 mod link_archive;
 #[path = "../tests/oracles.rs"]
@@ -10,15 +12,22 @@ mod oracles;
 #[allow(dead_code)]
 mod recordings;
 mod rounds;
+#[path = "../tests/run_archive.rs"]
+mod run_archive;
 #[path = "../tests/scripts.rs"]
 #[allow(dead_code)]
 mod scripts;
+#[path = "../tests/tick_list.rs"]
+#[allow(dead_code)]
+mod tick_list;
 
 use oracles::link_oracle;
 use recordings::{head, row};
 use rounds::by_turns;
+use run_archive::Setup;
 use scripts::{record, room, stop, ANSWER, ASK, BURST_ON};
 use std::hint::black_box;
+use tick_list::{bytes_of, silent_tick, Call, Tick};
 
 const TICKS: u16 = 60_000;
 const CALLS: usize = 1;
@@ -85,9 +94,70 @@ fn compare(name: &str, script: &[u8]) {
     row(name, usize::from(TICKS), &measured);
 }
 
+/// The ticks of a script whose calls are requests by unique address and answers.
+fn ticks_of(script: &[u8]) -> Vec<Tick> {
+    let mut ticks: Vec<Tick> = (0..TICKS).map(|_| silent_tick()).collect();
+    for call in script.chunks_exact(4) {
+        let tick = usize::from(u16::from_be_bytes([call[0], call[1]]));
+        let (party, action) = (usize::from(call[2] >> 4), call[2] & 0x0F);
+        let call = match action {
+            ASK => Call::Ask {
+                preamble: 5,
+                long_address: true,
+                address: u64::from(call[3]),
+                command: 3,
+                data: Vec::new(),
+            },
+            ANSWER => Call::Answer {
+                data: vec![0; usize::from(call[3])],
+            },
+            _ => continue,
+        };
+        ticks[tick][party] = Some(call);
+    }
+    ticks
+}
+
+/// The same for a run that takes one tick at a time, and gives a number for each.
+fn compare_run(name: &str, script: &[u8]) {
+    let setup = Setup {
+        profile: [28, 2, 8, 33, 41],
+        retries: 3,
+        preambles: [5; 6],
+        polling_addresses: [0, 1, 2, 3, 4, 5],
+        unique_addresses: [2, 3, 4, 5, 6, 7],
+        starts: [0, 0],
+    };
+    let addresses: Vec<(u64, u64)> = (0..6).map(|at| (at, at + 2)).collect();
+    let ticks = ticks_of(script);
+    let bytes = bytes_of(&ticks);
+    let mut events = vec![0; ticks.len()];
+    assert!(run_archive::run(&setup, &bytes, &mut events) == ticks.len());
+    assert!(
+        events == late_oracle::numbers([0, 0], &addresses, &ticks),
+        "{name}: they differ"
+    );
+    let measured = by_turns(
+        CALLS,
+        || {
+            black_box(run_archive::run(
+                &setup,
+                black_box(&bytes),
+                black_box(&mut events),
+            ));
+        },
+        || {
+            black_box(late_oracle::numbers([0, 0], &addresses, black_box(&ticks)));
+        },
+    );
+    row(name, usize::from(TICKS), &measured);
+}
+
 fn main() {
     head();
     compare("both busy", &busy(false));
     compare("busy, one bursts", &busy(true));
     compare("silent", &silent());
+    compare_run("one tick, busy", &busy(false));
+    compare_run("one tick, silent", &silent());
 }

@@ -29,14 +29,14 @@ use Rattle.parties.specs.declared.Way.the-variants.{Counts, Hears, Acts}
 
 abbrev pub onlyCounts : Way → Bool
 onlyCounts Counts = true
-onlyCounts (Hears r) = false
+onlyCounts Hears = false
 onlyCounts Acts = false
 
 abbrev pub deviceRests : Device → Bool
-deviceRests d = onlyCounts (deviceWay d Silence DeviceHost.DeviceHostCall.Nothing)
+deviceRests d = onlyCounts (deviceWay d Silence DeviceHost.DeviceHostCall.Nothing false false)
 
 abbrev pub masterRests : Master → Bool
-masterRests m = onlyCounts (masterWay m Silence MasterHost.MasterHostCall.Nothing)
+masterRests m = onlyCounts (masterWay m Silence MasterHost.MasterHostCall.Nothing false false)
 
 -- where no device is here, nothing changes
 abbrev pub slotRests : Slot → Bool

@@ -20,7 +20,7 @@ fn only_counts(way: Way) -> bool
 {
     match way {
         Way::Counts => true,
-        Way::Hears(_) => false,
+        Way::Hears => false,
         Way::Acts => false,
     }
 }
@@ -29,14 +29,14 @@ fn device_rests(d: Device) -> bool
     ensures { λ r. ⌜ r ≡ deviceRests d ⌝ }
 {
     let none = parties::no_device_call();
-    only_counts(parties::device_way(d, Heard::Silence, none))
+    only_counts(parties::device_way(d, Heard::Silence, none, false, false))
 }
 
 fn master_rests(m: Master) -> bool
     ensures { λ r. ⌜ r ≡ masterRests m ⌝ }
 {
     let none = parties::no_master_call();
-    only_counts(parties::master_way(m, Heard::Silence, none))
+    only_counts(parties::master_way(m, Heard::Silence, none, false, false))
 }
 
 fn slot_rests(s: Slot) -> bool

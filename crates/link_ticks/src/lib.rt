@@ -176,7 +176,7 @@ fn rows_each(frames: &[[u8; 284]], bytes: &[[u8; 255]], contents: &[[u8; 255]], 
     ensures { λ _. ⌜ (length (before frames) ≡ 8) × (length (before bytes) ≡ 8) × (length (before contents) ≡ 6) × (length (before sent) ≡ 64) ⌝ }
 {}
 
-// The ticks, with link and calls taken apart. In each the devices tick from the last to the first, then the masters, and the line joins what they send in that order.
+// The ticks, with link and calls taken apart. In each the devices tick from the last to the first, then the masters, and the line joins what they send in that order. `reader` is the line's, and ms_follow and ds_follow say whose reader it is.
 fn ticks_of(
     masters: [Master; 2],
     devices: [Slot; 6],
@@ -201,10 +201,17 @@ fn ticks_of(
     let mut ms_did = [nothing; 2];
     let mut ds_did = [none; 6];
     let mut told = false;
+    let primary = ms[0];
+    let mut reader = primary.receiver;
+    let mut ms_follow = [false; 2];
+    let mut ds_follow = [false; 6];
     let mut t: u16 = 0;
     while goes_on(t, most, told) {
         let mut row: [u16; 8] = [256; 8];
         let mut next = Heard::Silence;
+        let step = parties::line_step(reader, line);
+        let stepped = step.reader;
+        let quiet = step.quiet;
         let mut n = 6;
         while 0 < n {
             let i = n - 1;
@@ -213,19 +220,21 @@ fn ticks_of(
             if slot.here {
                 let d = slot.device;
                 let call = device_call(calls[i], t);
-                let way = parties::device_way(d, line, call);
+                let way = parties::device_way(d, line, call, ds_follow[i], quiet);
                 match way {
                     Way::Counts => {
                         let at = ds[i];
                         let same = at.device;
-                        ds[i] = parties::counted_device(same);
+                        let e = parties::counted_device(same);
+                        ds[i] = e;
+                        ds_follow[i] = parties::device_follows(e, stepped);
                     }
-                    Way::Hears(r) => {
+                    Way::Hears => {
                         let at = ds[i];
                         let same = at.device;
-                        let reader = same.receiver;
-                        parties::keep(reader, line, &mut bytes[i + 2]);
-                        ds[i] = parties::heard_device(same, r);
+                        let own = same.receiver;
+                        parties::keep(own, line, &mut bytes[i + 2]);
+                        ds[i] = parties::heard_device(same, stepped);
                     }
                     Way::Acts => {
                         let at = ds[i];
@@ -244,7 +253,9 @@ fn ticks_of(
                         let c = s.sent;
                         let x = s.told;
                         let a = s.result;
-                        ds[i] = in_slot(e);
+                        let f = in_slot(e);
+                        ds[i] = f;
+                        ds_follow[i] = parties::device_follows(f, stepped);
                         row[i + 2] = code(c);
                         ds_did[i] = device_did(did, x, a);
                         told = device_tells(x, told);
@@ -259,17 +270,19 @@ fn ticks_of(
             k = i;
             let m = ms[i];
             let call = master_call(requests[i], t);
-            let way = parties::master_way(m, line, call);
+            let way = parties::master_way(m, line, call, ms_follow[i], quiet);
             match way {
                 Way::Counts => {
                     let same = ms[i];
-                    ms[i] = parties::counted_master(same);
+                    let e = parties::counted_master(same);
+                    ms[i] = e;
+                    ms_follow[i] = parties::master_follows(e, stepped);
                 }
-                Way::Hears(r) => {
+                Way::Hears => {
                     let same = ms[i];
-                    let reader = same.receiver;
-                    parties::keep(reader, line, &mut bytes[i]);
-                    ms[i] = parties::heard_master(same, r);
+                    let own = same.receiver;
+                    parties::keep(own, line, &mut bytes[i]);
+                    ms[i] = parties::heard_master(same, stepped);
                 }
                 Way::Acts => {
                     let same = ms[i];
@@ -287,6 +300,7 @@ fn ticks_of(
                     let x = s.told;
                     let a = s.result;
                     ms[i] = e;
+                    ms_follow[i] = parties::master_follows(e, stepped);
                     row[i] = code(c);
                     ms_did[i] = master_did(did, x, a);
                     told = master_tells(x, told);
@@ -297,6 +311,7 @@ fn ticks_of(
         let at = t as usize;
         sent[at] = row;
         line = next;
+        reader = stepped;
         t += 1;
     }
     let link = Link {

@@ -5,13 +5,11 @@ use mathlib.Core.List.{List}
 use mathlib.Core.Path.{_≡_, refl, sym, ap, subst, _∙_}
 use lib.ListN.{length, take, drop}
 use Rattle.base.specs.Choice.{if_then_else_}
-use Rattle.line.specs.Reader.{idle, character, taken, kept, takenData}
+use Rattle.line.specs.Reader.{idle, kept, takenData}
 use Rattle.line.specs.declared.Damage.{Damage}
-use Rattle.line.specs.declared.Event.{Event}
 use Rattle.line.specs.declared.Heard.{Heard}
 use Rattle.line.specs.declared.Heard.the-variants.{Silence, Character}
 use Rattle.line.specs.declared.Receiver.{Receiver}
-use Rattle.line.specs.declared.Taken.{Taken}
 use Rattle.turns.specs.Device as DD
 use Rattle.turns.specs.Master as MM
 use Rattle.turns.specs.Master.{countClear, timer}
@@ -29,7 +27,7 @@ use Rattle.device_tick.specs.declared.DeviceTicked.{DeviceTicked}
 use Rattle.device_tick.specs.declared.DeviceHostCall as DeviceHost
 use Rattle.parties.specs.Part.{dataOf, PartIs}
 use Rattle.parties.specs.Stands.{noPart, noMasterCall, noDeviceCall}
-use Rattle.parties.specs.Ways.{hearsBy, countsIf, callsDevice, deviceCounts, deviceHears, deviceWay, countedDevice, inSlot, callsMaster, masterCounts, masterHears, masterWay, countedMaster, heardMaster}
+use Rattle.parties.specs.Ways.{hearsIf, countsIf, callsDevice, deviceCounts, deviceHears, deviceWay, countedDevice, inSlot, callsMaster, masterCounts, masterCharacter, masterHears, masterWay, countedMaster, heardMaster}
 use Rattle.parties.specs.declared.Bounds.{Bounds}
 use Rattle.parties.specs.declared.DeviceCall.{DeviceCall}
 use Rattle.parties.specs.declared.MasterCall.{MasterCall}
@@ -43,9 +41,6 @@ joins-sent p q heard r e f = f ∙ ap (λ (x : Sent). joins x heard) (sym e)
 
 pub joins-heard : (c : ℕ) (p q r : Heard) → p ≡ q → r ≡ joins (Sent.Character c) q → r ≡ joins (Sent.Character c) p
 joins-heard c p q r e f = f ∙ ap (joins (Sent.Character c)) (sym e)
-
-pub hears-by : (r : Receiver) (p q : Event) (w : Way) → p ≡ q → w ≡ hearsBy r q → w ≡ hearsBy r p
-hears-by r p q w e f = f ∙ ap (hearsBy r) (sym e)
 
 -- ---- the data of what is heard
 
@@ -64,44 +59,40 @@ module _ (r : Receiver) (bytes : List ℕ) where
 
 pub ruleset heard-data = (refl, data-silent, data-character, data-damaged)
 
-pub ruleset cases = (refl, joins-sent, joins-heard, hears-by)
+pub ruleset cases = (refl, joins-sent, joins-heard)
 
 -- ---- the ways
 
--- a character, by the reader's step
-pub stepped-by : (r : Receiver) (c : ℕ) (t : Taken) (w : Way) → t ≡ character (r .place) r c → w ≡ hearsBy (t .receiver) (t .event) → w ≡ hearsBy (taken r (Character c) .receiver) (taken r (Character c) .event)
-unfolding taken
-stepped-by r c t w e f = f ∙ ap (λ (u : Taken). hearsBy (u .receiver) (u .event)) e
+module _ (follows quiet : Bool) (heard : Heard) (w : Way) where
+  module _ (d : Device) where
+    pub device-way-is : (call : DeviceHost.DeviceHostCall) → w ≡ (if d .deaf then Acts else if callsDevice call then Acts else deviceHears d heard follows quiet) → w ≡ deviceWay d heard call follows quiet
+    unfolding deviceWay
+    device-way-is call e = e
 
-module _ (d : Device) (heard : Heard) (w : Way) where
-  pub device-way-is : (call : DeviceHost.DeviceHostCall) → w ≡ (if d .deaf then Acts else if callsDevice call then Acts else deviceHears d heard) → w ≡ deviceWay d heard call
-  unfolding deviceWay
-  device-way-is call e = e
+    pub device-silence : (b : Bool) → heard ≡ Silence → b ≡ deviceCounts d → w ≡ countsIf b → w ≡ deviceHears d heard follows quiet
+    device-silence b e p f = f ∙ ap countsIf p ∙ ap (λ (h : Heard). deviceHears d h follows quiet) (sym e)
 
-  pub device-silence : (b : Bool) → heard ≡ Silence → b ≡ deviceCounts d → w ≡ countsIf b → w ≡ deviceHears d heard
-  device-silence b e p f = f ∙ ap countsIf p ∙ ap (deviceHears d) (sym e)
+    pub device-character : (c : ℕ) → heard ≡ Character c → w ≡ hearsIf follows quiet → w ≡ deviceHears d heard follows quiet
+    device-character c e f = f ∙ ap (λ (h : Heard). deviceHears d h follows quiet) (sym e)
 
-  pub device-character : (c : ℕ) (t : Taken) → heard ≡ Character c → t ≡ character (d .receiver .place) (d .receiver) c → w ≡ hearsBy (t .receiver) (t .event) → w ≡ deviceHears d heard
-  device-character c t e p f = stepped-by (d .receiver) c t w p f ∙ ap (deviceHears d) (sym e)
+    pub device-damage : (c : ℕ) (kind : Damage) → heard ≡ Heard.Damaged c kind → w ≡ Acts → w ≡ deviceHears d heard follows quiet
+    device-damage c kind e f = f ∙ ap (λ (h : Heard). deviceHears d h follows quiet) (sym e)
 
-  pub device-damage : (c : ℕ) (kind : Damage) → heard ≡ Heard.Damaged c kind → w ≡ Acts → w ≡ deviceHears d heard
-  device-damage c kind e f = f ∙ ap (deviceHears d) (sym e)
+  module _ (m : Master) where
+    pub master-way-is : (call : MasterHost.MasterHostCall) → w ≡ (if m .deaf then Acts else if callsMaster call then Acts else masterHears m heard follows quiet) → w ≡ masterWay m heard call follows quiet
+    unfolding masterWay
+    master-way-is call e = e
 
-module _ (m : Master) (heard : Heard) (w : Way) where
-  pub master-way-is : (call : MasterHost.MasterHostCall) → w ≡ (if m .deaf then Acts else if callsMaster call then Acts else masterHears m heard) → w ≡ masterWay m heard call
-  unfolding masterWay
-  master-way-is call e = e
+    pub master-silence : (b : Bool) → heard ≡ Silence → b ≡ masterCounts m → w ≡ countsIf b → w ≡ masterHears m heard follows quiet
+    master-silence b e p f = f ∙ ap countsIf p ∙ ap (λ (h : Heard). masterHears m h follows quiet) (sym e)
 
-  pub master-silence : (b : Bool) → heard ≡ Silence → b ≡ masterCounts m → w ≡ countsIf b → w ≡ masterHears m heard
-  master-silence b e p f = f ∙ ap countsIf p ∙ ap (masterHears m) (sym e)
+    pub master-character : (c : ℕ) → heard ≡ Character c → w ≡ masterCharacter m follows quiet → w ≡ masterHears m heard follows quiet
+    master-character c e f = f ∙ ap (λ (h : Heard). masterHears m h follows quiet) (sym e)
 
-  pub master-character : (c : ℕ) → heard ≡ Character c → w ≡ masterHears m (Character c) → w ≡ masterHears m heard
-  master-character c e f = f ∙ ap (masterHears m) (sym e)
+    pub master-damage : (c : ℕ) (kind : Damage) → heard ≡ Heard.Damaged c kind → w ≡ Acts → w ≡ masterHears m heard follows quiet
+    master-damage c kind e f = f ∙ ap (λ (h : Heard). masterHears m h follows quiet) (sym e)
 
-  pub master-damage : (c : ℕ) (kind : Damage) → heard ≡ Heard.Damaged c kind → w ≡ Acts → w ≡ masterHears m heard
-  master-damage c kind e f = f ∙ ap (masterHears m) (sym e)
-
-pub ruleset ways = (refl, device-way-is, device-silence, device-character, device-damage, master-way-is, master-silence, master-character, master-damage, stepped-by)
+pub ruleset ways = (refl, device-way-is, device-silence, device-character, device-damage, master-way-is, master-silence, master-character, master-damage)
 
 -- ---- equal parts make equal parties and calls
 

@@ -8,8 +8,7 @@ use Rattle.base.specs.Choice.{if_then_else_}
 use Rattle.base.proofs.Choices.{true-false, went-then, went-else}
 use Rattle.line.specs.Reader as R
 use Rattle.line.specs.Reader.{insideFrame, taken, takenData}
-use Rattle.line.specs.declared.Event.{Event}
-use Rattle.line.specs.declared.Event.the-variants.{Nothing, PassedOver, Broken, Frame, Damaged}
+use Rattle.line.specs.declared.Event.the-variants.{Nothing}
 use Rattle.line.specs.declared.Heard.{Heard}
 use Rattle.line.specs.declared.Heard.the-variants.{Silence, Character}
 use Rattle.line.specs.declared.Place.{Place}
@@ -35,7 +34,7 @@ use Rattle.master.specs.Tick as MT
 use Rattle.master.specs.declared.MasterHostCall as MasterHost
 use Rattle.device_tick.specs.Tick as DT
 use Rattle.device_tick.specs.declared.DeviceHostCall as DeviceHost
-use Rattle.parties.specs.Ways.{hearsBy, countsIf, callsDevice, isListening, deviceCounts, deviceHears, deviceWay, countedDevice, heardDevice}
+use Rattle.parties.specs.Ways.{hearsIf, countsIf, callsDevice, isListening, deviceCounts, deviceHears, deviceWay, countedDevice, heardDevice}
 use Rattle.parties.specs.Ways.{callsMaster, isFree, isSending, masterCounts, masterHears, masterWay, countedMaster, heardMaster}
 use Rattle.parties.specs.declared.Way.{Way}
 use Rattle.parties.specs.declared.Way.the-variants.{Counts, Hears, Acts}
@@ -44,51 +43,37 @@ use Rattle.parties.specs.declared.Way.the-variants.{Counts, Hears, Acts}
 
 number : Way → ℕ
 number Counts = 0
-number (Hears r) = 1
+number Hears = 1
 number Acts = 2
 
 acts-counts : Acts ≡ Counts → ⊥
 unfolding number
 acts-counts e = let k : _≡_ {A = ℕ} 2 0 = ap number e in omega arith
 
-acts-hears : (r : Receiver) → Acts ≡ Hears r → ⊥
+acts-hears : Acts ≡ Hears → ⊥
 unfolding number
-acts-hears r e = let k : _≡_ {A = ℕ} 2 1 = ap number e in omega arith
+acts-hears e = let k : _≡_ {A = ℕ} 2 1 = ap number e in omega arith
 
-hears-counts : (r : Receiver) → Hears r ≡ Counts → ⊥
+hears-counts : Hears ≡ Counts → ⊥
 unfolding number
-hears-counts r e = let k : _≡_ {A = ℕ} 1 0 = ap number e in omega arith
+hears-counts e = let k : _≡_ {A = ℕ} 1 0 = ap number e in omega arith
 
-counts-hears : (r : Receiver) → Counts ≡ Hears r → ⊥
-unfolding number
-counts-hears r e = let k : _≡_ {A = ℕ} 0 1 = ap number e in omega arith
-
-event-counts : (r : Receiver) (event : Event) → hearsBy r event ≡ Counts → ⊥
-event-counts r Nothing e = hears-counts r e
-event-counts r PassedOver e = acts-counts e
-event-counts r Broken e = acts-counts e
-event-counts r (Frame w) e = acts-counts e
-event-counts r (Damaged w m) e = acts-counts e
-
-silence-hears : (b : Bool) (r : Receiver) → countsIf b ≡ Hears r → ⊥
+character-counts : (follows quiet : Bool) → hearsIf follows quiet ≡ Counts → ⊥
 unfolding if_then_else_
-silence-hears true r e = counts-hears r e
-silence-hears false r e = acts-hears r e
+character-counts true true e = hears-counts e
+character-counts false true e = acts-counts e
+character-counts follows false e = acts-counts e
 
-reader-of : Receiver → Way → Receiver
-reader-of q Counts = q
-reader-of q (Hears r) = r
-reader-of q Acts = q
+silence-hears : (b : Bool) → countsIf b ≡ Hears → ⊥
+unfolding if_then_else_
+silence-hears true e = hears-counts (sym e)
+silence-hears false e = acts-hears e
 
--- the reader's step, where the way is to hear
-module _ (t : Taken) (r : Receiver) where
-  stepped : (event : Event) → t .event ≡ event → hearsBy (t .receiver) event ≡ Hears r → t ≡ R.tells r Nothing
-  unfolding reader-of
-  stepped Nothing k e = let q : t .receiver ≡ r = ap (reader-of r) e in λ i. record { receiver = q i; event = k i }
-  stepped PassedOver k e = absurd (acts-hears r e)
-  stepped Broken k e = absurd (acts-hears r e)
-  stepped (Frame w) k e = absurd (acts-hears r e)
-  stepped (Damaged w m) k e = absurd (acts-hears r e)
+-- where the way of a character is to hear
+character-hears : (follows quiet : Bool) → hearsIf follows quiet ≡ Hears → (follows ≡ true) × (quiet ≡ true)
+character-hears follows quiet e =
+    let a = went-then quiet (if follows then Hears else Acts) Acts Hears e acts-hears in
+    (went-then follows Hears Acts Hears (a .1) acts-hears .0, a .0)
 
 not-first : (s t : Bool) → (if s then false else t) ≡ true → (s ≡ false) × (t ≡ true)
 not-first s t e = went-else s false t true e (λ q. true-false (sym q))
@@ -234,49 +219,50 @@ module _ (x : DeviceSide) (deaf : x .device .deaf ≡ false) where
       ∙ whole
       ∙ ap (λ (y : Device). deviceTick 255 (withDevice x y (x .bytes)) (Character c) no-call) (sym e)
 
-module _ (x : DeviceSide) (heard : Heard) (call : DeviceHost.DeviceHostCall) (put : List ℕ) where
+module _ (x : DeviceSide) (heard : Heard) (call : DeviceHost.DeviceHostCall) (put : List ℕ) (follows quiet : Bool) where
   -- what is left of a way that is not to act
-  open-way : (w : Way) → deviceWay (x .device) heard call ≡ w → (Acts ≡ w → ⊥) → (x .device .deaf ≡ false) × ((callsDevice call ≡ false) × (deviceHears (x .device) heard ≡ w))
+  open-way : (w : Way) → deviceWay (x .device) heard call follows quiet ≡ w → (Acts ≡ w → ⊥) → (x .device .deaf ≡ false) × ((callsDevice call ≡ false) × (deviceHears (x .device) heard follows quiet ≡ w))
   unfolding deviceWay
   open-way w e f =
       let a = went-else (x .device .deaf) Acts _ w e f in
       let b = went-else (callsDevice call) Acts _ w (a .1) f in
       (a .0, (b .0, b .1))
 
-  pub device-counts : deviceWay (x .device) heard call ≡ Counts → quietDevice (withDevice x (countedDevice (x .device)) (x .bytes)) ≡ deviceTick 255 x heard (DT.callOf call put)
+  pub device-counts : deviceWay (x .device) heard call follows quiet ≡ Counts → quietDevice (withDevice x (countedDevice (x .device)) (x .bytes)) ≡ deviceTick 255 x heard (DT.callOf call put)
   device-counts e =
       let o = open-way Counts e acts-counts in
       by call heard (o .1 .0) (o .1 .1)
     where
-      by : (c : DeviceHost.DeviceHostCall) (h : Heard) → callsDevice c ≡ false → deviceHears (x .device) h ≡ Counts
+      by : (c : DeviceHost.DeviceHostCall) (h : Heard) → callsDevice c ≡ false → deviceHears (x .device) h follows quiet ≡ Counts
           → quietDevice (withDevice x (countedDevice (x .device)) (x .bytes)) ≡ deviceTick 255 x h (DT.callOf c put)
       by DeviceHost.DeviceHostCall.Nothing Silence k l =
           let o = open-way Counts e acts-counts in
           let a = not-first (x .device .burst) (if insideFrame (x .device .receiver .place) then false else isListening (x .device .turn)) (went-then (deviceCounts (x .device)) Counts Acts Counts l acts-counts .0) in
           let b = not-first (insideFrame (x .device .receiver .place)) (isListening (x .device .turn)) (a .1) in
           counts-at x (o .0) (x .device .receiver .place) (b .0) refl (a .0) (listening-is (x .device .turn) (b .1))
-      by DeviceHost.DeviceHostCall.Nothing (Character c) k l =
-          let t = taken (x .device .receiver) (Character c) in
-          absurd (event-counts (t .receiver) (t .event) l)
+      by DeviceHost.DeviceHostCall.Nothing (Character c) k l = absurd (character-counts follows quiet l)
       by DeviceHost.DeviceHostCall.Nothing (Heard.Damaged c kind) k l = absurd (acts-counts l)
       by (DeviceHost.DeviceHostCall.Answers w) h k l = absurd (true-false k)
       by (DeviceHost.DeviceHostCall.Content n) h k l = absurd (true-false k)
 
-  pub device-hears : (r : Receiver) → deviceWay (x .device) heard call ≡ Hears r
+  pub device-hears : (r : Receiver) → deviceWay (x .device) heard call follows quiet ≡ Hears
+      → (follows ≡ true → quiet ≡ true → taken (x .device .receiver) heard ≡ R.tells r Nothing)
       → quietDevice (withDevice x (heardDevice (x .device) r) (takenData (x .device .receiver) heard (x .bytes))) ≡ deviceTick 255 x heard (DT.callOf call put)
-  device-hears r e =
-      let o = open-way (Hears r) e (acts-hears r) in
-      by call heard (o .1 .0) (o .1 .1)
+  device-hears r e step =
+      let o = open-way Hears e acts-hears in
+      by call heard (o .1 .0) (o .1 .1) step
     where
-      by : (c : DeviceHost.DeviceHostCall) (h : Heard) → callsDevice c ≡ false → deviceHears (x .device) h ≡ Hears r
+      by : (c : DeviceHost.DeviceHostCall) (h : Heard) → callsDevice c ≡ false → deviceHears (x .device) h follows quiet ≡ Hears
+          → (follows ≡ true → quiet ≡ true → taken (x .device .receiver) h ≡ R.tells r Nothing)
           → quietDevice (withDevice x (heardDevice (x .device) r) (takenData (x .device .receiver) h (x .bytes))) ≡ deviceTick 255 x h (DT.callOf c put)
-      by DeviceHost.DeviceHostCall.Nothing Silence k l = absurd (silence-hears (deviceCounts (x .device)) r l)
-      by DeviceHost.DeviceHostCall.Nothing (Character c) k l =
-          let o = open-way (Hears r) e (acts-hears r) in
-          hears-at x (o .0) c r (stepped (taken (x .device .receiver) (Character c)) r (taken (x .device .receiver) (Character c) .event) refl l)
-      by DeviceHost.DeviceHostCall.Nothing (Heard.Damaged c kind) k l = absurd (acts-hears r l)
-      by (DeviceHost.DeviceHostCall.Answers w) h k l = absurd (true-false k)
-      by (DeviceHost.DeviceHostCall.Content n) h k l = absurd (true-false k)
+      by DeviceHost.DeviceHostCall.Nothing Silence k l f = absurd (silence-hears (deviceCounts (x .device)) l)
+      by DeviceHost.DeviceHostCall.Nothing (Character c) k l f =
+          let o = open-way Hears e acts-hears in
+          let both = character-hears follows quiet l in
+          hears-at x (o .0) c r (f (both .0) (both .1))
+      by DeviceHost.DeviceHostCall.Nothing (Heard.Damaged c kind) k l f = absurd (acts-hears l)
+      by (DeviceHost.DeviceHostCall.Answers w) h k l f = absurd (true-false k)
+      by (DeviceHost.DeviceHostCall.Content n) h k l f = absurd (true-false k)
 
 -- ---- a master
 
@@ -390,20 +376,20 @@ module _ (x : MasterSide) (deaf : x .master .deaf ≡ false) where
       ∙ whole
       ∙ ap (λ (y : Master). masterTick 255 (withMaster x y (x .bytes)) (Character c) no-request) (sym e)
 
-module _ (x : MasterSide) (heard : Heard) (call : MasterHost.MasterHostCall) (put : List ℕ) where
-  opened-way : (w : Way) → masterWay (x .master) heard call ≡ w → (Acts ≡ w → ⊥) → (x .master .deaf ≡ false) × ((callsMaster call ≡ false) × (masterHears (x .master) heard ≡ w))
+module _ (x : MasterSide) (heard : Heard) (call : MasterHost.MasterHostCall) (put : List ℕ) (follows quiet : Bool) where
+  opened-way : (w : Way) → masterWay (x .master) heard call follows quiet ≡ w → (Acts ≡ w → ⊥) → (x .master .deaf ≡ false) × ((callsMaster call ≡ false) × (masterHears (x .master) heard follows quiet ≡ w))
   unfolding masterWay
   opened-way w e f =
       let a = went-else (x .master .deaf) Acts _ w e f in
       let b = went-else (callsMaster call) Acts _ w (a .1) f in
       (a .0, (b .0, b .1))
 
-  pub master-counts : masterWay (x .master) heard call ≡ Counts → quietMaster (withMaster x (countedMaster (x .master)) (x .bytes)) ≡ masterTick 255 x heard (MT.callOf call put)
+  pub master-counts : masterWay (x .master) heard call follows quiet ≡ Counts → quietMaster (withMaster x (countedMaster (x .master)) (x .bytes)) ≡ masterTick 255 x heard (MT.callOf call put)
   master-counts e =
       let o = opened-way Counts e acts-counts in
       by call heard (o .1 .0) (o .1 .1)
     where
-      by : (c : MasterHost.MasterHostCall) (h : Heard) → callsMaster c ≡ false → masterHears (x .master) h ≡ Counts
+      by : (c : MasterHost.MasterHostCall) (h : Heard) → callsMaster c ≡ false → masterHears (x .master) h follows quiet ≡ Counts
           → quietMaster (withMaster x (countedMaster (x .master)) (x .bytes)) ≡ masterTick 255 x h (MT.callOf c put)
       by MasterHost.MasterHostCall.Nothing Silence k l =
           let o = opened-way Counts e acts-counts in
@@ -411,24 +397,25 @@ module _ (x : MasterSide) (heard : Heard) (call : MasterHost.MasterHostCall) (pu
           let b = not-first (insideFrame (x .master .receiver .place)) (isFree (x .master .message .stage)) (a .1) in
           clear-at x (o .0) (x .master .receiver .place) (b .0) refl (a .0) (free-is (x .master .message .stage) (b .1))
       by MasterHost.MasterHostCall.Nothing (Character c) k l =
-          let t = taken (x .master .receiver) (Character c) in
-          absurd (event-counts (t .receiver) (t .event) (went-else (isSending (x .master .message .stage)) Acts (hearsBy (t .receiver) (t .event)) Counts l acts-counts .1))
+          absurd (character-counts follows quiet (went-else (isSending (x .master .message .stage)) Acts (hearsIf follows quiet) Counts l acts-counts .1))
       by MasterHost.MasterHostCall.Nothing (Heard.Damaged c kind) k l = absurd (acts-counts l)
       by (MasterHost.MasterHostCall.Requests q) h k l = absurd (true-false k)
 
-  pub master-hears : (r : Receiver) → masterWay (x .master) heard call ≡ Hears r
+  pub master-hears : (r : Receiver) → masterWay (x .master) heard call follows quiet ≡ Hears
+      → (follows ≡ true → quiet ≡ true → taken (x .master .receiver) heard ≡ R.tells r Nothing)
       → quietMaster (withMaster x (heardMaster (x .master) r) (takenData (x .master .receiver) heard (x .bytes))) ≡ masterTick 255 x heard (MT.callOf call put)
-  master-hears r e =
-      let o = opened-way (Hears r) e (acts-hears r) in
-      by call heard (o .1 .0) (o .1 .1)
+  master-hears r e step =
+      let o = opened-way Hears e acts-hears in
+      by call heard (o .1 .0) (o .1 .1) step
     where
-      by : (c : MasterHost.MasterHostCall) (h : Heard) → callsMaster c ≡ false → masterHears (x .master) h ≡ Hears r
+      by : (c : MasterHost.MasterHostCall) (h : Heard) → callsMaster c ≡ false → masterHears (x .master) h follows quiet ≡ Hears
+          → (follows ≡ true → quiet ≡ true → taken (x .master .receiver) h ≡ R.tells r Nothing)
           → quietMaster (withMaster x (heardMaster (x .master) r) (takenData (x .master .receiver) h (x .bytes))) ≡ masterTick 255 x h (MT.callOf c put)
-      by MasterHost.MasterHostCall.Nothing Silence k l = absurd (silence-hears (masterCounts (x .master)) r l)
-      by MasterHost.MasterHostCall.Nothing (Character c) k l =
-          let o = opened-way (Hears r) e (acts-hears r) in
-          let t = taken (x .master .receiver) (Character c) in
-          let s = went-else (isSending (x .master .message .stage)) Acts (hearsBy (t .receiver) (t .event)) (Hears r) l (acts-hears r) in
-          heard-at x (o .0) c r (s .0) (stepped t r (t .event) refl (s .1))
-      by MasterHost.MasterHostCall.Nothing (Heard.Damaged c kind) k l = absurd (acts-hears r l)
-      by (MasterHost.MasterHostCall.Requests q) h k l = absurd (true-false k)
+      by MasterHost.MasterHostCall.Nothing Silence k l f = absurd (silence-hears (masterCounts (x .master)) l)
+      by MasterHost.MasterHostCall.Nothing (Character c) k l f =
+          let o = opened-way Hears e acts-hears in
+          let s = went-else (isSending (x .master .message .stage)) Acts (hearsIf follows quiet) Hears l acts-hears in
+          let both = character-hears follows quiet (s .1) in
+          heard-at x (o .0) c r (s .0) (f (both .0) (both .1))
+      by MasterHost.MasterHostCall.Nothing (Heard.Damaged c kind) k l f = absurd (acts-hears l)
+      by (MasterHost.MasterHostCall.Requests q) h k l f = absurd (true-false k)

@@ -3,9 +3,7 @@
 use Prim.Native.Nat.{ℕ, _-_}
 use mathlib.Core.Bool.{Bool, true, false}
 use Rattle.base.specs.Choice.{if_then_else_}
-use Rattle.line.specs.Reader.{idle, insideFrame, taken}
-use Rattle.line.specs.declared.Event.{Event}
-use Rattle.line.specs.declared.Event.the-variants.{Nothing, PassedOver, Broken, Frame, Damaged}
+use Rattle.line.specs.Reader.{idle, insideFrame}
 use Rattle.line.specs.declared.Heard.{Heard}
 use Rattle.line.specs.declared.Heard.the-variants.{Silence, Character}
 use Rattle.line.specs.declared.Receiver.{Receiver}
@@ -25,13 +23,9 @@ use Rattle.parties.specs.declared.Slot.{Slot}
 use Rattle.parties.specs.declared.Way.{Way}
 use Rattle.parties.specs.declared.Way.the-variants.{Counts, Hears, Acts}
 
--- a character, by what the reader finds
-abbrev pub hearsBy : Receiver → Event → Way
-hearsBy r Nothing = Hears r
-hearsBy r PassedOver = Acts
-hearsBy r Broken = Acts
-hearsBy r (Frame w) = Acts
-hearsBy r (Damaged w m) = Acts
+-- a character: the line's reader finds nothing, and the party's reader is that one
+abbrev pub hearsIf : Bool → Bool → Way
+hearsIf follows quiet = if quiet then (if follows then Hears else Acts) else Acts
 
 abbrev pub countsIf : Bool → Way
 countsIf counts = if counts then Counts else Acts
@@ -56,13 +50,13 @@ isListening (Bursts n) = false
 abbrev pub deviceCounts : Device → Bool
 deviceCounts d = if d .burst then false else if insideFrame (d .receiver .place) then false else isListening (d .turn)
 
-abbrev pub deviceHears : Device → Heard → Way
-deviceHears d Silence = countsIf (deviceCounts d)
-deviceHears d (Character c) = hearsBy (taken (d .receiver) (Character c) .receiver) (taken (d .receiver) (Character c) .event)
-deviceHears d (Heard.Damaged c kind) = Acts
+abbrev pub deviceHears : Device → Heard → Bool → Bool → Way
+deviceHears d Silence follows quiet = countsIf (deviceCounts d)
+deviceHears d (Character c) follows quiet = hearsIf follows quiet
+deviceHears d (Heard.Damaged c kind) follows quiet = Acts
 
-unfoldable pub deviceWay : Device → Heard → DeviceHost.DeviceHostCall → Way
-deviceWay d heard call = if d .deaf then Acts else if callsDevice call then Acts else deviceHears d heard
+unfoldable pub deviceWay : Device → Heard → DeviceHost.DeviceHostCall → Bool → Bool → Way
+deviceWay d heard call follows quiet = if d .deaf then Acts else if callsDevice call then Acts else deviceHears d heard follows quiet
 
 abbrev pub countedDevice : Device → Device
 countedDevice d = D.deviceWith d idle Listens (d .request) (d .wish) (d .length) (d .due - 1)
@@ -95,14 +89,16 @@ isSending (Awaiting n) = false
 abbrev pub masterCounts : Master → Bool
 masterCounts m = if m .burst then false else if insideFrame (m .receiver .place) then false else isFree (m .message .stage)
 
-abbrev pub masterHears : Master → Heard → Way
-masterHears m Silence = countsIf (masterCounts m)
-masterHears m (Character c) =
-    if isSending (m .message .stage) then Acts else hearsBy (taken (m .receiver) (Character c) .receiver) (taken (m .receiver) (Character c) .event)
-masterHears m (Heard.Damaged c kind) = Acts
+abbrev pub masterCharacter : Master → Bool → Bool → Way
+masterCharacter m follows quiet = if isSending (m .message .stage) then Acts else hearsIf follows quiet
 
-unfoldable pub masterWay : Master → Heard → MasterHost.MasterHostCall → Way
-masterWay m heard call = if m .deaf then Acts else if callsMaster call then Acts else masterHears m heard
+abbrev pub masterHears : Master → Heard → Bool → Bool → Way
+masterHears m Silence follows quiet = countsIf (masterCounts m)
+masterHears m (Character c) follows quiet = masterCharacter m follows quiet
+masterHears m (Heard.Damaged c kind) follows quiet = Acts
+
+unfoldable pub masterWay : Master → Heard → MasterHost.MasterHostCall → Bool → Bool → Way
+masterWay m heard call follows quiet = if m .deaf then Acts else if callsMaster call then Acts else masterHears m heard follows quiet
 
 abbrev pub countedMaster : Master → Master
 countedMaster m = M.masterWith m idle (m .burst) (m .noted) (countClear (m .profile) (m .timer)) (m .message)

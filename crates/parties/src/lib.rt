@@ -1,8 +1,11 @@
 // The parties of a link: two masters and six slots for devices, the calls to them, and the short way of a party that only hears.
 use device_tick::DeviceTicked;
+use frame::Header;
 use line::Damage;
 use line::Event;
+use line::FrameDamage;
 use line::Heard;
+use line::Place;
 use line::Receiver;
 use line::Taken;
 use master::MasterTicked;
@@ -18,12 +21,15 @@ use turns::Wish;
 ghost use mathlib.Core.Path.{_≡_};
 ghost use Prim.Native.Nat.{_<_};
 ghost use Rattle.base.specs.Lent.{before, after};
-ghost use Rattle.line.specs.Reader.{takenData};
+ghost use Rattle.line.specs.Reader.{taken, takenData};
 ghost use Rattle.turns.specs.Link.{joins};
+ghost use Rattle.turns.specs.Master.{sameBit};
 ghost use Rattle.parties.specs.Part.{PartIs};
 ghost use Rattle.parties.specs.Stands.{noPart, noMasterCall, noDeviceCall, MasterIs, DeviceIs};
-ghost use Rattle.parties.specs.Ways.{hearsBy, countsIf, callsDevice, isListening, deviceCounts, deviceWay, countedDevice, heardDevice, inSlot};
-ghost use Rattle.parties.specs.Ways.{callsMaster, isFree, isSending, masterCounts, masterHears, masterWay, countedMaster, heardMaster};
+ghost use Rattle.parties.specs.Readers.{findsNothing, stepOf, placeNumber, placeHolds, samePlace, sameHeader, sameHeaderFlags};
+ghost use Rattle.parties.specs.Readers.{sameDamage, sameCheckDamage, sameCounts, sameRest, sameReader};
+ghost use Rattle.parties.specs.Ways.{hearsIf, countsIf, callsDevice, isListening, deviceCounts, deviceWay, countedDevice, heardDevice, inSlot};
+ghost use Rattle.parties.specs.Ways.{callsMaster, isFree, isSending, masterCounts, masterCharacter, masterWay, countedMaster, heardMaster};
 
 // The data of a call: so many of the lent bytes, from a place on, as far as there are.
 pub struct Part {
@@ -220,34 +226,245 @@ fn is_listening(turn: Turn) -> bool
     }
 }
 
-// How a party's tick goes: it only counts a silent tick, it only hears a character and its reader is this behind it, or it acts.
+// How a party's tick goes: it only counts a silent tick, it only hears a character as the line's reader does, or it acts.
 pub enum Way {
     Counts,
-    Hears(Receiver),
+    Hears,
     Acts,
 }
 
-// A party that hears, with its reader made anew: docs/BENCHMARKS.md, "The link".
-fn hears(r: Receiver) -> Way
-    ensures { λ w. ⌜ w ≡ Way.Hears r ⌝ }
-{
-    let same = tick_reader::same_receiver(r);
-    Way::Hears(same)
+// The line's reader behind a tick, made anew (docs/BENCHMARKS.md, "The link"), and whether it finds nothing there.
+pub struct LineStep {
+    pub reader: Receiver,
+    pub quiet: bool,
 }
 
-// A character, by what the reader finds.
-fn by_event(t: Taken) -> Way
-    ensures { λ r. ⌜ r ≡ hearsBy (t .receiver) (t .event) ⌝ }
+fn finds_nothing(event: Event) -> bool
+    ensures { λ r. ⌜ r ≡ findsNothing event ⌝ }
 {
-    let r = t.receiver;
-    let event = t.event;
     match event {
-        Event::Nothing => hears(r),
-        Event::PassedOver => Way::Acts,
-        Event::Broken => Way::Acts,
-        Event::Frame(_) => Way::Acts,
-        Event::Damaged(_, _) => Way::Acts,
+        Event::Nothing => true,
+        Event::PassedOver => false,
+        Event::Broken => false,
+        Event::Frame(_) => false,
+        Event::Damaged(_, _) => false,
     }
+}
+
+fn step_of(t: Taken) -> LineStep
+    ensures { λ s. ⌜ s ≡ stepOf t ⌝ }
+{
+    let next = t.receiver;
+    let event = t.event;
+    let reader = tick_reader::same_receiver(next);
+    let quiet = finds_nothing(event);
+    LineStep {
+        reader: reader,
+        quiet: quiet,
+    }
+}
+
+// A step whose data nobody reads.
+fn step_apart(r: Receiver, heard: Heard) -> LineStep
+    ensures { λ s. ⌜ s ≡ stepOf (taken r heard) ⌝ }
+{
+    let mut bytes: [u8; 255] = [0; 255];
+    step_of(tick_reader::take(r, heard, &mut bytes))
+}
+
+// A silent tick.
+fn silent_step(r: Receiver) -> LineStep
+    ensures { λ s. ⌜ s ≡ stepOf (taken r Heard.Silence) ⌝ }
+{
+    let place = r.place;
+    if tick_reader::is_inside(place) {
+        return step_apart(r, Heard::Silence);
+    }
+    let idle = tick_reader::idle_reader();
+    LineStep {
+        reader: idle,
+        quiet: true,
+    }
+}
+
+// The line's reader, that of one who hears all that the line carries.
+pub fn line_step(r: Receiver, heard: Heard) -> LineStep
+    ensures { λ s. ⌜ s ≡ stepOf (taken r heard) ⌝ }
+{
+    match heard {
+        Heard::Silence => silent_step(r),
+        Heard::Character(c) => step_of(tick_reader::heard_character(r, c)),
+        Heard::Damaged(_, _) => step_apart(r, heard),
+    }
+}
+
+fn same_flag(a: bool, b: bool) -> bool
+    ensures { λ r. ⌜ r ≡ sameBit a b ⌝ }
+{
+    if a {
+        return b;
+    }
+    if b {
+        return false;
+    }
+    true
+}
+
+fn place_number(place: Place) -> u8
+    ensures { λ r. ⌜ r ≡ placeNumber place ⌝ }
+{
+    match place {
+        Place::Passing => 0,
+        Place::Idle => 1,
+        Place::Preamble(_) => 2,
+        Place::First => 3,
+        Place::Address(_) => 4,
+        Place::Expansion(_) => 5,
+        Place::Command => 6,
+        Place::Count => 7,
+        Place::Data(_) => 8,
+        Place::Check => 9,
+    }
+}
+
+fn place_holds(place: Place) -> u8
+    ensures { λ r. ⌜ r ≡ placeHolds place ⌝ }
+{
+    match place {
+        Place::Passing => 0,
+        Place::Idle => 0,
+        Place::Preamble(n) => n,
+        Place::First => 0,
+        Place::Address(n) => n,
+        Place::Expansion(n) => n,
+        Place::Command => 0,
+        Place::Count => 0,
+        Place::Data(n) => n,
+        Place::Check => 0,
+    }
+}
+
+fn same_place(a: Place, b: Place) -> bool
+    ensures { λ r. ⌜ r ≡ samePlace a b ⌝ }
+{
+    if place_number(a) == place_number(b) {
+        return place_holds(a) == place_holds(b);
+    }
+    false
+}
+
+fn same_header(a: Header, b: Header) -> bool
+    ensures { λ r. ⌜ r ≡ sameHeader a b ⌝ }
+{
+    if a.address == b.address {
+        if a.frame == b.frame {
+            if a.command == b.command {
+                return same_header_flags(a, b);
+            }
+        }
+    }
+    false
+}
+
+fn same_header_flags(a: Header, b: Header) -> bool
+    ensures { λ r. ⌜ r ≡ sameHeaderFlags a b ⌝ }
+{
+    if same_flag(a.long, b.long) {
+        if same_flag(a.primary, b.primary) {
+            return same_flag(a.burst, b.burst);
+        }
+    }
+    false
+}
+
+fn same_damage(a: FrameDamage, b: FrameDamage) -> bool
+    ensures { λ r. ⌜ r ≡ sameDamage a b ⌝ }
+{
+    if same_flag(a.parity, b.parity) {
+        if same_flag(a.overrun, b.overrun) {
+            if same_flag(a.framing, b.framing) {
+                return same_check_damage(a, b);
+            }
+        }
+    }
+    false
+}
+
+fn same_check_damage(a: FrameDamage, b: FrameDamage) -> bool
+    ensures { λ r. ⌜ r ≡ sameCheckDamage a b ⌝ }
+{
+    if same_flag(a.check, b.check) {
+        return same_flag(a.address, b.address);
+    }
+    false
+}
+
+fn same_counts(a: Receiver, b: Receiver) -> bool
+    ensures { λ r. ⌜ r ≡ sameCounts a b ⌝ }
+{
+    if a.sum == b.sum {
+        if a.count == b.count {
+            return a.expansion == b.expansion;
+        }
+    }
+    false
+}
+
+fn same_rest(a: Receiver, b: Receiver) -> bool
+    ensures { λ r. ⌜ r ≡ sameRest a b ⌝ }
+{
+    let p = a.header;
+    let q = b.header;
+    let m = a.damage;
+    let n = b.damage;
+    if same_flag(a.gap, b.gap) {
+        if same_header(p, q) {
+            return same_damage(m, n);
+        }
+    }
+    false
+}
+
+// Whether two readers are one and the same.
+fn same_reader(a: Receiver, b: Receiver) -> bool
+    ensures { λ r. ⌜ r ≡ sameReader a b ⌝ }
+{
+    let p = a.place;
+    let q = b.place;
+    if same_place(p, q) {
+        if same_counts(a, b) {
+            return same_rest(a, b);
+        }
+    }
+    false
+}
+
+// Whether a device's reader, or a master's, is the line's.
+pub fn device_follows(s: Slot, reader: Receiver) -> bool
+    ensures { λ r. ⌜ r ≡ sameReader (s .device .receiver) reader ⌝ }
+{
+    let d = s.device;
+    let own = d.receiver;
+    same_reader(own, reader)
+}
+
+pub fn master_follows(m: Master, reader: Receiver) -> bool
+    ensures { λ r. ⌜ r ≡ sameReader (m .receiver) reader ⌝ }
+{
+    let own = m.receiver;
+    same_reader(own, reader)
+}
+
+// A character, of which the line's reader finds nothing or something, for a party whose reader is the line's or not.
+fn if_hears(follows: bool, quiet: bool) -> Way
+    ensures { λ r. ⌜ r ≡ hearsIf follows quiet ⌝ }
+{
+    if quiet {
+        if follows {
+            return Way::Hears;
+        }
+    }
+    Way::Acts
 }
 
 // A silent tick.
@@ -275,9 +492,9 @@ fn device_counts(d: Device) -> bool
     is_listening(turn)
 }
 
-// How a device's tick goes.
-pub fn device_way(d: Device, heard: Heard, call: DeviceCall) -> Way
-    ensures { λ r. ⌜ r ≡ deviceWay d heard (call .call) ⌝ }
+// How a device's tick goes, by whether its reader is the line's and whether that one finds nothing.
+pub fn device_way(d: Device, heard: Heard, call: DeviceCall, follows: bool, quiet: bool) -> Way
+    ensures { λ r. ⌜ r ≡ deviceWay d heard (call .call) follows quiet ⌝ }
 {
     if d.deaf {
         return Way::Acts;
@@ -285,10 +502,9 @@ pub fn device_way(d: Device, heard: Heard, call: DeviceCall) -> Way
     if calls_device(call) {
         return Way::Acts;
     }
-    let reader = d.receiver;
     match heard {
         Heard::Silence => if_counts(device_counts(d)),
-        Heard::Character(c) => by_event(tick_reader::heard_character(reader, c)),
+        Heard::Character(_) => if_hears(follows, quiet),
         Heard::Damaged(_, _) => Way::Acts,
     }
 }
@@ -358,21 +574,20 @@ fn master_counts(m: Master) -> bool
     is_free(stage)
 }
 
-fn master_character(m: Master, c: u8) -> Way
-    ensures { λ r. ⌜ r ≡ masterHears m (Heard.Character c) ⌝ }
+fn master_character(m: Master, follows: bool, quiet: bool) -> Way
+    ensures { λ r. ⌜ r ≡ masterCharacter m follows quiet ⌝ }
 {
     let g = m.message;
     let stage = g.stage;
     if is_sending(stage) {
         return Way::Acts;
     }
-    let reader = m.receiver;
-    by_event(tick_reader::heard_character(reader, c))
+    if_hears(follows, quiet)
 }
 
 // How a master's tick goes.
-pub fn master_way(m: Master, heard: Heard, call: MasterCall) -> Way
-    ensures { λ r. ⌜ r ≡ masterWay m heard (call .call) ⌝ }
+pub fn master_way(m: Master, heard: Heard, call: MasterCall, follows: bool, quiet: bool) -> Way
+    ensures { λ r. ⌜ r ≡ masterWay m heard (call .call) follows quiet ⌝ }
 {
     if m.deaf {
         return Way::Acts;
@@ -382,7 +597,7 @@ pub fn master_way(m: Master, heard: Heard, call: MasterCall) -> Way
     }
     match heard {
         Heard::Silence => if_counts(master_counts(m)),
-        Heard::Character(c) => master_character(m, c),
+        Heard::Character(_) => master_character(m, follows, quiet),
         Heard::Damaged(_, _) => Way::Acts,
     }
 }
