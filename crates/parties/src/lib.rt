@@ -61,7 +61,7 @@ fn end_of(start: usize, count: usize, room: usize) -> Bounds
 }
 
 // The bounds of a part within so many bytes.
-pub fn bounds_of(part: Part, room: usize) -> Bounds
+fn bounds_of(part: Part, room: usize) -> Bounds
     ensures { λ r. ⌜ PartIs (part .from) (part .count) room r ⌝ }
 {
     let start = part.from;
