@@ -1,8 +1,9 @@
 -- What the line carries for what is heard, the number that is wanted, and a tick of any party behind its chip.
-use Prim.Native.Nat.{ℕ, _/_, _%_}
-use mathlib.Core.Bool.{Bool}
+use Prim.Native.Nat.{ℕ, _/_, _%_, _<_}
+use native.Mathlib.Omega.{arith}
+use mathlib.Core.Bool.{Bool, true, false}
 use mathlib.Core.Path.{_≡_, refl, sym, ap, _∙_}
-use Rattle.base.specs.Choice.{_=?_}
+use Rattle.base.specs.Choice.{if_then_else_, _=?_}
 use Rattle.base.specs.Refusal.{number}
 use Rattle.base.specs.declared.Refusal.{Refusal}
 use Rattle.line.specs.declared.Damage.{Damage}
@@ -20,7 +21,7 @@ use Rattle.modem.specs.declared.TickEnded.{TickEnded}
 use Rattle.party.specs.Calls.{resultOf}
 use Rattle.party.specs.declared.CallStatus.{CallStatus}
 use Rattle.modem_party.specs.Behind.{Step, Behind, says, closes, behindTick}
-use Rattle.chip_recording.specs.Wanted.{lineOf, answerNumber, wanted, behindAt}
+use Rattle.chip_recording.specs.Wanted.{lineOf, answerNumber, outWanted, wanted, behindAt}
 
 pub wire-at : (p q : Heard) (bit : Bool) (r : Carried) → p ≡ q → r ≡ wire q bit → r ≡ wire p bit
 wire-at p q bit r e f = f ∙ ap (λ (h : Heard). wire h bit) (sym e)
@@ -37,6 +38,22 @@ damaged-marked c kind q bit r e f = f ∙ ap (λ (k : Damage). wire (Heard.Damag
 
 pub line-is : (first c : ℕ) (h : Heard) (r : Carried) → h ≡ heardOf (first / 32) c → r ≡ wire h (c % 2 =? 1) → r ≡ lineOf first c
 line-is first c h r e f = f ∙ ap (λ (g : Heard). wire g (c % 2 =? 1)) e
+
+-- below 32 the first byte says silence
+pub line-silent : (first c : ℕ) → first < 32 → _≡_ {A = Carried} Carried.Silence (lineOf first c)
+unfolding if_then_else_
+line-silent first c h =
+    let zero : first / 32 ≡ 0 = omega arith in
+    ap (λ (kind : ℕ). wire (heardOf kind c) (c % 2 =? 1)) (sym zero)
+
+-- what goes out, where nothing does
+pub out-silent : (which : ℕ) (w : Carried) → w ≡ Carried.Silence → 0 ≡ outWanted which w
+unfolding if_then_else_
+out-silent which w e = rw e (go (which =? 0))
+  where
+    go : (b : Bool) → _≡_ {A = ℕ} 0 (if b then 0 else 0)
+    go true = refl
+    go false = refl
 
 pub answer-at : (p q : CallStatus) (r : ℕ) → p ≡ q → r ≡ answerNumber (resultOf q) → r ≡ answerNumber (resultOf p)
 answer-at p q r e f = f ∙ ap (λ (a : CallStatus). answerNumber (resultOf a)) (sym e)
@@ -57,8 +74,10 @@ behind-at-is {S} {C} {T} step callAt x s first c w call u e p q i k =
     ∙ ap (λ (a : C). behindTick step x s w a) q
     ∙ ap (λ (v : Carried). behindTick step x s v (callAt (first / 4 % 8))) p
 
-pub ruleset wires = (refl, wire-at, nine-same, line-is)
+pub ruleset wires = (refl, wire-at, nine-same, line-is, line-silent)
 
 pub ruleset damages = (refl, damaged-parity, damaged-marked)
 
 pub ruleset answereds = (refl, answer-at, answer-refused)
+
+pub ruleset outs = (refl, out-silent)

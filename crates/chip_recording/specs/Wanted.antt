@@ -1,7 +1,7 @@
 -- How the code stands for what is to be believed.
 -- What the line carries in a tick of a recording, which number of the tick is wanted, and a run of any party behind its chip.
 use Prim.Native.Nat.{ℕ, _/_, _%_}
-use Rattle.base.specs.Choice.{if_then_else_, _=?_}
+use Rattle.base.specs.Choice.{if_then_else_, _<?_, _=?_}
 use Rattle.line.specs.declared.Heard.{Heard}
 use Rattle.recording.specs.Recording.{heardOf, Ticked, tickedBy}
 use Rattle.modem.specs.Chip.{freshChip}
@@ -23,10 +23,12 @@ answerNumber was-taken = 255
 answerNumber (was-refused why) = why % 256
 
 -- 0 what goes out, 1 its character, 2 what is told, 3 what the call came to
+abbrev pub outWanted : ℕ → Carried → ℕ
+outWanted which carried = if which =? 0 then outNumber carried else outCharacter carried
+
 abbrev pub wanted : ℕ → Carried → ℕ → ℕ → ℕ
 wanted which carried told result =
-    if which =? 0 then outNumber carried else
-    if which =? 1 then outCharacter carried else
+    if which <? 2 then outWanted which carried else
     if which =? 2 then told else
     result
 

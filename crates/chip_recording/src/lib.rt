@@ -7,7 +7,7 @@ use party::CallStatus;
 ghost use mathlib.Core.Path.{_≡_};
 ghost use Rattle.modem.specs.Driver.{other, wire};
 ghost use Rattle.party.specs.Calls.{resultOf};
-ghost use Rattle.chip_recording.specs.Wanted.{lineOf, answerNumber, wanted};
+ghost use Rattle.chip_recording.specs.Wanted.{lineOf, answerNumber, outWanted, wanted};
 
 fn other_bit(bit: bool) -> bool
     ensures { λ r. ⌜ r ≡ other bit ⌝ }
@@ -43,6 +43,9 @@ fn wire_of(heard: Heard, bit: bool) -> Carried
 pub fn line_of(first: u8, c: u8) -> Carried
     ensures { λ r. ⌜ r ≡ lineOf first c ⌝ }
 {
+    if first < 32 {
+        return Carried::Silence;
+    }
     wire_of(recording::heard_of(first / 32, c), c % 2 == 1)
 }
 
@@ -57,15 +60,31 @@ pub fn answer_number(result: CallStatus) -> u8
     }
 }
 
-// The number of a tick that is wanted.
-pub fn number_wanted(which: u8, carried: Carried, told: u8, result: u8) -> u8
-    ensures { λ r. ⌜ r ≡ wanted which carried told result ⌝ }
+fn nine_wanted(which: u8, carried: Carried) -> u8
+    ensures { λ r. ⌜ r ≡ outWanted which carried ⌝ }
 {
     if which == 0 {
         return modem_c::out_number(carried);
     }
-    if which == 1 {
-        return modem_c::out_character(carried);
+    modem_c::out_character(carried)
+}
+
+// What goes out, or its character. Most ticks are silent, so that is asked first.
+fn out_wanted(which: u8, carried: Carried) -> u8
+    ensures { λ r. ⌜ r ≡ outWanted which carried ⌝ }
+{
+    match carried {
+        Carried::Silence => 0,
+        Carried::Nine(_, _, _) => nine_wanted(which, carried),
+    }
+}
+
+// The number of a tick that is wanted.
+pub fn number_wanted(which: u8, carried: Carried, told: u8, result: u8) -> u8
+    ensures { λ r. ⌜ r ≡ wanted which carried told result ⌝ }
+{
+    if which < 2 {
+        return out_wanted(which, carried);
     }
     if which == 2 {
         return told;

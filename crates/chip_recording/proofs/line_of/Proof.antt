@@ -7,6 +7,7 @@ pub line-of-spec : {M : Type 1} → statement M
 line-of-spec =
     tie.close
     (tie.spec
+    (λ c. search (needs, wires))
     (λ c κs. search needs)
     (λ c κs. search needs)
     (λ c. search (needs, wires)))

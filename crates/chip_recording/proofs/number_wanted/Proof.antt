@@ -9,7 +9,5 @@ number-wanted-spec =
     (tie.spec
     (λ c κs. search needs)
     (λ c. search (needs, choices))
-    (λ c κs. search needs)
-    (λ c. search (needs, choices))
     (λ c. search (needs, choices))
     (λ c. search (needs, choices)))
