@@ -1,5 +1,6 @@
 //! Ticks per second of a master and of a device over long recordings, through the archives, by the
-//! oracles in plain Rust and, one call a tick, by a master in plain C.
+//! oracles in plain Rust and, one call a tick, by a master in plain C, and by the same in plain C whose
+//! state stands in words.
 
 #[path = "../tests/called.rs"]
 mod called;
@@ -19,10 +20,15 @@ use recordings::{compare, frame, head, noise, silent, Run, SILENCE};
 #[link(name = "plain_master", kind = "static")]
 extern "C" {
     fn plain_master_ticks(from: *const u8, size: usize, to: *mut u8, room: usize) -> usize;
+    fn plain_words_ticks(from: *const u8, size: usize, to: *mut u8, room: usize) -> usize;
 }
 
 fn plain_c(recording: &[u8], events: &mut [u8]) -> usize {
     over(plain_master_ticks, recording, events)
+}
+
+fn plain_c_words(recording: &[u8], events: &mut [u8]) -> usize {
+    over(plain_words_ticks, recording, events)
 }
 
 const TICKS: usize = 200_000;
@@ -103,4 +109,8 @@ fn main() {
     devices("device", engine_archive::device, party_archive::device);
     println!("one call a tick, against plain C");
     masters("master", engine_archive::master, plain_c);
+    println!("one call a tick, against plain C over words");
+    masters("master", engine_archive::master, plain_c_words);
+    println!("one call a tick in plain C: over words, against a struct");
+    masters("master", plain_c_words, plain_c);
 }

@@ -348,9 +348,11 @@ static int send(struct plain_master *m)
     return c;
 }
 
-void plain_start(struct plain_master *m, bool primary, uint32_t retries)
+void plain_start(struct plain_master *m, bool primary, uint32_t retries, uint8_t *out, uint8_t *data)
 {
     memset(m, 0, sizeof *m);
+    m->out = out;
+    m->reader.data = data;
     m->hold = 2;
     m->rt2 = 8;
     m->rt1 = primary ? 33 : 41;
@@ -372,19 +374,24 @@ __attribute__((noinline)) unsigned plain_tick(struct plain_master *m, unsigned h
     return why;
 }
 
-size_t plain_master_ticks(const uint8_t *recording, size_t size, uint8_t *events, size_t room)
+const struct plain_request *plain_called(uint8_t first)
 {
     static const uint8_t tag[6];
     static const struct plain_request reading = {.preamble = 5, .long_address = true, .address = 2, .command = 3};
     static const struct plain_request find = {.preamble = 5, .long_address = true, .command = 11, .data = tag, .count = 6};
+    return first % 32 == 1 ? &reading : first % 32 == 2 ? &find : NULL;
+}
+
+size_t plain_master_ticks(const uint8_t *recording, size_t size, uint8_t *events, size_t room)
+{
     struct plain_master m;
     struct plain_results results;
-    plain_start(&m, true, 3);
+    uint8_t out[284], data[255];
+    plain_start(&m, true, 3, out, data);
     size_t ticks = 0;
     for (; ticks < size / 2 && ticks < room; ticks++) {
         const uint8_t first = recording[2 * ticks];
-        const struct plain_request *q = first % 32 == 1 ? &reading : first % 32 == 2 ? &find : NULL;
-        plain_tick(&m, first / 32, recording[2 * ticks + 1], q, &results);
+        plain_tick(&m, first / 32, recording[2 * ticks + 1], plain_called(first), &results);
         events[ticks] = (uint8_t)(results.sent >= 0 ? 4 : results.told);
     }
     return ticks;

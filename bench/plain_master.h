@@ -22,7 +22,7 @@ struct plain_reader {
     uint8_t left; /* of address, expansion or data */
     uint8_t exclusive_or;
     bool gap; /* the tick before was silent, inside a frame, and passed over */
-    uint8_t data[255];
+    uint8_t *data; /* 255 bytes that are lent */
 };
 
 enum plain_stage { FREE, WAITING, SENDING, AWAITING };
@@ -37,10 +37,10 @@ struct plain_master {
     struct plain_frame message;
     uint32_t length, sent;
     struct plain_reader reader;
-    uint8_t out[284];
+    uint8_t *out; /* 284 bytes that are lent */
 };
 
-/* What a tick tells; the frame and its data are in the master's reader. */
+/* What a tick tells; the frame is in the master's reader. */
 struct plain_results {
     int sent; /* a character, or -1 */
     int told; /* 0 nothing, 1 answered, 2 given up, 3 broadcast sent */
@@ -57,8 +57,11 @@ struct plain_request {
     size_t count;
 };
 
+/* The host's calls in a recording, as nengapiko_master of nengapiko_tests.h has them. */
+const struct plain_request *plain_called(uint8_t first);
+
 /* A master with FSK. */
-void plain_start(struct plain_master *m, bool primary, uint32_t retries);
+void plain_start(struct plain_master *m, bool primary, uint32_t retries, uint8_t *out, uint8_t *data);
 
 /* A tick; heard is 0 silence, 1 a character, 2 to 4 one with damage 1 to 3; request may be NULL. Returns its refusal, or 0. */
 unsigned plain_tick(struct plain_master *m, unsigned heard, uint8_t character,
@@ -66,5 +69,8 @@ unsigned plain_tick(struct plain_master *m, unsigned heard, uint8_t character,
 
 /* A primary with 3 retries over a recording, as nengapiko_master of nengapiko_tests.h. */
 size_t plain_master_ticks(const uint8_t *recording, size_t size, uint8_t *events, size_t room);
+
+/* The same with its state in words between the ticks (plain_words.c). */
+size_t plain_words_ticks(const uint8_t *recording, size_t size, uint8_t *events, size_t room);
 
 #endif
