@@ -6,7 +6,7 @@ use mathlib.Core.List.{List, _∷_}
 use lib.ListN.{length, drop, set, length-drop}
 use Rattle.turns.specs.Link.{Calls, linkAfter}
 use Rattle.turns.specs.Link as L
-use Rattle.turns.specs.Late.{lateTick, lateRun}
+use Rattle.runs.specs.Late.{lateTick, lateRun}
 use Rattle.recording.specs.Recording.{RunIs}
 use Rattle.recording.proofs.Runs.{Filling, filling-begun, filling-more, filling-ended, filling-full}
 use Rattle.parties.specs.Stands.{Rows, linkOf, heres}

@@ -17,11 +17,11 @@ use Rattle.turns.specs.Link.{DeviceSide, LinkStep}
 use Rattle.turns.specs.Run.{All, none, and, Distinct, DeviceStarts, EachTick, count, senders}
 use Rattle.turns.specs.Ledgers.{blanks, OneFinds}
 use Rattle.turns.specs.Demand3.{masterIn, NoneBurstsIn}
-use Rattle.turns.specs.Late.{lateRun, Started, starts-now, inTick, sendersIn, BeginTogether, InOverlap, LateStart}
+use Rattle.runs.specs.Late.{lateRun, Started, starts-now, inTick, sendersIn, BeginTogether, InOverlap, LateStart}
 use Rattle.turns.specs.declared.Master.{Master}
 use Rattle.turns.proofs.Fresh.{master-is}
-use Rattle.turns.proofs.Item14.{item-14}
-use Rattle.turns.proofs.Late.{common-start}
+use Rattle.runs.proofs.Item14.{item-14}
+use Rattle.runs.proofs.Late.{common-start}
 use Rattle.parties.specs.Stands.{anyMaster, heres}
 use Rattle.parties.specs.declared.Link.{Link}
 use Rattle.link_start.specs.Fresh.{rowsFresh, lentFresh}

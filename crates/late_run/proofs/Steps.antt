@@ -14,7 +14,7 @@ use Rattle.turns.specs.Master.{tells, sends, sendsBy, masterTakes, masterSends}
 use Rattle.turns.specs.Party.{none}
 use Rattle.turns.specs.Link.{no-request, MasterSide, MasterStep, LinkStep, joins, sides, carried, masterData, masterSent, masterTick, linkTick, linkAfter}
 use Rattle.turns.specs.Link as L
-use Rattle.turns.specs.Late.{lateMaster, lateTick}
+use Rattle.runs.specs.Late.{lateMaster, lateTick}
 use Rattle.turns.specs.Run.{count, deviceSenders}
 use Rattle.turns.specs.declared.Master.{Master}
 use Rattle.turns.specs.declared.MasterTold.{MasterTold}

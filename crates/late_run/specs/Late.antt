@@ -13,7 +13,7 @@ use Rattle.turns.specs.Link.{LinkStep}
 use Rattle.turns.specs.Run.{Distinct, EachTick}
 use Rattle.turns.specs.Ledgers.{blanks, OneFinds}
 use Rattle.turns.specs.Demand3.{NoneBurstsIn}
-use Rattle.turns.specs.Late.{lateRun, InOverlap, LateStart}
+use Rattle.runs.specs.Late.{lateRun, InOverlap, LateStart}
 use Rattle.parties.specs.Stands.{heres}
 use Rattle.parties.specs.declared.Link.{Link}
 use Rattle.link_start.specs.Fresh.{lentFresh}

@@ -11,7 +11,7 @@ use Rattle.base.specs.Lent.{Lent}
 use Rattle.frame.specs.Limits.{mostData}
 use Rattle.recording.specs.Recording.{RunIs}
 use Rattle.turns.specs.Link.{LinkStep, linkAfter}
-use Rattle.turns.specs.Late.{lateTick, lateRun}
+use Rattle.runs.specs.Late.{lateTick, lateRun}
 use Rattle.turns.specs.declared.Master.{Master}
 use Rattle.turns.specs.declared.Stage.the-variants.{Free}
 use Rattle.master.specs.declared.MasterHostCall.{MasterHostCall}

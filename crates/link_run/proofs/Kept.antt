@@ -12,9 +12,9 @@ use Rattle.line.specs.declared.Profile.{Profile}
 use Rattle.recording.specs.Recording.{RunIs}
 use Rattle.turns.specs.Run.{Distinct, EachTick, no-tick, OneBursts, NoTwoSend}
 use Rattle.turns.specs.Demand3.{Premises, WaitIn}
-use Rattle.turns.proofs.Wait as W
-use Rattle.turns.proofs.Credit.{credit-in-a-run}
-use Rattle.turns.proofs.Backs.{backs-in-a-run}
+use Rattle.runs.proofs.Wait as W
+use Rattle.runs.proofs.Credit.{credit-in-a-run}
+use Rattle.runs.proofs.Backs.{backs-in-a-run}
 use Rattle.parties.specs.Stands.{heres}
 use Rattle.parties.specs.declared.Link.{Link}
 use Rattle.link_start.specs.Fresh.{lentFresh}

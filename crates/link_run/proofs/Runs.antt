@@ -20,11 +20,11 @@ use Rattle.turns.specs.Device.{freshDevice, deviceTakes, deviceSends, answered,
 use Rattle.turns.specs.Link.{no-request, Calls, masterTick, deviceTick, deviceTicks, sides, carried, linkTick, run}
 use Rattle.turns.specs.Run.{none, Distinct, deviceSenders}
 use Rattle.turns.specs.Ledgers.{blanks}
-use Rattle.turns.specs.Credit.{noneAsked, EachCredited}
-use Rattle.turns.specs.Backs.{noContents, foundBy, EachBack}
+use Rattle.runs.specs.Credit.{noneAsked, EachCredited}
+use Rattle.runs.specs.Backs.{noContents, foundBy, EachBack}
 use Rattle.turns.specs.declared.MasterTold.the-variants.{Answered}
-use Rattle.turns.proofs.CreditRuns.{linkBehind}
-use Rattle.turns.proofs.Premises.{short, short-taken, lone, lone-finds}
+use Rattle.runs.proofs.CreditRuns.{linkBehind}
+use Rattle.runs.proofs.Premises.{short, short-taken, lone, lone-finds}
 use Rattle.parties.specs.Stands.{devicesFrom}
 use Rattle.parties.specs.declared.Link.{Link}
 use Rattle.link_start.specs.Fresh.{lentFresh}

@@ -9,7 +9,7 @@ use Rattle.base.proofs.Stores.{stored-between}
 use Rattle.turns.specs.Party.{CallResult, none, was-taken, was-refused}
 use Rattle.turns.specs.Link.{LinkStep}
 use Rattle.turns.specs.Run.{count, deviceSenders, senders, EachTick, tick-and, NoTwoSend}
-use Rattle.turns.specs.Late.{inTick}
+use Rattle.runs.specs.Late.{inTick}
 use Rattle.turns.specs.declared.Sent.{Sent}
 use Rattle.turns.specs.declared.Sent.the-variants.{Silent, Character}
 use Rattle.link_run.specs.Run.{taken, tickNumber, numbersOf, sendersTold, primaryTold, secondaryTold, OneSender, written}

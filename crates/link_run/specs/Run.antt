@@ -15,8 +15,8 @@ use Rattle.turns.specs.Link as L
 use Rattle.turns.specs.Run.{Distinct, EachTick, OneBursts, NoTwoSend, count, senders}
 use Rattle.turns.specs.Ledgers.{blanks, OneFinds}
 use Rattle.turns.specs.Demand3.{WaitIn}
-use Rattle.turns.specs.Credit.{noneAsked, EachCredited}
-use Rattle.turns.specs.Backs.{noContents, EachBack}
+use Rattle.runs.specs.Credit.{noneAsked, EachCredited}
+use Rattle.runs.specs.Backs.{noContents, EachBack}
 use Rattle.parties.specs.Stands.{heres}
 use Rattle.parties.specs.declared.Link.{Link}
 use Rattle.link_start.specs.Fresh.{lentFresh}

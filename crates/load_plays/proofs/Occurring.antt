@@ -12,7 +12,7 @@ use Rattle.turns.specs.Link.{DeviceSide, LinkStep, Calls}
 use Rattle.turns.specs.Run.{All}
 use Rattle.turns.specs.Run as R
 use Rattle.turns.specs.declared.Wish.the-variants.{Same}
-use Rattle.turns.proofs.Wait.{run-length}
+use Rattle.runs.proofs.Wait.{run-length}
 use Rattle.player.specs.Play.{ready, readyLink}
 use Rattle.load_writer.proofs.Seeds.{beyond}
 use Rattle.load_plays.specs.Occur.{shownAt, between, untouched, characters, EachKind}

@@ -21,8 +21,8 @@ use Rattle.turns.specs.declared.Wish.the-variants.{On, Off}
 use Rattle.turns.proofs.Bursting.{if-both}
 use Rattle.turns.proofs.Masters.{if-cases}
 use Rattle.turns.proofs.Fresh.{valid}
-use Rattle.turns.proofs.NoTwoSend.{no-two-send}
-use Rattle.turns.proofs.Wait.{wait}
+use Rattle.runs.proofs.NoTwoSend.{no-two-send}
+use Rattle.runs.proofs.Wait.{wait}
 use Rattle.script.specs.Script.{isOf, wantedAt, masterCall, deviceCall, deviceCallAt, stopOf, callsFrom}
 use Rattle.script.specs.declared.Entry.{Entry}
 use Rattle.script.specs.declared.ScriptCall.{ScriptCall}
@@ -31,10 +31,10 @@ use Rattle.player.specs.Play.{ready, readyLink}
 use Rattle.load_writer.specs.Load.{call, opening, mark, pairTick, lengthOf, lower, upperParty, upper, stopAt, draw, load}
 use Rattle.load_writer.proofs.Records.{lower-either, Each, and, tests, each-front, each-load}
 use Rattle.load_plays.specs.Plays.{callsOf, playOf, WithinPremises, NoTwoSendInAPlay, WaitInAPlay}
-use Rattle.turns.proofs.OtherCommands.{OtherCall, asks-nothing, asks-other, OtherCalls, other-and, other-finds}
-use Rattle.turns.proofs.OtherCommands as O
-use Rattle.turns.proofs.OneWishes.{same, off, NotOnCall, no-one, replies, given, SideStaysOff, OneWishes, one-wishes}
-use Rattle.turns.proofs.OneWishes as W
+use Rattle.runs.proofs.OtherCommands.{OtherCall, asks-nothing, asks-other, OtherCalls, other-and, other-finds}
+use Rattle.runs.proofs.OtherCommands as O
+use Rattle.runs.proofs.OneWishes.{same, off, NotOnCall, no-one, replies, given, SideStaysOff, OneWishes, one-wishes}
+use Rattle.runs.proofs.OneWishes as W
 
 -- ---- records that turn burst on are for party 2
 

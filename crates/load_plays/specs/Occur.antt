@@ -12,7 +12,7 @@ use Rattle.turns.specs.Party.{Request, CallResult, none, was-taken, was-refused
 use Rattle.turns.specs.Link.{MasterCall, no-request, requests, DeviceCall, no-call, gives-answer, DeviceSide, DeviceStep, Link, LinkStep, Calls}
 use Rattle.turns.specs.Run.{All, senders}
 use Rattle.turns.specs.Demand3.{masterIn}
-use Rattle.turns.specs.FirstStx.{callIn}
+use Rattle.runs.specs.FirstStx.{callIn}
 use Rattle.turns.specs.Attempts.{stxHeader}
 use Rattle.turns.specs.declared.DeviceTold.{DeviceTold}
 use Rattle.turns.specs.declared.MasterTold.{MasterTold}

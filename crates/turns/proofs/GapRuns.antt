@@ -1,13 +1,13 @@
--- Runs that show what Gaps.antt and NoGaps.antt claim, computed: from the start to a frame that is cut behind its first character, and on to what is sent behind it. 1 stands for a tick in which a character is sent.
+-- Runs that show what Gaps.antt and NoGaps.antt claim, computed: from the start to a frame that is cut behind its first character, and on to what is sent behind it; and an ACK that a master awaits, with a silent tick in it and with two. 1 stands for a tick in which a character is sent.
 use Prim.Native.Nat.{ℕ}
 use mathlib.Core.Path.{_≡_, refl}
 use mathlib.Core.Bool.{true, false}
 use mathlib.Core.List.{List, [], _∷_, _++_}
-use lib.ListN.{replicate}
+use lib.ListN.{replicate, take, drop}
 use Rattle.base.specs.Choice.{if_then_else_}
 use Rattle.base.specs.Store.{stored}
 use Rattle.frame.specs.Check.{xorFrom}
-use Rattle.frame.specs.Delimiter.{stx, back, delimiterOf}
+use Rattle.frame.specs.Delimiter.{stx, ack, back, delimiterOf}
 use Rattle.frame.specs.Frame.{frameBytes, preambleBytes, bodyBytes, protectedBytes, headerBytes}
 use Rattle.frame.specs.Write.{writeBuffer, writeAnswer}
 use Rattle.line.specs.Profile.{fskProfile}
@@ -19,6 +19,7 @@ use Rattle.turns.specs.Master.{freshMaster, requested, requestedUpTo, ma
 use Rattle.turns.specs.Device.{freshDevice, deviceTakes, deviceSends, answered, contentGiven}
 use Rattle.turns.specs.Link.{no-request, requests, no-call, gives-answer, gives-content, MasterSide, DeviceSide, masterTick, deviceTick}
 use Rattle.turns.specs.Run.{count}
+use Rattle.turns.specs.Told.{masterTells}
 use Rattle.turns.specs.Bursts.{DeviceInput}
 use Rattle.turns.specs.Gaps.{MasterInput, masterSents, deviceSents, InsideFrame, ToSend, message-waits}
 use Rattle.turns.specs.declared.Sent.{Sent}
@@ -65,6 +66,38 @@ aBack = frameBytes 5 (record { frame = back; long = true; primary = true; burst 
 pub cut-set : marks (masterSents 255 primary (asks ∷ hears Silence ∷ (each aBack ++ (hears (Character 0xFF) ∷ replicate 67 (hears Silence))))) ≡ replicate 84 0 ++ (1 ∷ 1 ∷ [])
 unfolding marks primary hears asks each aBack masterSents masterTick requested requestedUpTo masterTakes masterSends taken takenData silentInside atIdle atPreamble atFirst atAddress atExpansion atCommand atCount atData atCheck frameBytes preambleBytes bodyBytes protectedBytes headerBytes xorFrom delimiterOf stored if_then_else_
 cut-set = refl
+
+-- ---- an ACK that a master awaits
+
+-- what its host is told in each tick, by its number: 1 is answered
+unfoldable pub told : MasterSide → List MasterInput → List ℕ
+told x [] = []
+told x (i ∷ is) = masterTells (masterTick 255 x (i .heard) (i .call) .told) .number ∷ told (masterTick 255 x (i .heard) (i .call) .side) is
+
+-- its ACK, of 12 characters
+unfoldable pub anAck : List ℕ
+anAck = frameBytes 5 (record { frame = ack; long = false; primary = true; burst = false; address = 0; command = 0 }) (0 ∷ 0 ∷ [])
+
+-- asked in tick 0, its STX goes out in ticks 33 to 42, and it takes the ACK's first character in tick 45
+unfoldable pub awaits : List MasterInput → List MasterInput
+awaits answer = asks ∷ (replicate 44 (hears Silence) ++ answer)
+
+-- with so many silent ticks behind its byte count
+unfoldable pub dropped : ℕ → List MasterInput
+dropped n = awaits (each (take 9 anAck) ++ (replicate n (hears Silence) ++ each (drop 9 anAck)))
+
+-- whole, it is told in tick 56; with one silent tick in it, one tick later; with two, not at all
+pub ack-whole : told primary (dropped 0) ≡ replicate 56 0 ++ (1 ∷ [])
+unfolding told primary hears asks awaits dropped each anAck masterTick requested requestedUpTo masterTakes masterSends taken takenData silentInside atIdle atPreamble atFirst atAddress atExpansion atCommand atCount atData atCheck frameBytes preambleBytes bodyBytes protectedBytes headerBytes xorFrom delimiterOf stored if_then_else_
+ack-whole = refl
+
+pub ack-with-gap : told primary (dropped 1) ≡ replicate 57 0 ++ (1 ∷ [])
+unfolding told primary hears asks awaits dropped each anAck masterTick requested requestedUpTo masterTakes masterSends taken takenData silentInside atIdle atPreamble atFirst atAddress atExpansion atCommand atCount atData atCheck frameBytes preambleBytes bodyBytes protectedBytes headerBytes xorFrom delimiterOf stored if_then_else_
+ack-with-gap = refl
+
+pub ack-broken : told primary (dropped 2) ≡ replicate 59 0
+unfolding told primary hears asks awaits dropped each anAck masterTick requested requestedUpTo masterTakes masterSends taken takenData silentInside atIdle atPreamble atFirst atAddress atExpansion atCommand atCount atData atCheck frameBytes preambleBytes bodyBytes protectedBytes headerBytes xorFrom delimiterOf stored if_then_else_
+ack-broken = refl
 
 -- ---- a device, FSK: RT1 primary 33
 

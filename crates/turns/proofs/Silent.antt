@@ -1,23 +1,29 @@
--- A silent tick of a master and of a device, by where the reader stands: outside a frame, inside one, and behind one silent tick inside it.
+-- A silent tick of a master and of a device, by where the reader stands: outside a frame, inside one, and behind one silent tick inside it. In every tick what a party finds is what its reader tells.
 use mathlib.Core.Path.{_≡_, refl, sym, ap, _∙_}
 use Prim.Native.Nat.{ℕ}
 use native.Mathlib.Omega.{arith}
 use mathlib.Core.Bool.{Bool, true, false}
+use mathlib.Core.List.{List}
 use Rattle.base.proofs.Choices.{true-false, if-is-true, if-is-false}
 use Rattle.line.specs.Reader.{idle, gapped, insideFrame, tells, taken}
-use Rattle.line.specs.declared.Event.the-variants.{Nothing, Broken}
-use Rattle.line.specs.declared.Heard.the-variants.{Silence}
+use Rattle.line.specs.declared.Event.{Event}
+use Rattle.line.specs.declared.Event.the-variants.{Nothing, PassedOver, Broken, Frame, Damaged}
+use Rattle.line.specs.declared.Heard.{Heard}
+use Rattle.line.specs.declared.Heard.the-variants.{Silence, Character}
 use Rattle.line.specs.declared.Receiver.{Receiver}
 use Rattle.line.specs.declared.Taken.{Taken}
 use Rattle.line.proofs.Ticks.{Inside, outside-idle, gap-passed, gap-breaks}
 use Rattle.turns.specs.Master as M
-use Rattle.turns.specs.Master.{withReader, afterBreak}
+use Rattle.turns.specs.Master.{withReader, afterBreak, rt1Ends, masterTakes}
 use Rattle.turns.specs.Device as D
-use Rattle.turns.specs.Device.{brokenDue}
+use Rattle.turns.specs.Device.{brokenDue, deviceTakes}
 use Rattle.turns.specs.declared.Master.{Master}
+use Rattle.turns.specs.declared.MasterTaken.{MasterTaken}
 use Rattle.turns.specs.declared.MasterTold.{MasterTold}
 use Rattle.turns.specs.declared.Device.{Device}
+use Rattle.turns.specs.declared.DeviceTaken.{DeviceTaken}
 use Rattle.turns.specs.declared.DeviceTold.{DeviceTold}
+use Rattle.turns.proofs.Bursting.{if-both}
 
 -- a reader that a silent tick leads to idle, with nothing told, is outside a frame
 pub ready-outside : (r : Receiver) → taken r Silence ≡ tells idle Nothing → insideFrame (r .place) ≡ false
@@ -58,3 +64,64 @@ module _ (d : Device) where
 
   pub device-second : Inside (d .receiver .place) → d .receiver .gap ≡ true → D.onSilence d (taken (d .receiver) Silence .receiver) ≡ D.counts d idle (brokenDue d) Broken
   device-second i g = device-taken _ (gap-breaks (d .receiver) i g) ∙ if-is-true (insideFrame (d .receiver .place)) _ _ i ∙ if-is-true (d .receiver .gap) _ _ g
+
+-- ---- what a party finds in a tick is what its reader tells
+
+-- a count leaves the reader, and what was found
+pub counts-reads : (m : Master) (told : MasterTold) (event : Event) → (M.counts m told event .master .receiver ≡ m .receiver) × (M.counts m told event .event ≡ event)
+counts-reads m told event = if-both (λ (t : MasterTaken). (t .master .receiver ≡ m .receiver) × (t .event ≡ event)) (rt1Ends (m .message .stage)) _ _ (refl, refl) (refl, refl)
+
+master-silence : (m : Master) → M.onSilence m (taken (m .receiver) Silence .receiver) .event ≡ taken (m .receiver) Silence .event
+master-silence m = go (insideFrame (m .receiver .place)) refl (m .receiver .gap) refl
+  where
+    found : MasterTaken → Event
+    found t = t .event
+
+    told : Taken → Event
+    told t = t .event
+
+    go : (inside : Bool) → insideFrame (m .receiver .place) ≡ inside → (gap : Bool) → m .receiver .gap ≡ gap → M.onSilence m (taken (m .receiver) Silence .receiver) .event ≡ taken (m .receiver) Silence .event
+    go false o gap g = ap found (master-outside m o) ∙ counts-reads (withReader m idle) MasterTold.Nothing Nothing .1 ∙ sym (ap told (outside-idle (m .receiver) o))
+    go true i false g = ap found (master-passed m i g) ∙ sym (ap told (gap-passed (m .receiver) i g))
+    go true i true g =
+        let once = M.counts (afterBreak m idle Broken .master) (afterBreak m idle Broken .told) Broken in
+        ap found (master-second m i g) ∙ counts-reads (once .master) (once .told) Broken .1 ∙ sym (ap told (gap-breaks (m .receiver) i g))
+
+master-character : (m : Master) (r : Receiver) (event : Event) (bytes : List ℕ) → M.onCharacter m r event bytes .event ≡ event
+master-character m r Nothing bytes = refl
+master-character m r PassedOver bytes = refl
+master-character m r Broken bytes = refl
+master-character m r (Frame w) bytes = refl
+master-character m r (Damaged w h) bytes = refl
+
+pub master-finds : (m : Master) (heard : Heard) (bytes : List ℕ) → m .deaf ≡ false → masterTakes m heard bytes .event ≡ taken (m .receiver) heard .event
+unfolding masterTakes
+master-finds m heard bytes hears = ap (λ (t : MasterTaken). t .event) (if-is-false (m .deaf) _ _ hears) ∙ by heard
+  where
+    by : (heard : Heard) → M.onHeard m heard bytes .event ≡ taken (m .receiver) heard .event
+    by Silence = master-silence m
+    by (Character c) = master-character m (taken (m .receiver) (Character c) .receiver) (taken (m .receiver) (Character c) .event) bytes
+    by (Heard.Damaged c kind) = master-character m (taken (m .receiver) (Heard.Damaged c kind) .receiver) (taken (m .receiver) (Heard.Damaged c kind) .event) bytes
+
+device-silence : (d : Device) → D.onSilence d (taken (d .receiver) Silence .receiver) .event ≡ taken (d .receiver) Silence .event
+device-silence d = go (insideFrame (d .receiver .place)) refl (d .receiver .gap) refl
+  where
+    found : DeviceTaken → Event
+    found t = t .event
+
+    told : Taken → Event
+    told t = t .event
+
+    go : (inside : Bool) → insideFrame (d .receiver .place) ≡ inside → (gap : Bool) → d .receiver .gap ≡ gap → D.onSilence d (taken (d .receiver) Silence .receiver) .event ≡ taken (d .receiver) Silence .event
+    go false o gap g = ap found (device-outside d o) ∙ sym (ap told (outside-idle (d .receiver) o))
+    go true i false g = ap found (device-passed d i g) ∙ sym (ap told (gap-passed (d .receiver) i g))
+    go true i true g = ap found (device-second d i g) ∙ sym (ap told (gap-breaks (d .receiver) i g))
+
+pub device-finds : (d : Device) (heard : Heard) → d .deaf ≡ false → deviceTakes d heard .event ≡ taken (d .receiver) heard .event
+unfolding deviceTakes
+device-finds d heard hears = ap (λ (t : DeviceTaken). t .event) (if-is-false (d .deaf) _ _ hears) ∙ by heard
+  where
+    by : (heard : Heard) → D.onHeard d heard .event ≡ taken (d .receiver) heard .event
+    by Silence = device-silence d
+    by (Character c) = refl
+    by (Heard.Damaged c kind) = refl

@@ -1,9 +1,9 @@
--- Item 6's sentences as laws of the definitions: which broadcast is never answered, which ACK answers command 11, what it does to BURST, how that message is reported, and which wish is refused.
-use Prim.Native.Nat.{ℕ, _/_, _≤_}
+-- Item 6's sentences as laws of the definitions: which broadcast is never answered, which ACK answers command 11, what it does to BURST, how that message is reported, which wish is refused, and which answers break the premise on tags.
+use Prim.Native.Nat.{ℕ, _+_, _/_, _≤_}
 use native.Mathlib.Omega.{arith}
 use mathlib.Core.Path.{_≡_, refl, sym, ap, _∙_}
 use mathlib.Core.Bool.{Bool, true, false}
-use mathlib.Core.List.{List}
+use mathlib.Core.List.{List, [], _∷_}
 use lib.ListN.{length}
 use borrow.Author.Tests.{eq-eqb, eqb-true}
 use Rattle.base.specs.Refusal.{Called, accepted, refused}
@@ -20,7 +20,8 @@ use Rattle.line.specs.declared.Whole.{Whole}
 use Rattle.turns.specs.Party.{isBroadcast, seeksTag, was-refused}
 use Rattle.turns.specs.Master.{namesDevice, burstAfter, notedAfter, ends, isAnswer, answersMessage, atBreak, atFrame}
 use Rattle.turns.specs.Device.{isOwn, mayAnswer, hasError, afterFrame, afterDamage, deviceTakes, errorFrame, hasNoWish, wishRefused, answeredBy, answered, answerFrame, deviceStarts}
-use Rattle.turns.specs.Link.{no-call, gives-answer, DeviceSide, DeviceStep, answerCalled, deviceTick, deviceData, heardFrame}
+use Rattle.turns.specs.Link.{no-call, gives-answer, DeviceSide, DeviceStep, LinkStep, Calls, answerCalled, deviceTick, deviceData, heardFrame}
+use Rattle.turns.specs.Ledgers.{Ledger, given, ledgersAfter, finders, OneFinds, tick-and}
 use Rattle.turns.specs.declared.Master.{Master}
 use Rattle.turns.specs.declared.MasterTold.the-variants.{BroadcastSent}
 use Rattle.turns.specs.declared.Noted.{Noted}
@@ -175,3 +176,14 @@ refused-leaves limit x heard wish put why e = (ap (λ (c : Called Device). by c 
   where
     by : Called Device → DeviceStep
     by c = answerCalled c (deviceTakes (x .device) heard .device) (answerFrame (deviceTakes (x .device) heard .device) wish put (heardFrame x heard)) (heardFrame x heard) (deviceData x heard) (x .contents) (deviceTakes (x .device) heard .told)
+
+-- ---- "one tag, one device, so that at most one host's answer to each command 11 is taken"
+
+two-found : (h g : Header) (a b : List ℕ) → seeksTag h ≡ true → seeksTag g ≡ true → finders (given h a ∷ given g b ∷ []) ≡ 2
+unfolding finders if_then_else_
+two-found h g a b e f = λ i. (if e i then 1 else 0) + ((if f i then 1 else 0) + 0)
+
+-- behind a tick with the answers of two hosts to a command 11 the premise does not hold
+pub two-answers-break : {gs : List Ledger} {c : Calls} {cs : List Calls} {s : LinkStep} {ss : List LinkStep} (h g : Header) (a b : List ℕ) → seeksTag h ≡ true → seeksTag g ≡ true
+    → ledgersAfter (c .for-devices) (s .for-devices) gs ≡ given h a ∷ given g b ∷ [] → OneFinds gs (c ∷ cs) (s ∷ ss) → ⊥
+two-answers-break h g a b e f are (tick-and few rest) = omega (arith, few, ap finders are, two-found h g a b e f)

@@ -1,4 +1,4 @@
--- The rules of turns, from document 01: "Timers", "Master's turns", "Device's turns", "Runs of the link" and "Refusals"; then what is proved of whole runs, and "Settled by proof".
+-- The rules of turns, from document 01: "Timers", "Master's turns", "Device's turns", "Runs of the link" and "Refusals"; demand 3; what is claimed of one party; and "Settled by proof". What else is claimed of whole runs stands in the crate runs.
 pub mod Party
 pub mod Master
 pub mod Device
@@ -8,12 +8,6 @@ pub mod Run
 pub mod Ledgers
 pub mod Bursts
 pub mod Demand3
-pub mod Credit
-pub mod Backs
-pub mod Late
 pub mod Settled
 pub mod Gaps
 pub mod Attempts
-pub mod FirstStx
-pub mod SoundPair
-pub mod LateSoundPair

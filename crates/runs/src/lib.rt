@@ -1,0 +1,1 @@
+// What holds of whole runs of the link: claims in specs/, theorems in proofs/. No functions.
