@@ -7,13 +7,12 @@ use mathlib.Core.Path.{_≡_, refl, sym, ap, subst, _∙_}
 use mathlib.Core.List.{List, [], _∷_, map}
 use lib.ListN.{length, take, getD, replicate, length-map}
 use Rattle.base.specs.Choice.{if_then_else_, _<?_}
-use Rattle.texts.proofs.Puts.{put-length}
 use Rattle.turns.specs.Link.{LinkStep, run}
 use Rattle.turns.specs.Link as L
 use Rattle.turns.specs.Run.{EachTick}
 use Rattle.turns.specs.declared.Sent.{Sent}
 use Rattle.turns.specs.declared.Sent.the-variants.{Silent}
-use Rattle.script.specs.Script.{recordsOf, callsAt, callsFrom, tickOf, tickAt}
+use Rattle.script.specs.Script.{recordsOf, callsAt, callsFrom, tickAt}
 use Rattle.script.specs.Reads.{Reads}
 use Rattle.script.specs.Walk.{freeTicks}
 use Rattle.script.specs.declared.Entry.{Entry}
@@ -31,14 +30,14 @@ use Rattle.parties.specs.declared.Calls.{Calls}
 use Rattle.parties.specs.declared.Link.{Link}
 use Rattle.parties.specs.declared.Slot.{Slot}
 use Rattle.parties.specs.declared.Ticked.{Ticked}
-use Rattle.link_ticks.specs.Ticks.{upToTold, callsFirst, atMost, stepsOf, linkBehind, SendBytes, RunIs}
+use Rattle.link_ticks.specs.Ticks.{upToTold, callsFirst, atMost, stepsOf, linkBehind, RunIs}
 use Rattle.link_rests.specs.Rests.{slotRested, linkRests, linkRested}
 use Rattle.link_rests.proofs.RestingLink.{rested-agrees, rested-sent}
 use Rattle.player_calls.specs.Calls.{zeroBytes, callsFor}
 use Rattle.player_calls.proofs.Wanteds.{calls-stand}
 use Rattle.player.specs.Ticks.{Stands, restedFor, PlaysOn}
 use Rattle.player.specs.declared.Playing.{Playing}
-use Rattle.player.proofs.Runs.{WantsNone, uncalled-run, first-run, run-count, Front, front, left-on, after-run}
+use Rattle.player.proofs.Runs.{WantsNone, uncalled-run, first-run, run-count, Front, front, after-run}
 use Rattle.player.proofs.Sent.{SixTick, six-run, six-here, listed-sent, silent-run}
 
 -- ---- a link that rests
@@ -77,14 +76,16 @@ module _ (script : List ℕ) (stop ticks : ℕ) (p : Playing) (x : Rows) (out : 
       (subst (λ (ts : List (List Sent)). TickLinesAre (ticksLines (p .tick) (allHeard (p .monitors)) ts) out (p .at) (replicate 8 quietMonitor) (p .at) out) (sym sent)
       (ticks-silent n (p .tick) (allHeard (p .monitors)) out (p .at) (heard-eight (p .monitors) eight))) in
       record {
-        later = omega arith;
+        ticks = suc n;
+        some = omega arith;
         within = fits;
-        same-length = refl;
+        tick-is = refl;
         stands = record {
           reads = free .reads-on (suc n) (omega (arith, e));
           there = here-still (suc n) (p .link .devices) ∙ k .there;
         };
-        left = left-on es (suc n) (p .tick) stop start (linkOf (linkRested (suc n) (p .link)) x) (allHeard (p .monitors)) (allHeard (replicate 8 quietMonitor)) out out (p .at) (p .at) fits behind lines;
+        link-is = behind;
+        lines-are = lines;
       }
 
 pub rests-on : (script : List ℕ) (stop ticks : ℕ) (p : Playing) (x : Rows) (out : List ℕ) (b : Bool) (r : Playing) → Stands script p → ticks ≡ freeTicks script (p .next) (p .tick) stop → 0 < ticks
@@ -204,14 +205,14 @@ module _ (script : List ℕ) (stop : ℕ) (p : Playing) (x : Rows) (k : Stands s
     ticks-on monitors at out out-after s lines =
         let before : p .tick + 1 + (t .count - 1) ≡ p .tick + t .count = omega (arith, some) in
         record {
-          later = omega (arith, some);
+          ticks = t .count;
+          some = some;
           within = count-fits;
-          same-length = put-length _ _ _ _ _ (lines .text);
+          tick-is = refl;
           stands = record {
             reads = subst (Reads script (w .next)) before (free .reads-on (t .count - 1) (omega (arith, count-is, first .most, at-most-most (n + 1))));
             there = is .slots ∙ k .there;
           };
-          left = left-on entries (t .count) (p .tick) stop link (linkOf (t .link) x-after) (allHeard (p .monitors)) (allHeard monitors) out out-after (p .at) at count-fits
-              (is .link-is ∙ ap (linkBehind link) ran-is)
-              (subst (λ (ts : List (List Sent)). TickLinesAre (ticksLines (p .tick) (allHeard (p .monitors)) ts) out (p .at) (allHeard monitors) at out-after) (rows-are s) lines);
+          link-is = is .link-is ∙ ap (linkBehind link) ran-is;
+          lines-are = subst (λ (ts : List (List Sent)). TickLinesAre (ticksLines (p .tick) (allHeard (p .monitors)) ts) out (p .at) (allHeard monitors) at out-after) (rows-are s) lines;
         }
