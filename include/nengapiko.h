@@ -169,6 +169,9 @@ uint32_t nengapiko_read(const uint8_t *NENGAPIKO_RESTRICT bytes, size_t size,
  * buffer holds before the start does not matter. Every content of the words and of the buffers is
  * some state, so every call takes them, whatever they hold. They are to be kept as a call has left
  * them, and the words have no meaning but this.
+ *
+ * README.md, "From C", has the driver by which a party behind the modem chip of document 02, item 5,
+ * hears and sends: which registers it reads and writes in each tick, and in which order.
  */
 
 /* What was heard in a tick. Any other number is heard as silence. */
