@@ -1,5 +1,6 @@
--- Document 02, item 5: the modem chip, its registers, and a driver.
+-- Document 02, item 5: the modem chip, its registers, a driver, and what is claimed of the tick count.
 pub mod Parity
 pub mod Chip
 pub mod Accesses
 pub mod Driver
+pub mod Run
