@@ -1,5 +1,5 @@
 -- How the code stands for what is to be believed.
--- A device as 40 words of 64 bits, one for each field, in four parts: what it was started with, its reader, its answer and its burst mode. The words of a program in C are some device, whatever they hold; proofs/Kept.antt says that `unpacked (packed d)` is d.
+-- A device as 40 words of 64 bits, one for each field, in four parts: what it was started with, its reader, its answer and its burst mode. The words of a program in C are some device, whatever they hold; proofs/Kept.antt says that `unpacked (packed d)` is d, for every device whose numbers are within their types (`DeviceFits` in specs/Fits.antt). That is every device that the code holds: its fields have these types.
 use Prim.Native.Nat.{ℕ, _+_, _*_, _/_, _%_, _^_}
 use mathlib.Core.List.{List, [], _∷_, _++_}
 use Rattle.base.specs.Choice.{if_then_else_, _=?_}

@@ -262,7 +262,7 @@ pub fn pack(words: &mut [u64; 40], d: Device)
     words::put(words, 34, &bursting);
 }
 
-// The next five do nothing: what the code holds are values of their types.
+// The next five do nothing. The contract of each says that the numbers of a value are within their types, which the prover knows of a parameter; `device-kept` needs it.
 fn u16_fits(n: u16)
     ensures { λ _. ⌜ n < 2 ^ 16 ⌝ }
 {}
@@ -289,7 +289,7 @@ fn numbers_fit(preamble: u8, polling: u8, length: u16, due: u32)
     ensures { λ _. ⌜ NumbersFit preamble polling length due ⌝ }
 {}
 
-fn device_fits(d: Device)
+pub fn device_fits(d: Device)
     ensures { λ _. ⌜ DeviceFits d ⌝ }
 {
     let profile = d.profile;

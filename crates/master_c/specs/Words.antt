@@ -1,5 +1,5 @@
 -- How the code stands for what is to be believed.
--- A master as 39 words of 64 bits, one for each field, in the order of `packed`. The words of a program in C are some master, whatever they hold; proofs/Kept.antt says that `unpacked (packed m)` is m.
+-- A master as 39 words of 64 bits, one for each field, in the order of `packed`. The words of a program in C are some master, whatever they hold; proofs/Kept.antt says that `unpacked (packed m)` is m, for every master whose numbers are within their types (`MasterFits`). That is every master that the code holds: its fields have these types.
 use Prim.Native.Nat.{ℕ, _+_, _*_, _/_, _%_, _^_, _<_}
 use mathlib.Core.List.{List, [], _∷_, _++_}
 use Rattle.base.specs.Choice.{if_then_else_, _=?_}
@@ -80,7 +80,7 @@ unpacked words = record {
   message = messageAt words 30;
 }
 
--- ---- values of their types, as the code's masters hold them
+-- ---- masters whose numbers are within the types of the code's fields
 
 abbrev pub StageFits : Stage → Type 0
 StageFits Free = Unit {0}

@@ -162,7 +162,7 @@ pub fn pack(words: &mut [u64; 39], m: Master)
     words::put(words, 28, &end);
 }
 
-// The next four do nothing: what the code holds are values of their types.
+// The next five do nothing. The contract of each says that the numbers of a value are within their types, which the prover knows of a parameter; `master-kept` needs it.
 fn u16_fits(n: u16)
     ensures { λ _. ⌜ n < 2 ^ 16 ⌝ }
 {}
@@ -191,7 +191,7 @@ fn message_fits(g: Message)
     stage_fits(stage);
 }
 
-fn master_fits(m: Master)
+pub fn master_fits(m: Master)
     ensures { λ _. ⌜ MasterFits m ⌝ }
 {
     let profile = m.profile;

@@ -1,5 +1,5 @@
 -- How the code stands for what is to be believed.
--- The start of a master or a device: the profile that it is given, and what it leaves behind, of a party that is `started` or of none, with the refusal's number.
+-- The starts. Of a master or a device: the profile that it is given, and what it leaves behind, of a party that is `started` or of none, with the refusal's number.
 use Prim.Native.Nat.{ℕ}
 use mathlib.Core.Bool.{Bool}
 use mathlib.Core.List.{List}
@@ -7,13 +7,23 @@ use mathlib.Core.Path.{_≡_}
 use Rattle.base.specs.Lent.{Lent, before, after}
 use Rattle.base.specs.Refusal.{Called, accepted, refused}
 use Rattle.line.specs.Profile.{profileMade}
+use Rattle.line.specs.Reader.{passing}
 use Rattle.line.specs.declared.Profile.{Profile}
 use Rattle.turns.specs.Device.{deviceStarts}
 use Rattle.turns.specs.Master.{masterStarts}
 use Rattle.turns.specs.declared.Device.{Device}
 use Rattle.turns.specs.declared.Master.{Master}
+use Rattle.words.specs.Reader.{receiverWords, receiverAt}
 use Rattle.master_c.specs.Words as MasterWords
 use Rattle.device_c.specs.Words as DeviceWords
+
+-- ---- the tick reader: its words, which are unpacked to the reader that it starts as
+
+pub record ReaderStarts (words : Lent (List ℕ)) : Type 0 where
+  pub words-are : after words ≡ receiverWords passing
+  pub unpacked-is : receiverAt (after words) 0 ≡ passing
+
+-- ---- a master or a device
 
 -- the profile, number by number
 abbrev pub profile : ℕ → ℕ → ℕ → ℕ → ℕ → Profile
@@ -29,9 +39,15 @@ abbrev pub startWords : {A : Type 0} → (A → List ℕ) → Called A → List 
 startWords packed (accepted fresh) before = packed fresh
 startWords packed (refused why) before = before
 
-pub record StartIs {A : Type 0} (packed : A → List ℕ) (started : Called A) (before after : List ℕ) (r : ℕ) : Type 0 where
+-- the words of a fresh party are unpacked to it, so that its first tick begins with it
+abbrev pub UnpackedIs : {A : Type 0} → (List ℕ → A) → Called A → List ℕ → Type 0
+UnpackedIs unpacked (accepted fresh) after = unpacked after ≡ fresh
+UnpackedIs unpacked (refused why) after = Unit {0}
+
+pub record StartIs {A : Type 0} (packed : A → List ℕ) (unpacked : List ℕ → A) (started : Called A) (before after : List ℕ) (r : ℕ) : Type 0 where
   pub returned : r ≡ startNumber started
   pub words-are : after ≡ startWords packed started before
+  pub unpacked-is : UnpackedIs unpacked started after
 
 -- ---- a master: 1 for the profile, then 2
 
@@ -40,7 +56,7 @@ masterBy (accepted p) primary retries = masterStarts p primary retries
 masterBy (refused why) primary retries = refused why
 
 abbrev pub MasterLeft : Called Master → Lent (List ℕ) → ℕ → Type 0
-MasterLeft started words r = StartIs MasterWords.packed started (before words) (after words) r
+MasterLeft started words r = StartIs MasterWords.packed MasterWords.unpacked started (before words) (after words) r
 
 abbrev pub MasterStarts : Profile → Bool → ℕ → Lent (List ℕ) → ℕ → Type 0
 MasterStarts p primary retries words r = MasterLeft (masterBy (profileMade p) primary retries) words r
@@ -52,7 +68,7 @@ deviceBy (accepted p) preamble polling unique = deviceStarts p preamble polling 
 deviceBy (refused why) preamble polling unique = refused why
 
 abbrev pub DeviceLeft : Called Device → Lent (List ℕ) → ℕ → Type 0
-DeviceLeft started words r = StartIs DeviceWords.packed started (before words) (after words) r
+DeviceLeft started words r = StartIs DeviceWords.packed DeviceWords.unpacked started (before words) (after words) r
 
 abbrev pub DeviceStarts : Profile → ℕ → ℕ → ℕ → Lent (List ℕ) → ℕ → Type 0
 DeviceStarts p preamble polling unique words r = DeviceLeft (deviceBy (profileMade p) preamble polling unique) words r

@@ -4,20 +4,18 @@ use line::MadeProfile;
 use line::Profile;
 use master::MasterStarted;
 ghost use mathlib.Core.Path.{_≡_};
-ghost use Rattle.base.specs.Lent.{after};
 ghost use Rattle.line.specs.Profile.{profileMade, madeAs};
-ghost use Rattle.line.specs.Reader.{passing};
 ghost use Rattle.master.specs.Answers.{started};
 ghost use Rattle.device.specs.Calls.{startedAs};
-ghost use Rattle.words.specs.Reader.{receiverWords};
-ghost use Rattle.start_c.specs.Start.{profile, MasterLeft, MasterStarts, DeviceLeft, DeviceStarts};
+ghost use Rattle.start_c.specs.Start.{ReaderStarts, profile, MasterLeft, MasterStarts, DeviceLeft, DeviceStarts};
 
 // A reader at its start.
 #[no_mangle]
 pub extern "C" fn nengapiko_reader_start(state: &mut [u64; 16])
-    ensures { λ _. ⌜ after state ≡ receiverWords passing ⌝ }
+    ensures { λ _. ⌜ ReaderStarts state ⌝ }
 {
     let r = tick_reader::passing_reader();
+    words::receiver_fits(r);
     *state = words::receiver_words(r);
 }
 
@@ -40,6 +38,7 @@ fn master_started(result: MasterStarted, words: &mut [u64; 39]) -> u32
 {
     match result {
         MasterStarted::Started(m) => {
+            master_c::master_fits(m);
             master_c::pack(words, m);
             0
         }
@@ -73,6 +72,7 @@ fn device_started(result: DeviceStarted, words: &mut [u64; 40]) -> u32
 {
     match result {
         DeviceStarted::Started(d) => {
+            device_c::device_fits(d);
             device_c::pack(words, d);
             0
         }

@@ -212,7 +212,7 @@ pub fn receiver_at(words: &[u64], place: u8) -> Receiver
     }
 }
 
-// The next five do nothing: what the code holds are values of their types.
+// The next five do nothing. The contract of each says that the numbers of a value are within their types, which the prover knows of a parameter; the laws of proofs/Kept.antt need it.
 fn byte_fits(n: u8)
     ensures { λ _. ⌜ n < 2 ^ 8 ⌝ }
 {}

@@ -9,4 +9,5 @@ nengapiko-reader-start-spec =
     (tie.spec
     (λ c κs. search needs)
     (λ c κs. search needs)
+    (λ c κs. search needs)
     (λ c. search (needs, reader-fresh)))
