@@ -130,7 +130,7 @@ enum nengapiko_field {
  *   burst         the burst flag
  *   address       0 to 63 for a polling address, 0 to 2^38 - 1 for a unique one; unique 0 is broadcast
  *   command       any
- *   data, count   the data bytes: 0 to 255, at least 2 for ACK and BACK
+ *   bytes, count  the data bytes: 0 to 255, at least 2 for ACK and BACK
  *   buffer, size  where the frame goes, and the buffer's whole size
  *   place         where in the buffer the frame begins
  *   end           set to the place behind the frame's check byte; left as it was by a refusal
@@ -139,7 +139,7 @@ enum nengapiko_field {
  */
 uint32_t nengapiko_write(size_t preamble, uint8_t type, bool long_address, bool primary, bool burst,
                          uint64_t address, uint8_t command,
-                         const uint8_t *NENGAPIKO_RESTRICT data, size_t count,
+                         const uint8_t *NENGAPIKO_RESTRICT bytes, size_t count,
                          uint8_t *NENGAPIKO_RESTRICT buffer, size_t size, size_t place,
                          size_t *NENGAPIKO_RESTRICT end) NENGAPIKO_NONNULL;
 
@@ -195,7 +195,7 @@ enum nengapiko_event {
 /*
  * What a tick tells: the numbers that each of the three tick functions sets, all of them in every
  * call. The frame that the reader found stands in them where the event is NENGAPIKO_EVENT_WHOLE or
- * NENGAPIKO_EVENT_DAMAGED, and its data at the front of the data buffer; else its numbers are 0. An
+ * NENGAPIKO_EVENT_DAMAGED, and its data at the front of the buffer bytes; else its numbers are 0. An
  * answer to a master, and a request or a broadcast to a device, is the frame of that same tick.
  */
 enum nengapiko_result {
@@ -220,26 +220,26 @@ enum nengapiko_result {
 
 /* What a master tells its host of its message. */
 enum nengapiko_master_told {
-    NENGAPIKO_MASTER_NOTHING = 0,
-    NENGAPIKO_MASTER_ANSWERED = 1,      /* by the frame of this tick */
-    NENGAPIKO_MASTER_GIVEN_UP = 2,      /* after the attempts of this tick */
-    NENGAPIKO_MASTER_BROADCAST_SENT = 3
+    NENGAPIKO_MASTER_TOLD_NOTHING = 0,
+    NENGAPIKO_MASTER_TOLD_ANSWERED = 1,      /* by the frame of this tick */
+    NENGAPIKO_MASTER_TOLD_GIVEN_UP = 2,      /* after the attempts of this tick */
+    NENGAPIKO_MASTER_TOLD_BROADCAST_SENT = 3
 };
 
 /* What a device tells its host. */
 enum nengapiko_device_told {
-    NENGAPIKO_DEVICE_NOTHING = 0,
-    NENGAPIKO_DEVICE_REQUEST = 1,  /* the frame of this tick, which the host may answer */
-    NENGAPIKO_DEVICE_BROADCAST = 2 /* the frame of this tick, which is never answered */
+    NENGAPIKO_DEVICE_TOLD_NOTHING = 0,
+    NENGAPIKO_DEVICE_TOLD_REQUEST = 1,  /* the frame of this tick, which the host may answer */
+    NENGAPIKO_DEVICE_TOLD_BROADCAST = 2 /* the frame of this tick, which is never answered */
 };
 
 /* What a device's host gives in a tick; any other number is nothing. */
 enum nengapiko_device_call {
-    NENGAPIKO_CALL_NOTHING = 0,
-    NENGAPIKO_CALL_ANSWER = 1,           /* the answer to the request in hand */
-    NENGAPIKO_CALL_ANSWER_BURST_ON = 2,  /* the answer, with the wish that burst is on from its ACK on */
-    NENGAPIKO_CALL_ANSWER_BURST_OFF = 3, /* the answer, with the wish that it is off */
-    NENGAPIKO_CALL_BURST_CONTENT = 4     /* command and data of the BACKs from the next on */
+    NENGAPIKO_DEVICE_CALL_NOTHING = 0,
+    NENGAPIKO_DEVICE_CALL_ANSWER = 1,           /* the answer to the request in hand */
+    NENGAPIKO_DEVICE_CALL_ANSWER_BURST_ON = 2,  /* the answer, with the wish that burst is on from its ACK on */
+    NENGAPIKO_DEVICE_CALL_ANSWER_BURST_OFF = 3, /* the answer, with the wish that it is off */
+    NENGAPIKO_DEVICE_CALL_BURST_CONTENT = 4     /* command and data of the BACKs from the next on */
 };
 
 /* Starts a tick reader: it passes over characters until the first silent tick. */
@@ -251,12 +251,12 @@ void nengapiko_reader_start(uint64_t *state) NENGAPIKO_NONNULL;
  * the frame, and the next character may start another.
  *
  *   state      NENGAPIKO_SIZE_READER words
- *   data       NENGAPIKO_SIZE_DATA bytes
+ *   bytes      NENGAPIKO_SIZE_DATA bytes for the data of the frame that is being heard
  *   heard      an enum nengapiko_heard
  *   character  the character, where one was heard
  *   results    NENGAPIKO_SIZE_RESULTS words
  */
-void nengapiko_reader_tick(uint64_t *NENGAPIKO_RESTRICT state, uint8_t *NENGAPIKO_RESTRICT data,
+void nengapiko_reader_tick(uint64_t *NENGAPIKO_RESTRICT state, uint8_t *NENGAPIKO_RESTRICT bytes,
                            uint8_t heard, uint8_t character,
                            uint64_t *NENGAPIKO_RESTRICT results) NENGAPIKO_NONNULL;
 
@@ -279,23 +279,24 @@ uint32_t nengapiko_master_start(uint16_t sto, uint16_t hold, uint16_t rt2, uint1
  * A tick of a master: it takes what the line carried in the tick before, then its host's request,
  * then sends a character or none. What is heard in a tick in which it sent is not looked at.
  *
- *   state, frame, data  NENGAPIKO_SIZE_MASTER words, NENGAPIKO_SIZE_FRAME bytes for the frame that is
- *                       being sent, NENGAPIKO_SIZE_DATA bytes for the data that are being heard
- *   heard, character    as for nengapiko_reader_tick
- *   requests            whether the host requests in this tick; the next seven are of the request,
- *                       and are not looked at where there is none
- *   preamble            how many 0xFF go in front, 5 to 20
- *   revision            the device's HART revision, 3 to 7
- *   long_address, address, command, bytes, count   as for nengapiko_write
- *   results             NENGAPIKO_SIZE_RESULTS words
+ *   state, frame      NENGAPIKO_SIZE_MASTER words, and NENGAPIKO_SIZE_FRAME bytes for the frame that
+ *                     is being sent
+ *   bytes             as for nengapiko_reader_tick; so are heard and character
+ *   requests          whether the host requests in this tick; the next seven are of the request, and
+ *                     are not looked at where there is none
+ *   preamble          how many 0xFF go in front, 5 to 20
+ *   revision          the device's HART revision, 3 to 7
+ *   long_address, address, command   as for nengapiko_write
+ *   put, count        the data bytes that are put into its frame, 0 to 255
+ *   results           NENGAPIKO_SIZE_RESULTS words
  *
  * Returns 0, or the request's refusal, the first that applies of 3, 17, 4, 5, 6 and 7.
  */
 uint32_t nengapiko_master_tick(uint64_t *NENGAPIKO_RESTRICT state,
-                               uint8_t *NENGAPIKO_RESTRICT frame, uint8_t *NENGAPIKO_RESTRICT data,
+                               uint8_t *NENGAPIKO_RESTRICT frame, uint8_t *NENGAPIKO_RESTRICT bytes,
                                uint8_t heard, uint8_t character, bool requests, size_t preamble,
                                uint8_t revision, bool long_address, uint64_t address,
-                               uint8_t command, const uint8_t *NENGAPIKO_RESTRICT bytes,
+                               uint8_t command, const uint8_t *NENGAPIKO_RESTRICT put,
                                size_t count,
                                uint64_t *NENGAPIKO_RESTRICT results) NENGAPIKO_NONNULL;
 
@@ -319,21 +320,21 @@ uint32_t nengapiko_device_start(uint16_t sto, uint16_t hold, uint16_t rt2, uint1
  * burst content, then sends a character or none. What is heard in a tick in which it sent is not
  * looked at.
  *
- *   state, frame, data  NENGAPIKO_SIZE_DEVICE words; frame and data as for nengapiko_master_tick
- *   content             NENGAPIKO_SIZE_DATA bytes: the data of its burst content
- *   heard, character    as for nengapiko_reader_tick
- *   call                an enum nengapiko_device_call
- *   command             of a burst content; else it is not looked at
- *   bytes, count        the data of an answer or of a burst content, 2 to 255
- *   results             NENGAPIKO_SIZE_RESULTS words
+ *   state, frame      NENGAPIKO_SIZE_DEVICE words, and frame as for nengapiko_master_tick
+ *   bytes             as for nengapiko_reader_tick; so are heard and character
+ *   contents          NENGAPIKO_SIZE_DATA bytes: the data of its burst content
+ *   call              an enum nengapiko_device_call
+ *   command           of a burst content; else it is not looked at
+ *   put, count        the data bytes of an answer or of a burst content, 2 to 255
+ *   results           NENGAPIKO_SIZE_RESULTS words
  *
  * Returns 0, or the call's refusal: 8, 9 or 10 for an answer, 5 or 9 for a burst content.
  */
 uint32_t nengapiko_device_tick(uint64_t *NENGAPIKO_RESTRICT state,
-                               uint8_t *NENGAPIKO_RESTRICT frame, uint8_t *NENGAPIKO_RESTRICT data,
-                               uint8_t *NENGAPIKO_RESTRICT content, uint8_t heard,
+                               uint8_t *NENGAPIKO_RESTRICT frame, uint8_t *NENGAPIKO_RESTRICT bytes,
+                               uint8_t *NENGAPIKO_RESTRICT contents, uint8_t heard,
                                uint8_t character, uint8_t call, uint8_t command,
-                               const uint8_t *NENGAPIKO_RESTRICT bytes, size_t count,
+                               const uint8_t *NENGAPIKO_RESTRICT put, size_t count,
                                uint64_t *NENGAPIKO_RESTRICT results) NENGAPIKO_NONNULL;
 
 #ifdef __cplusplus

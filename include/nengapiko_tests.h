@@ -23,8 +23,9 @@ uint8_t nengapiko_check_bytes(uint8_t x, const uint8_t *bytes, size_t size, size
 /*
  * What a master answers to a request: 0, or the number of its refusal.
  *
- *   preamble .. count  as for nengapiko_master_tick
- *   message_in_hand    whether the master has a message already
+ *   preamble .. command  as for nengapiko_master_tick
+ *   bytes, count         its data bytes, 0 to 255
+ *   message_in_hand      whether the master has a message already
  */
 uint32_t nengapiko_request(size_t preamble, uint8_t revision, bool long_address, uint64_t address,
                            uint8_t command, const uint8_t *bytes, size_t count,
@@ -45,16 +46,16 @@ size_t nengapiko_ticks(const uint8_t *NENGAPIKO_RESTRICT recording, size_t size,
                        uint8_t *NENGAPIKO_RESTRICT events, size_t room) NENGAPIKO_NONNULL;
 
 /* What a master does in a tick: it sends, whatever it tells, or tells what enum nengapiko_master_told says. */
-enum nengapiko_step {
-    NENGAPIKO_STEP_NOTHING = 0,
-    NENGAPIKO_STEP_ANSWERED = 1,
-    NENGAPIKO_STEP_GIVEN_UP = 2,
-    NENGAPIKO_STEP_BROADCAST_SENT = 3,
-    NENGAPIKO_STEP_SENDS = 4
+enum nengapiko_master_step {
+    NENGAPIKO_MASTER_STEP_NOTHING = 0,
+    NENGAPIKO_MASTER_STEP_ANSWERED = 1,
+    NENGAPIKO_MASTER_STEP_GIVEN_UP = 2,
+    NENGAPIKO_MASTER_STEP_BROADCAST_SENT = 3,
+    NENGAPIKO_MASTER_STEP_SENDS = 4
 };
 
 /*
- * A primary of the FSK profile with 3 retries, with an enum nengapiko_step for each tick. The calls
+ * A primary of the FSK profile with 3 retries, with an enum nengapiko_master_step for each tick. The calls
  * are 1 command 3 of unique address 2, and 2 command 11 by broadcast with a tag of six zero bytes; any
  * other is none.
  */
@@ -118,9 +119,9 @@ size_t nengapiko_play(const uint8_t *NENGAPIKO_RESTRICT script, size_t size,
  *
  *   sto .. rt1_secondary  the profile's five numbers
  *   retries               R
- *   preambles, polling_addresses, unique_addresses
- *                         six numbers each, one for each slot; a preamble of 0 is a slot without a
- *                         device
+ *   preambles, pollings, uniques
+ *                         six numbers each, one for each slot: its device's preamble, polling and
+ *                         unique address; a preamble of 0 is a slot without a device
  *   ticks, size           the list, encoded as crates/tick_list/specs/Ticks.antt says
  *   events, room          for each tick how many send, plus 16 for a request of the primary that was
  *                         taken and 32 for one of the secondary, plus 64 if the primary sends and 128
@@ -130,7 +131,7 @@ size_t nengapiko_play(const uint8_t *NENGAPIKO_RESTRICT script, size_t size,
  */
 size_t nengapiko_run(uint16_t sto, uint16_t hold, uint16_t rt2, uint16_t rt1_primary,
                      uint16_t rt1_secondary, uint8_t retries, const uint8_t *preambles,
-                     const uint8_t *polling_addresses, const uint64_t *unique_addresses,
+                     const uint8_t *pollings, const uint64_t *uniques,
                      uint64_t primary_start, uint64_t secondary_start,
                      const uint8_t *NENGAPIKO_RESTRICT ticks, size_t size,
                      uint8_t *NENGAPIKO_RESTRICT events, size_t room) NENGAPIKO_NONNULL;

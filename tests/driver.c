@@ -176,7 +176,7 @@ static bool goes_out(uint64_t what)
 static void count(const uint64_t r[NENGAPIKO_SIZE_RESULTS])
 {
     sent += r[NENGAPIKO_RESULT_SENT] != 0;
-    answers += r[NENGAPIKO_RESULT_TOLD] == NENGAPIKO_MASTER_ANSWERED;
+    answers += r[NENGAPIKO_RESULT_TOLD] == NENGAPIKO_MASTER_TOLD_ANSWERED;
     refusals += without.refusal != NENGAPIKO_REFUSAL_NONE;
     for (size_t i = 0; i < 3; i++)
         damaged[i] += r[NENGAPIKO_RESULT_PARITY + i] != 0;

@@ -184,13 +184,13 @@ static void answered(struct master *m, const uint64_t r[NENGAPIKO_SIZE_RESULTS])
 static void told(struct master *m, unsigned tick, const uint64_t r[NENGAPIKO_SIZE_RESULTS])
 {
     const uint64_t what = r[NENGAPIKO_RESULT_TOLD];
-    if (what == NENGAPIKO_MASTER_NOTHING)
+    if (what == NENGAPIKO_MASTER_TOLD_NOTHING)
         return;
     m->in_hand = false;
     log_head(tick, m->name);
-    if (what == NENGAPIKO_MASTER_ANSWERED)
+    if (what == NENGAPIKO_MASTER_TOLD_ANSWERED)
         answered(m, r);
-    else if (what == NENGAPIKO_MASTER_GIVEN_UP)
+    else if (what == NENGAPIKO_MASTER_TOLD_GIVEN_UP)
         printf("given up after %" PRIu64 " attempts\n", r[NENGAPIKO_RESULT_ATTEMPTS]);
     else
         printf("broadcast sent\n");
@@ -294,7 +294,7 @@ static void put_travel(struct call *c, const struct transmitter *t, unsigned tic
 /* The answer to the request in hand. */
 static struct call answer(const struct transmitter *t, unsigned tick)
 {
-    struct call c = {.kind = NENGAPIKO_CALL_ANSWER, .count = STATUS_BYTES};
+    struct call c = {.kind = NENGAPIKO_DEVICE_CALL_ANSWER, .count = STATUS_BYTES};
     if (t->command == IDENTITY) {
         for (size_t i = 0; i < ADDRESS_BYTES; i++)
             c.data[STATUS_BYTES + i] = (uint8_t)(t->unique_address >> 8 * (ADDRESS_BYTES - 1 - i));
@@ -302,7 +302,8 @@ static struct call answer(const struct transmitter *t, unsigned tick)
     } else if (t->command == READING) {
         put_travel(&c, t, tick);
     } else if (t->command == BURST_CONTROL) {
-        c.kind = t->burst_on ? NENGAPIKO_CALL_ANSWER_BURST_ON : NENGAPIKO_CALL_ANSWER_BURST_OFF;
+        c.kind = t->burst_on ? NENGAPIKO_DEVICE_CALL_ANSWER_BURST_ON
+                             : NENGAPIKO_DEVICE_CALL_ANSWER_BURST_OFF;
     }
     return c;
 }
@@ -310,13 +311,13 @@ static struct call answer(const struct transmitter *t, unsigned tick)
 /* Its answer when that is due; else its reading as burst content, every hundred ticks. */
 static struct call host_call(struct transmitter *t, unsigned tick)
 {
-    struct call c = {.kind = NENGAPIKO_CALL_NOTHING, .command = READING};
+    struct call c = {.kind = NENGAPIKO_DEVICE_CALL_NOTHING, .command = READING};
     if (t->answers_at != 0 && tick == t->answers_at) {
         t->answers_at = 0;
         return answer(t, tick);
     }
     if (tick % 100 == 0) {
-        c.kind = NENGAPIKO_CALL_BURST_CONTENT;
+        c.kind = NENGAPIKO_DEVICE_CALL_BURST_CONTENT;
         put_travel(&c, t, tick);
     }
     return c;
@@ -351,7 +352,7 @@ static uint64_t transmitter_tick(struct transmitter *t, unsigned tick)
     const uint32_t refusal =
         nengapiko_device_tick(t->state, t->frame, t->data, t->content, h.kind, h.character, c.kind,
                               c.command, c.data, c.count, results);
-    if (results[NENGAPIKO_RESULT_TOLD] == NENGAPIKO_DEVICE_REQUEST)
+    if (results[NENGAPIKO_RESULT_TOLD] == NENGAPIKO_DEVICE_TOLD_REQUEST)
         asked(t, tick, results);
     if (refusal != NENGAPIKO_REFUSAL_NONE) {
         snprintf(name, sizeof name, "transmitter %u", t->polling_address % 10u);
