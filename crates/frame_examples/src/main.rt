@@ -1,5 +1,7 @@
 // Runs the worked bytes of document 01 and the standard's frame types through the frame writer and reader, and prints what they answer.
 use base::Refusal;
+use example_texts::print_line;
+use example_texts::put_header;
 use frame::ACK;
 use frame::BACK;
 use frame::Delimiter;
@@ -8,29 +10,14 @@ use frame::Header;
 use frame::Read;
 use frame::STX;
 use frame::Written;
-use libc::STDOUT_FILENO;
 use texts::bit;
 use texts::put_all_spaced;
 use texts::put_bytes;
 use texts::put_field;
 use texts::put_spaced;
 
-// Prints the line that ends at a place.
-fn print_line(out: &mut [u8], at: usize) {
-    let end = put_bytes(b"\n", out, at);
-    io::write_all(STDOUT_FILENO, texts::front(out, end));
-}
-
 fn put_refused(why: Refusal, out: &mut [u8], at: usize) -> usize {
     put_field(b": refused ", why.number() as u64, out, at)
-}
-
-fn put_header(h: Header, out: &mut [u8], at: usize) -> usize {
-    let mut place = put_field(b" type ", h.frame as u64, out, at);
-    place = put_field(b" long ", bit(h.long), out, place);
-    place = put_field(b" primary ", bit(h.primary), out, place);
-    place = put_field(b" burst ", bit(h.burst), out, place);
-    put_field(b" address ", h.address, out, place)
 }
 
 // The numbers behind the header.

@@ -1,6 +1,6 @@
 // Feeds recorded ticks to the tick reader, and prints each tick in which it tells something.
-use frame::Header;
-use libc::STDOUT_FILENO;
+use example_texts::print_line;
+use example_texts::put_header;
 use line::Event;
 use line::FrameDamage;
 use line::Whole;
@@ -8,20 +8,6 @@ use texts::bit;
 use texts::put_all_spaced;
 use texts::put_bytes;
 use texts::put_field;
-
-// Prints the line that ends at a place.
-fn print_line(out: &mut [u8], at: usize) {
-    let end = put_bytes(b"\n", out, at);
-    io::write_all(STDOUT_FILENO, texts::front(out, end));
-}
-
-fn put_header(h: Header, out: &mut [u8], at: usize) -> usize {
-    let mut place = put_field(b" type ", h.frame as u64, out, at);
-    place = put_field(b" long ", bit(h.long), out, place);
-    place = put_field(b" primary ", bit(h.primary), out, place);
-    place = put_field(b" burst ", bit(h.burst), out, place);
-    put_field(b" address ", h.address, out, place)
-}
 
 fn put_fields(w: Whole, out: &mut [u8], at: usize) -> usize {
     let h = w.header;
@@ -101,8 +87,7 @@ fn run(recording: &[u8], bytes: &mut [u8; 255]) {
 // A recording has two bytes for each tick. The first is \x00 for silence, a space for a character, and for a damaged one P for parity, o for overrun, \x80 for framing.
 fn show_run(name: &[u8], recording: &[u8]) {
     let mut bytes = [0u8; 255];
-    io::write_all(STDOUT_FILENO, name);
-    io::write_all(STDOUT_FILENO, b"\n");
+    print_line(name, name.len());
     run(recording, &mut bytes);
 }
 

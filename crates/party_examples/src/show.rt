@@ -1,6 +1,6 @@
 // Lines of text for what a master and a device do: what one sent, and what a party heard, found, told its host or refused in a tick.
 use device_tick::DeviceTicked;
-use libc::STDOUT_FILENO;
+use example_texts::print_line;
 use line::Damage;
 use line::Event;
 use line::Heard;
@@ -21,12 +21,6 @@ ghost use Rattle.party_examples.specs.Lines.{eventShows, tellsHost, refu
 pub struct Reception {
     pub heard: Heard,
     pub changed: bool,
-}
-
-// Prints the line that ends at a place.
-fn print_line(out: &mut [u8], at: usize) {
-    let end = put_bytes(b"\n", out, at);
-    io::write_all(STDOUT_FILENO, texts::front(out, end));
 }
 
 // The characters of a row of the log, from a tick to another.
