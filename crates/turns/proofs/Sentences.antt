@@ -21,7 +21,7 @@ use Rattle.line.specs.declared.Profile.{Profile}
 use Rattle.line.specs.declared.Receiver.{Receiver}
 use Rattle.line.specs.declared.Whole.{Whole}
 use Rattle.turns.specs.Party.{isBroadcast, seeksTag, Request, CallResult, was-refused}
-use Rattle.turns.specs.Master.{sameBit, toItself, isAnswer, masterStarts, freshMaster, quietTime, requested, requestedUpTo, pollingUpTo, requestHeader, hasMessage, commandRefused, masterTakes, namesDevice, addressOf, isNoted, burstAfter, notedAfter, timerAfter, fails, ends, atBreak, answersMessage, atFrame, countClear, countBurst}
+use Rattle.turns.specs.Master.{sameBit, toItself, isAnswer, masterStarts, freshMaster, quietTime, requested, requestedUpTo, pollingUpTo, requestHeader, hasMessage, commandRefused, masterTakes, namesDevice, addressOf, isNoted, burstAfter, notedAfter, timerAfter, fails, ends, atBreak, answersMessage, atFrame, opened, countClear, countBurst, timerCounted, burstCounted}
 use Rattle.turns.specs.Master as M
 use Rattle.turns.specs.Device.{freshDevice, isOwn, mayAnswer, hasError, errorStatus, errorData, errorFrame, afterRequest, afterFrame, afterDamage, waited, deviceTakes, contentGiven, backDue}
 use Rattle.turns.specs.Link.{requests, gives-content, MasterSide, DeviceSide, masterData, masterCalled, masterTick, deviceData, heardFrame, contentCalled, deviceTick}
@@ -235,3 +235,15 @@ own-unique d h long e = eqb-true (d .unique) (h .address) (sym (if-is-true (h .l
 pub fresh-parties : (p : Profile) (primary : Bool) (retries preamble polling unique : ℕ)
     → (hasMessage (freshMaster p primary retries .message .stage) ≡ false) × (freshMaster p primary retries .burst ≡ false) × (freshDevice p preamble polling unique .turn ≡ Listens) × (freshDevice p preamble polling unique .burst ≡ false)
 fresh-parties p primary retries preamble polling unique = (refl, refl, refl, refl)
+
+-- ---- "its end clears BURST": the quiet time's, which opens a window
+
+pub quiet-time-ends : (m : Master) → m .burst ≡ true → m .timer .quiet ≡ 1 → (burstCounted m ≡ false) × (timerCounted m ≡ opened (m .profile))
+quiet-time-ends m on last =
+    let now = eq-eqb (m .timer .quiet) 1 last in
+    (if-is-true (m .burst) _ _ on ∙ if-is-true (m .timer .quiet =? 1) _ _ now, if-is-true (m .burst) _ _ on ∙ if-is-true (m .timer .quiet =? 1) _ _ now)
+
+-- ---- "answered without the host": of a damaged frame nothing is told
+
+pub damage-untold : (d : Device) (w : Whole) (m : FrameDamage) → afterDamage d w m .told ≡ DeviceTold.Nothing
+damage-untold d w m = if-both (λ (c : Change). c .told ≡ DeviceTold.Nothing) (hasError d w m) _ _ refl refl
