@@ -1,4 +1,4 @@
-// A primary behind a modem chip asks command 0 of polling address 0 in tick 0; the ACK comes with a wrong ninth bit in one data byte and a framing mark on the other. Control bit 6 is set throughout. Printed are the registers behind the tick's beginning, for each tick in which the line carried something, the chip sends or the host calls. In tick 59 the host asks again, and is refused, since a damaged ACK is no answer and the message waits for its next attempt.
+// A primary behind a modem chip asks command 0 of polling address 0 in tick 0; the ACK comes with a wrong ninth bit in one data byte and a framing mark on the other. In tick 59 the host asks again, and is refused, since a damaged ACK is no answer and the message waits for its next attempt, whose ACK is the answer. Control bit 6 is set throughout. Printed are, for each tick in which the line carried something, the chip sends or the host calls: the registers behind the tick's beginning, the status behind the driver's reads and behind its writes, what goes out with its ninth bit, what is told and what the call came to.
 use libc::STDOUT_FILENO;
 use line::Profile;
 use master::MasterHostCall;
@@ -13,28 +13,45 @@ use texts::put_decimal;
 use texts::put_field;
 use texts::put_hexadecimal;
 use turns::Master;
+use turns::MasterTold;
 
 fn sound(c: u8) -> Carried {
     Carried::Nine(c, modem::ninth_bit(c), Mark::Sound)
 }
 
-// The ACK that a device sends in ticks 44 to 55, damaged in ticks 53 and 54.
-fn answer_at(tick: u8) -> Carried {
-    match tick {
-        44 => sound(0xFF),
-        45 => sound(0xFF),
-        46 => sound(0xFF),
-        47 => sound(0xFF),
-        48 => sound(0xFF),
-        49 => sound(0x06),
-        50 => sound(0x80),
-        51 => sound(0x00),
-        52 => sound(0x02),
-        53 => Carried::Nine(0x00, false, Mark::Sound),
-        54 => Carried::Nine(0x00, true, Mark::Framing),
-        55 => sound(0x84),
+// The ACK that a device sends.
+fn ack_at(place: u8) -> Carried {
+    match place {
+        0..=4 => sound(0xFF),
+        5 => sound(0x06),
+        6 => sound(0x80),
+        7 => sound(0x00),
+        8 => sound(0x02),
+        9 => sound(0x00),
+        10 => sound(0x00),
+        11 => sound(0x84),
         _ => Carried::Silence,
     }
+}
+
+// The same, with both data bytes damaged.
+fn damaged_at(place: u8) -> Carried {
+    match place {
+        9 => Carried::Nine(0x00, false, Mark::Sound),
+        10 => Carried::Nine(0x00, true, Mark::Framing),
+        _ => ack_at(place),
+    }
+}
+
+// It is sent in ticks 44 to 55, damaged, and in ticks 100 to 111.
+fn answer_at(tick: u8) -> Carried {
+    if tick < 44 {
+        return Carried::Silence;
+    }
+    if tick < 100 {
+        return damaged_at(tick - 44);
+    }
+    ack_at(tick - 100)
 }
 
 fn call_at(tick: u8) -> MasterHostCall {
@@ -77,13 +94,31 @@ fn is_shown(carried: Carried, sent: Carried, result: CallStatus) -> bool {
     true
 }
 
+fn put_bit(bit: bool, out: &mut [u8], at: usize) -> usize {
+    if bit {
+        return put_bytes(b" 1", out, at);
+    }
+    put_bytes(b" 0", out, at)
+}
+
+// What goes out, with its ninth bit.
 fn put_sent(sent: Carried, out: &mut [u8], at: usize) -> usize {
     match sent {
-        Carried::Silence => put_bytes(b"  -", out, at),
-        Carried::Nine(c, _, _) => {
-            let place = put_bytes(b"  ", out, at);
-            put_hexadecimal(true, c, out, place)
+        Carried::Silence => put_bytes(b"      -", out, at),
+        Carried::Nine(c, ninth, _) => {
+            let mut place = put_bytes(b"      ", out, at);
+            place = put_hexadecimal(true, c, out, place);
+            put_bit(ninth, out, place)
         }
+    }
+}
+
+fn put_told(told: MasterTold, out: &mut [u8], at: usize) -> usize {
+    match told {
+        MasterTold::Nothing => at,
+        MasterTold::Answered(_) => put_bytes(b" answered", out, at),
+        MasterTold::GivenUp(_) => put_bytes(b" given up", out, at),
+        MasterTold::BroadcastSent => put_bytes(b" broadcast sent", out, at),
     }
 }
 
@@ -105,9 +140,10 @@ fn put_register(spaces: &[u8], x: Chip, n: usize, out: &mut [u8], at: usize) -> 
     put_hexadecimal(true, looked.value, out, place)
 }
 
-// A tick in two digits.
+// A tick in three digits.
 fn put_tick(tick: u8, out: &mut [u8]) -> usize {
-    let place = put_decimal((tick / 10) as u64, out, 0);
+    let mut place = put_decimal((tick / 100) as u64, out, 0);
+    place = put_decimal((tick / 10 % 10) as u64, out, place);
     put_decimal((tick % 10) as u64, out, place)
 }
 
@@ -127,19 +163,51 @@ fn put_count(x: Chip, out: &mut [u8], at: usize) -> usize {
     put_register(b" ", x, 7, out, place)
 }
 
-fn print_tick(tick: u8, x: Chip, sent: Carried, result: CallStatus, out: &mut [u8]) {
+// The chip behind the driver's writes for what is sent.
+fn written(x: Chip, sent: Carried) -> Chip {
+    match sent {
+        Carried::Silence => modem::stay_silent(x),
+        Carried::Nine(c, _, _) => modem::transmit(x, c),
+    }
+}
+
+// The status behind the driver's reads, and behind its writes.
+fn put_behind(x: Chip, sent: Carried, out: &mut [u8], at: usize) -> usize {
+    let h = modem::hear(x);
+    let chip = h.chip;
+    let place = put_register(b"  ", chip, 0, out, at);
+    put_register(b"   ", written(chip, sent), 0, out, place)
+}
+
+fn print_tick(
+    tick: u8,
+    x: Chip,
+    sent: Carried,
+    told: MasterTold,
+    result: CallStatus,
+    out: &mut [u8],
+) {
     let mut place = put_tick(tick, out);
     place = put_first(x, out, place);
     place = put_count(x, out, place);
+    place = put_behind(x, sent, out, place);
     place = put_sent(sent, out, place);
+    place = put_told(told, out, place);
     place = put_answer(result, out, place);
     io::write_all(STDOUT_FILENO, texts::front(out, place));
 }
 
-fn show(tick: u8, x: Chip, carried: Carried, sent: Carried, result: CallStatus) {
+fn show(tick: u8, x: Chip, carried: Carried, sent: Carried, told: MasterTold, result: CallStatus) {
     if is_shown(carried, sent, result) {
         let mut out = io::buffer();
-        print_tick(tick, modem::arrive(x, carried), sent, result, &mut out);
+        print_tick(
+            tick,
+            modem::arrive(x, carried),
+            sent,
+            told,
+            result,
+            &mut out,
+        );
     }
 }
 
@@ -156,7 +224,7 @@ fn run(start: Master, frame: &mut [u8; 284], bytes: &mut [u8; 255]) {
     let mut m = start;
     let mut carried = Carried::Silence;
     let mut next = 0;
-    while next < 60 {
+    while next < 113 {
         let tick = next;
         next += 1;
         let call = call_at(tick);
@@ -164,8 +232,9 @@ fn run(start: Master, frame: &mut [u8; 284], bytes: &mut [u8; 255]) {
         let ticked = b.ticked;
         let ended = b.ended;
         let sent = ended.carried;
+        let told = ticked.told;
         let result = ticked.result;
-        show(tick, x, carried, sent, result);
+        show(tick, x, carried, sent, told, result);
         carried = line_at(tick, sent);
         x = ended.chip;
         m = ticked.master;
@@ -180,7 +249,7 @@ fn main() {
     };
     io::write_all(
         STDOUT_FILENO,
-        b"tick  status control data kind count        sent\n",
+        b"tick   status control data kind count        read written sent\n",
     );
     run(m, &mut frame, &mut bytes);
 }

@@ -4,10 +4,10 @@ use Rattle.modem_examples.proofs.run.Statement.{statement}
 use Rattle.modem_examples.proofs.run.Tie as tie
 
 abbrev Inv-loop : tie.InvT-loop
-Inv-loop frame₀ bytes₀ x₀ m₀ carried₀ next₀ t15 frame bytes x m carried next = next ≤ 60
+Inv-loop frame₀ bytes₀ x₀ m₀ carried₀ next₀ t15 frame bytes x m carried next = next ≤ 113
 
 abbrev μ-loop : tie.MeasureT-loop
-μ-loop frame₀ bytes₀ x₀ m₀ carried₀ next₀ t15 frame bytes x m carried next = 60 - next
+μ-loop frame₀ bytes₀ x₀ m₀ carried₀ next₀ t15 frame bytes x m carried next = 113 - next
 
 pub run-spec : {M : Type 1} → statement M
 run-spec =
