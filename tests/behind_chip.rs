@@ -1,18 +1,24 @@
 //! Runs a primary and a device behind modem chips through recordings and compares what each sends,
 //! tells and answers with what it does without a chip, as independent simulations of the item gave
-//! it. tests/data/item-05/parties.txt says in its first lines what a line means.
+//! it: by the functions that run over a recording, and by those of libnengapiko.a behind a driver,
+//! which also tell the values of what is told. tests/data/item-05/parties.txt says in its first lines
+//! what a line means.
 
 mod called;
 mod chip_archive;
+mod chip_driver;
+mod engine_archive;
+mod modem_archive;
 
+use chip_driver::{ninth, Chip};
+use engine_archive::{device_2, primary, Given, Request, Results};
 use std::process::ExitCode;
 
 /// Which number of a tick is wanted, in the lowest bits of its first byte.
-const OUT: usize = 0;
-const CHARACTER: usize = 1;
-const TOLD: usize = 2;
-const ANSWER: usize = 3;
-const WANTED: usize = 4;
+const OUT: u8 = 0;
+const CHARACTER: u8 = 1;
+const TOLD: u8 = 2;
+const WANTED: u8 = 4;
 
 const TAKEN: u8 = 255;
 /// The call that gives a device its burst content.
@@ -24,11 +30,39 @@ enum Party {
     Device,
 }
 
-/// What is heard and called in each tick, and the numbers that must come of it, by which is wanted.
+/// What is heard and called in a tick.
+struct Tick {
+    heard: (u8, u8),
+    call: u8,
+}
+
+/// What a party does in a tick: what it sends, the number and the value of what it tells (of an
+/// answer its byte count, of a message that was given up the attempts, of a request its command), and
+/// what its call came to.
+#[derive(PartialEq)]
+struct Done {
+    sent: Option<u8>,
+    told: u8,
+    value: u64,
+    answer: u8,
+}
+
+impl Done {
+    fn number(&self, which: u8) -> u8 {
+        match which {
+            OUT => self.sent.map_or(0, |c| 1 + ninth(c)),
+            CHARACTER => self.sent.unwrap_or(0),
+            TOLD => self.told,
+            _ => self.answer,
+        }
+    }
+}
+
+/// A party's ticks, and what must come of each.
 struct Run {
     party: Party,
-    recording: Vec<[u8; 2]>,
-    numbers: [Vec<u8>; WANTED],
+    ticks: Vec<Tick>,
+    done: Vec<Done>,
 }
 
 fn hexadecimal(field: &str) -> u8 {
@@ -54,14 +88,17 @@ fn call(field: &str) -> u8 {
     }
 }
 
-fn told(field: &str) -> u8 {
-    match field.split(':').next() {
-        Some("-") => 0,
-        Some("answered" | "request") => 1,
-        Some("given-up" | "broadcast") => 2,
-        Some("broadcast-sent") => 3,
+/// The number of what is told, and its value.
+fn told(field: &str) -> (u8, u64) {
+    let (name, value) = field.split_once(':').unwrap_or((field, "0"));
+    let number = match name {
+        "-" => 0,
+        "answered" | "request" => 1,
+        "given-up" | "broadcast" => 2,
+        "broadcast-sent" => 3,
         _ => panic!("no tell: {field}"),
-    }
+    };
+    (number, value.parse().expect("a value"))
 }
 
 fn answer(field: &str) -> u8 {
@@ -72,12 +109,88 @@ fn answer(field: &str) -> u8 {
     }
 }
 
+/// What a call came to, by what its function returned.
+fn answered(call: u8, refusal: u32) -> u8 {
+    match refusal {
+        0 if call == 0 => 0,
+        0 => TAKEN,
+        _ => refusal as u8,
+    }
+}
+
+fn request(call: u8) -> Option<Request<'static>> {
+    let (long_address, address, command) = match call {
+        1 => (true, 2, 3),
+        2 => (false, 0, 0),
+        3 => (true, 0, 3),
+        _ => return None,
+    };
+    Some(Request {
+        preamble: 5,
+        long_address,
+        address,
+        command,
+        data: &[],
+    })
+}
+
+/// The number and the value of what a master tells.
+fn told_by_master(results: &Results) -> (u8, u64) {
+    match results.told() {
+        1 => (1, results.count()),
+        2 => (2, results.attempts()),
+        other => (other, 0),
+    }
+}
+
+fn told_by_device(results: &Results) -> (u8, u64) {
+    match results.told() {
+        0 => (0, 0),
+        told => (told, results.command()),
+    }
+}
+
+/// A party of libnengapiko.a: what it does in a tick.
+fn engine(party: Party) -> Box<dyn FnMut((u8, u8), u8) -> Done> {
+    let (mut master, mut device) = (primary(), device_2());
+    match party {
+        Party::Primary => Box::new(move |heard, call| {
+            let answer = answered(call, master.tick(heard, request(call)));
+            let (told, value) = told_by_master(&master.results);
+            let sent = master.results.sent();
+            Done {
+                sent,
+                told,
+                value,
+                answer,
+            }
+        }),
+        Party::Device => Box::new(move |heard, call| {
+            let (command, data) = (3, &[0, 0]);
+            let given = Given {
+                call,
+                command,
+                data,
+            };
+            let answer = answered(call, device.tick(heard, given));
+            let (told, value) = told_by_device(&device.results);
+            let sent = device.results.sent();
+            Done {
+                sent,
+                told,
+                value,
+                answer,
+            }
+        }),
+    }
+}
+
 impl Run {
     fn new(party: Party) -> Run {
         Run {
             party,
-            recording: Vec::new(),
-            numbers: Default::default(),
+            ticks: Vec::new(),
+            done: Vec::new(),
         }
     }
 
@@ -86,35 +199,51 @@ impl Run {
         let [carried, called, "|", sent, tells, answers] = fields[..] else {
             panic!("no tick: {line}");
         };
-        let (kind, c) = heard(carried);
-        let gives_content = self.party == Party::Device && self.recording.is_empty();
-        let call = if gives_content { CONTENT } else { call(called) };
-        self.recording.push([kind << 5 | call << 2, c]);
-        let character = if sent == "-" { 0 } else { hexadecimal(sent) };
-        let ninth = 1 + u8::from(character.count_ones() % 2 == 0);
-        self.numbers[OUT].push(if sent == "-" { 0 } else { ninth });
-        self.numbers[CHARACTER].push(character);
-        self.numbers[TOLD].push(told(tells));
-        self.numbers[ANSWER].push(if gives_content {
-            TAKEN
-        } else {
-            answer(answers)
+        let gives_content = self.party == Party::Device && self.ticks.is_empty();
+        let (told, value) = told(tells);
+        self.ticks.push(Tick {
+            heard: heard(carried),
+            call: if gives_content { CONTENT } else { call(called) },
+        });
+        self.done.push(Done {
+            sent: (sent != "-").then(|| hexadecimal(sent)),
+            told,
+            value,
+            answer: if gives_content {
+                TAKEN
+            } else {
+                answer(answers)
+            },
         });
     }
 
-    fn passes(&self) -> bool {
+    /// By the function that runs over a recording.
+    fn passes_recorded(&self, which: u8) -> bool {
         let run = match self.party {
             Party::Primary => chip_archive::master,
             Party::Device => chip_archive::device,
         };
-        (0..WANTED).all(|which| {
-            let ticks = self.recording.iter();
-            let recording: Vec<u8> = ticks
-                .flat_map(|[first, c]| [first | which as u8, *c])
-                .collect();
-            let mut numbers = vec![0xA5; self.recording.len()];
-            run(&recording, &mut numbers) == numbers.len() && numbers == self.numbers[which]
+        let bytes = |tick: &Tick| [tick.heard.0 << 5 | tick.call << 2 | which, tick.heard.1];
+        let recording: Vec<u8> = self.ticks.iter().flat_map(bytes).collect();
+        let expected: Vec<u8> = self.done.iter().map(|done| done.number(which)).collect();
+        let mut numbers = vec![0xA5; self.ticks.len()];
+        run(&recording, &mut numbers) == numbers.len() && numbers == expected
+    }
+
+    /// By the party of libnengapiko.a behind the driver.
+    fn passes_driven(&self) -> bool {
+        let mut chip = Chip::default();
+        let mut party = engine(self.party);
+        self.ticks.iter().zip(&self.done).all(|(tick, expected)| {
+            chip.begin(tick.heard);
+            let done = party(chip.heard(), tick.call);
+            chip.send(done.sent);
+            chip.end() == expected.sent.map(|c| (c, ninth(c))) && done == *expected
         })
+    }
+
+    fn passes(&self) -> bool {
+        (0..WANTED).all(|which| self.passes_recorded(which)) && self.passes_driven()
     }
 }
 
@@ -133,7 +262,7 @@ fn runs(text: &str) -> Vec<Run> {
 
 fn main() -> ExitCode {
     let all = runs(include_str!("data/item-05/parties.txt"));
-    let ticks: usize = all.iter().map(|run| run.recording.len()).sum();
+    let ticks: usize = all.iter().map(|run| run.ticks.len()).sum();
     let failed = all.iter().filter(|run| !run.passes()).count();
     println!(
         "behind_chip: {} runs, {ticks} ticks, {failed} failed",
