@@ -15,7 +15,7 @@ xorAt bytes i count = exclusiveOr (take count (drop i bytes))
 abbrev pub everyOther : List ℕ → ℕ → ℕ
 everyOther bytes i = bitXor (bitXor (xorAt bytes i 8) (xorAt bytes (i + 16) 8)) (bitXor (xorAt bytes (i + 32) 8) (xorAt bytes (i + 48) 8))
 
--- of the sixteen words from a place on
+-- of every other of the sixteen words from a place on
 abbrev pub everyOtherOf16 : List ℕ → ℕ → ℕ
 everyOtherOf16 bytes i = bitXor (everyOther bytes i) (everyOther bytes (i + 64))
 
