@@ -3,13 +3,15 @@
 //! crates/words/specs/Fields.antt, crates/master_c/specs/Words.antt and crates/device_c/specs/Words.antt.
 //! Compared are the words behind the tick, what it returns and what it tells.
 
+mod calls;
 mod engine_archive;
 #[allow(dead_code)]
 mod frames;
 #[path = "oracles.rs"]
 mod oracles;
 
-use engine_archive::{device_2, primary, Given, Request};
+use calls::{Given, Request};
+use engine_archive::{device_2, primary};
 use frames::Xorshift;
 use std::process::ExitCode;
 use Field::{Bits, Case, Flag, Wish};
@@ -168,6 +170,7 @@ fn masters_differ(random: &mut Xorshift) -> bool {
         master.state = state;
         let request = Request {
             preamble: 5,
+            revision: 7,
             long_address,
             address,
             command: 0,

@@ -5,13 +5,15 @@
 //! what a line means.
 
 mod called;
+mod calls;
 mod chip_archive;
 mod chip_driver;
 mod engine_archive;
 mod modem_archive;
 
 use chip_driver::{ninth, Chip};
-use engine_archive::{device_2, primary, Given, Request, Results};
+use calls::{Given, Request};
+use engine_archive::{device_2, primary, Results};
 use std::process::ExitCode;
 
 /// Which number of a tick is wanted, in the lowest bits of its first byte.
@@ -127,6 +129,7 @@ fn request(call: u8) -> Option<Request<'static>> {
     };
     Some(Request {
         preamble: 5,
+        revision: 7,
         long_address,
         address,
         command,

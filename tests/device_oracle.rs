@@ -33,26 +33,14 @@ pub enum Told {
 /// What the host's answer wishes of burst.
 #[derive(Clone, Copy, PartialEq)]
 pub enum Wish {
-    AsItIs,
-    On,
-    Off,
+    AsItIs = 0,
+    On = 1,
+    Off = 2,
 }
 
 struct Content {
     command: u8,
     data: Vec<u8>,
-}
-
-/// What it holds from tick to tick, in numbers.
-#[derive(Debug, PartialEq)]
-pub struct State {
-    pub place: (u64, bool),
-    pub deaf: bool,
-    /// By the numbers of `turnWord` in crates/device_c/specs/Words.antt.
-    pub turn: u64,
-    pub content: Option<(u64, u64)>,
-    /// While it bursts: whether the next BACK is for the primary, and the silent ticks until it.
-    pub bursts: Option<(bool, u64)>,
 }
 
 pub struct Device {
@@ -106,27 +94,46 @@ impl Device {
         &self.out
     }
 
-    pub fn state(&self) -> State {
+    /// What it holds from tick to tick, in the order of `packed` in crates/device_c/specs/Words.antt.
+    /// A wish is held with the answer that waits or begins, and whom the next BACK is for, with the
+    /// silent ticks until it, while it bursts; outside of these there is no such field here.
+    pub fn words(&self) -> [Option<u64>; 40] {
         let sent = self.out.sent() as u64;
-        let next_back = (self.back_to_primary, u64::from(self.back_in));
-        State {
-            place: self.reader.place(),
-            deaf: self.deaf,
-            turn: match self.turn {
-                Turn::Listening => 0,
-                Turn::Asked(left) => 1 + 16 * u64::from(left),
-                Turn::Ready(_) => 2,
-                Turn::Beginning(_) => 3,
-                Turn::SendingAck => 4 + 16 * sent,
-                Turn::BackDue => 5,
-                Turn::SendingBack => 6 + 16 * sent,
-            },
-            content: self
-                .content
-                .as_ref()
-                .map(|content| (content.command.into(), content.data.len() as u64)),
-            bursts: self.bursting.then_some(next_back),
-        }
+        let (turn, wish) = match self.turn {
+            Turn::Listening => (0, None),
+            Turn::Asked(left) => (1 + 16 * u64::from(left), None),
+            Turn::Ready(wish) => (2, Some(wish as u64)),
+            Turn::Beginning(wish) => (3, Some(wish as u64)),
+            Turn::SendingAck => (4 + 16 * sent, None),
+            Turn::BackDue => (5, None),
+            Turn::SendingBack => (6 + 16 * sent, None),
+        };
+        let (command, count) = self.content.as_ref().map_or((0, 0), |content| {
+            (content.command.into(), content.data.len() as u64)
+        });
+        let mut words = [None; 40];
+        words[..5].copy_from_slice(&self.profile.words().map(Some));
+        words[5] = Some(self.preambles as u64);
+        words[6] = Some(self.polling_address);
+        words[7] = Some(self.unique_address);
+        words[8..24].copy_from_slice(&self.reader.words().map(Some));
+        words[24] = Some(self.deaf.into());
+        words[25] = Some(turn);
+        words[26] = wish;
+        words[27] = Some(self.out.length() as u64);
+        words[28..34].copy_from_slice(&self.request.header().map(Some));
+        words[34] = Some(self.bursting.into());
+        words[35] = self.bursting.then_some(self.back_to_primary.into());
+        words[36] = self.bursting.then_some(self.back_in.into());
+        words[37] = Some(self.content.is_some().into());
+        words[38] = Some(command);
+        words[39] = Some(count);
+        words
+    }
+
+    /// The data of its burst content.
+    pub fn content(&self) -> &[u8] {
+        self.content.as_ref().map_or(&[], |content| &content.data)
     }
 
     pub fn reader(&self) -> &Reader {
@@ -152,6 +159,7 @@ impl Device {
             Event::Whole(frame) if is_request(&frame) => self.requested(frame),
             Event::Damaged(frame, harm) if is_request(&frame) && !harm.address => {
                 if self.is_own(&frame) {
+                    self.request = frame;
                     self.put_ack(frame, self.bursting, &[error_status(harm), 0]);
                     self.turn = Turn::Ready(Wish::AsItIs);
                 }

@@ -1,9 +1,10 @@
 //! Runs of the link in which each master starts at a tick of its own: the archive over the scenarios
 //! of tests/data/item-14, and beside the link in plain Rust over random ones. Compared are how many
 //! ticks were run, and the whole lent buffer of their numbers; of masters and devices that are called
-//! once a tick each tick's number, and in the scenarios what the hosts are told. The runs are the same
-//! each time.
+//! once a tick each tick's number, and in the scenarios what the hosts are told, the frames, and where
+//! the masters are first in touch. The runs are the same each time.
 
+mod calls;
 mod engine_archive;
 #[allow(dead_code)]
 mod frames;
@@ -109,16 +110,20 @@ fn as_expected(scenario: &Scenario) -> bool {
         && engine_as_expected(scenario)
 }
 
-/// The same of masters and devices that are called once a tick, with what the hosts are told where
-/// the scenario says it.
+/// The same of masters and devices that are called once a tick, with what the hosts are told, the
+/// frames and where the masters are in touch, where the scenario says it.
 fn engine_as_expected(scenario: &Scenario) -> bool {
     let run = late_engine::run(&scenario.setup, &scenario.ticks);
-    run.numbers == scenario.events && (scenario.told.is_empty() || run.told == scenario.told)
+    run.numbers == scenario.events
+        && (scenario.told.is_empty() || run.told == scenario.told)
+        && (scenario.frames.is_empty() || run.frames() == scenario.frames)
+        && (scenario.in_touch.is_none() || run.in_touch() == scenario.in_touch)
 }
 
 fn scenarios_agree() -> bool {
     let mut differences = 0;
     let (mut count, mut overlaps, mut claimed, mut told) = (0, 0, 0, 0);
+    let (mut frames, mut in_touch) = (0, 0);
     for (file, scenarios) in late_scenarios::all() {
         for scenario in &scenarios {
             if !as_expected(scenario) {
@@ -129,13 +134,19 @@ fn scenarios_agree() -> bool {
             overlaps += usize::from(scenario.together.is_some());
             claimed += scenario.claimed.len();
             told += scenario.told.len();
+            frames += scenario.frames.len();
+            in_touch += usize::from(scenario.in_touch.is_some());
         }
     }
     println!(
         "late_compare: {count} scenarios, {overlaps} with an overlap, {claimed} messages with a \
-         wait claimed, {told} times a host told or refused, {differences} differences"
+         wait claimed, {told} times a host told or refused, {frames} frames, {in_touch} with masters \
+         in touch, {differences} differences"
     );
-    differences == 0 && overlaps > 0 && overlaps < count && claimed > 0 && told > 0
+    let all_occur = [overlaps, claimed, told, frames, in_touch]
+        .iter()
+        .all(|&times| times > 0);
+    differences == 0 && all_occur && overlaps < count
 }
 
 /// Both masters ask, and the hosts answer, at random ticks. Often both are asked in one tick, soon

@@ -1,18 +1,41 @@
 //! A run of the masters and devices of libnengapiko.a, one call a tick, on a line of a few lines of
 //! this file, in which each master starts at a tick of its own: the number of each tick, as
-//! nengapiko_run has it, and what the hosts are told.
+//! nengapiko_run has it, what the hosts are told, and the frames that are sent.
 
-use crate::engine_archive::{Device, Given, Master, Request, NOTHING};
+use crate::calls::{Given, Request, NOTHING};
+use crate::engine_archive::{Device, Master, Results};
+use crate::oracles::frame_oracle::{self, Fields, ACK, STX};
 use crate::run_archive::Setup;
-use crate::tick_list::{Call, Tick, SENDS, TAKEN};
+use crate::tick_list::{Call, Tick, REVISION, SENDERS, SENDS, TAKEN};
 
 const MASTERS: usize = 2;
+
+/// A frame that a party sends: its first tick, and its characters so far.
+#[derive(Clone, Default)]
+struct Sending {
+    first: usize,
+    characters: Vec<u8>,
+}
+
+/// A frame that a party has sent: its first and its last tick, and its fields.
+struct Sent {
+    first: usize,
+    last: usize,
+    party: usize,
+    fields: Fields,
+}
 
 #[derive(Default)]
 pub struct Run {
     pub numbers: Vec<u8>,
     /// Tick, party and what.
     pub told: Vec<String>,
+    sending: Vec<Sending>,
+    sent: Vec<Sent>,
+    /// Of each master, the ticks of the last characters of frames that it sent, and of those that it
+    /// heard whole.
+    own: [Vec<usize>; MASTERS],
+    heard_whole: [Vec<usize>; MASTERS],
 }
 
 /// What the line carries of what is sent.
@@ -34,6 +57,7 @@ fn request(call: &Option<Call>) -> Option<Request<'_>> {
             data,
         }) => Some(Request {
             preamble: usize::from(*preamble),
+            revision: REVISION,
             long_address: *long_address,
             address: *address,
             command: *command,
@@ -75,6 +99,73 @@ fn device_tells(device: &Device) -> Option<String> {
 }
 
 impl Run {
+    /// A character that a party sends in this tick; its frame is over where the frame reader reads it.
+    fn sends(&mut self, party: usize, character: u8) {
+        let tick = self.numbers.len();
+        self.sending
+            .resize(self.sending.len().max(party + 1), Sending::default());
+        let sending = &mut self.sending[party];
+        if sending.characters.is_empty() {
+            sending.first = tick;
+        }
+        sending.characters.push(character);
+        let mut fields = Fields::default();
+        if frame_oracle::read(&sending.characters, &mut fields) != frame_oracle::TAKEN {
+            return;
+        }
+        let first = sending.first;
+        sending.characters.clear();
+        self.sent.push(Sent {
+            first,
+            last: tick,
+            party,
+            fields,
+        });
+        if party < MASTERS {
+            self.own[party].push(tick);
+        }
+    }
+
+    /// What a master's reader tells in this tick of the tick before.
+    fn hears(&mut self, master: usize, results: &Results) {
+        if results.is_whole() {
+            self.heard_whole[master].push(self.numbers.len() - 1);
+        }
+    }
+
+    /// The frames in the order of their ends, each with its ticks, sender, type, master and length, and
+    /// whether its sender was alone in each of them.
+    pub fn frames(&self) -> Vec<String> {
+        let line = |sent: &Sent| {
+            let Sent {
+                first, last, party, ..
+            } = sent;
+            let [_, frame_type, _, primary, ..] = sent.fields;
+            let name = match frame_type as u8 {
+                STX => "STX",
+                ACK => "ACK",
+                _ => "BACK",
+            };
+            let alone = self.numbers[*first..=*last]
+                .iter()
+                .all(|n| n & SENDERS == 1);
+            let how = if alone { "alone" } else { "crossed" };
+            let (master, length) = (1 - primary, last - first + 1);
+            format!("{first} {last} {party} {name} {master} {length} {how}")
+        };
+        self.sent.iter().map(line).collect()
+    }
+
+    /// The end of the first frame that one master sent or heard whole and the other heard whole.
+    pub fn in_touch(&self) -> Option<usize> {
+        let [first, second] = &self.heard_whole;
+        let by_second = first
+            .iter()
+            .filter(|&end| second.contains(end) || self.own[1].contains(end));
+        let by_first = second.iter().filter(|&end| self.own[0].contains(end));
+        by_second.chain(by_first).min().copied()
+    }
+
     fn tell(&mut self, party: usize, told: Option<String>, refused: u32) {
         let tick = self.numbers.len();
         let refusal = (refused != 0).then(|| format!("refused {refused}"));
@@ -110,19 +201,24 @@ pub fn run(setup: &Setup, ticks: &[Tick]) -> Run {
             let is_asked = asked.is_some();
             let refused = master.tick(heard, asked);
             run.tell(party, master_tells(master), refused);
+            run.hears(party, &master.results);
             if is_asked && refused == 0 {
                 number += TAKEN[party];
             }
             if let Some(character) = master.results.sent() {
                 number += SENDS[party];
                 sent.push(character);
+                run.sends(party, character);
             }
         }
         for (at, device) in devices.iter_mut().enumerate() {
             let party = MASTERS + at;
             let refused = device.tick(heard, given(&calls[party]));
             run.tell(party, device_tells(device), refused);
-            sent.extend(device.results.sent());
+            if let Some(character) = device.results.sent() {
+                sent.push(character);
+                run.sends(party, character);
+            }
         }
         heard = carried(&sent);
         run.numbers.push(number + sent.len() as u8);

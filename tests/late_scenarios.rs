@@ -34,6 +34,10 @@ pub struct Scenario {
     pub claimed: Vec<Message>,
     /// What hosts are told, and calls that are refused: tick, party and what.
     pub told: Vec<String>,
+    /// The frames: first and last tick, party, type, master, length, and whether it was alone.
+    pub frames: Vec<String>,
+    /// The end of the first frame that one master sent or heard whole and the other heard whole.
+    pub in_touch: Option<usize>,
 }
 
 fn number<T: TryFrom<u64>>(word: &str) -> T {
@@ -115,8 +119,8 @@ impl Scenario {
                 }
             }
             ["told", ref rest @ ..] => self.told.push(rest.join(" ")),
-            // what no tick's number shows
-            ["frame", ..] | ["in-touch", _] => {}
+            ["frame", ref rest @ ..] => self.frames.push(rest.join(" ")),
+            ["in-touch", tick] => self.in_touch = Some(number(tick)),
             _ => panic!("no line of a scenario: {line}"),
         }
     }

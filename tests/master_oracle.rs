@@ -1,11 +1,11 @@
-//! A master of document 01 in plain Rust, with document 02's items 1 and 6, and a primary with FSK
-//! and three retries over recordings of what it hears. It shares nothing with the archive; over a
+//! A master of document 01 in plain Rust, with document 02's items 1, 2 and 6, and a primary with
+//! FSK and three retries over recordings of what it hears. It shares nothing with the archive; over a
 //! recording it takes the same arguments and gives the same answers.
 
-use super::frame_oracle::{refusal, ACK, BACK, STX, TAKEN};
+use super::frame_oracle::{refusal, ACK, BACK, REFUSED_ADDRESS, REFUSED_PREAMBLE, STX, TAKEN};
 use super::party_oracle::{
     seeks_tag, Outgoing, Profile, BROADCAST, FSK, PREAMBLES, REFUSED_COMMAND, REFUSED_IN_HAND,
-    SENDS,
+    REFUSED_REVISION, REVISION, SENDS,
 };
 use super::tick_oracle::{over, Event, Frame, Heard, Reader, Recorded};
 
@@ -47,21 +47,6 @@ pub struct Master {
     out: Outgoing,
 }
 
-/// What it holds from tick to tick, in numbers.
-#[derive(Debug, PartialEq)]
-pub struct State {
-    pub place: (u64, bool),
-    pub deaf: bool,
-    /// By the numbers of `stageWord` in crates/master_c/specs/Words.antt.
-    pub stage: u64,
-    /// Of the message in hand.
-    pub attempts: Option<u64>,
-    /// Silent ticks until the next window, left of the open one, and left of the quiet time.
-    pub timers: [u64; 3],
-    /// While BURST is set: the address that set it.
-    pub burst: Option<(bool, u64)>,
-}
-
 impl Master {
     pub fn start(primary: bool) -> Master {
         Master::start_with(FSK, RETRIES, primary)
@@ -100,20 +85,31 @@ impl Master {
         &self.out
     }
 
-    pub fn state(&self) -> State {
-        State {
-            place: self.reader.place(),
-            deaf: self.deaf,
-            stage: match self.stage {
-                Stage::Free => 0,
-                Stage::Waiting => 1,
-                Stage::Sending => 2 + 16 * self.out.sent() as u64,
-                Stage::Awaiting(left) => 3 + 16 * u64::from(left),
-            },
-            attempts: (self.stage != Stage::Free).then_some(self.attempts.into()),
-            timers: [self.next, self.window, self.quiet].map(u64::from),
-            burst: self.burst.then_some(self.noted),
-        }
+    /// What it holds from tick to tick, in the order of `packed` in crates/master_c/specs/Words.antt:
+    /// every word has its field here.
+    pub fn words(&self) -> [u64; 39] {
+        let stage = match self.stage {
+            Stage::Free => 0,
+            Stage::Waiting => 1,
+            Stage::Sending => 2 + 16 * self.out.sent() as u64,
+            Stage::Awaiting(left) => 3 + 16 * u64::from(left),
+        };
+        let (noted_long, noted_address) = self.noted;
+        let mut words = [0; 39];
+        words[0] = self.primary.into();
+        words[1..6].copy_from_slice(&self.profile.words());
+        words[6] = self.retries.into();
+        words[7] = self.deaf.into();
+        words[8] = self.burst.into();
+        words[9..12].copy_from_slice(&[self.next, self.window, self.quiet].map(u64::from));
+        words[12..28].copy_from_slice(&self.reader.words());
+        words[28] = noted_long.into();
+        words[29] = noted_address;
+        words[30..36].copy_from_slice(&self.message.header());
+        words[36] = stage;
+        words[37] = self.out.length() as u64;
+        words[38] = self.attempts.into();
+        words
     }
 
     pub fn reader(&self) -> &Reader {
@@ -250,21 +246,32 @@ impl Master {
 
     /// A request without data, taken or refused with its number.
     pub fn request(&mut self, long_address: bool, address: u64, command: u8) -> u32 {
-        self.ask(PREAMBLES, long_address, address, command, &[])
+        self.ask(PREAMBLES, REVISION, long_address, address, command, &[])
     }
 
-    /// A request, taken or refused with its number.
+    /// A request, taken or refused with its number: 17 is checked after 3, and of the others the
+    /// lowest applies.
     pub fn ask(
         &mut self,
         preambles: usize,
+        revision: u8,
         long_address: bool,
         address: u64,
         command: u8,
         data: &[u8],
     ) -> u32 {
+        let refused = refusal(preambles, STX, long_address, address, data.len());
+        if refused == Some(REFUSED_PREAMBLE) {
+            return REFUSED_PREAMBLE;
+        }
+        if !(3..=7).contains(&revision) {
+            return REFUSED_REVISION;
+        }
+        let unknown_address = !long_address && revision <= 5 && address > 15;
         let no_command = command == 254 || (!long_address && command != 0);
         let refusals = [
-            refusal(preambles, STX, long_address, address, data.len()),
+            unknown_address.then_some(REFUSED_ADDRESS),
+            refused,
             no_command.then_some(REFUSED_COMMAND),
             (self.stage != Stage::Free).then_some(REFUSED_IN_HAND),
         ];
@@ -328,7 +335,7 @@ impl Master {
         let told = self.take(tick.heard());
         match tick.call() {
             REQUEST => self.request(true, UNIQUE_ADDRESS, COMMAND),
-            TAG_REQUEST => self.ask(PREAMBLES, true, BROADCAST, TAG_COMMAND, &TAG),
+            TAG_REQUEST => self.ask(PREAMBLES, REVISION, true, BROADCAST, TAG_COMMAND, &TAG),
             _ => TAKEN,
         };
         self.send().map_or(told as u8, |_| SENDS)

@@ -1,20 +1,27 @@
-//! Compares the archives' masters and devices with the oracles: the number of ticks, and the whole
-//! buffer of events; and what a master and a device that are called once a tick hold behind each
-//! tick. The recordings are the same in every run.
+//! Compares the archives' masters and devices with the oracles: over recordings the number of ticks,
+//! and the whole buffer of events; and of a master and a device that are called once a tick, with
+//! several settings and all calls of calls.rs, what both_ticks.rs says. The recordings are the same in
+//! every run.
 
+mod both_ticks;
 mod called;
+mod calls;
 mod engine_archive;
 #[allow(dead_code)]
 mod frames;
+mod oracle_ticks;
 #[path = "oracles.rs"]
 mod oracles;
 mod party_archive;
 
+use both_ticks::{DeviceSettings, Difference, MasterSettings, Seen};
+use calls::{GIVEN, REFUSED_REQUESTS, TAKEN_REQUESTS};
 use frames::{random_frame, sealed, Xorshift};
-use oracles::device_oracle;
-use oracles::master_oracle::{self, Master};
-use oracles::party_oracle::SENDS;
-use oracles::tick_oracle::{silences, Recorded, Silences};
+use oracle_ticks::heard_of;
+use oracles::frame_oracle::{ACK, LONG, PREAMBLE};
+use oracles::party_oracle::{Profile, FSK};
+use oracles::tick_oracle::{silences, Silences};
+use oracles::{device_oracle, master_oracle};
 use std::collections::VecDeque;
 use std::process::ExitCode;
 
@@ -23,9 +30,39 @@ const TICKS: usize = 1_000;
 
 const KIND: u8 = 0x20;
 
-/// The hosts' calls: a request; an answer, with burst on, with burst off, and burst content.
+/// The hosts' calls in recordings for both archives: a request; an answer, with burst on, with burst
+/// off, and burst content.
 const REQUESTS: [u8; 1] = [1];
-const GIVEN: [u8; 4] = [1, 2, 3, 4];
+const ANSWERS: [u8; 4] = [1, 2, 3, 4];
+
+/// The settings of the master and of the device that recordings are for.
+const PRIMARY: MasterSettings = MasterSettings {
+    profile: FSK,
+    primary: true,
+    retries: 3,
+};
+const DEVICE_2: DeviceSettings = DeviceSettings {
+    profile: FSK,
+    preamble: 5,
+    polling: 0,
+    unique: 2,
+};
+
+const C8PSK: Profile = Profile {
+    sto: 32,
+    hold: 3,
+    rt2: 14,
+    rt1_primary: 42,
+    rt1_secondary: 56,
+};
+/// The shortest that the check takes.
+const SHORTEST: Profile = Profile {
+    sto: 1,
+    hold: 1,
+    rt2: 2,
+    rt1_primary: 3,
+    rt1_secondary: 5,
+};
 
 type Run = fn(&[u8], &mut [u8]) -> usize;
 /// The two bytes of a tick.
@@ -66,22 +103,21 @@ const DEVICE: Party = Party {
     ],
 };
 
-/// The same master, by one call for each tick.
-const MASTER_TICKS: Party = Party {
-    name: "master tick by tick",
-    archive: engine_archive::master,
-    ..MASTER
-};
-
-/// The same device.
-const DEVICE_TICKS: Party = Party {
-    name: "device tick by tick",
-    archive: engine_archive::device,
-    ..DEVICE
-};
-
-/// The answer that the master waits for, from delimiter to the last data byte.
-const OWN_ACK: [u8; 10] = [0x86, 0x80, 0, 0, 0, 2, 3, 2, 0, 0];
+/// The answer that a master waits for behind its STX; now and then with the burst flag, with bit 7 of
+/// the first data byte, or long.
+fn own_ack(random: &mut Xorshift, stx: &[u8]) -> Vec<u8> {
+    let preambles = stx.iter().take_while(|&&c| c == PREAMBLE).count();
+    let stx = &stx[preambles..];
+    let command = if stx[0] & LONG != 0 { 6 } else { 2 };
+    let mut body = stx[..=command].to_vec();
+    body[0] = stx[0] & LONG | ACK;
+    body[1] |= random.pick(&[0, 0, 0, 0x40]);
+    let count = random.pick(&[2, 2, 2, 5, 255]);
+    body.push(count);
+    body.push(random.pick(&[0, 0, 0, 0x80]));
+    body.extend(random.bytes(usize::from(count) - 1));
+    sealed(2 + random.below(4), &body)
+}
 
 /// An answer to the master or a bursting device's frame, or one that is not for it.
 fn answer(random: &mut Xorshift) -> Vec<u8> {
@@ -97,14 +133,23 @@ fn answer(random: &mut Xorshift) -> Vec<u8> {
 }
 
 /// A request to the device, a broadcast, or a frame that is not for it.
-fn request(random: &mut Xorshift) -> Vec<u8> {
+fn request(random: &mut Xorshift, to: &DeviceSettings) -> Vec<u8> {
     let delimiter = random.pick(&[0x82, 0x82, 0x82, 0x02, 0x02, 0xA2, 0x86]);
-    let first = random.pick(&[0x80, 0x80, 0x00, 0x81]);
-    let mut body = vec![delimiter, first];
-    if delimiter & 0x80 != 0 {
-        body.extend([0, 0, 0, random.pick(&[2, 2, 2, 0, 3])]);
+    let flags = random.pick(&[0x80, 0x80, 0x00, 0x80]);
+    let polling = to.polling ^ random.pick(&[0, 0, 0, 1]);
+    let unique = random.pick(&[to.unique, to.unique, to.unique, 0, 3]);
+    let mut body = vec![delimiter];
+    match delimiter & LONG {
+        0 => body.push(flags | polling),
+        _ => {
+            body.extend(&unique.to_be_bytes()[3..]);
+            body[1] |= flags;
+        }
     }
-    body.extend([random.pick(&[0, 0, 3]), 2, 7, 9]);
+    body.push(random.pick(&[0, 0, 3, 3, 11, 255]));
+    let count = random.pick(&[0, 1, 2, 2, 2, 7, 40, 255]);
+    body.push(count);
+    body.extend(random.bytes(count.into()));
     sealed(2 + random.below(4), &body)
 }
 
@@ -155,7 +200,11 @@ fn silent(ticks: usize) -> Vec<Tick> {
 
 /// Frames with silence between them, now and then damaged, cut or with silent ticks inside, and the
 /// host's calls.
-fn frames(random: &mut Xorshift, frame: fn(&mut Xorshift) -> Vec<u8>, calls: &[u8]) -> Vec<u8> {
+fn frames(
+    random: &mut Xorshift,
+    frame: impl Fn(&mut Xorshift) -> Vec<u8>,
+    calls: &[u8],
+) -> Vec<u8> {
     let rates = Rates::pick(random);
     let pauses = random.pick(&[[0, 1, 2, 9], [9, 17, 34, 35], [30, 40, 67, 80]]);
     let mut ticks = Vec::new();
@@ -175,19 +224,24 @@ fn frames(random: &mut Xorshift, frame: fn(&mut Xorshift) -> Vec<u8>, calls: &[u
 
 /// A frame behind most STX that the oracle's master sends, now and then damaged, cut or with silent
 /// ticks inside, and the host's calls.
-fn answers(random: &mut Xorshift) -> Vec<u8> {
+fn answers(random: &mut Xorshift, settings: &MasterSettings, calls: &[u8]) -> Vec<u8> {
     let rates = Rates::pick(random);
-    let mut master = Master::start(true);
+    let mut master = settings.oracle();
     let mut was_sending = false;
     let mut coming = VecDeque::new();
     let mut ticks = Vec::new();
     for _ in 0..TICKS {
         let tick = coming.pop_front().unwrap_or([0, 0]);
-        let tick = rates.with_call(random, tick, &REQUESTS);
-        let sends = master.tick(Recorded::of(&tick)) == SENDS;
+        let tick = rates.with_call(random, tick, calls);
+        let [first, character] = tick;
+        let ticked = master.tick(
+            heard_of(first / KIND, character),
+            calls::request(first % KIND),
+        );
+        let sends = ticked.results[0] != 0;
         if was_sending && !sends && random.below(8) > 0 {
             let frame = match random.flag() {
-                true => sealed(5, &OWN_ACK),
+                true => own_ack(random, master.party.out().frame()),
                 false => answer(random),
             };
             coming = silent(random.pick(&[0, 1, 2, 10, 30, 31, 32, 33])).into();
@@ -199,15 +253,19 @@ fn answers(random: &mut Xorshift) -> Vec<u8> {
     ticks.concat()
 }
 
-fn master_recording(random: &mut Xorshift) -> Vec<u8> {
+fn recording_for(random: &mut Xorshift, settings: &MasterSettings, calls: &[u8]) -> Vec<u8> {
     match random.flag() {
-        true => frames(random, answer, &REQUESTS),
-        false => answers(random),
+        true => frames(random, answer, calls),
+        false => answers(random, settings, calls),
     }
 }
 
+fn master_recording(random: &mut Xorshift) -> Vec<u8> {
+    recording_for(random, &PRIMARY, &REQUESTS)
+}
+
 fn device_recording(random: &mut Xorshift) -> Vec<u8> {
-    frames(random, request, &GIVEN)
+    frames(random, |random| request(random, &DEVICE_2), &ANSWERS)
 }
 
 /// Whether both give the same in every recording, and each number and both silences occur.
@@ -251,89 +309,79 @@ fn agrees(party: &Party) -> bool {
     differences == 0 && all_occur && party.numbers.iter().all(occurs)
 }
 
-/// The place where a reader's words say that it stands, and whether a silent tick was passed over.
-fn place(reader: &[u64]) -> (u64, bool) {
-    (reader[6], reader[10] == 1)
+/// A recording for a master of some settings, and the first difference in it. The calls are most often
+/// those that a free master takes.
+fn masters_differ(random: &mut Xorshift, seen: &mut Seen) -> Option<Difference> {
+    let settings = MasterSettings {
+        profile: random.pick(&[FSK, FSK, C8PSK, SHORTEST]),
+        primary: random.flag(),
+        retries: random.pick(&[3, 3, 4, 15]),
+    };
+    let calls = match random.flag() {
+        true => TAKEN_REQUESTS.to_vec(),
+        false => [&TAKEN_REQUESTS[..], &REFUSED_REQUESTS].concat(),
+    };
+    let recording = recording_for(random, &settings, &calls);
+    settings.difference(&recording, seen)
 }
 
-/// What a master's words say, in the order of crates/master_c/specs/Words.antt.
-fn master_state(words: &[u64; 39]) -> master_oracle::State {
-    master_oracle::State {
-        place: place(&words[12..28]),
-        deaf: words[7] == 1,
-        stage: words[36],
-        attempts: (words[36] != 0).then_some(words[38]),
-        timers: [words[9], words[10], words[11]],
-        burst: (words[8] == 1).then_some((words[28] == 1, words[29])),
-    }
+/// The same for a device. Every other time no call is refused for its data or its command.
+fn devices_differ(random: &mut Xorshift, seen: &mut Seen) -> Option<Difference> {
+    let settings = DeviceSettings {
+        profile: random.pick(&[FSK, FSK, C8PSK, SHORTEST]),
+        preamble: random.pick(&[5, 5, 6, 20]),
+        polling: random.pick(&[0, 0, 1, 63]),
+        unique: random.pick(&[2, 2, 1, (1 << 38) - 1]),
+    };
+    let calls = random.pick(&[&GIVEN[..9], &GIVEN]);
+    let recording = frames(random, |random| request(random, &settings), calls);
+    settings.difference(&recording, seen)
 }
 
-/// What a device's words say, in the order of crates/device_c/specs/Words.antt.
-fn device_state(words: &[u64; 40]) -> device_oracle::State {
-    device_oracle::State {
-        place: place(&words[8..24]),
-        deaf: words[24] == 1,
-        turn: words[25],
-        content: (words[37] == 1).then_some((words[38], words[39])),
-        bursts: (words[34] == 1).then_some((words[35] == 1, words[36])),
-    }
-}
-
-/// The first tick of a recording behind which the two masters hold different things; counts those
-/// behind which BURST is set.
-fn masters_differ(recording: &[u8], burst: &mut usize) -> Option<usize> {
-    let mut by_archive = engine_archive::primary();
-    let mut by_oracle = Master::start(true);
-    recording.chunks_exact(2).position(|tick| {
-        by_archive.record(tick);
-        by_oracle.tick(Recorded::of(tick));
-        let state = by_oracle.state();
-        *burst += usize::from(state.burst.is_some());
-        master_state(&by_archive.state) != state
-    })
-}
-
-/// The same of the two devices, and of those behind which burst is on.
-fn devices_differ(recording: &[u8], burst: &mut usize) -> Option<usize> {
-    let mut by_archive = engine_archive::device_2();
-    let mut by_oracle = device_oracle::recorded();
-    recording.chunks_exact(2).position(|tick| {
-        by_archive.record(tick);
-        by_oracle.tick(Recorded::of(tick));
-        let state = by_oracle.state();
-        *burst += usize::from(state.bursts.is_some());
-        device_state(&by_archive.state) != state
-    })
-}
-
-/// Whether what is held is the same behind every tick of every recording.
-fn states_agree(party: &Party, differ: fn(&[u8], &mut usize) -> Option<usize>) -> bool {
+/// Whether no tick differs, and each thing told, each refusal, every event and BURST occur.
+fn ticks_agree(
+    name: &str,
+    differ: fn(&mut Xorshift, &mut Seen) -> Option<Difference>,
+    told: &[usize],
+    refusals: &[usize],
+) -> bool {
     let mut random = Xorshift(0x2545_F491_4F6C_DD1D);
-    let (mut ticks, mut burst) = (0, 0);
+    let mut seen = Seen::default();
     let mut differences = 0;
     for _ in 0..RECORDINGS {
-        let recording = (party.recording)(&mut random);
-        ticks += recording.len() / 2;
-        if let Some(at) = differ(&recording, &mut burst) {
+        if let Some((tick, what)) = differ(&mut random, &mut seen) {
             differences += 1;
-            println!("{}: another state behind tick {at}", party.name);
+            println!("{name}: difference at tick {tick} in {what}");
         }
     }
-    println!(
-        "party_compare: {}, {ticks} states, {burst} in burst, {differences} differences",
-        party.name
-    );
-    burst > 0 && differences == 0
+    print!("party_compare: {name}, {} ticks", seen.ticks);
+    print!(", {} sending, {} in burst", seen.sent, seen.burst);
+    print!(", told {:?}, events {:?}", seen.told, seen.events);
+    for &number in refusals {
+        print!(", {} refused with {number}", seen.returned[number]);
+    }
+    println!(", {differences} differences");
+    differences == 0 && seen.has_all(told, refusals)
 }
 
 fn main() -> ExitCode {
-    let parties = [MASTER, MASTER_TICKS, DEVICE, DEVICE_TICKS];
+    let parties = [MASTER, DEVICE];
     let agree = parties.iter().filter(|party| agrees(party)).count();
-    let same_states = [
-        states_agree(&MASTER_TICKS, masters_differ),
-        states_agree(&DEVICE_TICKS, devices_differ),
+    let same_ticks = [
+        ticks_agree(
+            "a master called once a tick",
+            masters_differ,
+            &[0, 1, 2, 3],
+            &[3, 4, 5, 6, 7, 17],
+        ),
+        ticks_agree(
+            "a device called once a tick",
+            devices_differ,
+            &[0, 1, 2],
+            &[5, 8, 9, 10],
+        ),
     ];
-    match agree == parties.len() && same_states == [true, true] {
+    match agree == parties.len() && same_ticks == [true, true] {
         true => ExitCode::SUCCESS,
         false => ExitCode::FAILURE,
     }

@@ -21,6 +21,20 @@ pub const FSK: Profile = Profile {
     rt1_secondary: 41,
 };
 
+impl Profile {
+    /// In the order of `profileWords` in crates/words/specs/Reader.antt.
+    pub fn words(&self) -> [u64; 5] {
+        let Profile {
+            sto,
+            hold,
+            rt2,
+            rt1_primary,
+            rt1_secondary,
+        } = *self;
+        [sto, hold, rt2, rt1_primary, rt1_secondary].map(u64::from)
+    }
+}
+
 pub const BROADCAST: u64 = 0;
 
 /// Command 11 by broadcast, or an ACK that repeats its address bytes.
@@ -32,6 +46,10 @@ pub const REFUSED_COMMAND: u32 = 5;
 pub const REFUSED_IN_HAND: u32 = 7;
 pub const REFUSED_NO_REQUEST: u32 = 8;
 pub const REFUSED_WISH: u32 = 10;
+pub const REFUSED_REVISION: u32 = 17;
+
+/// The revision of a device that knows all polling addresses.
+pub const REVISION: u8 = 7;
 
 /// The number of a tick in which a party sends; any other has that of what it tells.
 pub const SENDS: u8 = 4;
@@ -57,6 +75,15 @@ impl Outgoing {
     /// The whole frame.
     pub fn frame(&self) -> &[u8] {
         &self.bytes[..self.length]
+    }
+
+    /// The buffer that it stands in, at the front.
+    pub fn buffer(&self) -> &[u8; LONGEST_FRAME] {
+        &self.bytes
+    }
+
+    pub fn length(&self) -> usize {
+        self.length
     }
 
     /// The writer's answer; a frame that it takes goes out from its first character on.

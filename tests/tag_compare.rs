@@ -1,22 +1,32 @@
-//! Compares the archive's master and device with the oracles where command 11 goes by broadcast: the
-//! number of ticks, and the whole buffer of events. The recordings are the same in every run.
+//! Compares the archives' masters and devices with the oracles where command 11 goes by broadcast: over
+//! recordings the number of ticks, and the whole buffer of events; and of a master and a device that
+//! are called once a tick, over some of them, what both_ticks.rs says. The recordings are the same in
+//! every run.
 
+mod both_ticks;
 mod called;
+mod calls;
+mod engine_archive;
 #[allow(dead_code)]
 mod frames;
+mod oracle_ticks;
 #[path = "oracles.rs"]
 mod oracles;
 mod party_archive;
 
+use both_ticks::{DeviceSettings, Difference, MasterSettings, Seen};
 use frames::{sealed, Xorshift};
 use oracles::master_oracle::{self, Master};
-use oracles::party_oracle::SENDS;
+use oracles::party_oracle::{FSK, SENDS};
 use oracles::{device_oracle, tick_oracle::Recorded};
 use std::collections::VecDeque;
 use std::process::ExitCode;
 
 const RECORDINGS: usize = 5_000;
 const TICKS: usize = 1_000;
+
+/// Of so many recordings one is for those that are called once a tick.
+const TICKED: usize = 4;
 
 const KIND: u8 = 0x20;
 
@@ -29,6 +39,7 @@ struct Party {
     archive: Run,
     oracle: Run,
     recording: fn(&mut Xorshift) -> Vec<u8>,
+    differ: fn(&[u8], &mut Seen) -> Option<Difference>,
     /// What its events' numbers say; each must occur.
     numbers: &'static [(u8, &'static str)],
 }
@@ -39,6 +50,7 @@ const PARTIES: [Party; 4] = [
         archive: party_archive::master,
         oracle: master_oracle::ticks,
         recording: |random| master_recording(random, &[2]),
+        differ: masters_differ,
         numbers: &[(1, "answered"), (3, "broadcast sent"), (4, "sends")],
     },
     Party {
@@ -46,6 +58,7 @@ const PARTIES: [Party; 4] = [
         archive: party_archive::master,
         oracle: master_oracle::ticks,
         recording: |random| master_recording(random, &[1, 2]),
+        differ: masters_differ,
         numbers: &[
             (1, "answered"),
             (2, "given up"),
@@ -58,6 +71,7 @@ const PARTIES: [Party; 4] = [
         archive: party_archive::device,
         oracle: device_oracle::ticks,
         recording: |random| device_recording(random, &[0]),
+        differ: devices_differ,
         numbers: &[(1, "request"), (2, "broadcast"), (4, "sends")],
     },
     Party {
@@ -65,9 +79,30 @@ const PARTIES: [Party; 4] = [
         archive: party_archive::device,
         oracle: device_oracle::ticks,
         recording: |random| device_recording(random, &[0, 2, 2, 3]),
+        differ: devices_differ,
         numbers: &[(1, "request"), (2, "broadcast"), (4, "sends")],
     },
 ];
+
+/// The master and the device that recordings are for, called once a tick.
+fn masters_differ(recording: &[u8], seen: &mut Seen) -> Option<Difference> {
+    let primary = MasterSettings {
+        profile: FSK,
+        primary: true,
+        retries: 3,
+    };
+    primary.difference(recording, seen)
+}
+
+fn devices_differ(recording: &[u8], seen: &mut Seen) -> Option<Difference> {
+    let device = DeviceSettings {
+        profile: FSK,
+        preamble: 5,
+        polling: 0,
+        unique: 2,
+    };
+    device.difference(recording, seen)
+}
 
 fn long_frame(
     random: &mut Xorshift,
@@ -172,8 +207,9 @@ fn device_recording(random: &mut Xorshift, addresses: &[u8]) -> Vec<u8> {
 fn agrees(party: &Party) -> bool {
     let mut random = Xorshift(0x2545_F491_4F6C_DD1D);
     let mut counts = [0; 5];
+    let mut seen = Seen::default();
     let mut differences = 0;
-    for _ in 0..RECORDINGS {
+    for run in 0..RECORDINGS {
         let recording = (party.recording)(&mut random);
         let room = recording.len() / 2 - random.below(3) + 1;
         let mut by_archive = vec![0xA5; room];
@@ -188,14 +224,22 @@ fn agrees(party: &Party) -> bool {
             let at = (0..room).find(|&at| by_archive[at] != by_oracle[at]);
             println!("{}: difference at tick {at:?}", party.name);
         }
+        let ticked = (run % TICKED == 0).then(|| (party.differ)(&recording, &mut seen));
+        if let Some((tick, what)) = ticked.flatten() {
+            differences += 1;
+            println!("{}: difference at tick {tick} in {what}", party.name);
+        }
     }
     print!("tag_compare: {}, {RECORDINGS} recordings", party.name);
     for &(number, name) in party.numbers {
         print!(", {} {name}", counts[usize::from(number)]);
     }
-    println!(", {differences} differences");
+    println!(
+        ", {} ticks called one by one, {differences} differences",
+        seen.ticks
+    );
     let occurs = |&(number, _): &(u8, &str)| counts[usize::from(number)] > 0;
-    differences == 0 && party.numbers.iter().all(occurs)
+    differences == 0 && seen.sent > 0 && party.numbers.iter().all(occurs)
 }
 
 fn main() -> ExitCode {

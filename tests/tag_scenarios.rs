@@ -2,6 +2,7 @@
 //! of this file, through the scenarios of document 02's item 6, and compares what every party does in
 //! each tick with what is stored beside them.
 
+mod calls;
 mod engine_archive;
 #[path = "oracles.rs"]
 mod oracles;
@@ -10,7 +11,7 @@ mod scenarios;
 use oracles::device_oracle::Wish;
 use oracles::frame_oracle::TAKEN;
 use oracles::link_oracle::{Link, MASTERS, PARTIES};
-use oracles::party_oracle::Profile;
+use oracles::party_oracle::{Profile, REVISION};
 use oracles::tick_oracle::{Damage, Frame, Heard};
 use oracles::{device_oracle, master_oracle};
 use scenarios::{Call, Scenario};
@@ -177,7 +178,14 @@ fn oracle_asks(master: &mut master_oracle::Master, call: &Call) -> u32 {
             command,
             preambles,
             data,
-        } => master.ask(*preambles, *long_address, *address, *command, data),
+        } => master.ask(
+            *preambles,
+            REVISION,
+            *long_address,
+            *address,
+            *command,
+            data,
+        ),
         _ => panic!("{NO_SUCH_CALL}"),
     }
 }
@@ -252,8 +260,9 @@ fn archive_master(master: &mut engine_archive::Master, heard: Heard, call: Optio
             command,
             preambles,
             data,
-        } => engine_archive::Request {
+        } => calls::Request {
             preamble: *preambles,
+            revision: REVISION,
             long_address: *long_address,
             address: *address,
             command: *command,
@@ -279,8 +288,8 @@ fn archive_master(master: &mut engine_archive::Master, heard: Heard, call: Optio
 
 fn archive_device(device: &mut engine_archive::Device, heard: Heard, call: Option<&Call>) -> Done {
     let given = match call {
-        None => engine_archive::NOTHING,
-        Some(Call::Answer { data, wish }) => engine_archive::Given {
+        None => calls::NOTHING,
+        Some(Call::Answer { data, wish }) => calls::Given {
             call: match wish {
                 Wish::AsItIs => 1,
                 Wish::On => 2,
@@ -289,7 +298,7 @@ fn archive_device(device: &mut engine_archive::Device, heard: Heard, call: Optio
             command: 0,
             data,
         },
-        Some(Call::Content { command, data }) => engine_archive::Given {
+        Some(Call::Content { command, data }) => calls::Given {
             call: 4,
             command: *command,
             data,

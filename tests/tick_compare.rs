@@ -1,12 +1,19 @@
-//! Compares the archive's tick reader with the oracle: the number of ticks, and the whole buffer of
-//! events. The recordings are the same in every run.
+//! Compares the archives' tick readers with the oracle: over recordings the number of ticks, and the
+//! whole buffer of events; and of a reader that is called once a tick, over some of them, the event, the
+//! frame's fields and damage, the data and the state, as both_ticks.rs says. The recordings are the same
+//! in every run.
 
+mod both_ticks;
 mod called;
+mod calls;
+mod engine_archive;
 mod frames;
 mod line_archive;
+mod oracle_ticks;
 #[path = "oracles.rs"]
 mod oracles;
 
+use both_ticks::readers_differ;
 use frames::*;
 use oracles::frame_oracle::PREAMBLE;
 use oracles::tick_oracle::{self, Silences};
@@ -25,6 +32,9 @@ const PATTERN: u8 = 0xA5;
 const SPARE: usize = 8;
 
 const DIFFERENCES_SHOWN: u64 = 5;
+
+/// Of so many recordings one is for the reader that is called once a tick.
+const TICKED: u64 = 4;
 
 /// The two bytes of a tick.
 fn tick(kind: u8, character: u8) -> [u8; 2] {
@@ -49,6 +59,9 @@ struct Comparison {
     families: Vec<Family>,
     events: [u64; EVENTS.len()],
     silences: Silences,
+    /// Recordings and ticks of the reader that is called once a tick.
+    ticked_recordings: u64,
+    ticked: u64,
     differences: u64,
 }
 
@@ -77,6 +90,8 @@ impl Comparison {
         if let Some(family) = self.families.last_mut() {
             family.recordings += 1;
             family.ticks += oracle_ticks as u64;
+            let number = family.recordings;
+            self.run_ticks(recording, number);
         }
         for &event in &by_oracle[..oracle_ticks] {
             self.events[usize::from(event)] += 1;
@@ -90,6 +105,21 @@ impl Comparison {
                 (archive_ticks, &by_archive),
                 (oracle_ticks, &by_oracle),
             );
+        }
+    }
+
+    /// The reader that is called once a tick, over every fourth recording.
+    fn run_ticks(&mut self, recording: &[u8], number: u64) {
+        if number % TICKED != 0 {
+            return;
+        }
+        self.ticked_recordings += 1;
+        self.ticked += recording.len() as u64 / 2;
+        if let Some((tick, what)) = readers_differ(recording) {
+            self.differences += 1;
+            if self.differences <= DIFFERENCES_SHOWN {
+                println!("difference at tick {tick} in {what}: {recording:02x?}");
+            }
         }
     }
 
@@ -132,11 +162,13 @@ impl Comparison {
         println!("{:<44}{breaks:>22}", "silence that breaks a frame");
         all &= passed_over > 0 && breaks > 0;
         println!(
-            "tick_compare: {} ticks, {} differences",
+            "tick_compare: {} ticks, and {} recordings with {} ticks called one by one, {} differences",
             self.ticks(),
+            self.ticked_recordings,
+            self.ticked,
             self.differences
         );
-        all && self.differences == 0
+        all && self.ticked > 0 && self.differences == 0
     }
 }
 

@@ -4,7 +4,7 @@ const PARTIES: usize = 8;
 
 const NO_CALL: u8 = 0;
 /// Every request of these lists says this revision of its device.
-const REVISION: u8 = 7;
+pub const REVISION: u8 = 7;
 const SHORT_ADDRESS: u8 = 1;
 const LONG_ADDRESS: u8 = 2;
 const ANSWER: u8 = 1;

@@ -30,6 +30,20 @@ pub struct Frame {
     pub count: u8,
 }
 
+impl Frame {
+    /// In the order of `headerWords` in crates/words/specs/Reader.antt.
+    pub fn header(&self) -> [u64; 6] {
+        [
+            self.frame_type.into(),
+            self.long_address.into(),
+            self.primary.into(),
+            self.burst.into(),
+            self.address,
+            self.command.into(),
+        ]
+    }
+}
+
 /// Damage in command, data or check byte by its kind, a wrong check byte, and damage in address
 /// or expansion bytes.
 #[derive(Clone, Copy, Default, PartialEq)]
@@ -110,9 +124,8 @@ impl Reader {
         }
     }
 
-    /// Where it stands, by the numbers of `placeWord` in crates/words/specs/Reader.antt, and whether
-    /// the tick before was passed over.
-    pub fn place(&self) -> (u64, bool) {
+    /// Where it stands, by the numbers of `placeWord` in crates/words/specs/Reader.antt.
+    fn place(&self) -> u64 {
         let (number, held) = match self.next {
             Next::PassedOver => (0, 0),
             Next::Preamble { heard: 0 } => (1, 0),
@@ -125,7 +138,36 @@ impl Reader {
             Next::Data { at } => (8, at),
             Next::Check => (9, 0),
         };
-        (number + 16 * u64::from(held), self.gap)
+        number + 16 * u64::from(held)
+    }
+
+    /// What it holds, in the order of `receiverWords` in crates/words/specs/Reader.antt. Of a frame it
+    /// holds what was heard so far; before a delimiter it holds nothing of one.
+    pub fn words(&self) -> [u64; 16] {
+        let in_frame = !matches!(self.next, Next::PassedOver | Next::Preamble { .. });
+        let (frame, harm, sum) = match in_frame {
+            true => (self.frame, self.harm, self.exclusive_or),
+            false => (Frame::default(), Harm::default(), 0),
+        };
+        let [frame_type, long_address, primary, burst, address, command] = frame.header();
+        [
+            frame_type,
+            long_address,
+            primary,
+            burst,
+            address,
+            command,
+            self.place(),
+            frame.expansion.into(),
+            frame.count.into(),
+            sum.into(),
+            self.gap.into(),
+            harm.parity.into(),
+            harm.overrun.into(),
+            harm.framing.into(),
+            harm.check.into(),
+            harm.address.into(),
+        ]
     }
 
     /// The frame that it is in, or that it found last.
