@@ -4,6 +4,8 @@
 
 #[path = "../tests/called.rs"]
 mod called;
+#[path = "../tests/calls.rs"]
+mod calls;
 #[path = "../tests/oracles.rs"]
 mod oracles;
 #[path = "../tests/engine_archive.rs"]
@@ -12,6 +14,7 @@ mod engine_archive;
 mod party_archive;
 mod recordings;
 mod rounds;
+mod ticked;
 
 use called::over;
 use oracles::{device_oracle, master_oracle};
@@ -102,15 +105,15 @@ fn main() {
     masters("master", party_archive::master, master_oracle::ticks);
     devices("device", party_archive::device, device_oracle::ticks);
     println!("one call a tick, against the oracles");
-    masters("master", engine_archive::master, master_oracle::ticks);
-    devices("device", engine_archive::device, device_oracle::ticks);
+    masters("master", ticked::master, master_oracle::ticks);
+    devices("device", ticked::device, device_oracle::ticks);
     println!("one call a tick, against the functions by value");
-    masters("master", engine_archive::master, party_archive::master);
-    devices("device", engine_archive::device, party_archive::device);
+    masters("master", ticked::master, party_archive::master);
+    devices("device", ticked::device, party_archive::device);
     println!("one call a tick, against plain C");
-    masters("master", engine_archive::master, plain_c);
+    masters("master", ticked::master, plain_c);
     println!("one call a tick, against plain C over words");
-    masters("master", engine_archive::master, plain_c_words);
+    masters("master", ticked::master, plain_c_words);
     println!("one call a tick in plain C: over words, against a struct");
     masters("master", plain_c_words, plain_c);
 }

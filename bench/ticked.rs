@@ -1,0 +1,63 @@
+//! The master and the device of libnengapiko.a, one call a tick, over the recordings that
+//! nengapiko_master and nengapiko_device take, with the same numbers for each tick.
+
+use crate::calls::{Given, Request};
+use crate::engine_archive::{device_2, primary, Device, Master, Results};
+
+/// 4 for a character that is sent, else what is told.
+#[inline(always)]
+fn number(results: &Results) -> u8 {
+    match results.sent() {
+        None => results.told(),
+        Some(_) => 4,
+    }
+}
+
+#[inline(always)]
+fn master_tick(master: &mut Master, tick: &[u8]) -> u8 {
+    let request = |address, command, data| Request {
+        preamble: 5,
+        revision: 7,
+        long_address: true,
+        address,
+        command,
+        data,
+    };
+    let request = match tick[0] % 32 {
+        1 => Some(request(2, 3, &[][..])),
+        2 => Some(request(0, 11, &[0; 6][..])),
+        _ => None,
+    };
+    master.tick((tick[0] / 32, tick[1]), request);
+    number(&master.results)
+}
+
+#[inline(always)]
+fn device_tick(device: &mut Device, tick: &[u8]) -> u8 {
+    let given = Given {
+        call: tick[0] % 32,
+        command: 3,
+        data: &[0, 0],
+    };
+    device.tick((tick[0] / 32, tick[1]), given);
+    number(&device.results)
+}
+
+fn over(recording: &[u8], events: &mut [u8], mut number: impl FnMut(&[u8]) -> u8) -> usize {
+    let ticks = recording.chunks_exact(2);
+    let taken = ticks.len().min(events.len());
+    for (tick, event) in ticks.zip(events) {
+        *event = number(tick);
+    }
+    taken
+}
+
+pub fn master(recording: &[u8], events: &mut [u8]) -> usize {
+    let mut master = primary();
+    over(recording, events, |tick| master_tick(&mut master, tick))
+}
+
+pub fn device(recording: &[u8], events: &mut [u8]) -> usize {
+    let mut device = device_2();
+    over(recording, events, |tick| device_tick(&mut device, tick))
+}
