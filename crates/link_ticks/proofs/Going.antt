@@ -7,7 +7,7 @@ use borrow.Author.Tests.{ltb-false, ltb-true}
 use mathlib.Core.Bool.{Bool, true, false}
 use mathlib.Core.List.{List, [], _∷_, _++_, append-nil, append-assoc}
 use mathlib.Core.Path.{_≡_, refl, sym, ap, subst, _∙_}
-use lib.ListN.{length, drop, getD, set, replicate, length-append, length-set, length-drop, length-replicate, getD-replicate, drop-of-length-le}
+use lib.ListN.{length, drop, getD, set, replicate, length-append, length-set, length-replicate, getD-replicate, drop-of-length-le}
 use lib.Seq.{drop-cons, set-at}
 use Rattle.base.specs.Choice.{if_then_else_, _<?_, _=?_}
 use Rattle.base.proofs.Choices.{true-false, if-is-true, if-is-false, went-then, went-else}
@@ -468,18 +468,6 @@ module _ (put : List ℕ) (most : ℕ) (ms-calls : List MasterCall) (ds-calls : 
   masters-first a b t x d n v w =
       masters-none (b .line) put (masterCallAt t ms-calls) (record { masters = b .masters; rows = d .rows; row = d .row; dids = b .masters-did; told = d .told; line = d .line })
       (v .two) (w .frames-eight) (w .bytes-eight) (w .row-eight) (v .dids-two) (λ j h. w .row-left j 256 (omega (arith, h)) ∙ w .blank j (omega (arith, h)))
-
-  -- the rows of `sent` stay as many
-  pub sent-length : (a b : Stand) (t : ℕ) → Going a b t → length (b .sent) ≡ 64
-  sent-length a b t v =
-      ap length (v .sent-is)
-      ∙ length-append (codesOf (heres (a .slots)) (v .steps)) (drop t (a .sent))
-      ∙ (λ i. (codes-length (heres (a .slots)) (v .steps) ∙ v .count-is) i + length-drop t (a .sent) i)
-      ∙ ap (λ (n : ℕ). t + (n - t)) (v .sent-all)
-      ∙ whole
-    where
-      whole : t + (64 - t) ≡ 64
-      whole = omega (arith, v .within)
 
   -- one tick less is left
   pub fewer : (t : ℕ) (told g : Bool) → g ≡ goesOn t most told → g ≡ true → 64 - (t + 1) < 64 - t
