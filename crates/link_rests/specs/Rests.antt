@@ -33,10 +33,10 @@ onlyCounts Hears = false
 onlyCounts Acts = false
 
 abbrev pub deviceRests : Device → Bool
-deviceRests d = onlyCounts (deviceWay d Silence DeviceHost.DeviceHostCall.Nothing false false)
+deviceRests d = onlyCounts (deviceWay d Silence DeviceHost.DeviceHostCall.Nothing false false (d .receiver))
 
 abbrev pub masterRests : Master → Bool
-masterRests m = onlyCounts (masterWay m Silence MasterHost.MasterHostCall.Nothing false false)
+masterRests m = onlyCounts (masterWay m Silence MasterHost.MasterHostCall.Nothing false false (m .receiver))
 
 -- where no device is here, nothing changes
 abbrev pub slotRests : Slot → Bool

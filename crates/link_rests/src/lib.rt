@@ -29,14 +29,16 @@ fn device_rests(d: Device) -> bool
     ensures { λ r. ⌜ r ≡ deviceRests d ⌝ }
 {
     let none = parties::no_device_call();
-    only_counts(parties::device_way(d, Heard::Silence, none, false, false))
+    let own = d.receiver;
+    only_counts(parties::device_way(d, Heard::Silence, none, false, false, own))
 }
 
 fn master_rests(m: Master) -> bool
     ensures { λ r. ⌜ r ≡ masterRests m ⌝ }
 {
     let none = parties::no_master_call();
-    only_counts(parties::master_way(m, Heard::Silence, none, false, false))
+    let own = m.receiver;
+    only_counts(parties::master_way(m, Heard::Silence, none, false, false, own))
 }
 
 fn slot_rests(s: Slot) -> bool

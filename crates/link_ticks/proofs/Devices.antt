@@ -304,20 +304,20 @@ module _ (heard : Heard) (put : List ℕ) (call : ℕ → DeviceCall) where
       as-called : (c : DeviceCall) → c ≡ call (n - 1) → deviceTick 255 lent heard (deviceCallOf put c) ≡ stepAt (b .rows) (n - 1) this
       as-called c e = ap (λ (q : DeviceCall). deviceTick 255 lent heard (deviceCallOf put q)) e
 
-      pub device-counted : (w : Way) (e : Slot) (follows hears : Bool) → w ≡ deviceWay this heard (c .call) follows hears → w ≡ Counts → e ≡ inSlot (countedDevice this)
+      pub device-counted : (w : Way) (e : Slot) (follows hears : Bool) (reader : Receiver) → w ≡ deviceWay this heard (c .call) follows hears reader → w ≡ Counts → e ≡ inSlot (countedDevice this)
           → Ticking a (record { slots = set (b .slots) (n - 1) e; rows = b .rows; row = b .row; dids = b .dids; told = b .told; line = b .line }) (n - 1)
-      device-counted w e follows hears p q r =
+      device-counted w e follows hears reader p q r =
           subst (λ (s : Slot). Ticking a (record { slots = set (b .slots) (n - 1) s; rows = b .rows; row = b .row; dids = b .dids; told = b .told; line = b .line }) (n - 1)) (sym r)
-          (still a b (n - 1) d at-last k (inSlot (countedDevice this)) refl (device-counts lent heard (c .call) (dataOf (c .part) put) follows hears (sym p ∙ q) ∙ as-called c own))
+          (still a b (n - 1) d at-last k (inSlot (countedDevice this)) refl (device-counts lent heard (c .call) (dataOf (c .part) put) follows hears reader (sym p ∙ q) ∙ as-called c own))
 
-      pub device-heard : (w : Way) (e : Slot) (r : Receiver) (y : List ℕ) (follows hears : Bool) → w ≡ deviceWay this heard (c .call) follows hears → w ≡ Hears
-          → (follows ≡ true → hears ≡ true → taken (this .receiver) heard ≡ R.tells r Nothing)
+      pub device-heard : (w : Way) (e : Slot) (r : Receiver) (y : List ℕ) (follows hears : Bool) (reader : Receiver) → w ≡ deviceWay this heard (c .call) follows hears reader → w ≡ Hears
+          → (follows ≡ true → this .receiver ≡ reader) → (hears ≡ true → taken reader heard ≡ R.tells r Nothing)
           → y ≡ takenData (this .receiver) heard (getD (b .rows .bytes) (n - 1 + 2) []) → e ≡ inSlot (heardDevice this r)
           → Ticking a (record { slots = set (b .slots) (n - 1) e; rows = rowsOf (b .rows .frames) (set (b .rows .bytes) (n - 1 + 2) y) (b .rows .contents); row = b .row; dids = b .dids; told = b .told; line = b .line }) (n - 1)
-      device-heard w e r y follows hears p q step l f =
+      device-heard w e r y follows hears reader p q has step l f =
           subst (λ (s : Slot). Ticking a (record { slots = set (b .slots) (n - 1) s; rows = rowsOf (b .rows .frames) (set (b .rows .bytes) (n - 1 + 2) y) (b .rows .contents); row = b .row; dids = b .dids; told = b .told; line = b .line }) (n - 1)) (sym f)
           (quiet a b (n - 1) d at-last k (inSlot (heardDevice this r)) refl y
-          (ap (λ (xs : List ℕ). quietDevice (withDevice lent (heardDevice this r) xs)) l ∙ device-hears lent heard (c .call) (dataOf (c .part) put) follows hears r (sym p ∙ q) step ∙ as-called c own))
+          (ap (λ (xs : List ℕ). quietDevice (withDevice lent (heardDevice this r) xs)) l ∙ device-hears lent heard (c .call) (dataOf (c .part) put) follows hears reader r (sym p ∙ q) has step ∙ as-called c own))
 
       pub device-acted : (r : DeviceTicked) (f y z : List ℕ) (e : Slot) (x : ℕ) (q : DeviceDid) (u : DeviceDid) (told : Bool) (line : Heard)
           → D.DeviceTickIs this heard (c .call) (dataOf (c .part) put) (getD (b .rows .frames) (n - 1 + 2) []) (getD (b .rows .bytes) (n - 1 + 2) []) (getD (b .rows .contents) (n - 1) []) r f y z

@@ -237,21 +237,21 @@ module _ (heard : Heard) (put : List ℕ) (call : ℕ → MasterCall) where
     same : getD (b .masters) (n - 1) d ≡ getD (b .masters) (n - 1) anyMaster
     same = any-default (b .masters) (n - 1) d anyMaster (omega (arith, v .two, v .within, h))
 
-    pub master-counted : (w : Way) (e : Master) (follows hears : Bool) → w ≡ masterWay (getD (b .masters) (n - 1) d) heard (c .call) follows hears → w ≡ Counts → e ≡ countedMaster (getD (b .masters) (n - 1) d)
+    pub master-counted : (w : Way) (e : Master) (follows hears : Bool) (reader : Receiver) → w ≡ masterWay (getD (b .masters) (n - 1) d) heard (c .call) follows hears reader → w ≡ Counts → e ≡ countedMaster (getD (b .masters) (n - 1) d)
         → MastersTicking a (record { masters = set (b .masters) (n - 1) e; rows = b .rows; row = b .row; dids = b .dids; told = b .told; line = b .line }) (n - 1)
-    master-counted w e follows hears p q r =
+    master-counted w e follows hears reader p q r =
         still a b (n - 1) at-last e
         (ap (λ (m : Master). quietMaster (withMaster (lent (getD (b .masters) (n - 1) d)) m (getD (b .rows .bytes) (n - 1) []))) r
-        ∙ master-counts (lent (getD (b .masters) (n - 1) d)) heard (c .call) (dataOf (c .part) put) follows hears (sym p ∙ q) ∙ as-called _ same)
+        ∙ master-counts (lent (getD (b .masters) (n - 1) d)) heard (c .call) (dataOf (c .part) put) follows hears reader (sym p ∙ q) ∙ as-called _ same)
 
-    pub master-heard : (w : Way) (e : Master) (r : Receiver) (y : List ℕ) (follows hears : Bool) → w ≡ masterWay (getD (b .masters) (n - 1) d) heard (c .call) follows hears → w ≡ Hears
-        → (follows ≡ true → hears ≡ true → taken (getD (b .masters) (n - 1) d .receiver) heard ≡ R.tells r Nothing)
+    pub master-heard : (w : Way) (e : Master) (r : Receiver) (y : List ℕ) (follows hears : Bool) (reader : Receiver) → w ≡ masterWay (getD (b .masters) (n - 1) d) heard (c .call) follows hears reader → w ≡ Hears
+        → (follows ≡ true → getD (b .masters) (n - 1) d .receiver ≡ reader) → (hears ≡ true → taken reader heard ≡ R.tells r Nothing)
         → y ≡ takenData (getD (b .masters) (n - 1) d .receiver) heard (getD (b .rows .bytes) (n - 1) []) → e ≡ heardMaster (getD (b .masters) (n - 1) d) r
         → MastersTicking a (record { masters = set (b .masters) (n - 1) e; rows = rowsOf (b .rows .frames) (set (b .rows .bytes) (n - 1) y) (b .rows .contents); row = b .row; dids = b .dids; told = b .told; line = b .line }) (n - 1)
-    master-heard w e r y follows hears p q step l f =
+    master-heard w e r y follows hears reader p q has step l f =
         quiet a b (n - 1) at-last e y
         ((λ i. quietMaster (withMaster (lent (getD (b .masters) (n - 1) d)) (f i) (l i)))
-        ∙ master-hears (lent (getD (b .masters) (n - 1) d)) heard (c .call) (dataOf (c .part) put) follows hears r (sym p ∙ q) step ∙ as-called _ same)
+        ∙ master-hears (lent (getD (b .masters) (n - 1) d)) heard (c .call) (dataOf (c .part) put) follows hears reader r (sym p ∙ q) has step ∙ as-called _ same)
 
     pub master-acted : (r : MasterTicked) (f y : List ℕ) (x : ℕ) (q : MasterDid) (u : MasterDid) (told : Bool) (line : Heard)
         → M.MasterTickIs (getD (b .masters) (n - 1) d) heard (c .call) (dataOf (c .part) put) (getD (b .rows .frames) (n - 1) []) (getD (b .rows .bytes) (n - 1) []) r f y

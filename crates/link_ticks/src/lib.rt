@@ -176,7 +176,7 @@ fn rows_each(frames: &[[u8; 284]], bytes: &[[u8; 255]], contents: &[[u8; 255]], 
     ensures { λ _. ⌜ (length (before frames) ≡ 8) × (length (before bytes) ≡ 8) × (length (before contents) ≡ 6) × (length (before sent) ≡ 64) ⌝ }
 {}
 
-// The ticks, with link and calls taken apart. In each the devices tick from the last to the first, then the masters, and the line joins what they send in that order. `reader` is the line's, and ms_follow and ds_follow say whose reader it is.
+// The ticks, with link and calls taken apart. In each the devices tick from the last to the first, then the masters, and the line joins what they send in that order. `reader` is the line's, and ms_follow and ds_follow say who is known to have it: who heard in the last tick as it did.
 fn ticks_of(
     masters: [Master; 2],
     devices: [Slot; 6],
@@ -220,14 +220,13 @@ fn ticks_of(
             if slot.here {
                 let d = slot.device;
                 let call = device_call(calls[i], t);
-                let way = parties::device_way(d, line, call, ds_follow[i], quiet);
+                let way = parties::device_way(d, line, call, ds_follow[i], quiet, reader);
                 match way {
                     Way::Counts => {
                         let at = ds[i];
                         let same = at.device;
-                        let e = parties::counted_device(same);
-                        ds[i] = e;
-                        ds_follow[i] = parties::device_follows(e, stepped);
+                        ds[i] = parties::counted_device(same);
+                        ds_follow[i] = false;
                     }
                     Way::Hears => {
                         let at = ds[i];
@@ -235,6 +234,7 @@ fn ticks_of(
                         let own = same.receiver;
                         parties::keep(own, line, &mut bytes[i + 2]);
                         ds[i] = parties::heard_device(same, stepped);
+                        ds_follow[i] = true;
                     }
                     Way::Acts => {
                         let at = ds[i];
@@ -253,9 +253,8 @@ fn ticks_of(
                         let c = s.sent;
                         let x = s.told;
                         let a = s.result;
-                        let f = in_slot(e);
-                        ds[i] = f;
-                        ds_follow[i] = parties::device_follows(f, stepped);
+                        ds[i] = in_slot(e);
+                        ds_follow[i] = false;
                         row[i + 2] = code(c);
                         ds_did[i] = device_did(did, x, a);
                         told = device_tells(x, told);
@@ -270,19 +269,19 @@ fn ticks_of(
             k = i;
             let m = ms[i];
             let call = master_call(requests[i], t);
-            let way = parties::master_way(m, line, call, ms_follow[i], quiet);
+            let way = parties::master_way(m, line, call, ms_follow[i], quiet, reader);
             match way {
                 Way::Counts => {
                     let same = ms[i];
-                    let e = parties::counted_master(same);
-                    ms[i] = e;
-                    ms_follow[i] = parties::master_follows(e, stepped);
+                    ms[i] = parties::counted_master(same);
+                    ms_follow[i] = false;
                 }
                 Way::Hears => {
                     let same = ms[i];
                     let own = same.receiver;
                     parties::keep(own, line, &mut bytes[i]);
                     ms[i] = parties::heard_master(same, stepped);
+                    ms_follow[i] = true;
                 }
                 Way::Acts => {
                     let same = ms[i];
@@ -300,7 +299,7 @@ fn ticks_of(
                     let x = s.told;
                     let a = s.result;
                     ms[i] = e;
-                    ms_follow[i] = parties::master_follows(e, stepped);
+                    ms_follow[i] = false;
                     row[i] = code(c);
                     ms_did[i] = master_did(did, x, a);
                     told = master_tells(x, told);

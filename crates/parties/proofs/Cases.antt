@@ -26,6 +26,7 @@ use Rattle.device_tick.specs.Tick as D
 use Rattle.device_tick.specs.declared.DeviceTicked.{DeviceTicked}
 use Rattle.device_tick.specs.declared.DeviceHostCall as DeviceHost
 use Rattle.parties.specs.Part.{dataOf, PartIs}
+use Rattle.parties.specs.Readers.{sameReader}
 use Rattle.parties.specs.Stands.{noPart, noMasterCall, noDeviceCall}
 use Rattle.parties.specs.Ways.{hearsIf, countsIf, callsDevice, deviceCounts, deviceHears, deviceWay, countedDevice, inSlot, callsMaster, masterCounts, masterCharacter, masterHears, masterWay, countedMaster, heardMaster}
 use Rattle.parties.specs.declared.Bounds.{Bounds}
@@ -63,34 +64,34 @@ pub ruleset cases = (refl, joins-sent, joins-heard)
 
 -- ---- the ways
 
-module _ (follows quiet : Bool) (heard : Heard) (w : Way) where
+module _ (follows quiet : Bool) (reader : Receiver) (heard : Heard) (w : Way) where
   module _ (d : Device) where
-    pub device-way-is : (call : DeviceHost.DeviceHostCall) → w ≡ (if d .deaf then Acts else if callsDevice call then Acts else deviceHears d heard follows quiet) → w ≡ deviceWay d heard call follows quiet
+    pub device-way-is : (call : DeviceHost.DeviceHostCall) → w ≡ (if d .deaf then Acts else if callsDevice call then Acts else deviceHears d heard follows quiet reader) → w ≡ deviceWay d heard call follows quiet reader
     unfolding deviceWay
     device-way-is call e = e
 
-    pub device-silence : (b : Bool) → heard ≡ Silence → b ≡ deviceCounts d → w ≡ countsIf b → w ≡ deviceHears d heard follows quiet
-    device-silence b e p f = f ∙ ap countsIf p ∙ ap (λ (h : Heard). deviceHears d h follows quiet) (sym e)
+    pub device-silence : (b : Bool) → heard ≡ Silence → b ≡ deviceCounts d → w ≡ countsIf b → w ≡ deviceHears d heard follows quiet reader
+    device-silence b e p f = f ∙ ap countsIf p ∙ ap (λ (h : Heard). deviceHears d h follows quiet reader) (sym e)
 
-    pub device-character : (c : ℕ) → heard ≡ Character c → w ≡ hearsIf follows quiet → w ≡ deviceHears d heard follows quiet
-    device-character c e f = f ∙ ap (λ (h : Heard). deviceHears d h follows quiet) (sym e)
+    pub device-character : (c : ℕ) → heard ≡ Character c → w ≡ hearsIf follows quiet (sameReader (d .receiver) reader) → w ≡ deviceHears d heard follows quiet reader
+    device-character c e f = f ∙ ap (λ (h : Heard). deviceHears d h follows quiet reader) (sym e)
 
-    pub device-damage : (c : ℕ) (kind : Damage) → heard ≡ Heard.Damaged c kind → w ≡ Acts → w ≡ deviceHears d heard follows quiet
-    device-damage c kind e f = f ∙ ap (λ (h : Heard). deviceHears d h follows quiet) (sym e)
+    pub device-damage : (c : ℕ) (kind : Damage) → heard ≡ Heard.Damaged c kind → w ≡ Acts → w ≡ deviceHears d heard follows quiet reader
+    device-damage c kind e f = f ∙ ap (λ (h : Heard). deviceHears d h follows quiet reader) (sym e)
 
   module _ (m : Master) where
-    pub master-way-is : (call : MasterHost.MasterHostCall) → w ≡ (if m .deaf then Acts else if callsMaster call then Acts else masterHears m heard follows quiet) → w ≡ masterWay m heard call follows quiet
+    pub master-way-is : (call : MasterHost.MasterHostCall) → w ≡ (if m .deaf then Acts else if callsMaster call then Acts else masterHears m heard follows quiet reader) → w ≡ masterWay m heard call follows quiet reader
     unfolding masterWay
     master-way-is call e = e
 
-    pub master-silence : (b : Bool) → heard ≡ Silence → b ≡ masterCounts m → w ≡ countsIf b → w ≡ masterHears m heard follows quiet
-    master-silence b e p f = f ∙ ap countsIf p ∙ ap (λ (h : Heard). masterHears m h follows quiet) (sym e)
+    pub master-silence : (b : Bool) → heard ≡ Silence → b ≡ masterCounts m → w ≡ countsIf b → w ≡ masterHears m heard follows quiet reader
+    master-silence b e p f = f ∙ ap countsIf p ∙ ap (λ (h : Heard). masterHears m h follows quiet reader) (sym e)
 
-    pub master-character : (c : ℕ) → heard ≡ Character c → w ≡ masterCharacter m follows quiet → w ≡ masterHears m heard follows quiet
-    master-character c e f = f ∙ ap (λ (h : Heard). masterHears m h follows quiet) (sym e)
+    pub master-character : (c : ℕ) → heard ≡ Character c → w ≡ masterCharacter m follows quiet reader → w ≡ masterHears m heard follows quiet reader
+    master-character c e f = f ∙ ap (λ (h : Heard). masterHears m h follows quiet reader) (sym e)
 
-    pub master-damage : (c : ℕ) (kind : Damage) → heard ≡ Heard.Damaged c kind → w ≡ Acts → w ≡ masterHears m heard follows quiet
-    master-damage c kind e f = f ∙ ap (λ (h : Heard). masterHears m h follows quiet) (sym e)
+    pub master-damage : (c : ℕ) (kind : Damage) → heard ≡ Heard.Damaged c kind → w ≡ Acts → w ≡ masterHears m heard follows quiet reader
+    master-damage c kind e f = f ∙ ap (λ (h : Heard). masterHears m h follows quiet reader) (sym e)
 
 pub ruleset ways = (refl, device-way-is, device-silence, device-character, device-damage, master-way-is, master-silence, master-character, master-damage)
 

@@ -34,10 +34,12 @@ use Rattle.master.specs.Tick as MT
 use Rattle.master.specs.declared.MasterHostCall as MasterHost
 use Rattle.device_tick.specs.Tick as DT
 use Rattle.device_tick.specs.declared.DeviceHostCall as DeviceHost
+use Rattle.parties.specs.Readers.{sameReader}
 use Rattle.parties.specs.Ways.{hearsIf, countsIf, callsDevice, isListening, deviceCounts, deviceHears, deviceWay, countedDevice, heardDevice}
 use Rattle.parties.specs.Ways.{callsMaster, isFree, isSending, masterCounts, masterHears, masterWay, countedMaster, heardMaster}
 use Rattle.parties.specs.declared.Way.{Way}
 use Rattle.parties.specs.declared.Way.the-variants.{Counts, Hears, Acts}
+use Rattle.parties.proofs.Readers.{readers-equal}
 
 -- ---- what a way tells
 
@@ -58,22 +60,25 @@ hears-counts : Hears ≡ Counts → ⊥
 unfolding number
 hears-counts e = let k : _≡_ {A = ℕ} 1 0 = ap number e in omega arith
 
-character-counts : (follows quiet : Bool) → hearsIf follows quiet ≡ Counts → ⊥
+character-counts : (follows quiet same : Bool) → hearsIf follows quiet same ≡ Counts → ⊥
 unfolding if_then_else_
-character-counts true true e = hears-counts e
-character-counts false true e = acts-counts e
-character-counts follows false e = acts-counts e
+character-counts true true same e = hears-counts e
+character-counts false true true e = hears-counts e
+character-counts false true false e = acts-counts e
+character-counts follows false same e = acts-counts e
 
 silence-hears : (b : Bool) → countsIf b ≡ Hears → ⊥
 unfolding if_then_else_
 silence-hears true e = hears-counts (sym e)
 silence-hears false e = acts-hears e
 
--- where the way of a character is to hear
-character-hears : (follows quiet : Bool) → hearsIf follows quiet ≡ Hears → (follows ≡ true) × (quiet ≡ true)
-character-hears follows quiet e =
-    let a = went-then quiet (if follows then Hears else Acts) Acts Hears e acts-hears in
-    (went-then follows Hears Acts Hears (a .1) acts-hears .0, a .0)
+-- where the way of a character is to hear: what the flag tells, or the readers compared
+character-hears : (follows quiet same : Bool) (P : Type 0) → (follows ≡ true → P) → (same ≡ true → P) → hearsIf follows quiet same ≡ Hears → P × (quiet ≡ true)
+unfolding if_then_else_
+character-hears true true same P f g e = (f refl, refl)
+character-hears false true true P f g e = (g refl, refl)
+character-hears false true false P f g e = absurd (acts-hears e)
+character-hears follows false same P f g e = absurd (acts-hears e)
 
 not-first : (s t : Bool) → (if s then false else t) ≡ true → (s ≡ false) × (t ≡ true)
 not-first s t e = went-else s false t true e (λ q. true-false (sym q))
@@ -219,47 +224,47 @@ module _ (x : DeviceSide) (deaf : x .device .deaf ≡ false) where
       ∙ whole
       ∙ ap (λ (y : Device). deviceTick 255 (withDevice x y (x .bytes)) (Character c) no-call) (sym e)
 
-module _ (x : DeviceSide) (heard : Heard) (call : DeviceHost.DeviceHostCall) (put : List ℕ) (follows quiet : Bool) where
+module _ (x : DeviceSide) (heard : Heard) (call : DeviceHost.DeviceHostCall) (put : List ℕ) (follows quiet : Bool) (reader : Receiver) where
   -- what is left of a way that is not to act
-  open-way : (w : Way) → deviceWay (x .device) heard call follows quiet ≡ w → (Acts ≡ w → ⊥) → (x .device .deaf ≡ false) × ((callsDevice call ≡ false) × (deviceHears (x .device) heard follows quiet ≡ w))
+  open-way : (w : Way) → deviceWay (x .device) heard call follows quiet reader ≡ w → (Acts ≡ w → ⊥) → (x .device .deaf ≡ false) × ((callsDevice call ≡ false) × (deviceHears (x .device) heard follows quiet reader ≡ w))
   unfolding deviceWay
   open-way w e f =
       let a = went-else (x .device .deaf) Acts _ w e f in
       let b = went-else (callsDevice call) Acts _ w (a .1) f in
       (a .0, (b .0, b .1))
 
-  pub device-counts : deviceWay (x .device) heard call follows quiet ≡ Counts → quietDevice (withDevice x (countedDevice (x .device)) (x .bytes)) ≡ deviceTick 255 x heard (DT.callOf call put)
+  pub device-counts : deviceWay (x .device) heard call follows quiet reader ≡ Counts → quietDevice (withDevice x (countedDevice (x .device)) (x .bytes)) ≡ deviceTick 255 x heard (DT.callOf call put)
   device-counts e =
       let o = open-way Counts e acts-counts in
       by call heard (o .1 .0) (o .1 .1)
     where
-      by : (c : DeviceHost.DeviceHostCall) (h : Heard) → callsDevice c ≡ false → deviceHears (x .device) h follows quiet ≡ Counts
+      by : (c : DeviceHost.DeviceHostCall) (h : Heard) → callsDevice c ≡ false → deviceHears (x .device) h follows quiet reader ≡ Counts
           → quietDevice (withDevice x (countedDevice (x .device)) (x .bytes)) ≡ deviceTick 255 x h (DT.callOf c put)
       by DeviceHost.DeviceHostCall.Nothing Silence k l =
           let o = open-way Counts e acts-counts in
           let a = not-first (x .device .burst) (if insideFrame (x .device .receiver .place) then false else isListening (x .device .turn)) (went-then (deviceCounts (x .device)) Counts Acts Counts l acts-counts .0) in
           let b = not-first (insideFrame (x .device .receiver .place)) (isListening (x .device .turn)) (a .1) in
           counts-at x (o .0) (x .device .receiver .place) (b .0) refl (a .0) (listening-is (x .device .turn) (b .1))
-      by DeviceHost.DeviceHostCall.Nothing (Character c) k l = absurd (character-counts follows quiet l)
+      by DeviceHost.DeviceHostCall.Nothing (Character c) k l = absurd (character-counts follows quiet (sameReader (x .device .receiver) reader) l)
       by DeviceHost.DeviceHostCall.Nothing (Heard.Damaged c kind) k l = absurd (acts-counts l)
       by (DeviceHost.DeviceHostCall.Answers w) h k l = absurd (true-false k)
       by (DeviceHost.DeviceHostCall.Content n) h k l = absurd (true-false k)
 
-  pub device-hears : (r : Receiver) → deviceWay (x .device) heard call follows quiet ≡ Hears
-      → (follows ≡ true → quiet ≡ true → taken (x .device .receiver) heard ≡ R.tells r Nothing)
+  pub device-hears : (r : Receiver) → deviceWay (x .device) heard call follows quiet reader ≡ Hears
+      → (follows ≡ true → x .device .receiver ≡ reader) → (quiet ≡ true → taken reader heard ≡ R.tells r Nothing)
       → quietDevice (withDevice x (heardDevice (x .device) r) (takenData (x .device .receiver) heard (x .bytes))) ≡ deviceTick 255 x heard (DT.callOf call put)
-  device-hears r e step =
+  device-hears r e same step =
       let o = open-way Hears e acts-hears in
       by call heard (o .1 .0) (o .1 .1) step
     where
-      by : (c : DeviceHost.DeviceHostCall) (h : Heard) → callsDevice c ≡ false → deviceHears (x .device) h follows quiet ≡ Hears
-          → (follows ≡ true → quiet ≡ true → taken (x .device .receiver) h ≡ R.tells r Nothing)
+      by : (c : DeviceHost.DeviceHostCall) (h : Heard) → callsDevice c ≡ false → deviceHears (x .device) h follows quiet reader ≡ Hears
+          → (quiet ≡ true → taken reader h ≡ R.tells r Nothing)
           → quietDevice (withDevice x (heardDevice (x .device) r) (takenData (x .device .receiver) h (x .bytes))) ≡ deviceTick 255 x h (DT.callOf c put)
       by DeviceHost.DeviceHostCall.Nothing Silence k l f = absurd (silence-hears (deviceCounts (x .device)) l)
       by DeviceHost.DeviceHostCall.Nothing (Character c) k l f =
           let o = open-way Hears e acts-hears in
-          let both = character-hears follows quiet l in
-          hears-at x (o .0) c r (f (both .0) (both .1))
+          let both = character-hears follows quiet (sameReader (x .device .receiver) reader) (x .device .receiver ≡ reader) same (readers-equal (x .device .receiver) reader) l in
+          hears-at x (o .0) c r (ap (λ (q : Receiver). taken q (Character c)) (both .0) ∙ f (both .1))
       by DeviceHost.DeviceHostCall.Nothing (Heard.Damaged c kind) k l f = absurd (acts-hears l)
       by (DeviceHost.DeviceHostCall.Answers w) h k l f = absurd (true-false k)
       by (DeviceHost.DeviceHostCall.Content n) h k l f = absurd (true-false k)
@@ -376,20 +381,20 @@ module _ (x : MasterSide) (deaf : x .master .deaf ≡ false) where
       ∙ whole
       ∙ ap (λ (y : Master). masterTick 255 (withMaster x y (x .bytes)) (Character c) no-request) (sym e)
 
-module _ (x : MasterSide) (heard : Heard) (call : MasterHost.MasterHostCall) (put : List ℕ) (follows quiet : Bool) where
-  opened-way : (w : Way) → masterWay (x .master) heard call follows quiet ≡ w → (Acts ≡ w → ⊥) → (x .master .deaf ≡ false) × ((callsMaster call ≡ false) × (masterHears (x .master) heard follows quiet ≡ w))
+module _ (x : MasterSide) (heard : Heard) (call : MasterHost.MasterHostCall) (put : List ℕ) (follows quiet : Bool) (reader : Receiver) where
+  opened-way : (w : Way) → masterWay (x .master) heard call follows quiet reader ≡ w → (Acts ≡ w → ⊥) → (x .master .deaf ≡ false) × ((callsMaster call ≡ false) × (masterHears (x .master) heard follows quiet reader ≡ w))
   unfolding masterWay
   opened-way w e f =
       let a = went-else (x .master .deaf) Acts _ w e f in
       let b = went-else (callsMaster call) Acts _ w (a .1) f in
       (a .0, (b .0, b .1))
 
-  pub master-counts : masterWay (x .master) heard call follows quiet ≡ Counts → quietMaster (withMaster x (countedMaster (x .master)) (x .bytes)) ≡ masterTick 255 x heard (MT.callOf call put)
+  pub master-counts : masterWay (x .master) heard call follows quiet reader ≡ Counts → quietMaster (withMaster x (countedMaster (x .master)) (x .bytes)) ≡ masterTick 255 x heard (MT.callOf call put)
   master-counts e =
       let o = opened-way Counts e acts-counts in
       by call heard (o .1 .0) (o .1 .1)
     where
-      by : (c : MasterHost.MasterHostCall) (h : Heard) → callsMaster c ≡ false → masterHears (x .master) h follows quiet ≡ Counts
+      by : (c : MasterHost.MasterHostCall) (h : Heard) → callsMaster c ≡ false → masterHears (x .master) h follows quiet reader ≡ Counts
           → quietMaster (withMaster x (countedMaster (x .master)) (x .bytes)) ≡ masterTick 255 x h (MT.callOf c put)
       by MasterHost.MasterHostCall.Nothing Silence k l =
           let o = opened-way Counts e acts-counts in
@@ -397,25 +402,25 @@ module _ (x : MasterSide) (heard : Heard) (call : MasterHost.MasterHostCall) (pu
           let b = not-first (insideFrame (x .master .receiver .place)) (isFree (x .master .message .stage)) (a .1) in
           clear-at x (o .0) (x .master .receiver .place) (b .0) refl (a .0) (free-is (x .master .message .stage) (b .1))
       by MasterHost.MasterHostCall.Nothing (Character c) k l =
-          absurd (character-counts follows quiet (went-else (isSending (x .master .message .stage)) Acts (hearsIf follows quiet) Counts l acts-counts .1))
+          absurd (character-counts follows quiet (sameReader (x .master .receiver) reader) (went-else (isSending (x .master .message .stage)) Acts _ Counts l acts-counts .1))
       by MasterHost.MasterHostCall.Nothing (Heard.Damaged c kind) k l = absurd (acts-counts l)
       by (MasterHost.MasterHostCall.Requests q) h k l = absurd (true-false k)
 
-  pub master-hears : (r : Receiver) → masterWay (x .master) heard call follows quiet ≡ Hears
-      → (follows ≡ true → quiet ≡ true → taken (x .master .receiver) heard ≡ R.tells r Nothing)
+  pub master-hears : (r : Receiver) → masterWay (x .master) heard call follows quiet reader ≡ Hears
+      → (follows ≡ true → x .master .receiver ≡ reader) → (quiet ≡ true → taken reader heard ≡ R.tells r Nothing)
       → quietMaster (withMaster x (heardMaster (x .master) r) (takenData (x .master .receiver) heard (x .bytes))) ≡ masterTick 255 x heard (MT.callOf call put)
-  master-hears r e step =
+  master-hears r e same step =
       let o = opened-way Hears e acts-hears in
       by call heard (o .1 .0) (o .1 .1) step
     where
-      by : (c : MasterHost.MasterHostCall) (h : Heard) → callsMaster c ≡ false → masterHears (x .master) h follows quiet ≡ Hears
-          → (follows ≡ true → quiet ≡ true → taken (x .master .receiver) h ≡ R.tells r Nothing)
+      by : (c : MasterHost.MasterHostCall) (h : Heard) → callsMaster c ≡ false → masterHears (x .master) h follows quiet reader ≡ Hears
+          → (quiet ≡ true → taken reader h ≡ R.tells r Nothing)
           → quietMaster (withMaster x (heardMaster (x .master) r) (takenData (x .master .receiver) h (x .bytes))) ≡ masterTick 255 x h (MT.callOf c put)
       by MasterHost.MasterHostCall.Nothing Silence k l f = absurd (silence-hears (masterCounts (x .master)) l)
       by MasterHost.MasterHostCall.Nothing (Character c) k l f =
           let o = opened-way Hears e acts-hears in
-          let s = went-else (isSending (x .master .message .stage)) Acts (hearsIf follows quiet) Hears l acts-hears in
-          let both = character-hears follows quiet (s .1) in
-          heard-at x (o .0) c r (s .0) (f (both .0) (both .1))
+          let s = went-else (isSending (x .master .message .stage)) Acts _ Hears l acts-hears in
+          let both = character-hears follows quiet (sameReader (x .master .receiver) reader) (x .master .receiver ≡ reader) same (readers-equal (x .master .receiver) reader) (s .1) in
+          heard-at x (o .0) c r (s .0) (ap (λ (q : Receiver). taken q (Character c)) (both .0) ∙ f (both .1))
       by MasterHost.MasterHostCall.Nothing (Heard.Damaged c kind) k l f = absurd (acts-hears l)
       by (MasterHost.MasterHostCall.Requests q) h k l f = absurd (true-false k)

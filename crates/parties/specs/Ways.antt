@@ -19,13 +19,14 @@ use Rattle.turns.specs.declared.Turn.the-variants.{Listens, Asked, AnswerWaits,
 use Rattle.turns.specs.declared.Wish.the-variants.{Same}
 use Rattle.master.specs.declared.MasterHostCall as MasterHost
 use Rattle.device_tick.specs.declared.DeviceHostCall as DeviceHost
+use Rattle.parties.specs.Readers.{sameReader}
 use Rattle.parties.specs.declared.Slot.{Slot}
 use Rattle.parties.specs.declared.Way.{Way}
 use Rattle.parties.specs.declared.Way.the-variants.{Counts, Hears, Acts}
 
--- a character: the line's reader finds nothing, and the party's reader is that one
-abbrev pub hearsIf : Bool → Bool → Way
-hearsIf follows quiet = if quiet then (if follows then Hears else Acts) else Acts
+-- a character: the line's reader finds nothing, and the party's reader is that one, by its flag or compared
+abbrev pub hearsIf : Bool → Bool → Bool → Way
+hearsIf follows quiet same = if quiet then (if follows then Hears else if same then Hears else Acts) else Acts
 
 abbrev pub countsIf : Bool → Way
 countsIf counts = if counts then Counts else Acts
@@ -50,13 +51,13 @@ isListening (Bursts n) = false
 abbrev pub deviceCounts : Device → Bool
 deviceCounts d = if d .burst then false else if insideFrame (d .receiver .place) then false else isListening (d .turn)
 
-abbrev pub deviceHears : Device → Heard → Bool → Bool → Way
-deviceHears d Silence follows quiet = countsIf (deviceCounts d)
-deviceHears d (Character c) follows quiet = hearsIf follows quiet
-deviceHears d (Heard.Damaged c kind) follows quiet = Acts
+abbrev pub deviceHears : Device → Heard → Bool → Bool → Receiver → Way
+deviceHears d Silence follows quiet reader = countsIf (deviceCounts d)
+deviceHears d (Character c) follows quiet reader = hearsIf follows quiet (sameReader (d .receiver) reader)
+deviceHears d (Heard.Damaged c kind) follows quiet reader = Acts
 
-unfoldable pub deviceWay : Device → Heard → DeviceHost.DeviceHostCall → Bool → Bool → Way
-deviceWay d heard call follows quiet = if d .deaf then Acts else if callsDevice call then Acts else deviceHears d heard follows quiet
+unfoldable pub deviceWay : Device → Heard → DeviceHost.DeviceHostCall → Bool → Bool → Receiver → Way
+deviceWay d heard call follows quiet reader = if d .deaf then Acts else if callsDevice call then Acts else deviceHears d heard follows quiet reader
 
 abbrev pub countedDevice : Device → Device
 countedDevice d = D.deviceWith d idle Listens (d .request) (d .wish) (d .length) (d .due - 1)
@@ -89,16 +90,16 @@ isSending (Awaiting n) = false
 abbrev pub masterCounts : Master → Bool
 masterCounts m = if m .burst then false else if insideFrame (m .receiver .place) then false else isFree (m .message .stage)
 
-abbrev pub masterCharacter : Master → Bool → Bool → Way
-masterCharacter m follows quiet = if isSending (m .message .stage) then Acts else hearsIf follows quiet
+abbrev pub masterCharacter : Master → Bool → Bool → Receiver → Way
+masterCharacter m follows quiet reader = if isSending (m .message .stage) then Acts else hearsIf follows quiet (sameReader (m .receiver) reader)
 
-abbrev pub masterHears : Master → Heard → Bool → Bool → Way
-masterHears m Silence follows quiet = countsIf (masterCounts m)
-masterHears m (Character c) follows quiet = masterCharacter m follows quiet
-masterHears m (Heard.Damaged c kind) follows quiet = Acts
+abbrev pub masterHears : Master → Heard → Bool → Bool → Receiver → Way
+masterHears m Silence follows quiet reader = countsIf (masterCounts m)
+masterHears m (Character c) follows quiet reader = masterCharacter m follows quiet reader
+masterHears m (Heard.Damaged c kind) follows quiet reader = Acts
 
-unfoldable pub masterWay : Master → Heard → MasterHost.MasterHostCall → Bool → Bool → Way
-masterWay m heard call follows quiet = if m .deaf then Acts else if callsMaster call then Acts else masterHears m heard follows quiet
+unfoldable pub masterWay : Master → Heard → MasterHost.MasterHostCall → Bool → Bool → Receiver → Way
+masterWay m heard call follows quiet reader = if m .deaf then Acts else if callsMaster call then Acts else masterHears m heard follows quiet reader
 
 abbrev pub countedMaster : Master → Master
 countedMaster m = M.masterWith m idle (m .burst) (m .noted) (countClear (m .profile) (m .timer)) (m .message)

@@ -439,28 +439,15 @@ fn same_reader(a: Receiver, b: Receiver) -> bool
     false
 }
 
-// Whether a device's reader, or a master's, is the line's.
-pub fn device_follows(s: Slot, reader: Receiver) -> bool
-    ensures { λ r. ⌜ r ≡ sameReader (s .device .receiver) reader ⌝ }
-{
-    let d = s.device;
-    let own = d.receiver;
-    same_reader(own, reader)
-}
-
-pub fn master_follows(m: Master, reader: Receiver) -> bool
-    ensures { λ r. ⌜ r ≡ sameReader (m .receiver) reader ⌝ }
-{
-    let own = m.receiver;
-    same_reader(own, reader)
-}
-
-// A character, of which the line's reader finds nothing or something, for a party whose reader is the line's or not.
-fn if_hears(follows: bool, quiet: bool) -> Way
-    ensures { λ r. ⌜ r ≡ hearsIf follows quiet ⌝ }
+// A character, of which the line's reader finds nothing or something, for a party whose reader is the line's: by its flag, or compared.
+fn if_hears(follows: bool, quiet: bool, own: Receiver, reader: Receiver) -> Way
+    ensures { λ r. ⌜ r ≡ hearsIf follows quiet (sameReader own reader) ⌝ }
 {
     if quiet {
         if follows {
+            return Way::Hears;
+        }
+        if same_reader(own, reader) {
             return Way::Hears;
         }
     }
@@ -492,9 +479,16 @@ fn device_counts(d: Device) -> bool
     is_listening(turn)
 }
 
-// How a device's tick goes, by whether its reader is the line's and whether that one finds nothing.
-pub fn device_way(d: Device, heard: Heard, call: DeviceCall, follows: bool, quiet: bool) -> Way
-    ensures { λ r. ⌜ r ≡ deviceWay d heard (call .call) follows quiet ⌝ }
+// How a device's tick goes. `reader` is the line's before the tick, `quiet` says that it finds nothing in it, and `follows` that the device is known to have it.
+pub fn device_way(
+    d: Device,
+    heard: Heard,
+    call: DeviceCall,
+    follows: bool,
+    quiet: bool,
+    reader: Receiver,
+) -> Way
+    ensures { λ r. ⌜ r ≡ deviceWay d heard (call .call) follows quiet reader ⌝ }
 {
     if d.deaf {
         return Way::Acts;
@@ -504,7 +498,10 @@ pub fn device_way(d: Device, heard: Heard, call: DeviceCall, follows: bool, quie
     }
     match heard {
         Heard::Silence => if_counts(device_counts(d)),
-        Heard::Character(_) => if_hears(follows, quiet),
+        Heard::Character(_) => {
+            let own = d.receiver;
+            if_hears(follows, quiet, own, reader)
+        }
         Heard::Damaged(_, _) => Way::Acts,
     }
 }
@@ -574,20 +571,28 @@ fn master_counts(m: Master) -> bool
     is_free(stage)
 }
 
-fn master_character(m: Master, follows: bool, quiet: bool) -> Way
-    ensures { λ r. ⌜ r ≡ masterCharacter m follows quiet ⌝ }
+fn master_character(m: Master, follows: bool, quiet: bool, reader: Receiver) -> Way
+    ensures { λ r. ⌜ r ≡ masterCharacter m follows quiet reader ⌝ }
 {
     let g = m.message;
     let stage = g.stage;
     if is_sending(stage) {
         return Way::Acts;
     }
-    if_hears(follows, quiet)
+    let own = m.receiver;
+    if_hears(follows, quiet, own, reader)
 }
 
 // How a master's tick goes.
-pub fn master_way(m: Master, heard: Heard, call: MasterCall, follows: bool, quiet: bool) -> Way
-    ensures { λ r. ⌜ r ≡ masterWay m heard (call .call) follows quiet ⌝ }
+pub fn master_way(
+    m: Master,
+    heard: Heard,
+    call: MasterCall,
+    follows: bool,
+    quiet: bool,
+    reader: Receiver,
+) -> Way
+    ensures { λ r. ⌜ r ≡ masterWay m heard (call .call) follows quiet reader ⌝ }
 {
     if m.deaf {
         return Way::Acts;
@@ -597,7 +602,7 @@ pub fn master_way(m: Master, heard: Heard, call: MasterCall, follows: bool, quie
     }
     match heard {
         Heard::Silence => if_counts(master_counts(m)),
-        Heard::Character(_) => master_character(m, follows, quiet),
+        Heard::Character(_) => master_character(m, follows, quiet, reader),
         Heard::Damaged(_, _) => Way::Acts,
     }
 }

@@ -3,7 +3,7 @@ use mathlib.Core.Path.{_≡_, refl, ap}
 use native.Mathlib.Omega.{arith}
 use Prim.Native.Nat.{_-_, _<_, _≤_}
 use borrow.Author.Needs.{needs}
-use Rattle.link_ticks.proofs.Follows.{Follow, Following, isHere, deviceReader, always, masterReader, follow-none, follow-begins, follow-ends, follow-absent, follow-set, follow-kept, follow-hears}
+use Rattle.link_ticks.proofs.Follows.{Follow, Following, isHere, deviceReader, always, masterReader, follow-none, follow-begins, follow-ends, follow-absent, follow-set, follow-unset, follow-has, line-quiet}
 use Rattle.link_ticks.proofs.Devices.{at, Ticking, device-absent, device-counted, device-heard, device-acted}
 use Rattle.link_ticks.proofs.Masters.{mastersAt, MastersTicking, master-counted, master-heard, master-acted}
 use Rattle.link_ticks.proofs.Going.{standing, deviceCallAt, masterCallAt, Going, fewer, goes-in, going-first, devices-first, masters-first, going-on, going-over, device-call-is, master-call-is}
@@ -11,21 +11,21 @@ use Rattle.link_ticks.proofs.ticks_of.Statement.{statement}
 use Rattle.link_ticks.proofs.ticks_of.Tie as tie
 
 abbrev Inv-loop2 : tie.InvT-loop2
-Inv-loop2 put most frames₀ bytes₀ contents₀ sent requests calls ms ds₀ line ms-did ds-did₀ told₀ ms-follow ds-follow₀ t row₀ next₀ stepped quiet n₀ frames bytes contents ds ds-did told ds-follow row next n =
+Inv-loop2 put most frames₀ bytes₀ contents₀ sent requests calls ms ds₀ line ms-did ds-did₀ told₀ reader ms-follow ds-follow₀ t row₀ next₀ stepped quiet n₀ frames bytes contents ds ds-did told ds-follow row next n =
     Ticking line put (deviceCallAt t calls) (at ds₀ frames₀ bytes₀ contents₀ row₀ ds-did₀ told₀ next₀) (at ds frames bytes contents row ds-did told next) n
-    × Following isHere deviceReader 6 line quiet ds-follow ds stepped n
+    × Following isHere deviceReader 6 ds-follow ds reader stepped n
 
 abbrev μ-loop2 : tie.MeasureT-loop2
-μ-loop2 put most frames₀ bytes₀ contents₀ sent requests calls ms ds₀ line ms-did ds-did₀ told₀ ms-follow ds-follow₀ t row₀ next₀ stepped quiet n₀ frames bytes contents ds ds-did told ds-follow row next n =
+μ-loop2 put most frames₀ bytes₀ contents₀ sent requests calls ms ds₀ line ms-did ds-did₀ told₀ reader ms-follow ds-follow₀ t row₀ next₀ stepped quiet n₀ frames bytes contents ds ds-did told ds-follow row next n =
     n
 
 abbrev Inv-loop3 : tie.InvT-loop3
-Inv-loop3 put most frames₀ bytes₀ contents sent requests calls ms₀ ds line ms-did₀ ds-did told₀ ms-follow₀ ds-follow t row₀ next₀ stepped quiet n k₀ frames bytes ms ms-did told ms-follow row next k =
+Inv-loop3 put most frames₀ bytes₀ contents sent requests calls ms₀ ds line ms-did₀ ds-did told₀ reader ms-follow₀ ds-follow t row₀ next₀ stepped quiet n k₀ frames bytes ms ms-did told ms-follow row next k =
     MastersTicking line put (masterCallAt t requests) (mastersAt ms₀ frames₀ bytes₀ contents row₀ ms-did₀ told₀ next₀) (mastersAt ms frames bytes contents row ms-did told next) k
-    × Following always masterReader 2 line quiet ms-follow ms stepped k
+    × Following always masterReader 2 ms-follow ms reader stepped k
 
 abbrev μ-loop3 : tie.MeasureT-loop3
-μ-loop3 put most frames₀ bytes₀ contents sent requests calls ms₀ ds line ms-did₀ ds-did told₀ ms-follow₀ ds-follow t row₀ next₀ stepped quiet n k₀ frames bytes ms ms-did told ms-follow row next k =
+μ-loop3 put most frames₀ bytes₀ contents sent requests calls ms₀ ds line ms-did₀ ds-did told₀ reader ms-follow₀ ds-follow t row₀ next₀ stepped quiet n k₀ frames bytes ms ms-did told ms-follow row next k =
     k
 
 abbrev Inv-loop : tie.InvT-loop
@@ -65,64 +65,64 @@ loop-holds : tie.Need-loop-holds Inv-loop2 μ-loop2 Inv-loop3 μ-loop3 Inv-loop 
 loop-holds c = (search (needs, going-first), (follow-none isHere deviceReader 6 _ _ (search needs), follow-none always masterReader 2 _ _ (search needs)))
 
 loop2-holds : tie.Need-loop2-holds Inv-loop2 μ-loop2 Inv-loop3 μ-loop3 Inv-loop μ-loop
-loop2-holds c = (devices-first _ _ _ _ _ _ _ (c .before .before .before .before .loop .inv .0), follow-begins isHere deviceReader 6 _ _ _ _ _ (c .before .before .before .before .loop .inv .1 .0) (c .before .line-step .ensures))
+loop2-holds c = (devices-first _ _ _ _ _ _ _ (c .before .before .before .before .loop .inv .0), follow-begins isHere deviceReader 6 _ _ _ _ (c .before .before .before .before .loop .inv .1 .0))
 
 loop2-again : tie.Need-loop2-again Inv-loop2 μ-loop2 Inv-loop3 μ-loop3 Inv-loop μ-loop
 loop2-again c =
-    let way = c .before .before .before .before .before .before in
+    let way = c .before .before .before .before .before in
     let turn = way .before .before .before .before .before .before in (
-      device-counted _ _ _ _ _ _ _ (turn .before .loop2 .inv .0) (turn .loop2-test .taken) (way .before .before .before .before .if2 .taken) _ (device-called (way .before)) _ _ _ _ (way .device-way .ensures) (c .before .before .before .before .enum-told .given .1) (c .before .counted-device .ensures),
-      follow-set isHere deviceReader 6 _ _ _ _ _ _ (turn .before .loop2 .inv .1) (turn .loop2-test .taken) _ _ (c .device-follows .ensures),
+      device-counted _ _ _ _ _ _ _ (turn .before .loop2 .inv .0) (turn .loop2-test .taken) (way .before .before .before .before .if2 .taken) _ (device-called (way .before)) _ _ _ _ _ (way .device-way .ensures) (c .before .before .before .enum-told .given .1) (c .counted-device .ensures),
+      follow-unset isHere deviceReader 6 _ _ _ _ _ (turn .before .loop2 .inv .1) (turn .loop2-test .taken) _,
     )
 
 loop2-again-2 : tie.Need-loop2-again-2 Inv-loop2 μ-loop2 Inv-loop3 μ-loop3 Inv-loop μ-loop
 loop2-again-2 c =
     let way = c .before .before .before .before .before .before .before .before in
     let turn = way .before .before .before .before .before .before in (
-      device-heard _ _ _ _ _ _ _ (turn .before .loop2 .inv .0) (turn .loop2-test .taken) (way .before .before .before .before .if2 .taken) _ (device-called (way .before)) _ _ _ _ _ _ (way .device-way .ensures) (c .before .before .before .before .before .before .enum-told2 .given .1) (follow-hears isHere deviceReader 6 _ _ _ _ _ _ (turn .before .loop2 .inv .1) (turn .loop2-test .taken) _ _ (way .before .before .before .before .if2 .taken)) (c .before .keep .ensures) (c .heard-device .ensures),
-      follow-kept isHere deviceReader 6 _ _ _ _ _ _ (turn .before .loop2 .inv .1) (turn .loop2-test .taken) _ (ap deviceReader (c .heard-device .ensures)),
+      device-heard _ _ _ _ _ _ _ (turn .before .loop2 .inv .0) (turn .loop2-test .taken) (way .before .before .before .before .if2 .taken) _ (device-called (way .before)) _ _ _ _ _ _ _ (way .device-way .ensures) (c .before .before .before .before .before .before .enum-told2 .given .1) (follow-has isHere deviceReader 6 _ _ _ _ _ (turn .before .loop2 .inv .1) (turn .loop2-test .taken) _ _ (way .before .before .before .before .if2 .taken)) (line-quiet _ _ _ (turn .before .before .before .line-step .ensures)) (c .before .keep .ensures) (c .heard-device .ensures),
+      follow-set isHere deviceReader 6 _ _ _ _ _ (turn .before .loop2 .inv .1) (turn .loop2-test .taken) _ (ap deviceReader (c .heard-device .ensures)),
     )
 
 loop2-again-3 : tie.Need-loop2-again-3 Inv-loop2 μ-loop2 Inv-loop3 μ-loop3 Inv-loop μ-loop
 loop2-again-3 c =
-    let way = c .before .before .before .before .before .before .before .before .before .before .before .before .before .before .before .before in
+    let way = c .before .before .before .before .before .before .before .before .before .before .before .before .before .before .before in
     let turn = way .before .before .before .before .before .before in (
-      device-acted _ _ _ _ _ _ _ (turn .before .loop2 .inv .0) (turn .loop2-test .taken) (way .before .before .before .before .if2 .taken) _ (device-called (way .before)) _ _ _ _ _ _ _ _ _ _ (c .before .before .before .before .before .before .before .device-tick .ensures) (c .before .before .before .before .before .in-slot .ensures) (c .before .before .before .code .ensures) (c .before .before .device-did .ensures) (c .before .device-tells .ensures) (c .join .ensures),
-      follow-set isHere deviceReader 6 _ _ _ _ _ _ (turn .before .loop2 .inv .1) (turn .loop2-test .taken) _ _ (c .before .before .before .before .device-follows2 .ensures),
+      device-acted _ _ _ _ _ _ _ (turn .before .loop2 .inv .0) (turn .loop2-test .taken) (way .before .before .before .before .if2 .taken) _ (device-called (way .before)) _ _ _ _ _ _ _ _ _ _ (c .before .before .before .before .before .before .device-tick .ensures) (c .before .before .before .before .in-slot .ensures) (c .before .before .before .code .ensures) (c .before .before .device-did .ensures) (c .before .device-tells .ensures) (c .join .ensures),
+      follow-unset isHere deviceReader 6 _ _ _ _ _ (turn .before .loop2 .inv .1) (turn .loop2-test .taken) _,
     )
 
 loop2-again-4 : tie.Need-loop2-again-4 Inv-loop2 μ-loop2 Inv-loop3 μ-loop3 Inv-loop μ-loop
 loop2-again-4 c =
     let turn = c .before .before in (
       device-absent _ _ _ _ _ _ _ (turn .before .loop2 .inv .0) (turn .loop2-test .taken) (c .if2 .left),
-      follow-absent isHere deviceReader 6 _ _ _ _ _ _ (turn .before .loop2 .inv .1) (turn .loop2-test .taken) _ (c .if2 .left),
+      follow-absent isHere deviceReader 6 _ _ _ _ _ (turn .before .loop2 .inv .1) (turn .loop2-test .taken) _ (c .if2 .left),
     )
 
 loop3-holds : tie.Need-loop3-holds Inv-loop2 μ-loop2 Inv-loop3 μ-loop3 Inv-loop μ-loop
-loop3-holds c = (masters-first _ _ _ _ _ _ _ _ _ _ (c .before .before .before .before .before .before .loop .inv .0) (c .before .loop2 .inv .0), follow-begins always masterReader 2 _ _ _ _ _ (c .before .before .before .before .before .before .loop .inv .1 .1) (c .before .before .before .line-step .ensures))
+loop3-holds c = (masters-first _ _ _ _ _ _ _ _ _ _ (c .before .before .before .before .before .before .loop .inv .0) (c .before .loop2 .inv .0), follow-begins always masterReader 2 _ _ _ _ (c .before .before .before .before .before .before .loop .inv .1 .1))
 
 loop3-again : tie.Need-loop3-again Inv-loop2 μ-loop2 Inv-loop3 μ-loop3 Inv-loop μ-loop
 loop3-again c =
-    let way = c .before .before .before .before .before in
+    let way = c .before .before .before .before in
     let turn = way .before .before .before .before in (
-      master-counted _ _ _ _ _ _ _ (turn .before .loop3 .inv .0) (turn .loop3-test .taken) _ (master-called (way .before)) _ _ _ _ (way .master-way .ensures) (c .before .before .before .enum-told4 .given .1) (c .before .counted-master .ensures),
-      follow-set always masterReader 2 _ _ _ _ _ _ (turn .before .loop3 .inv .1) (turn .loop3-test .taken) _ _ (c .master-follows .ensures),
+      master-counted _ _ _ _ _ _ _ (turn .before .loop3 .inv .0) (turn .loop3-test .taken) _ (master-called (way .before)) _ _ _ _ _ (way .master-way .ensures) (c .before .before .enum-told4 .given .1) (c .counted-master .ensures),
+      follow-unset always masterReader 2 _ _ _ _ _ (turn .before .loop3 .inv .1) (turn .loop3-test .taken) _,
     )
 
 loop3-again-2 : tie.Need-loop3-again-2 Inv-loop2 μ-loop2 Inv-loop3 μ-loop3 Inv-loop μ-loop
 loop3-again-2 c =
     let way = c .before .before .before .before .before .before .before in
     let turn = way .before .before .before .before in (
-      master-heard _ _ _ _ _ _ _ (turn .before .loop3 .inv .0) (turn .loop3-test .taken) _ (master-called (way .before)) _ _ _ _ _ _ (way .master-way .ensures) (c .before .before .before .before .before .enum-told5 .given .1) (follow-hears always masterReader 2 _ _ _ _ _ _ (turn .before .loop3 .inv .1) (turn .loop3-test .taken) _ _ refl) (c .before .keep2 .ensures) (c .heard-master .ensures),
-      follow-kept always masterReader 2 _ _ _ _ _ _ (turn .before .loop3 .inv .1) (turn .loop3-test .taken) _ (ap masterReader (c .heard-master .ensures)),
+      master-heard _ _ _ _ _ _ _ (turn .before .loop3 .inv .0) (turn .loop3-test .taken) _ (master-called (way .before)) _ _ _ _ _ _ _ (way .master-way .ensures) (c .before .before .before .before .before .enum-told5 .given .1) (follow-has always masterReader 2 _ _ _ _ _ (turn .before .loop3 .inv .1) (turn .loop3-test .taken) _ _ refl) (line-quiet _ _ _ (turn .before .before .before .before .before .line-step .ensures)) (c .before .keep2 .ensures) (c .heard-master .ensures),
+      follow-set always masterReader 2 _ _ _ _ _ (turn .before .loop3 .inv .1) (turn .loop3-test .taken) _ (ap masterReader (c .heard-master .ensures)),
     )
 
 loop3-again-3 : tie.Need-loop3-again-3 Inv-loop2 μ-loop2 Inv-loop3 μ-loop3 Inv-loop μ-loop
 loop3-again-3 c =
-    let way = c .before .before .before .before .before .before .before .before .before .before .before .before .before in
+    let way = c .before .before .before .before .before .before .before .before .before .before .before .before in
     let turn = way .before .before .before .before in (
-      master-acted _ _ _ _ _ _ _ (turn .before .loop3 .inv .0) (turn .loop3-test .taken) _ (master-called (way .before)) _ _ _ _ _ _ _ _ (c .before .before .before .before .before .before .master-tick .ensures) (c .before .before .before .code2 .ensures) (c .before .before .master-did .ensures) (c .before .master-tells .ensures) (c .join2 .ensures),
-      follow-set always masterReader 2 _ _ _ _ _ _ (turn .before .loop3 .inv .1) (turn .loop3-test .taken) _ _ (c .before .before .before .before .master-follows2 .ensures),
+      master-acted _ _ _ _ _ _ _ (turn .before .loop3 .inv .0) (turn .loop3-test .taken) _ (master-called (way .before)) _ _ _ _ _ _ _ _ (c .before .before .before .before .before .master-tick .ensures) (c .before .before .before .code2 .ensures) (c .before .before .master-did .ensures) (c .before .master-tells .ensures) (c .join2 .ensures),
+      follow-unset always masterReader 2 _ _ _ _ _ (turn .before .loop3 .inv .1) (turn .loop3-test .taken) _,
     )
 
 element-set-from-sent : tie.Need-element-set-from-sent Inv-loop2 μ-loop2 Inv-loop3 μ-loop3 Inv-loop μ-loop
@@ -136,7 +136,7 @@ loop-less c =
     search (needs, fewer [] (c .before .before .before .before .before .before .before .before .before .before .before .before .before .before .before .before .before .before .before .before .before .before .before .args .most) [] [] (tick .before .before .loop .t) (tick .before .before .loop .told) _ (tick .before .goes-on .ensures) (tick .if1 .taken))
 
 loop-again : tie.Need-loop-again Inv-loop2 μ-loop2 Inv-loop3 μ-loop3 Inv-loop μ-loop
-loop-again c = (going-on _ _ _ _ _ _ _ _ _ _ _ _ _ (c .before .before .before .before .before .before .before .before .loop .inv .0) (c .before .before .before .before .before .before .before .goes-on .ensures) (c .before .before .before .before .before .before .if1 .taken) refl (c .before .before .before .loop2 .inv .0) (c .before .before .loop2-test .left) (c .before .loop3 .inv .0) (c .loop3-test .left), (follow-ends isHere deviceReader 6 _ _ _ _ _ _ (c .before .before .before .loop2 .inv .1) (c .before .before .loop2-test .left), follow-ends always masterReader 2 _ _ _ _ _ _ (c .before .loop3 .inv .1) (c .loop3-test .left)))
+loop-again c = (going-on _ _ _ _ _ _ _ _ _ _ _ _ _ (c .before .before .before .before .before .before .before .before .loop .inv .0) (c .before .before .before .before .before .before .before .goes-on .ensures) (c .before .before .before .before .before .before .if1 .taken) refl (c .before .before .before .loop2 .inv .0) (c .before .before .loop2-test .left) (c .before .loop3 .inv .0) (c .loop3-test .left), (follow-ends isHere deviceReader 6 _ _ _ _ _ (c .before .before .before .loop2 .inv .1) (c .before .before .loop2-test .left), follow-ends always masterReader 2 _ _ _ _ _ (c .before .loop3 .inv .1) (c .loop3-test .left)))
 
 returns : tie.Need-returns Inv-loop2 μ-loop2 Inv-loop3 μ-loop3 Inv-loop μ-loop
 returns c = going-over _ _ _ _ _ _ _ _ (c .before .before .loop .inv .0) (c .before .goes-on .ensures) (c .if1 .left)
@@ -177,9 +177,8 @@ ticks-of-spec =
     (λ c κs. search needs)
     (λ c. omega (arith, device-in-arm (c .before .before .before .before .before)))
     (λ c. omega (arith, device-in-arm (c .before .before .before .before .before)))
-    (λ c κs. search needs)
-    (λ c. omega (arith, device-in-arm (c .before .before .before .before .before .before)))
-    (λ c. omega (arith, device-in-arm (c .before .before .before .before .before .before)))
+    (λ c. omega (arith, device-in-arm (c .before .before .before .before .before)))
+    (λ c. omega (arith, device-in-arm (c .before .before .before .before .before)))
     loop2-again
     -- one that hears
     (λ c. search needs)
@@ -190,6 +189,7 @@ ticks-of-spec =
     (λ c. omega (arith, device-in-arm (c .before .before .before .before .before)))
     (λ c κs. search needs)
     (λ c κs. search needs)
+    (λ c. omega (arith, device-in-arm (c .before .before .before .before .before .before .before .before)))
     (λ c. omega (arith, device-in-arm (c .before .before .before .before .before .before .before .before)))
     (λ c. omega (arith, device-in-arm (c .before .before .before .before .before .before .before .before)))
     (λ c. omega (arith, device-in-arm (c .before .before .before .before .before .before .before .before)))
@@ -212,18 +212,17 @@ ticks-of-spec =
     (λ c κs. search needs)
     (λ c. omega (arith, device-in-arm (c .before .before .before .before .before .before .before .before .before .before .before)))
     (λ c. omega (arith, device-in-arm (c .before .before .before .before .before .before .before .before .before .before .before)))
+    (λ c. omega (arith, device-in-arm (c .before .before .before .before .before .before .before .before .before .before .before)))
     (λ c κs. search needs)
+    (λ c. omega (arith, device-in-arm (c .before .before .before .before .before .before .before .before .before .before .before .before)))
+    (λ c. omega (arith, device-in-arm (c .before .before .before .before .before .before .before .before .before .before .before .before)))
     (λ c. omega (arith, device-in-arm (c .before .before .before .before .before .before .before .before .before .before .before .before)))
     (λ c κs. search needs)
     (λ c. omega (arith, device-in-arm (c .before .before .before .before .before .before .before .before .before .before .before .before .before)))
     (λ c. omega (arith, device-in-arm (c .before .before .before .before .before .before .before .before .before .before .before .before .before)))
-    (λ c. omega (arith, device-in-arm (c .before .before .before .before .before .before .before .before .before .before .before .before .before)))
-    (λ c κs. search needs)
-    (λ c. omega (arith, device-in-arm (c .before .before .before .before .before .before .before .before .before .before .before .before .before .before)))
-    (λ c. omega (arith, device-in-arm (c .before .before .before .before .before .before .before .before .before .before .before .before .before .before)))
     (λ c κs. search needs)
     (λ c κs. search needs)
-    (λ c. omega (arith, device-in-arm (c .before .before .before .before .before .before .before .before .before .before .before .before .before .before .before .before)))
+    (λ c. omega (arith, device-in-arm (c .before .before .before .before .before .before .before .before .before .before .before .before .before .before .before)))
     loop2-again-3
     -- one that is not here
     (λ c. omega (arith, device-within (c .before .before)))
@@ -245,9 +244,8 @@ ticks-of-spec =
     (λ c κs. search needs)
     (λ c. omega (arith, master-in-arm (c .before .before .before .before)))
     (λ c. omega (arith, master-in-arm (c .before .before .before .before)))
-    (λ c κs. search needs)
-    (λ c. omega (arith, master-in-arm (c .before .before .before .before .before)))
-    (λ c. omega (arith, master-in-arm (c .before .before .before .before .before)))
+    (λ c. omega (arith, master-in-arm (c .before .before .before .before)))
+    (λ c. omega (arith, master-in-arm (c .before .before .before .before)))
     loop3-again
     -- one that hears
     (λ c. search needs)
@@ -257,6 +255,7 @@ ticks-of-spec =
     (λ c. omega (arith, master-in-arm (c .before .before .before .before)))
     (λ c κs. search needs)
     (λ c κs. search needs)
+    (λ c. omega (arith, master-in-arm (c .before .before .before .before .before .before .before)))
     (λ c. omega (arith, master-in-arm (c .before .before .before .before .before .before .before)))
     (λ c. omega (arith, master-in-arm (c .before .before .before .before .before .before .before)))
     (λ c. omega (arith, master-in-arm (c .before .before .before .before .before .before .before)))
@@ -274,17 +273,16 @@ ticks-of-spec =
     (λ c κs. search needs)
     (λ c. omega (arith, master-in-arm (c .before .before .before .before .before .before .before .before)))
     (λ c. omega (arith, master-in-arm (c .before .before .before .before .before .before .before .before)))
+    (λ c. omega (arith, master-in-arm (c .before .before .before .before .before .before .before .before)))
     (λ c κs. search needs)
+    (λ c. omega (arith, master-in-arm (c .before .before .before .before .before .before .before .before .before)))
     (λ c. omega (arith, master-in-arm (c .before .before .before .before .before .before .before .before .before)))
     (λ c κs. search needs)
     (λ c. omega (arith, master-in-arm (c .before .before .before .before .before .before .before .before .before .before)))
     (λ c. omega (arith, master-in-arm (c .before .before .before .before .before .before .before .before .before .before)))
     (λ c κs. search needs)
-    (λ c. omega (arith, master-in-arm (c .before .before .before .before .before .before .before .before .before .before .before)))
-    (λ c. omega (arith, master-in-arm (c .before .before .before .before .before .before .before .before .before .before .before)))
     (λ c κs. search needs)
-    (λ c κs. search needs)
-    (λ c. omega (arith, master-in-arm (c .before .before .before .before .before .before .before .before .before .before .before .before .before)))
+    (λ c. omega (arith, master-in-arm (c .before .before .before .before .before .before .before .before .before .before .before .before)))
     loop3-again-3
     -- behind the parties
     (λ c. search needs)

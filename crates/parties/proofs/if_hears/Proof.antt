@@ -8,5 +8,7 @@ if-hears-spec =
     tie.close
     (tie.spec
     (λ c. search (needs, choices))
+    (λ c κs. search needs)
+    (λ c. search (needs, choices))
     (λ c. search (needs, choices))
     (λ c. search (needs, choices)))
