@@ -1,8 +1,9 @@
 /*
  * driver.c - README.md's driver over the modem chip of libnengapiko_tests.a: a master behind the chip
  * and one without it hear the same line, with damage of each kind, and are asked the same. In each
- * tick both must leave the same results, words and buffers, and what goes out must be what is sent,
- * with odd parity, and request to send set just where something is.
+ * tick both must leave the same results, words and buffers; what goes out must be what is sent, with
+ * odd parity; request to send must be set just where something is, and the interrupts stay on. The
+ * tick count, which wraps, must give the ticks.
  */
 #include "nengapiko_tests.h"
 
@@ -12,10 +13,21 @@
 
 enum { TICKS = 900, NOISE_FROM = 700, ASKS_EVERY = 25, ACCESSES = 16 };
 
+/* Byte 1: request to send, and both interrupts. */
+enum { REQUEST_TO_SEND = 0x80, INTERRUPTS = 0x60 };
+
 /* ------------------------------------------------------------------------ the chip */
 
 /* Operations of a script, as crates/modem_c/specs/Script.antt says. */
-enum { READ = 0x00, WRITE = 0x20, BEGINS_SILENT = 0x30, BEGINS = 0x40, ENDS = 0x50, CHARACTER_OUT = 0x60 };
+enum {
+    READ = 0x00,
+    WRITE = 0x20,
+    BEGINS_SILENT = 0x30,
+    BEGINS = 0x40,
+    ENDS = 0x50,
+    CHARACTER_OUT = 0x60,
+    COUNT_BYTE = 0x80
+};
 
 /* The accesses so far, and what each gave. */
 static uint8_t script[TICKS * ACCESSES * 2];
@@ -63,7 +75,7 @@ struct heard {
     uint8_t character;
 };
 
-/* A tick of the chip begins: nine bits, or a mark for damage 2 and 3, under which the ninth bit is any. */
+/* A tick of the chip begins: nine bits, and for damage 2 and 3 a mark, under which the ninth is any. */
 static void begin_tick(struct heard h)
 {
     const uint8_t ninth = ninth_bit(h.character);
@@ -82,11 +94,29 @@ static void begin_tick(struct heard h)
     }
 }
 
+/* The interrupts are on, and the tick count is 0xFFFFFF00. */
+static void start_chip(void)
+{
+    chip_write(1, INTERRUPTS);
+    for (unsigned i = 0; i < 3; i++)
+        access_chip(COUNT_BYTE, 0xFF);
+    access_chip(COUNT_BYTE, 0x00);
+}
+
+static uint32_t tick_count(void)
+{
+    uint32_t count = 0;
+    for (uint8_t byte = 4; byte < 8; byte++)
+        count = count << 8 | chip_read(byte);
+    return count;
+}
+
 /* ------------------------------------------------------------------------ the line */
 
 /* Behind an STX: a silent tick, then the ACK of command 0 from polling address 0, without damage. */
-static const struct heard answer[] = {{0, 0x00}, {1, 0xFF}, {1, 0xFF}, {1, 0xFF}, {1, 0xFF}, {1, 0xFF}, {1, 0x06},
-                                      {1, 0x80}, {1, 0x00}, {1, 0x02}, {1, 0x00}, {1, 0x00}, {1, 0x84}};
+static const struct heard answer[] = {{0, 0x00}, {1, 0xFF}, {1, 0xFF}, {1, 0xFF}, {1, 0xFF},
+                                      {1, 0xFF}, {1, 0x06}, {1, 0x80}, {1, 0x00}, {1, 0x02},
+                                      {1, 0x00}, {1, 0x00}, {1, 0x84}};
 enum { ANSWER = sizeof answer / sizeof *answer, FIRST_DATA = 10 };
 
 /* A number that is never 0, by xorshift. */
@@ -135,7 +165,7 @@ struct master {
 
 static struct master behind, without;
 
-/* What was seen: characters sent, answers, refusals, and heard damage by its kind. */
+/* What was seen: characters sent, answers, refusals, and damaged frames by the kind. */
 static unsigned sent, answers, refusals, damaged[3];
 static unsigned failed;
 
@@ -173,7 +203,7 @@ static bool goes_out(uint64_t what)
     return character == (uint8_t)what && out == 1 + ninth_bit(character);
 }
 
-static void count(const uint64_t r[NENGAPIKO_SIZE_RESULTS])
+static void note(const uint64_t r[NENGAPIKO_SIZE_RESULTS])
 {
     sent += r[NENGAPIKO_RESULT_SENT] != 0;
     answers += r[NENGAPIKO_RESULT_TOLD] == NENGAPIKO_MASTER_TOLD_ANSWERED;
@@ -191,35 +221,41 @@ static void check(bool holds, const char *claim, unsigned tick)
 }
 
 /* A tick of both masters, with what the line carried in the tick before. */
-static void tick_both(unsigned tick, struct heard before)
+static void tick_both(unsigned tick, uint32_t from, struct heard before)
 {
     struct heard h;
     begin_tick(before);
     h.kind = line_heard(&h.character);
     tick_master(&behind, tick, h);
     line_send(behind.results[NENGAPIKO_RESULT_SENT]);
-    const bool requests = (chip_read(1) & 0x80) != 0;
+    const bool sends = behind.results[NENGAPIKO_RESULT_SENT] != 0;
+    const uint8_t control = chip_read(1);
+    const uint32_t to = tick_count();
     const bool out = goes_out(behind.results[NENGAPIKO_RESULT_SENT]);
 
     tick_master(&without, tick, before);
-    count(without.results);
+    note(without.results);
     check(same(), "the same results, words and buffers", tick);
-    check(requests == (without.results[NENGAPIKO_RESULT_SENT] != 0), "request to send", tick);
+    check(control == INTERRUPTS + (sends ? REQUEST_TO_SEND : 0), "control", tick);
     check(out, "what goes out", tick);
+    check((uint32_t)(to - from) == tick, "the tick count", tick);
 }
 
 int main(void)
 {
     struct heard before = {NENGAPIKO_HEARD_SILENCE, 0};
+    start_chip();
+    const uint32_t from = tick_count();
     start(&behind);
     start(&without);
     for (unsigned tick = 0; tick < TICKS; tick++) {
-        tick_both(tick, before);
+        tick_both(tick, from, before);
         before = carried(tick, without.results[NENGAPIKO_RESULT_SENT]);
     }
     check(answers > 0 && refusals > 0, "an answer and a refusal", TICKS);
     check(damaged[0] > 0 && damaged[1] > 0 && damaged[2] > 0, "damage of each kind", TICKS);
-    printf("driver: %d ticks, %zu accesses, %u characters sent, %u answers, %u refusals, damaged frames %u %u %u, %u failed\n",
+    printf("driver: %d ticks, %zu accesses, %u characters sent, %u answers, %u refusals, "
+           "%u, %u and %u frames with damage 1 to 3, %u failed\n",
            TICKS, accesses, sent, answers, refusals, damaged[0], damaged[1], damaged[2], failed);
     return failed == 0 ? EXIT_SUCCESS : EXIT_FAILURE;
 }
