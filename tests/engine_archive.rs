@@ -130,7 +130,7 @@ pub struct Reader {
 impl Reader {
     pub fn start() -> Reader {
         let mut reader = Reader {
-            state: [u64::MAX; 16],
+            state: [BEFORE; 16],
             data: [0; 255],
             results: Results([0; 17]),
         };
@@ -161,25 +161,32 @@ pub struct Master {
     pub results: Results,
 }
 
+/// What stands in a state before a start.
+pub const BEFORE: u64 = u64::MAX;
+
+/// What a start returns, and the state behind it.
+pub fn start_master(profile: Profile, primary: bool, retries: u8) -> (u32, [u64; 39]) {
+    let mut state = [BEFORE; 39];
+    let [sto, hold, rt2, rt1p, rt1s] = profile;
+    // SAFETY: the state has as many words as the function takes.
+    let returned = unsafe {
+        let state = state.as_mut_ptr();
+        nengapiko_master_start(sto, hold, rt2, rt1p, rt1s, primary, retries, state)
+    };
+    (returned, state)
+}
+
 impl Master {
     /// A master that is started, or the refusal's number.
     pub fn start(profile: Profile, primary: bool, retries: u8) -> Result<Master, u32> {
-        let mut master = Master {
-            state: [u64::MAX; 39],
-            frame: [0; 284],
-            data: [0; 255],
-            results: Results([0; 17]),
-        };
-        let [sto, hold, rt2, rt1p, rt1s] = profile;
-        // SAFETY: the state has as many words as the function takes.
-        let refused = unsafe {
-            let state = master.state.as_mut_ptr();
-            nengapiko_master_start(sto, hold, rt2, rt1p, rt1s, primary, retries, state)
-        };
-        if refused == 0 {
-            Ok(master)
-        } else {
-            Err(refused)
+        match start_master(profile, primary, retries) {
+            (0, state) => Ok(Master {
+                state,
+                frame: [0; 284],
+                data: [0; 255],
+                results: Results([0; 17]),
+            }),
+            (refused, _) => Err(refused),
         }
     }
 
@@ -225,6 +232,23 @@ pub struct Device {
     pub results: Results,
 }
 
+/// The same of a device.
+pub fn start_device(
+    profile: Profile,
+    preamble: usize,
+    polling: u8,
+    unique: u64,
+) -> (u32, [u64; 40]) {
+    let mut state = [BEFORE; 40];
+    let [sto, hold, rt2, rt1p, rt1s] = profile;
+    // SAFETY: the state has as many words as the function takes.
+    let returned = unsafe {
+        let state = state.as_mut_ptr();
+        nengapiko_device_start(sto, hold, rt2, rt1p, rt1s, preamble, polling, unique, state)
+    };
+    (returned, state)
+}
+
 impl Device {
     /// A device that is started, or the refusal's number.
     pub fn start(
@@ -233,23 +257,15 @@ impl Device {
         polling: u8,
         unique: u64,
     ) -> Result<Device, u32> {
-        let mut device = Device {
-            state: [u64::MAX; 40],
-            frame: [0; 284],
-            data: [0; 255],
-            content: [0; 255],
-            results: Results([0; 17]),
-        };
-        let [sto, hold, rt2, rt1p, rt1s] = profile;
-        // SAFETY: the state has as many words as the function takes.
-        let refused = unsafe {
-            let state = device.state.as_mut_ptr();
-            nengapiko_device_start(sto, hold, rt2, rt1p, rt1s, preamble, polling, unique, state)
-        };
-        if refused == 0 {
-            Ok(device)
-        } else {
-            Err(refused)
+        match start_device(profile, preamble, polling, unique) {
+            (0, state) => Ok(Device {
+                state,
+                frame: [0; 284],
+                data: [0; 255],
+                content: [0; 255],
+                results: Results([0; 17]),
+            }),
+            (refused, _) => Err(refused),
         }
     }
 

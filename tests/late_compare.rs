@@ -1,8 +1,8 @@
 //! Runs of the link in which each master starts at a tick of its own: the archive over the scenarios
 //! of tests/data/item-14, and beside the link in plain Rust over random ones. Compared are how many
 //! ticks were run, and the whole lent buffer of their numbers; of masters and devices that are called
-//! once a tick each tick's number, and in the scenarios what the hosts are told, the frames, and where
-//! the masters are first in touch. The runs are the same each time.
+//! once a tick each tick's number, in the random runs the characters sent, and in the scenarios what the
+//! hosts are told, the frames, and where the masters are first in touch. The runs are the same each time.
 
 mod calls;
 mod engine_archive;
@@ -184,21 +184,21 @@ fn random_starts(random: &mut Xorshift) -> [usize; 2] {
 fn random_request(random: &mut Xorshift) -> Call {
     let long_address = random.below(4) > 0;
     Call::Ask {
-        preamble: 5,
+        preamble: random.pick(&[5, 5, 6, 20]),
         long_address,
         address: random.pick(match long_address {
             true => &[2, 3, 3, 9],
             false => &[0, 1, 1, 9],
         }),
         command: if long_address { 3 } else { 0 },
-        data: Vec::new(),
+        data: random.pick(&[&[][..], &[], &[1], &[7; 40]]).to_vec(),
     }
 }
 
 fn random_runs_agree() -> bool {
     let mut random = Xorshift(0x2545_F491_4F6C_DD1D);
     let mut differences = 0;
-    let (mut overlaps, mut late) = (0, 0);
+    let (mut overlaps, mut late, mut characters) = (0, 0, 0);
     for at in 0..RUNS {
         let starts = random_starts(&mut random);
         let ticks = random_ticks(&mut random, starts);
@@ -210,20 +210,23 @@ fn random_runs_agree() -> bool {
             unique_addresses: [2, 3, 0, 0, 0, 0],
             starts: starts.map(|tick| tick as u64),
         };
-        let by_oracle = late_oracle::numbers(starts, &[(0, 2), (1, 3)], &ticks);
+        let by_oracle = late_oracle::run(starts, &[(0, 2), (1, 3)], &ticks);
         let by_archive = archive_numbers(&setup, &ticks);
-        let by_engine = late_engine::run(&setup, &ticks).numbers;
-        let same = by_archive.as_ref() == Some(&by_oracle) && by_engine == by_oracle;
-        if !same || breaks_item_14(&by_oracle) {
+        let by_engine = late_engine::run(&setup, &ticks);
+        let same = by_archive.as_ref() == Some(&by_oracle.numbers)
+            && by_engine.numbers == by_oracle.numbers
+            && by_engine.characters == by_oracle.characters;
+        characters += by_oracle.characters.len();
+        if !same || breaks_item_14(&by_oracle.numbers) {
             differences += 1;
             println!("late_compare: run {at} differs");
         }
-        overlaps += usize::from(!together(&by_oracle).is_empty());
+        overlaps += usize::from(!together(&by_oracle.numbers).is_empty());
         late += usize::from(starts[0] != starts[1]);
     }
     println!(
         "late_compare: {RUNS} random runs, {late} with two start ticks, {overlaps} with an \
-         overlap, {differences} differences"
+         overlap, {characters} characters, {differences} differences"
     );
     differences == 0 && overlaps > 0 && overlaps < RUNS
 }

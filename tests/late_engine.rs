@@ -30,6 +30,8 @@ pub struct Run {
     pub numbers: Vec<u8>,
     /// Tick, party and what.
     pub told: Vec<String>,
+    /// Tick, party and character.
+    pub characters: Vec<(usize, usize, u8)>,
     sending: Vec<Sending>,
     sent: Vec<Sent>,
     /// Of each master, the ticks of the last characters of frames that it sent, and of those that it
@@ -102,6 +104,7 @@ impl Run {
     /// A character that a party sends in this tick; its frame is over where the frame reader reads it.
     fn sends(&mut self, party: usize, character: u8) {
         let tick = self.numbers.len();
+        self.characters.push((tick, party, character));
         self.sending
             .resize(self.sending.len().max(party + 1), Sending::default());
         let sending = &mut self.sending[party];

@@ -1,23 +1,47 @@
 //! A run of the link in plain Rust in which each master starts at a tick of its own, with FSK and
-//! three retries, as the number of each tick. It shares nothing with the archive.
+//! three retries: the number of each tick, and the characters that are sent. It shares nothing with the
+//! archive.
 
 use crate::oracles::device_oracle::{Device, Wish};
 use crate::oracles::frame_oracle;
 use crate::oracles::master_oracle::Master;
 use crate::oracles::tick_oracle::{Damage, Heard};
-use crate::tick_list::{Call, Tick, SENDS, TAKEN};
+use crate::tick_list::{Call, Tick, REVISION, SENDS, TAKEN};
 
 const MASTERS: usize = 2;
 
+#[derive(Default)]
+pub struct Run {
+    pub numbers: Vec<u8>,
+    /// Tick, party and character.
+    pub characters: Vec<(usize, usize, u8)>,
+}
+
+fn ask(master: &mut Master, call: &Option<Call>) -> bool {
+    let Some(Call::Ask {
+        preamble,
+        long_address,
+        address,
+        command,
+        data,
+    }) = call
+    else {
+        return false;
+    };
+    let preambles = usize::from(*preamble);
+    let answer = master.ask(preambles, REVISION, *long_address, *address, *command, data);
+    answer == frame_oracle::TAKEN
+}
+
 /// The devices' polling and unique addresses are given in the slots' order.
-pub fn numbers(starts: [usize; MASTERS], addresses: &[(u64, u64)], ticks: &[Tick]) -> Vec<u8> {
+pub fn run(starts: [usize; MASTERS], addresses: &[(u64, u64)], ticks: &[Tick]) -> Run {
     let mut masters = [Master::start(true), Master::start(false)];
     let mut devices: Vec<Device> = addresses
         .iter()
         .map(|&(polling, unique)| Device::start(polling, unique))
         .collect();
     let mut heard = Heard::Silence;
-    let mut numbers = Vec::with_capacity(ticks.len());
+    let mut run = Run::default();
     for (tick, calls) in ticks.iter().enumerate() {
         let mut number = 0;
         let mut sent = Vec::new();
@@ -26,35 +50,29 @@ pub fn numbers(starts: [usize; MASTERS], addresses: &[(u64, u64)], ticks: &[Tick
                 continue;
             }
             master.take(heard);
-            if let Some(Call::Ask {
-                long_address,
-                address,
-                command,
-                ..
-            }) = &calls[party]
-            {
-                if master.request(*long_address, *address, *command) == frame_oracle::TAKEN {
-                    number += TAKEN[party];
-                }
+            if ask(master, &calls[party]) {
+                number += TAKEN[party];
             }
             if let Some(character) = master.send() {
                 number += SENDS[party];
-                sent.push(character);
+                sent.push((tick, party, character));
             }
         }
-        for (device, call) in devices.iter_mut().zip(&calls[MASTERS..]) {
+        for (at, device) in devices.iter_mut().enumerate() {
+            let party = MASTERS + at;
             device.take(heard);
-            if let Some(Call::Answer { data }) = call {
+            if let Some(Call::Answer { data }) = &calls[party] {
                 device.answer(data, Wish::AsItIs);
             }
-            sent.extend(device.send());
+            sent.extend(device.send().map(|character| (tick, party, character)));
         }
         heard = match sent[..] {
             [] => Heard::Silence,
-            [character] => Heard::Character(character),
+            [(.., character)] => Heard::Character(character),
             _ => Heard::Damaged(0, Damage::Framing),
         };
-        numbers.push(number + sent.len() as u8);
+        run.numbers.push(number + sent.len() as u8);
+        run.characters.extend(sent);
     }
-    numbers
+    run
 }
