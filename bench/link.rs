@@ -134,7 +134,7 @@ fn compare_run(name: &str, script: &[u8]) {
     let mut events = vec![0; ticks.len()];
     assert!(run_archive::run(&setup, &bytes, &mut events) == ticks.len());
     assert!(
-        events == late_oracle::numbers([0, 0], &addresses, &ticks),
+        events == late_oracle::numbers([0, 0], &addresses, &ticks, |_, _, _| {}),
         "{name}: they differ"
     );
     let measured = by_turns(
@@ -147,7 +147,7 @@ fn compare_run(name: &str, script: &[u8]) {
             ));
         },
         || {
-            black_box(late_oracle::numbers([0, 0], &addresses, black_box(&ticks)));
+            black_box(late_oracle::numbers([0, 0], &addresses, black_box(&ticks), |_, _, _| {}));
         },
     );
     row(name, usize::from(TICKS), &measured);

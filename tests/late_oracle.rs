@@ -1,6 +1,5 @@
 //! A run of the link in plain Rust in which each master starts at a tick of its own, with FSK and
-//! three retries: the number of each tick, and the characters that are sent. It shares nothing with the
-//! archive.
+//! three retries, as the number of each tick. It shares nothing with the archive.
 
 use crate::oracles::device_oracle::{Device, Wish};
 use crate::oracles::frame_oracle;
@@ -9,13 +8,6 @@ use crate::oracles::tick_oracle::{Damage, Heard};
 use crate::tick_list::{Call, Tick, REVISION, SENDS, TAKEN};
 
 const MASTERS: usize = 2;
-
-#[derive(Default)]
-pub struct Run {
-    pub numbers: Vec<u8>,
-    /// Tick, party and character.
-    pub characters: Vec<(usize, usize, u8)>,
-}
 
 fn ask(master: &mut Master, call: &Option<Call>) -> bool {
     let Some(Call::Ask {
@@ -33,15 +25,21 @@ fn ask(master: &mut Master, call: &Option<Call>) -> bool {
     answer == frame_oracle::TAKEN
 }
 
-/// The devices' polling and unique addresses are given in the slots' order.
-pub fn run(starts: [usize; MASTERS], addresses: &[(u64, u64)], ticks: &[Tick]) -> Run {
+/// The devices' polling and unique addresses are given in the slots' order. `sends` is called with the
+/// tick, the party and the character of each that is sent.
+pub fn numbers(
+    starts: [usize; MASTERS],
+    addresses: &[(u64, u64)],
+    ticks: &[Tick],
+    mut sends: impl FnMut(usize, usize, u8),
+) -> Vec<u8> {
     let mut masters = [Master::start(true), Master::start(false)];
     let mut devices: Vec<Device> = addresses
         .iter()
         .map(|&(polling, unique)| Device::start(polling, unique))
         .collect();
     let mut heard = Heard::Silence;
-    let mut run = Run::default();
+    let mut numbers = Vec::with_capacity(ticks.len());
     for (tick, calls) in ticks.iter().enumerate() {
         let mut number = 0;
         let mut sent = Vec::new();
@@ -55,7 +53,8 @@ pub fn run(starts: [usize; MASTERS], addresses: &[(u64, u64)], ticks: &[Tick]) -
             }
             if let Some(character) = master.send() {
                 number += SENDS[party];
-                sent.push((tick, party, character));
+                sent.push(character);
+                sends(tick, party, character);
             }
         }
         for (at, device) in devices.iter_mut().enumerate() {
@@ -64,15 +63,17 @@ pub fn run(starts: [usize; MASTERS], addresses: &[(u64, u64)], ticks: &[Tick]) -
             if let Some(Call::Answer { data }) = &calls[party] {
                 device.answer(data, Wish::AsItIs);
             }
-            sent.extend(device.send().map(|character| (tick, party, character)));
+            if let Some(character) = device.send() {
+                sent.push(character);
+                sends(tick, party, character);
+            }
         }
         heard = match sent[..] {
             [] => Heard::Silence,
-            [(.., character)] => Heard::Character(character),
+            [character] => Heard::Character(character),
             _ => Heard::Damaged(0, Damage::Framing),
         };
-        run.numbers.push(number + sent.len() as u8);
-        run.characters.extend(sent);
+        numbers.push(number + sent.len() as u8);
     }
-    run
+    numbers
 }
