@@ -147,7 +147,12 @@ fn compare_run(name: &str, script: &[u8]) {
             ));
         },
         || {
-            black_box(late_oracle::numbers([0, 0], &addresses, black_box(&ticks), |_, _, _| {}));
+            black_box(late_oracle::numbers(
+                [0, 0],
+                &addresses,
+                black_box(&ticks),
+                |_, _, _| {},
+            ));
         },
     );
     row(name, usize::from(TICKS), &measured);

@@ -33,9 +33,10 @@ impl Seen {
         self.burst += u64::from(burst);
     }
 
-    /// Whether each of these refusals occurred, every event, sending, and BURST.
-    pub fn has_all(&self, told: &[usize], refusals: &[usize]) -> bool {
-        told.iter().all(|&number| self.told[number] > 0)
+    /// Whether each thing of so many was told, and each of these refusals, every event, sending and
+    /// BURST occurred.
+    pub fn has_all(&self, told: usize, refusals: &[usize]) -> bool {
+        self.told[..told].iter().all(|&ticks| ticks > 0)
             && refusals.iter().all(|&number| self.returned[number] > 0)
             && self.events.iter().all(|&ticks| ticks > 0)
             && self.sent > 0

@@ -64,6 +64,15 @@ const SHORTEST: Profile = Profile {
     rt1_secondary: 5,
 };
 
+/// What a reader tells, by its number.
+const EVENTS: [&str; 5] = [
+    "no event",
+    "passed over",
+    "frame broken",
+    "frame whole",
+    "frame damaged",
+];
+
 type Run = fn(&[u8], &mut [u8]) -> usize;
 /// The two bytes of a tick.
 type Tick = [u8; 2];
@@ -342,7 +351,7 @@ fn devices_differ(random: &mut Xorshift, seen: &mut Seen) -> Option<Difference> 
 fn ticks_agree(
     name: &str,
     differ: fn(&mut Xorshift, &mut Seen) -> Option<Difference>,
-    told: &[usize],
+    told: &[&str],
     refusals: &[usize],
 ) -> bool {
     let mut random = Xorshift(0x2545_F491_4F6C_DD1D);
@@ -356,12 +365,17 @@ fn ticks_agree(
     }
     print!("party_compare: {name}, {} ticks", seen.ticks);
     print!(", {} sending, {} in burst", seen.sent, seen.burst);
-    print!(", told {:?}, events {:?}", seen.told, seen.events);
+    for (what, ticks) in told.iter().zip(seen.told) {
+        print!(", {ticks} {what}");
+    }
+    for (event, ticks) in EVENTS.iter().zip(seen.events) {
+        print!(", {ticks} {event}");
+    }
     for &number in refusals {
         print!(", {} refused with {number}", seen.returned[number]);
     }
     println!(", {differences} differences");
-    differences == 0 && seen.has_all(told, refusals)
+    differences == 0 && seen.has_all(told.len(), refusals)
 }
 
 fn main() -> ExitCode {
@@ -371,13 +385,13 @@ fn main() -> ExitCode {
         ticks_agree(
             "a master called once a tick",
             masters_differ,
-            &[0, 1, 2, 3],
+            &["tell nothing", "answered", "given up", "broadcast sent"],
             &[3, 4, 5, 6, 7, 17],
         ),
         ticks_agree(
             "a device called once a tick",
             devices_differ,
-            &[0, 1, 2],
+            &["tell nothing", "request", "broadcast"],
             &[5, 8, 9, 10],
         ),
     ];
