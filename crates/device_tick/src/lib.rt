@@ -30,9 +30,9 @@ pub enum DeviceHostCall {
 }
 
 // A device behind its host's call.
-pub struct DeviceCallTaken {
-    pub device: Device,
-    pub result: CallStatus,
+struct DeviceCallTaken {
+    device: Device,
+    result: CallStatus,
 }
 
 // A device behind a tick, what it sends, and what it tells its host.

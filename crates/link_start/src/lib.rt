@@ -34,24 +34,24 @@ pub struct LinkStarted {
 }
 
 // Parties whose start was taken; where it was refused they are any.
-pub struct MasterBegun {
-    pub master: Master,
-    pub answer: StartAnswer,
+struct MasterBegun {
+    master: Master,
+    answer: StartAnswer,
 }
 
-pub struct MastersBegun {
-    pub masters: [Master; 2],
-    pub answer: StartAnswer,
+struct MastersBegun {
+    masters: [Master; 2],
+    answer: StartAnswer,
 }
 
-pub struct SlotBegun {
-    pub slot: Slot,
-    pub answer: StartAnswer,
+struct SlotBegun {
+    slot: Slot,
+    answer: StartAnswer,
 }
 
-pub struct DevicesBegun {
-    pub devices: [Slot; 6],
-    pub answer: StartAnswer,
+struct DevicesBegun {
+    devices: [Slot; 6],
+    answer: StartAnswer,
 }
 
 // ---- where no party was started

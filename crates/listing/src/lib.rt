@@ -37,9 +37,9 @@ pub struct Listened {
 }
 
 // The same of one party and one tick.
-pub struct MonitorHeard {
-    pub monitor: Monitor,
-    pub at: usize,
+struct MonitorHeard {
+    monitor: Monitor,
+    at: usize,
 }
 
 // A number in decimal.

@@ -58,9 +58,9 @@ pub enum MasterHostCall {
 }
 
 // A master behind its host's call.
-pub struct MasterCallTaken {
-    pub master: Master,
-    pub result: CallStatus,
+struct MasterCallTaken {
+    master: Master,
+    result: CallStatus,
 }
 
 // A master behind a tick, what it sends, and what it tells its host.

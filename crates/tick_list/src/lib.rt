@@ -192,14 +192,14 @@ fn device_call(ticks: &[u8], at: usize) -> DeviceCall
 }
 
 // Calls that were read, and the place behind them.
-pub struct MastersRead {
-    pub calls: [MasterCall; 2],
-    pub next: usize,
+struct MastersRead {
+    calls: [MasterCall; 2],
+    next: usize,
 }
 
-pub struct DevicesRead {
-    pub calls: [DeviceCall; 6],
-    pub next: usize,
+struct DevicesRead {
+    calls: [DeviceCall; 6],
+    next: usize,
 }
 
 fn masters_read(ticks: &[u8], start: usize) -> MastersRead
