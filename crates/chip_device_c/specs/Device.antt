@@ -42,7 +42,8 @@ abbrev pub deviceWanted : ℕ → DeviceBehind → ℕ
 deviceWanted which b = wanted which (b .ended .carried) (deviceTells (b .ticked .told) .number) (answerNumber (resultOf (b .ticked .result)))
 
 abbrev pub DeviceSteps : Chip → Device → Lent (List ℕ) → Lent (List ℕ) → Lent (List ℕ) → ℕ → ℕ → DeviceBehind → Type 0
-DeviceSteps x d frame bytes contents first c r = behindOf r (after frame) (after bytes) (after contents) ≡ step (placed x d (before frame) (before bytes) (before contents)) first c
+DeviceSteps x d frame bytes contents first c r =
+    behindOf r (after frame) (after bytes) (after contents) ≡ step (placed x d (before frame) (before bytes) (before contents)) first c
 
 abbrev pub DeviceRuns : Chip → Device → Lent (List ℕ) → Lent (List ℕ) → Lent (List ℕ) → Lent (List ℕ) → Lent (List ℕ) → ℕ → Type 0
 DeviceRuns x d frame bytes contents recording events r =

@@ -59,4 +59,5 @@ abbrev pub MasterSteps : Chip → Master → Lent (List ℕ) → Lent (List ℕ)
 MasterSteps x m frame bytes first c r = behindOf r (after frame) (after bytes) ≡ step (placed x m (before frame) (before bytes)) first c
 
 abbrev pub MasterRuns : Chip → Master → Lent (List ℕ) → Lent (List ℕ) → Lent (List ℕ) → Lent (List ℕ) → ℕ → Type 0
-MasterRuns x m frame bytes recording events r = RunIs (trace ticked (placed x m (before frame) (before bytes)) (before recording)) (before events) r (after events)
+MasterRuns x m frame bytes recording events r =
+    RunIs (trace ticked (placed x m (before frame) (before bytes)) (before recording)) (before events) r (after events)

@@ -84,4 +84,6 @@ pub record LateStepping (l : Link) (starts : StartTicks) (ticks : List ℕ) (at 
 -- so it is for a link that is ready
 abbrev pub LateStepIs : Link → StartTicks → List ℕ → ℕ → Lent (List (List ℕ)) → Lent (List (List ℕ)) → Lent (List (List ℕ)) → Stepped → Type 0
 LateStepIs l starts ticks at frames bytes contents r =
-    LateReady starts l → LateStepping l starts ticks at (rowsOf (B.before frames) (B.before bytes) (B.before contents)) r (rowsOf (B.after frames) (B.after bytes) (B.after contents))
+    LateReady starts l
+    → LateStepping l starts ticks at (rowsOf (B.before frames) (B.before bytes) (B.before contents)) r
+    (rowsOf (B.after frames) (B.after bytes) (B.after contents))

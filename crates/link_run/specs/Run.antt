@@ -116,7 +116,8 @@ Demand3Of p retries s ticks = EachTick NoTwoSend (stepsOf p retries s ticks) × 
 -- beyond demand 3, of the link l that was started: every answer that a master reports is credited
 abbrev pub CreditOf : Profile → ℕ → List Setting → List ℕ → Type 0
 CreditOf p retries s ticks =
-    (l : Link) → linkStarts p retries s ≡ accepted l → EachCredited mostData noneAsked (blanks (devicesBy (accepted l))) (lentFresh l) (callsBy (accepted l) ticks)
+    (l : Link) → linkStarts p retries s ≡ accepted l
+    → EachCredited mostData noneAsked (blanks (devicesBy (accepted l))) (lentFresh l) (callsBy (accepted l) ticks)
 
 -- and every BACK that a master finds whole is as its device's host gave it
 abbrev pub BacksOf : Profile → ℕ → List Setting → List ℕ → Type 0

@@ -60,4 +60,5 @@ pub record StepIs (l : Link) (ticks : List ℕ) (at : ℕ) (x : Rows) (r : Stepp
 -- a link has six slots
 abbrev pub SteppedIs : Link → List ℕ → ℕ → Lent (List (List ℕ)) → Lent (List (List ℕ)) → Lent (List (List ℕ)) → Stepped → Type 0
 SteppedIs l ticks at frames bytes contents r =
-    length (l .devices) ≡ 6 → StepIs l ticks at (rowsOf (before frames) (before bytes) (before contents)) r (rowsOf (after frames) (after bytes) (after contents))
+    length (l .devices) ≡ 6
+    → StepIs l ticks at (rowsOf (before frames) (before bytes) (before contents)) r (rowsOf (after frames) (after bytes) (after contents))

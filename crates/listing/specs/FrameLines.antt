@@ -31,7 +31,9 @@ aloneFor lone tick (suc n) = if lone tick then aloneFor lone (tick + 1) n else f
 -- the lines of one party, from this tick on, by what it sends
 unfoldable pub partyLines : (ℕ → Bool) → ℕ → ℕ → Monitor → List Sent → List Line
 partyLines lone party tick e [] = []
-partyLines lone party tick e (s ∷ ss) = listens tick party (lone tick) e s .lines ++ partyLines lone party (tick + 1) (listens tick party (lone tick) e s .monitor) ss
+partyLines lone party tick e (s ∷ ss) =
+    listens tick party (lone tick) e s .lines
+    ++ partyLines lone party (tick + 1) (listens tick party (lone tick) e s .monitor) ss
 
 -- the line of a frame whose first character is sent in this tick: "tick of its last character, party, type, master (0 primary), length in characters"
 unfoldable pub frameLine : (ℕ → Bool) → ℕ → ℕ → (w : List ℕ) → IsFrame w → List Line
@@ -47,12 +49,14 @@ pub data Frames (lone : ℕ → Bool) (party : ℕ) : ℕ → List Sent → List
 
 -- However the silent ticks and frames are told apart, the lines are those of the output.
 abbrev pub ListedAsSent : Type 0
-ListedAsSent = (lone : ℕ → Bool) (party tick : ℕ) (ss : List Sent) (ls : List Line) → Frames lone party tick ss ls → partyLines lone party tick quietMonitor ss ≡ ls
+ListedAsSent =
+    (lone : ℕ → Bool) (party tick : ℕ) (ss : List Sent) (ls : List Line) → Frames lone party tick ss ls → partyLines lone party tick quietMonitor ss ≡ ls
 
 -- every master and device that started, whatever it hears and its host calls
 abbrev pub MasterListed : ℕ → Type 0
 MasterListed limit =
-    (lone : ℕ → Bool) (party tick : ℕ) (p : Profile) (primary : Bool) (retries : ℕ) (x : MasterSide) (inputs : List MasterInput) → profileMade p ≡ accepted p → MasterStarts p primary retries x
+    (lone : ℕ → Bool) (party tick : ℕ) (p : Profile) (primary : Bool) (retries : ℕ) (x : MasterSide) (inputs : List MasterInput)
+    → profileMade p ≡ accepted p → MasterStarts p primary retries x
     → Frames lone party tick (masterSents limit x inputs) (partyLines lone party tick quietMonitor (masterSents limit x inputs))
 
 abbrev pub DeviceListed : ℕ → Type 0
@@ -75,7 +79,8 @@ sentBy party (ss ∷ ticks) = getD ss party Silent ∷ sentBy party ticks
 -- ticks of n parties from this one on, and in which of them at most one sends
 pub data Ticks (lone : ℕ → Bool) (n : ℕ) : ℕ → List (List Sent) → Type 0 where
   no-more : {tick : ℕ} → Ticks lone n tick []
-  one-more : {tick : ℕ} {ss : List Sent} {ticks : List (List Sent)} → length ss ≡ n → lone tick ≡ isLone ss → Ticks lone n (tick + 1) ticks → Ticks lone n tick (ss ∷ ticks)
+  one-more : {tick : ℕ} {ss : List Sent} {ticks : List (List Sent)} → length ss ≡ n → lone tick ≡ isLone ss → Ticks lone n (tick + 1) ticks
+      → Ticks lone n tick (ss ∷ ticks)
 
 -- a party that sends silent ticks and whole frames, as every master and device does from its start on: its lines in the output
 abbrev pub OutputListed : Type 0

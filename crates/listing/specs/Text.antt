@@ -14,7 +14,9 @@ decimal n = decimalOf 5 n
 
 -- "tick party type master length", a fixed byte string
 abbrev pub headLine : List ℕ
-headLine = 116 ∷ 105 ∷ 99 ∷ 107 ∷ 32 ∷ 112 ∷ 97 ∷ 114 ∷ 116 ∷ 121 ∷ 32 ∷ 116 ∷ 121 ∷ 112 ∷ 101 ∷ 32 ∷ 109 ∷ 97 ∷ 115 ∷ 116 ∷ 101 ∷ 114 ∷ 32 ∷ 108 ∷ 101 ∷ 110 ∷ 103 ∷ 116 ∷ 104 ∷ 10 ∷ []
+headLine =
+    116 ∷ 105 ∷ 99 ∷ 107 ∷ 32 ∷ 112 ∷ 97 ∷ 114 ∷ 116 ∷ 121 ∷ 32 ∷ 116 ∷ 121 ∷ 112 ∷ 101 ∷ 32
+    ∷ 109 ∷ 97 ∷ 115 ∷ 116 ∷ 101 ∷ 114 ∷ 32 ∷ 108 ∷ 101 ∷ 110 ∷ 103 ∷ 116 ∷ 104 ∷ 10 ∷ []
 
 -- the types' names, fixed byte strings: STX, ACK, BACK
 abbrev pub typeName : ℕ → List ℕ

@@ -22,7 +22,12 @@ use Rattle.listing.specs.Sents.{sentIn}
 
 -- "2 to 7 devices with polling address party − 2 and unique address equal to the party"; "FSK, R 3, preamble 5"
 abbrev pub ready : ℕ → DeviceSide
-ready party = record { device = freshDevice fskProfile 5 (party - 2) party; frame = replicate (longestFrame mostData) 0; bytes = replicate mostData 0; contents = replicate mostData 0 }
+ready party = record {
+  device = freshDevice fskProfile 5 (party - 2) party;
+  frame = replicate (longestFrame mostData) 0;
+  bytes = replicate mostData 0;
+  contents = replicate mostData 0;
+}
 
 unfoldable pub readyLink : Link
 readyLink = record {

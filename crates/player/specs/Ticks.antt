@@ -57,7 +57,8 @@ pub record PlaysOn (script : List ℕ) (stop : ℕ) (p : Playing) (x : Rows) (ou
 
 abbrev pub OnwardIs : Lent (List ℕ) → ℕ → Playing → Lent (List (List ℕ)) → Lent (List (List ℕ)) → Lent (List (List ℕ)) → Lent (List ℕ) → Playing → Type 0
 OnwardIs script stop p frames bytes contents out r =
-    PlaysOn (before script) stop p (rowsOf (before frames) (before bytes) (before contents)) (before out) r (rowsOf (after frames) (after bytes) (after contents)) (after out)
+    PlaysOn (before script) stop p (rowsOf (before frames) (before bytes) (before contents)) (before out) r
+    (rowsOf (after frames) (after bytes) (after contents)) (after out)
 
 -- all that is left
 abbrev pub PlaysAll : Lent (List ℕ) → ℕ → Playing → Lent (List (List ℕ)) → Lent (List (List ℕ)) → Lent (List (List ℕ)) → Lent (List ℕ) → ℕ → Type 0

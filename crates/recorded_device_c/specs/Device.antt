@@ -34,7 +34,9 @@ deviceNumbers recording = traceFrom ticked freshDevice recordedDevice recording
 -- ---- what the code promises, with what it is lent
 
 abbrev pub DeviceSteps : Device → Lent (List ℕ) → Lent (List ℕ) → Lent (List ℕ) → ℕ → ℕ → DeviceTicked → Type 0
-DeviceSteps d frame bytes contents first c t = stepOf t (after frame) (after bytes) (after contents) ≡ step (sideOf d (before frame) (before bytes) (before contents)) first c
+DeviceSteps d frame bytes contents first c t =
+    stepOf t (after frame) (after bytes) (after contents) ≡ step (sideOf d (before frame) (before bytes) (before contents)) first c
 
 abbrev pub DeviceRuns : Device → Lent (List ℕ) → Lent (List ℕ) → Lent (List ℕ) → Lent (List ℕ) → Lent (List ℕ) → ℕ → Type 0
-DeviceRuns d frame bytes contents recording events r = RunIs (trace ticked (sideOf d (before frame) (before bytes) (before contents)) (before recording)) (before events) r (after events)
+DeviceRuns d frame bytes contents recording events r =
+    RunIs (trace ticked (sideOf d (before frame) (before bytes) (before contents)) (before recording)) (before events) r (after events)

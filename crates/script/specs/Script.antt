@@ -56,7 +56,9 @@ isGood last called [] = false
 isGood last called (e ∷ []) = if e .tick <? last then false else isStop e
 isGood last called (e ∷ f ∷ es) =
     if e .tick <? last then false else
-    if isCall e then (if isIn (e .party) (calledBefore last called e) then false else isGood (e .tick) (e .party ∷ calledBefore last called e) (f ∷ es)) else false
+    if isCall e
+    then (if isIn (e .party) (calledBefore last called e) then false else isGood (e .tick) (e .party ∷ calledBefore last called e) (f ∷ es))
+    else false
 
 -- "bytes left over" are bad too
 unfoldable pub goodScript : List ℕ → Bool
@@ -95,7 +97,8 @@ abbrev pub callsAt : ℕ → List Entry → Calls
 callsAt tick es = record {
   for-primary = masterCall (wantedAt tick 0 es);
   for-secondary = masterCall (wantedAt tick 1 es);
-  for-devices = deviceCallAt tick 2 es ∷ deviceCallAt tick 3 es ∷ deviceCallAt tick 4 es ∷ deviceCallAt tick 5 es ∷ deviceCallAt tick 6 es ∷ deviceCallAt tick 7 es ∷ [];
+  for-devices = deviceCallAt tick 2 es ∷ deviceCallAt tick 3 es ∷ deviceCallAt tick 4 es
+      ∷ deviceCallAt tick 5 es ∷ deviceCallAt tick 6 es ∷ deviceCallAt tick 7 es ∷ [];
 }
 
 -- the stop's tick

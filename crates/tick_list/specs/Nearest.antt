@@ -23,7 +23,13 @@ abbrev pub nearestData : List ℕ → List ℕ
 nearestData put = map (atMost 0xFF) (take 256 put)
 
 abbrev pub nearestRequest : Request → Request
-nearestRequest q = record { preamble = atMost 0xFF (q .preamble); revision = atMost 0x3F (q .revision); long = q .long; address = atMost (2 ^ 40 - 1) (q .address); command = atMost 0xFF (q .command) }
+nearestRequest q = record {
+  preamble = atMost 0xFF (q .preamble);
+  revision = atMost 0x3F (q .revision);
+  long = q .long;
+  address = atMost (2 ^ 40 - 1) (q .address);
+  command = atMost 0xFF (q .command);
+}
 
 abbrev pub nearestMaster : MasterCall → MasterCall
 nearestMaster no-request = no-request

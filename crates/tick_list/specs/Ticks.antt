@@ -31,7 +31,13 @@ dataIn rest = take (lengthIn rest) (drop 10 rest)
 
 -- a master's call: the kind is four times the revision and 1 for a request with a short address, 2 for one with a long address; any other is none
 abbrev pub requestOf : Bool → List ℕ → MasterHost.MasterHostCall
-requestOf long rest = MasterHost.MasterHostCall.Requests (record { preamble = byteAt rest 1; revision = kindIn rest / 4; long = long; address = addressIn rest; command = byteAt rest 2 })
+requestOf long rest = MasterHost.MasterHostCall.Requests (record {
+  preamble = byteAt rest 1;
+  revision = kindIn rest / 4;
+  long = long;
+  address = addressIn rest;
+  command = byteAt rest 2;
+})
 
 abbrev pub requestBy : ℕ → List ℕ → MasterHost.MasterHostCall
 requestBy form rest = if form =? 1 then requestOf false rest else (if form =? 2 then requestOf true rest else MasterHost.MasterHostCall.Nothing)
@@ -68,7 +74,7 @@ callsEach here = suc (suc (length here))
 abbrev pub deviceCallIn : List ℕ → DeviceCall
 deviceCallIn rest = D.callOf (answerIn rest) (dataIn rest)
 
--- the calls of the slots that have a device; "a call to an absent slot does nothing"
+-- the calls of the slots that have a device; a call to an absent slot does nothing
 unfoldable pub slotsIn : Here → List ℕ → List DeviceCall
 slotsIn [] rest = []
 slotsIn (h ∷ hs) rest = ifHere h (deviceCallIn rest) (slotsIn hs (behindCall rest))
