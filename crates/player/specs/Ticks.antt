@@ -14,7 +14,7 @@ use Rattle.script.specs.Script.{recordsOf, callsFrom}
 use Rattle.script.specs.declared.Entry.{Entry}
 use Rattle.script.specs.Reads.{Reads}
 use Rattle.listing.specs.Sents.{sentIn}
-use Rattle.listing.specs.Lines.{quietMonitor, linesFrom}
+use Rattle.listing.specs.Lines.{quietMonitor, TickLines, linesFrom}
 use Rattle.listing.specs.Promises.{TickLinesAre}
 use Rattle.listing.specs.Rows.{allHeard, ticksLines}
 use Rattle.listing.specs.Text.{linesText}
@@ -45,6 +45,10 @@ restedFor n p = record { link = linkRested n (p .link); monitors = replicate 8 q
 abbrev pub stepsFrom : List ℕ → ℕ → Playing → Rows → List LinkStep
 stepsFrom script n p x = run mostData (linkOf (p .link) x) (callsFrom (p .tick) n (recordsOf script))
 
+-- its monitors behind them, and the lines of the frames that ended in them
+abbrev pub linesOf : List ℕ → ℕ → Playing → Rows → TickLines
+linesOf script n p x = ticksLines (p .tick) (allHeard (p .monitors)) (sentIn (stepsFrom script n p x))
+
 -- one tick or more: link, monitors and output are those behind the run of so many ticks. How many are taken at once is left open, and nothing that is printed depends on it.
 pub record PlaysOn (script : List ℕ) (stop : ℕ) (p : Playing) (x : Rows) (out : List ℕ) (r : Playing) (x-after : Rows) (out-after : List ℕ) : Type 0 where
   pub ticks : ℕ
@@ -53,7 +57,7 @@ pub record PlaysOn (script : List ℕ) (stop : ℕ) (p : Playing) (x : Rows) (ou
   pub tick-is : r .tick ≡ p .tick + ticks
   pub stands : Stands script r
   pub link-is : linkOf (r .link) x-after ≡ linkBehind (linkOf (p .link) x) (stepsFrom script ticks p x)
-  pub lines-are : TickLinesAre (ticksLines (p .tick) (allHeard (p .monitors)) (sentIn (stepsFrom script ticks p x))) out (p .at) (allHeard (r .monitors)) (r .at) out-after
+  pub lines-are : TickLinesAre (linesOf script ticks p x) out (p .at) (allHeard (r .monitors)) (r .at) out-after
 
 abbrev pub OnwardIs : Lent (List ℕ) → ℕ → Playing → Lent (List (List ℕ)) → Lent (List (List ℕ)) → Lent (List (List ℕ)) → Lent (List ℕ) → Playing → Type 0
 OnwardIs script stop p frames bytes contents out r =
