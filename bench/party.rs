@@ -12,9 +12,10 @@ mod oracles;
 mod engine_archive;
 #[path = "../tests/party_archive.rs"]
 mod party_archive;
+#[path = "../tests/ticked.rs"]
+mod ticked;
 mod recordings;
 mod rounds;
-mod ticked;
 
 use called::over;
 use oracles::{device_oracle, master_oracle};

@@ -86,9 +86,13 @@ impl Results {
         self.0[2]
     }
 
+    pub fn event(&self) -> u8 {
+        self.0[3] as u8
+    }
+
     /// Whether the reader found a whole frame without damage.
     pub fn is_whole(&self) -> bool {
-        self.0[3] == 3
+        self.event() == 3
     }
 
     pub fn long_address(&self) -> bool {

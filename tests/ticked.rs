@@ -1,8 +1,11 @@
-//! The master and the device of libnengapiko.a, one call a tick, over the recordings that
-//! nengapiko_master and nengapiko_device take, with the same numbers for each tick.
+//! The tick reader, the master and the device of libnengapiko.a, one call a tick, over the recordings
+//! that nengapiko_ticks, nengapiko_master and nengapiko_device take, with the same numbers for each
+//! tick.
+
+#![allow(dead_code)]
 
 use crate::calls::{Given, Request};
-use crate::engine_archive::{device_2, primary, Device, Master, Results};
+use crate::engine_archive::{device_2, primary, Device, Master, Reader, Results};
 
 /// 4 for a character that is sent, else what is told.
 #[inline(always)]
@@ -50,6 +53,14 @@ fn over(recording: &[u8], events: &mut [u8], mut number: impl FnMut(&[u8]) -> u8
         *event = number(tick);
     }
     taken
+}
+
+pub fn reader(recording: &[u8], events: &mut [u8]) -> usize {
+    let mut reader = Reader::start();
+    over(recording, events, |tick| {
+        reader.tick((tick[0] / 32, tick[1]));
+        reader.results.event()
+    })
 }
 
 pub fn master(recording: &[u8], events: &mut [u8]) -> usize {
