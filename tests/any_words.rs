@@ -1,7 +1,7 @@
-//! Every content of the words of a master and of a device is some state: a tick of the archive on any
-//! words is that on the words that are written for the same state, by the fields of
+//! Every content of the words of a master, a device and a tick reader is some state: a tick of the
+//! archive on any words is that on the words that are written for the same state, by the fields of
 //! crates/words/specs/Fields.antt, crates/master_c/specs/Words.antt and crates/device_c/specs/Words.antt.
-//! Compared are the words behind the tick, what it returns and what it tells.
+//! Compared are the words behind the tick, what it returns and tells, and the lent buffers.
 
 mod calls;
 mod engine_archive;
@@ -11,7 +11,7 @@ mod frames;
 mod oracles;
 
 use calls::{Given, Request};
-use engine_archive::{device_2, primary};
+use engine_archive::{device_2, primary, Reader};
 use frames::Xorshift;
 use std::process::ExitCode;
 use Field::{Bits, Case, Flag, Wish};
@@ -177,7 +177,8 @@ fn masters_differ(random: &mut Xorshift) -> bool {
             data: &data,
         };
         let returned = master.tick(heard, requests.then_some(request));
-        (returned, master.state, master.results.all())
+        let buffers = (master.frame, master.data);
+        (returned, master.state, master.results.all(), buffers)
     });
     let fields = master_fields();
     let written = (0..39).all(|at| done[0].1[at] == fields[at].same_value(done[0].1[at]));
@@ -199,10 +200,24 @@ fn devices_differ(random: &mut Xorshift) -> bool {
             data: &data[..count],
         };
         let returned = device.tick(heard, given);
-        (returned, device.state, device.results.all())
+        let buffers = (device.frame, device.data, device.content);
+        (returned, device.state, device.results.all(), buffers)
     });
     let fields = device_fields();
     let written = (0..40).all(|at| done[0].1[at] == fields[at].same_value(done[0].1[at]));
+    done[0] != done[1] || !written
+}
+
+fn readers_differ(random: &mut Xorshift) -> bool {
+    let states = words::<16>(&READER, random);
+    let heard = heard(random);
+    let done = states.map(|state| {
+        let mut reader = Reader::start();
+        reader.state = state;
+        reader.tick(heard);
+        (reader.state, reader.results.all(), reader.data)
+    });
+    let written = (0..16).all(|at| done[0].0[at] == READER[at].same_value(done[0].0[at]));
     done[0] != done[1] || !written
 }
 
@@ -210,11 +225,12 @@ fn main() -> ExitCode {
     let mut random = Xorshift(0x2545_F491_4F6C_DD1D);
     let masters = (0..ROUNDS).filter(|_| masters_differ(&mut random)).count();
     let devices = (0..ROUNDS).filter(|_| devices_differ(&mut random)).count();
+    let readers = (0..ROUNDS).filter(|_| readers_differ(&mut random)).count();
     println!(
         "any_words: {ROUNDS} ticks of a master on any words, {masters} differences; as many of a \
-         device, {devices} differences"
+         device, {devices} differences, and of a tick reader, {readers} differences"
     );
-    match masters + devices {
+    match masters + devices + readers {
         0 => ExitCode::SUCCESS,
         _ => ExitCode::FAILURE,
     }
