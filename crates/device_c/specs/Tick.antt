@@ -40,7 +40,8 @@ pub record StepIs (s : DeviceStep) (event : Event) (words frame bytes contents r
   pub returned : r ≡ callNumber (s .result)
 
 -- the step of the device that the words before were, and what its reader found; the data of the host's call are `put`
-abbrev pub DeviceTicks : Lent (List ℕ) → Lent (List ℕ) → Lent (List ℕ) → Lent (List ℕ) → Heard → DeviceHostCall → Lent (List ℕ) → Lent (List ℕ) → ℕ → Type 0
+abbrev pub DeviceTicks : Lent (List ℕ) → Lent (List ℕ) → Lent (List ℕ) → Lent (List ℕ)
+    → Heard → DeviceHostCall → Lent (List ℕ) → Lent (List ℕ) → ℕ → Type 0
 DeviceTicks words frame bytes contents heard call put results r =
     StepIs
     (deviceTick mostData (sideOf (unpacked (before words)) (before frame) (before bytes) (before contents)) heard (callOf call (before put)))

@@ -20,28 +20,28 @@ ghost use Rattle.device_c.specs.Fits.{TurnFits, ContentFits, NumbersFit,
 ghost use Rattle.device_c.specs.Tick.{givenBy, DeviceTicks};
 
 // What a device was started with.
-pub struct Settings {
-    pub profile: Profile,
-    pub preamble: u8,
-    pub polling: u8,
-    pub unique: u64,
+struct Settings {
+    profile: Profile,
+    preamble: u8,
+    polling: u8,
+    unique: u64,
 }
 
 // The request that it has in hand, and its answer.
-pub struct Answering {
-    pub deaf: bool,
-    pub turn: Turn,
-    pub wish: Wish,
-    pub length: u16,
-    pub request: Header,
+struct Answering {
+    deaf: bool,
+    turn: Turn,
+    wish: Wish,
+    length: u16,
+    request: Header,
 }
 
 // Its burst mode.
-pub struct Bursting {
-    pub burst: bool,
-    pub primary: bool,
-    pub due: u32,
-    pub content: Content,
+struct Bursting {
+    burst: bool,
+    primary: bool,
+    due: u32,
+    content: Content,
 }
 
 fn turn_word(turn: Turn) -> u64

@@ -186,7 +186,8 @@ callsWith masters devices = record { masters = masters; devices = devices }
 
 -- ---- the promise: `x` and `sent` are the rows and what stands in `sent` before, `x-after` and `sent-after` behind the ticks
 
-pub record RunIs (l : Link) (c : Calls) (put : List ℕ) (most : ℕ) (x : Rows) (sent : List (List ℕ)) (r : Ticked) (x-after : Rows) (sent-after : List (List ℕ)) : Type 0 where
+pub record RunIs (l : Link) (c : Calls) (put : List ℕ) (most : ℕ) (x : Rows) (sent : List (List ℕ))
+    (r : Ticked) (x-after : Rows) (sent-after : List (List ℕ)) : Type 0 where
   pub link-is : linkOf (r .link) x-after ≡ linkBehind (linkOf l x) (stepsOf l c put most x)
   pub slots : heres (r .link .devices) ≡ heres (l .devices)
   pub count-is : r .count ≡ length (stepsOf l c put most x)
@@ -196,6 +197,8 @@ pub record RunIs (l : Link) (c : Calls) (put : List ℕ) (most : ℕ) (x : Rows)
   pub masters-are : r .masters ≡ mastersDid (stepsOf l c put most x) (replicate 2 masterNothing)
   pub devices-are : r .devices ≡ devicesDid (heres (l .devices)) (stepsOf l c put most x) (replicate 6 deviceNothing)
 
-abbrev pub TicksAre : Link → Calls → List ℕ → ℕ → Lent (List (List ℕ)) → Lent (List (List ℕ)) → Lent (List (List ℕ)) → Lent (List (List ℕ)) → Ticked → Type 0
+abbrev pub TicksAre : Link → Calls → List ℕ → ℕ
+    → Lent (List (List ℕ)) → Lent (List (List ℕ)) → Lent (List (List ℕ)) → Lent (List (List ℕ)) → Ticked → Type 0
 TicksAre l c put most frames bytes contents sent r =
-    RunIs l c put most (rowsOf (before frames) (before bytes) (before contents)) (before sent) r (rowsOf (after frames) (after bytes) (after contents)) (after sent)
+    RunIs l c put most (rowsOf (before frames) (before bytes) (before contents)) (before sent) r
+    (rowsOf (after frames) (after bytes) (after contents)) (after sent)

@@ -11,9 +11,9 @@ ghost use Rattle.modem.specs.Accesses.{registerRead, registerWritten};
 ghost use Rattle.modem_c.specs.Script.{gives, accessedAs, registerOf, readRefusal, writeRefusal, onRegister, markOf, outNumber, outCharacter, counting, onTick, accessed, answers};
 
 // The chip behind an access, and what it gives.
-pub struct Accessed {
-    pub number: u8,
-    pub chip: Chip,
+struct Accessed {
+    number: u8,
+    chip: Chip,
 }
 
 fn register_of(low: u8) -> usize

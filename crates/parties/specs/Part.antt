@@ -13,7 +13,9 @@ dataOf p put = take (p .count) (drop (p .from) put)
 
 -- where the part begins and ends, of so many lent bytes: at their end, if it begins behind it
 abbrev pub boundsOf : ℕ → ℕ → ℕ → Bounds
-boundsOf from count room = if from <? room then record { start = from; end = if room - from <? count then room else from + count } else record { start = room; end = room }
+boundsOf from count room =
+    if from <? room then record { start = from; end = if room - from <? count then room else from + count }
+    else record { start = room; end = room }
 
 -- those bounds: they lie inside, and between them stands the part
 pub record PartIs (from count room : ℕ) (b : Bounds) : Type 0 where

@@ -1,4 +1,4 @@
--- How the code stands for what is to be believed.
+-- Inner contracts: nothing that is to be believed rests on them.
 -- The line's reader, that of one who hears all that the line carries, and when a party's reader is that one. The law in proofs/Readers.antt says that two readers of which this is told are equal.
 use Prim.Native.Nat.{ℕ}
 use mathlib.Core.Bool.{Bool, true, false}

@@ -1,4 +1,4 @@
--- How the code stands for what is to be believed.
+-- Inner contracts: nothing that is to be believed rests on them.
 -- How a party's tick goes: it only counts a silent tick, it only hears a character, or it acts. The laws in proofs/Ways.antt say that the short ways are its tick.
 use Prim.Native.Nat.{ℕ, _-_}
 use mathlib.Core.Bool.{Bool, true, false}

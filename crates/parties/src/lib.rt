@@ -1,4 +1,4 @@
-// The parties of a link: two masters and six slots for devices, the calls to them, and the short way of a party that only hears.
+// The parties of a link: two masters and six slots for devices, the calls to them, and the short ways of a party that only counts a silent tick or only hears a character.
 use device_tick::DeviceTicked;
 use frame::Header;
 use line::Damage;
@@ -38,9 +38,9 @@ pub struct Part {
 }
 
 // Where a part of so many lent bytes begins, and where it ends.
-pub struct Bounds {
-    pub start: usize,
-    pub end: usize,
+struct Bounds {
+    start: usize,
+    end: usize,
 }
 
 // The end of a part that begins inside so many bytes.
