@@ -3,7 +3,6 @@
 use Prim.Native.Nat.{ℕ}
 use mathlib.Core.List.{List}
 use mathlib.Core.Path.{_≡_}
-use Rattle.base.specs.Choice.{if_then_else_, _=?_}
 use Rattle.base.specs.Lent.{Lent, before, after}
 use Rattle.frame.specs.Limits.{mostData}
 use Rattle.line.specs.declared.Event.{Event}
@@ -14,20 +13,10 @@ use Rattle.turns.specs.Link.{DeviceStep, deviceTick}
 use Rattle.turns.specs.Told.{deviceTells}
 use Rattle.turns.specs.declared.DeviceTold.{DeviceTold}
 use Rattle.turns.specs.declared.DeviceTold.the-variants.{Nothing, Request, Broadcast}
-use Rattle.turns.specs.declared.Wish.the-variants.{Same, On, Off}
 use Rattle.device_tick.specs.Tick.{callOf, sideOf}
 use Rattle.device_tick.specs.declared.DeviceHostCall.{DeviceHostCall}
 use Rattle.words.specs.Numbers.{tickNumbers, sentNumber, callNumber}
 use Rattle.device_c.specs.Words.{packed, unpacked}
-
--- what the host gives, by the numbers of `enum nengapiko_device_call`: an answer with its wish, or burst content of this command; any other number is nothing
-abbrev pub givenBy : ℕ → ℕ → DeviceHostCall
-givenBy call command =
-    if call =? 1 then DeviceHostCall.Answers Same else
-    if call =? 2 then DeviceHostCall.Answers On else
-    if call =? 3 then DeviceHostCall.Answers Off else
-    if call =? 4 then DeviceHostCall.Content command else
-    DeviceHostCall.Nothing
 
 -- what a call leaves behind a tick: the words and the three lent buffers, the results and what it returns
 pub record StepIs (s : DeviceStep) (event : Event) (words frame bytes contents results : List ℕ) (r : ℕ) : Type 0 where

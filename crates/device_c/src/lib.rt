@@ -17,7 +17,8 @@ ghost use Rattle.turns.specs.Told.{deviceTells};
 ghost use Rattle.device_c.specs.Words.{turnWord, turnBy, turnOf, wishWord, wishOf, settingsWords, settingsAt};
 ghost use Rattle.device_c.specs.Words.{answeringWords, answeringAt, burstingWords, contentAt, burstingAt, packed, joined, unpacked};
 ghost use Rattle.device_c.specs.Fits.{TurnFits, ContentFits, NumbersFit, DeviceFits};
-ghost use Rattle.device_c.specs.Tick.{givenBy, DeviceTicks};
+ghost use Rattle.device_tick.specs.Tick.{hostCallBy};
+ghost use Rattle.device_c.specs.Tick.{DeviceTicks};
 
 // What a device was started with.
 struct Settings {
@@ -341,24 +342,6 @@ fn tick(
     words::call_number(result)
 }
 
-fn given_by(call: u8, command: u8) -> DeviceHostCall
-    ensures { λ r. ⌜ r ≡ givenBy call command ⌝ }
-{
-    if call == 1 {
-        return DeviceHostCall::Answers(Wish::Same);
-    }
-    if call == 2 {
-        return DeviceHostCall::Answers(Wish::On);
-    }
-    if call == 3 {
-        return DeviceHostCall::Answers(Wish::Off);
-    }
-    if call == 4 {
-        return DeviceHostCall::Content(command);
-    }
-    DeviceHostCall::Nothing
-}
-
 // A tick of a device; gives 0, or the refusal's number of its host's answer or burst content.
 #[no_mangle]
 pub extern "C" fn nengapiko_device_tick(
@@ -373,9 +356,9 @@ pub extern "C" fn nengapiko_device_tick(
     put: &[u8],
     results: &mut [u64; 17],
 ) -> u32
-    ensures { λ r. ⌜ DeviceTicks state frame bytes contents (heardOf kind character) (givenBy call command) put results r ⌝ }
+    ensures { λ r. ⌜ DeviceTicks state frame bytes contents (heardOf kind character) (hostCallBy call command) put results r ⌝ }
 {
     let heard = recording::heard_of(kind, character);
-    let given = given_by(call, command);
+    let given = device_tick::host_call_by(call, command);
     tick(state, frame, bytes, contents, heard, given, put, results)
 }

@@ -3,6 +3,7 @@
 use Prim.Native.Nat.{ℕ}
 use mathlib.Core.List.{List}
 use mathlib.Core.Path.{_≡_}
+use Rattle.base.specs.Choice.{if_then_else_, _=?_}
 use Rattle.frame.specs.Limits.{mostData}
 use Rattle.line.specs.declared.Event.{Event}
 use Rattle.line.specs.declared.Heard.{Heard}
@@ -10,12 +11,22 @@ use Rattle.turns.specs.Device.{tells, deviceTakes}
 use Rattle.turns.specs.Link.{DeviceCall, no-call, gives-answer, gives-content, DeviceSide, DeviceStep, deviceSent, deviceCalls, deviceTick}
 use Rattle.turns.specs.declared.Device.{Device}
 use Rattle.turns.specs.declared.DeviceTold.{DeviceTold}
+use Rattle.turns.specs.declared.Wish.the-variants.{Same, On, Off}
 use Rattle.party.specs.Calls.{resultOf}
 use Rattle.party.specs.declared.CallStatus.{CallStatus}
 use Rattle.device.specs.declared.DeviceCalled.{DeviceCalled}
 use Rattle.device_tick.specs.declared.DeviceHostCall.{DeviceHostCall}
 use Rattle.device_tick.specs.declared.DeviceCallTaken.{DeviceCallTaken}
 use Rattle.device_tick.specs.declared.DeviceTicked.{DeviceTicked}
+
+-- a host's call by its number, as programs in C, recordings and lists of ticks have it: 1 is an answer, 2 one that turns burst on, 3 one that turns it off, 4 burst content of this command, any other number nothing
+abbrev pub hostCallBy : ℕ → ℕ → DeviceHostCall
+hostCallBy number command =
+    if number =? 1 then DeviceHostCall.Answers Same else
+    if number =? 2 then DeviceHostCall.Answers On else
+    if number =? 3 then DeviceHostCall.Answers Off else
+    if number =? 4 then DeviceHostCall.Content command else
+    DeviceHostCall.Nothing
 
 -- the call, with the data that are lent beside it
 abbrev pub callOf : DeviceHostCall → List ℕ → DeviceCall

@@ -19,7 +19,7 @@ ghost use Rattle.frame.specs.Limits.{mostData};
 ghost use Rattle.turns.specs.Device.{deviceWithContent, contentGiven};
 ghost use Rattle.device.specs.Calls.{calledAs};
 ghost use Rattle.device_tick.specs.Content.{ContentIs};
-ghost use Rattle.device_tick.specs.Tick.{uncalled, calledBy, DeviceCalledIs, DeviceTickIs};
+ghost use Rattle.device_tick.specs.Tick.{hostCallBy, uncalled, calledBy, DeviceCalledIs, DeviceTickIs};
 
 // A host's call in a tick.
 pub enum DeviceHostCall {
@@ -27,6 +27,25 @@ pub enum DeviceHostCall {
     Answers(Wish),
     // a burst content of this command
     Content(u8),
+}
+
+// A host's call by its number: 1 answers, 2 with burst on, 3 with burst off; 4 gives burst content of this command.
+pub fn host_call_by(number: u8, command: u8) -> DeviceHostCall
+    ensures { λ r. ⌜ r ≡ hostCallBy number command ⌝ }
+{
+    if number == 1 {
+        return DeviceHostCall::Answers(Wish::Same);
+    }
+    if number == 2 {
+        return DeviceHostCall::Answers(Wish::On);
+    }
+    if number == 3 {
+        return DeviceHostCall::Answers(Wish::Off);
+    }
+    if number == 4 {
+        return DeviceHostCall::Content(command);
+    }
+    DeviceHostCall::Nothing
 }
 
 // A device behind its host's call.

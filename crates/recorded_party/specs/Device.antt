@@ -4,14 +4,12 @@ use Prim.Native.Nat.{ℕ}
 use mathlib.Core.List.{[], _∷_}
 use lib.ListN.{replicate}
 use Rattle.base.specs.Refusal.{Called}
-use Rattle.base.specs.Choice.{if_then_else_, _=?_}
 use Rattle.frame.specs.Limits.{mostData, longestFrame}
 use Rattle.line.specs.Profile.{fskProfile}
 use Rattle.turns.specs.Device.{deviceStarts}
 use Rattle.turns.specs.Link.{DeviceSide, DeviceCall}
 use Rattle.turns.specs.declared.Device.{Device}
-use Rattle.turns.specs.declared.Wish.the-variants.{Same, On, Off}
-use Rattle.device_tick.specs.Tick.{callOf, sideOf}
+use Rattle.device_tick.specs.Tick.{hostCallBy, callOf, sideOf}
 use Rattle.device_tick.specs.declared.DeviceHostCall.{DeviceHostCall}
 
 abbrev pub recordedDevice : Called Device
@@ -22,12 +20,7 @@ freshDevice d = sideOf d (replicate (longestFrame mostData) 0) (replicate mostDa
 
 -- 1 answers, 2 and 3 answer with burst on and off, 4 gives burst content of command 3; anything else nothing
 abbrev pub answerAt : ℕ → DeviceHostCall
-answerAt call =
-    if call =? 1 then DeviceHostCall.Answers Same else
-    if call =? 2 then DeviceHostCall.Answers On else
-    if call =? 3 then DeviceHostCall.Answers Off else
-    if call =? 4 then DeviceHostCall.Content 3 else
-    DeviceHostCall.Nothing
+answerAt call = hostCallBy call 3
 
 -- with two zero bytes
 abbrev pub deviceCallAt : ℕ → DeviceCall

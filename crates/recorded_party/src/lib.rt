@@ -4,7 +4,6 @@ use line::Profile;
 use master::MasterStarted;
 use turns::DeviceTold;
 use turns::MasterTold;
-use turns::Wish;
 ghost use mathlib.Core.Path.{_≡_};
 ghost use Rattle.master.specs.Answers.{started};
 ghost use Rattle.device.specs.Calls.{startedAs};
@@ -40,19 +39,7 @@ pub fn start_device() -> DeviceStarted
 pub fn answer_at(call: u8) -> device_tick::DeviceHostCall
     ensures { λ r. ⌜ r ≡ answerAt call ⌝ }
 {
-    if call == 1 {
-        return device_tick::DeviceHostCall::Answers(Wish::Same);
-    }
-    if call == 2 {
-        return device_tick::DeviceHostCall::Answers(Wish::On);
-    }
-    if call == 3 {
-        return device_tick::DeviceHostCall::Answers(Wish::Off);
-    }
-    if call == 4 {
-        return device_tick::DeviceHostCall::Content(3);
-    }
-    device_tick::DeviceHostCall::Nothing
+    device_tick::host_call_by(call, 3)
 }
 
 // What a device tells its host, as a number.

@@ -11,7 +11,8 @@ use Rattle.base.proofs.Choices.{if-below, if-not-below, if-equal, if-unequal}
 use Rattle.frame.specs.Address.{byteAt}
 use Rattle.master.specs.declared.MasterHostCall.{MasterHostCall}
 use Rattle.device_tick.specs.declared.DeviceHostCall as DeviceHost
-use Rattle.tick_list.specs.Ticks.{kindIn, addressIn, lengthIn, requestOf, requestBy, requestIn, answerBy, answerIn}
+use Rattle.device_tick.specs.Tick.{hostCallBy}
+use Rattle.tick_list.specs.Ticks.{kindIn, addressIn, lengthIn, requestOf, requestBy, requestIn, answerIn}
 use Rattle.tick_list.specs.Read.{partIn, forward, nextIn}
 
 short : (xs : List ℕ) (k : ℕ) → length xs ≤ k → getD xs k 0 ≡ 0
@@ -49,8 +50,8 @@ wanted-is rest long kind preamble command address k p q r = λ i. MasterHostCall
 pub request-is : (rest : List ℕ) (kind : ℕ) (r : MasterHostCall) → kind ≡ byteAt rest 0 → r ≡ requestBy (kind % 4) rest → r ≡ requestIn rest
 request-is rest kind r p q = q ∙ ap (λ (k : ℕ). requestBy (k % 4) rest) p
 
-pub answer-is : (rest : List ℕ) (kind command : ℕ) (r : DeviceHost.DeviceHostCall) → kind ≡ byteAt rest 0 → command ≡ byteAt rest 2 → r ≡ answerBy kind command → r ≡ answerIn rest
-answer-is rest kind command r p q e = e ∙ (λ i. answerBy (p i) (q i))
+pub answer-is : (rest : List ℕ) (kind command : ℕ) (r : DeviceHost.DeviceHostCall) → kind ≡ byteAt rest 0 → command ≡ byteAt rest 2 → r ≡ hostCallBy kind command → r ≡ answerIn rest
+answer-is rest kind command r p q e = e ∙ (λ i. hostCallBy (p i) (q i))
 
 pub ruleset calls = (refl, length-is, length-same, length-small, address-is, wanted-is, request-is, answer-is)
 

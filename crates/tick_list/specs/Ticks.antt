@@ -8,10 +8,10 @@ use lib.ListN.{length, take, drop}
 use Rattle.base.specs.Choice.{if_then_else_, _=?_}
 use Rattle.frame.specs.Address.{byteAt}
 use Rattle.turns.specs.Link.{DeviceCall, Calls}
-use Rattle.turns.specs.declared.Wish.the-variants.{Same, On, Off}
 use Rattle.master.specs.Tick as M
 use Rattle.master.specs.declared.MasterHostCall as MasterHost
 use Rattle.device_tick.specs.Tick as D
+use Rattle.device_tick.specs.Tick.{hostCallBy}
 use Rattle.device_tick.specs.declared.DeviceHostCall as DeviceHost
 use Rattle.parties.specs.Stands.{ifHere}
 
@@ -45,16 +45,9 @@ requestBy form rest = if form =? 1 then requestOf false rest else (if form =? 2 
 abbrev pub requestIn : List ℕ → MasterHost.MasterHostCall
 requestIn rest = requestBy (kindIn rest % 4) rest
 
--- a device's call: kind 1 is an answer, 2 one that turns burst on, 3 one that turns it off, 4 is burst content, any other is none
-abbrev pub answerBy : ℕ → ℕ → DeviceHost.DeviceHostCall
-answerBy kind command =
-    if kind =? 1 then DeviceHost.DeviceHostCall.Answers Same else
-    if kind =? 2 then DeviceHost.DeviceHostCall.Answers On else
-    if kind =? 3 then DeviceHost.DeviceHostCall.Answers Off else
-    if kind =? 4 then DeviceHost.DeviceHostCall.Content command else DeviceHost.DeviceHostCall.Nothing
-
+-- a device's call, by its kind
 abbrev pub answerIn : List ℕ → DeviceHost.DeviceHostCall
-answerIn rest = answerBy (kindIn rest) (byteAt rest 2)
+answerIn rest = hostCallBy (kindIn rest) (byteAt rest 2)
 
 -- the rest of the list behind a call
 unfoldable pub behindCall : List ℕ → List ℕ

@@ -4,13 +4,12 @@ use parties::Calls;
 use parties::DeviceCall;
 use parties::MasterCall;
 use parties::Part;
-use turns::Wish;
 ghost use mathlib.Core.Path.{_≡_};
 ghost use Prim.Native.Nat.{_+_, _*_, _%_, _^_, _≤_, _<_};
 ghost use lib.ListN.{length, drop};
 ghost use Rattle.base.specs.Lent.{before};
 ghost use Rattle.frame.specs.Address.{byteAt};
-ghost use Rattle.tick_list.specs.Ticks.{lengthIn, addressIn, requestOf, requestBy, requestIn, answerBy, answerIn};
+ghost use Rattle.tick_list.specs.Ticks.{lengthIn, addressIn, requestOf, requestBy, requestIn, answerIn};
 ghost use Rattle.tick_list.specs.Read.{partIn, forward, nextIn, masterCallAt, deviceCallAt, CallsRead, tickFrom, tickAt};
 
 fn wide(x: u8) -> u64
@@ -146,29 +145,11 @@ fn request_in(ticks: &[u8], at: usize) -> master::MasterHostCall
 }
 
 // A device's call, by its kind.
-fn answer_by(kind: u8, command: u8) -> device_tick::DeviceHostCall
-    ensures { λ r. ⌜ r ≡ answerBy kind command ⌝ }
-{
-    if kind == 1 {
-        return device_tick::DeviceHostCall::Answers(Wish::Same);
-    }
-    if kind == 2 {
-        return device_tick::DeviceHostCall::Answers(Wish::On);
-    }
-    if kind == 3 {
-        return device_tick::DeviceHostCall::Answers(Wish::Off);
-    }
-    if kind == 4 {
-        return device_tick::DeviceHostCall::Content(command);
-    }
-    device_tick::DeviceHostCall::Nothing
-}
-
 fn answer_in(ticks: &[u8], at: usize) -> device_tick::DeviceHostCall
     requires { ⌜ at ≤ length (now ticks) ⌝ }
     ensures { λ r. ⌜ r ≡ answerIn (drop at (before ticks)) ⌝ }
 {
-    answer_by(byte_in(ticks, at, 0), byte_in(ticks, at, 2))
+    device_tick::host_call_by(byte_in(ticks, at, 0), byte_in(ticks, at, 2))
 }
 
 fn master_call(ticks: &[u8], at: usize) -> MasterCall
