@@ -71,21 +71,26 @@ module _ (d : Device) where
 pub counts-reads : (m : Master) (told : MasterTold) (event : Event) → (M.counts m told event .master .receiver ≡ m .receiver) × (M.counts m told event .event ≡ event)
 counts-reads m told event = if-both (λ (t : MasterTaken). (t .master .receiver ≡ m .receiver) × (t .event ≡ event)) (rt1Ends (m .message .stage)) _ _ (refl, refl) (refl, refl)
 
-master-silence : (m : Master) → M.onSilence m (taken (m .receiver) Silence .receiver) .event ≡ taken (m .receiver) Silence .event
-master-silence m = go (insideFrame (m .receiver .place)) refl (m .receiver .gap) refl
+-- in a silent tick: nothing outside a frame and where the tick is passed over, and a break where it is the second in a row
+finds : (r : Receiver) (found : Event) → (insideFrame (r .place) ≡ false → found ≡ Nothing) → (insideFrame (r .place) ≡ true → r .gap ≡ false → found ≡ Nothing)
+    → (insideFrame (r .place) ≡ true → r .gap ≡ true → found ≡ Broken) → found ≡ taken r Silence .event
+finds r found outside passed second = go (insideFrame (r .place)) refl (r .gap) refl
   where
-    found : MasterTaken → Event
-    found t = t .event
-
     told : Taken → Event
     told t = t .event
 
-    go : (inside : Bool) → insideFrame (m .receiver .place) ≡ inside → (gap : Bool) → m .receiver .gap ≡ gap → M.onSilence m (taken (m .receiver) Silence .receiver) .event ≡ taken (m .receiver) Silence .event
-    go false o gap g = ap found (master-outside m o) ∙ counts-reads (withReader m idle) MasterTold.Nothing Nothing .1 ∙ sym (ap told (outside-idle (m .receiver) o))
-    go true i false g = ap found (master-passed m i g) ∙ sym (ap told (gap-passed (m .receiver) i g))
-    go true i true g =
-        let once = M.counts (afterBreak m idle Broken .master) (afterBreak m idle Broken .told) Broken in
-        ap found (master-second m i g) ∙ counts-reads (once .master) (once .told) Broken .1 ∙ sym (ap told (gap-breaks (m .receiver) i g))
+    go : (inside : Bool) → insideFrame (r .place) ≡ inside → (gap : Bool) → r .gap ≡ gap → found ≡ taken r Silence .event
+    go false o gap g = outside o ∙ sym (ap told (outside-idle r o))
+    go true i false g = passed i g ∙ sym (ap told (gap-passed r i g))
+    go true i true g = second i g ∙ sym (ap told (gap-breaks r i g))
+
+master-silence : (m : Master) → M.onSilence m (taken (m .receiver) Silence .receiver) .event ≡ taken (m .receiver) Silence .event
+master-silence m =
+    let once : MasterTaken = M.counts (afterBreak m idle Broken .master) (afterBreak m idle Broken .told) Broken in
+    finds (m .receiver) (M.onSilence m (taken (m .receiver) Silence .receiver) .event)
+    (λ o. ap (λ (t : MasterTaken). t .event) (master-outside m o) ∙ counts-reads (withReader m idle) MasterTold.Nothing Nothing .1)
+    (λ i g. ap (λ (t : MasterTaken). t .event) (master-passed m i g))
+    (λ i g. ap (λ (t : MasterTaken). t .event) (master-second m i g) ∙ counts-reads (once .master) (once .told) Broken .1)
 
 master-character : (m : Master) (r : Receiver) (event : Event) (bytes : List ℕ) → M.onCharacter m r event bytes .event ≡ event
 master-character m r Nothing bytes = refl
@@ -104,18 +109,11 @@ master-finds m heard bytes hears = ap (λ (t : MasterTaken). t .event) (if-is-fa
     by (Heard.Damaged c kind) = master-character m (taken (m .receiver) (Heard.Damaged c kind) .receiver) (taken (m .receiver) (Heard.Damaged c kind) .event) bytes
 
 device-silence : (d : Device) → D.onSilence d (taken (d .receiver) Silence .receiver) .event ≡ taken (d .receiver) Silence .event
-device-silence d = go (insideFrame (d .receiver .place)) refl (d .receiver .gap) refl
-  where
-    found : DeviceTaken → Event
-    found t = t .event
-
-    told : Taken → Event
-    told t = t .event
-
-    go : (inside : Bool) → insideFrame (d .receiver .place) ≡ inside → (gap : Bool) → d .receiver .gap ≡ gap → D.onSilence d (taken (d .receiver) Silence .receiver) .event ≡ taken (d .receiver) Silence .event
-    go false o gap g = ap found (device-outside d o) ∙ sym (ap told (outside-idle (d .receiver) o))
-    go true i false g = ap found (device-passed d i g) ∙ sym (ap told (gap-passed (d .receiver) i g))
-    go true i true g = ap found (device-second d i g) ∙ sym (ap told (gap-breaks (d .receiver) i g))
+device-silence d =
+    finds (d .receiver) (D.onSilence d (taken (d .receiver) Silence .receiver) .event)
+    (λ o. ap (λ (t : DeviceTaken). t .event) (device-outside d o))
+    (λ i g. ap (λ (t : DeviceTaken). t .event) (device-passed d i g))
+    (λ i g. ap (λ (t : DeviceTaken). t .event) (device-second d i g))
 
 pub device-finds : (d : Device) (heard : Heard) → d .deaf ≡ false → deviceTakes d heard .event ≡ taken (d .receiver) heard .event
 unfolding deviceTakes

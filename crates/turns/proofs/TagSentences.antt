@@ -56,7 +56,7 @@ tag-broadcast h e = went-then (isBroadcast h) (h .command =? 11) false true e (�
 pub tag-zero : (h : Header) → seeksTag h ≡ true → h .address ≡ 0
 tag-zero h e = eqb-true (h .address) 0 (went-then (h .long) (h .address =? 0) false true (tag-broadcast h e) (λ q. true-false (sym q)) .1)
 
--- its unique address stays (`reached-unique` in Tags), so that what follows holds in every tick
+-- its unique address stays (`reached-unique` in crates/runs/proofs/Tags.antt), so that what follows holds in every tick
 module _ (d : Device) (some : 1 ≤ d .unique) where
   -- no device's own request is a broadcast
   pub broadcast-not-own : (h : Header) → isBroadcast h ≡ true → isOwn d h ≡ false
