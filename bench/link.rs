@@ -123,6 +123,7 @@ fn compare_run(name: &str, script: &[u8]) {
     let setup = Setup {
         profile: [28, 2, 8, 33, 41],
         retries: 3,
+        limit: None,
         preambles: [5; 6],
         polling_addresses: [0, 1, 2, 3, 4, 5],
         unique_addresses: [2, 3, 4, 5, 6, 7],
@@ -132,7 +133,7 @@ fn compare_run(name: &str, script: &[u8]) {
     let ticks = ticks_of(script);
     let bytes = bytes_of(&ticks);
     let mut events = vec![0; ticks.len()];
-    assert!(run_archive::run(&setup, &bytes, &mut events) == ticks.len());
+    assert!(run_archive::run(&setup, &bytes, &mut events) == Ok(ticks.len()));
     assert!(
         events == late_oracle::numbers([0, 0], &addresses, &ticks, |_, _, _| {}),
         "{name}: they differ"
@@ -140,7 +141,7 @@ fn compare_run(name: &str, script: &[u8]) {
     let measured = by_turns(
         CALLS,
         || {
-            black_box(run_archive::run(
+            let _ = black_box(run_archive::run(
                 &setup,
                 black_box(&bytes),
                 black_box(&mut events),

@@ -1,7 +1,7 @@
 /*
  * nengapiko.h - a HART link engine (HCF_SPEC-081 revision 9.0) for programs in C: frames written and
- * read, and, one call a tick, a tick reader, a master and a device. Its functions are in
- * libnengapiko.a. Those for tests and measurements stand in nengapiko_tests.h.
+ * read; one call a tick, a tick reader, a master and a device; and how long a message waits. Its
+ * functions are in libnengapiko.a. Those for tests and measurements stand in nengapiko_tests.h.
  *
  * Document 01 is the scope paper, which condenses the standard; its numbers are the refusals below.
  *
@@ -35,6 +35,8 @@
  *   nengapiko_master_tick          512
  *   nengapiko_device_start          24
  *   nengapiko_device_tick          608
+ *   nengapiko_data_length           64
+ *   nengapiko_longest_wait           8
  */
 #ifndef NENGAPIKO_H
 #define NENGAPIKO_H
@@ -44,7 +46,7 @@
 #include <stdint.h>
 
 /* The interface's number: another where a function, a size or a number below is another. */
-#define NENGAPIKO_VERSION 1
+#define NENGAPIKO_VERSION 2
 
 /* No data, with length 0. */
 #define NENGAPIKO_NO_BYTES ((const uint8_t *)"")
@@ -71,29 +73,30 @@ enum nengapiko_size {
     NENGAPIKO_SIZE_FIELDS = 11,  /* words of enum nengapiko_field */
     NENGAPIKO_SIZE_RESULTS = 17, /* words of enum nengapiko_result */
     NENGAPIKO_SIZE_READER = 16,  /* words of a tick reader's state */
-    NENGAPIKO_SIZE_MASTER = 39,  /* words of a master's */
-    NENGAPIKO_SIZE_DEVICE = 40   /* words of a device's */
+    NENGAPIKO_SIZE_MASTER = 40,  /* words of a master's */
+    NENGAPIKO_SIZE_DEVICE = 41   /* words of a device's */
 };
 
-/* What a write, a read, a start and a tick return. */
+/* What a write, a read, a start, a tick and the two functions of the wait return. */
 enum nengapiko_refusal {
-    NENGAPIKO_REFUSAL_NONE = 0,           /* written, read, started; or the tick's call was taken, or there was none */
-    NENGAPIKO_REFUSAL_PROFILE = 1,        /* start: a profile that document 01 does not allow */
-    NENGAPIKO_REFUSAL_RETRIES = 2,        /* master start: retries outside 3 to 15 */
+    NENGAPIKO_REFUSAL_NONE = 0,           /* written, read, started, told; or the tick's call was taken, or there was none */
+    NENGAPIKO_REFUSAL_PROFILE = 1,        /* start, wait: a profile that document 01 does not allow */
+    NENGAPIKO_REFUSAL_RETRIES = 2,        /* master start, wait: retries outside 3 to 15 */
     NENGAPIKO_REFUSAL_PREAMBLE = 3,       /* write, request, device start: preamble outside 5 to 20 */
     NENGAPIKO_REFUSAL_ADDRESS = 4,        /* write, request, device start: polling address above 63, of a request to revision 5 or lower above 15; unique address above 38 bits, or of a device 0 */
     NENGAPIKO_REFUSAL_COMMAND = 5,        /* request: command 254, or a short address with a command but 0; burst content: command 254 */
-    NENGAPIKO_REFUSAL_DATA_LONG = 6,      /* write, request: more than 255 data bytes */
+    NENGAPIKO_REFUSAL_DATA_LONG = 6,      /* write: more than 255 data bytes; request: more than the master's limit */
     NENGAPIKO_REFUSAL_IN_HAND = 7,        /* request: a message is in hand */
     NENGAPIKO_REFUSAL_NO_REQUEST = 8,     /* answer: no request is in hand, or its time is over */
-    NENGAPIKO_REFUSAL_DATA_LENGTH = 9,    /* write: an ACK or BACK with fewer than 2 data bytes; answer, burst content: data outside 2 to 255 */
+    NENGAPIKO_REFUSAL_DATA_LENGTH = 9,    /* write: an ACK or BACK with fewer than 2 data bytes; answer, burst content: data outside 2 to the device's limit; start: a limit outside 2 to 255; wait: a length outside 2 to 255 */
     NENGAPIKO_REFUSAL_WISH = 10,          /* answer: burst on without burst content; on or off in answer to command 0, or to command 11 by broadcast */
     NENGAPIKO_REFUSAL_FEW_PREAMBLES = 11, /* read: fewer than two 0xFF in front */
     NENGAPIKO_REFUSAL_NO_DELIMITER = 12,  /* write: type not 2, 6 or 1; read: the byte behind the preamble is no delimiter */
     NENGAPIKO_REFUSAL_ENDS_EARLY = 13,    /* read: the bytes end before the frame does */
     NENGAPIKO_REFUSAL_UNSOUND = 14,       /* read: an ACK or BACK with count below 2, else a wrong check byte */
     NENGAPIKO_REFUSAL_BUFFER_SHORT = 15,  /* write: the frame does not fit from the place named */
-    NENGAPIKO_REFUSAL_REVISION = 17       /* request: revision outside 3 to 7 */
+    NENGAPIKO_REFUSAL_REVISION = 17,      /* request: revision outside 3 to 7 */
+    NENGAPIKO_REFUSAL_WAIT_SHORT = 26     /* data length for a wait: that of 2 data bytes is already longer */
 };
 
 /* ------------------------------------------------------------------------ frames */
@@ -267,13 +270,17 @@ void nengapiko_reader_tick(uint64_t *NENGAPIKO_RESTRICT state, uint8_t *NENGAPIK
  *                         is 32, 3, 14, 42, 56
  *   primary               true for the primary master
  *   retries               R, 3 to 15
- *   state                 NENGAPIKO_SIZE_MASTER words; left as they were by a refusal
+ *   limit                 the most data bytes of its requests, 2 to 255; 255 where the link has no
+ *                         limit of its own. All masters and devices of a link are given the same one:
+ *                         the wait of nengapiko_longest_wait is that of a link with one limit
+ *   state                 NENGAPIKO_SIZE_MASTER words, in which the limit is kept; left as they were
+ *                         by a refusal
  *
- * Returns 0, 1 or 2.
+ * Returns 0, 1, 2 or 9.
  */
 uint32_t nengapiko_master_start(uint16_t sto, uint16_t hold, uint16_t rt2, uint16_t rt1_primary,
                                 uint16_t rt1_secondary, bool primary, uint8_t retries,
-                                uint64_t *state) NENGAPIKO_NONNULL;
+                                size_t limit, uint64_t *state) NENGAPIKO_NONNULL;
 
 /*
  * A tick of a master: it takes what the line carried in the tick before, then its host's request,
@@ -287,7 +294,7 @@ uint32_t nengapiko_master_start(uint16_t sto, uint16_t hold, uint16_t rt2, uint1
  *   preamble          how many 0xFF go in front, 5 to 20
  *   revision          the device's HART revision, 3 to 7
  *   long_address, address, command   as for nengapiko_write
- *   put, count        the data bytes that are put into its frame, 0 to 255
+ *   put, count        the data bytes that are put into its frame, 0 to the limit of its start
  *   results           NENGAPIKO_SIZE_RESULTS words
  *
  * Returns 0, or the request's refusal, the first that applies of 3, 17, 4, 5, 6 and 7.
@@ -307,13 +314,17 @@ uint32_t nengapiko_master_tick(uint64_t *NENGAPIKO_RESTRICT state,
  *   preamble              how many 0xFF go in front of its frames, 5 to 20
  *   polling_address       0 to 63
  *   unique_address        1 to 2^38 - 1
- *   state                 NENGAPIKO_SIZE_DEVICE words; left as they were by a refusal
+ *   limit                 the most data bytes of its answers and its burst content, 2 to 255; as for
+ *                         nengapiko_master_start
+ *   state                 NENGAPIKO_SIZE_DEVICE words, in which the limit is kept; left as they were
+ *                         by a refusal
  *
- * Returns 0, 1, 3 or 4.
+ * Returns 0, 1, 3, 4 or 9.
  */
 uint32_t nengapiko_device_start(uint16_t sto, uint16_t hold, uint16_t rt2, uint16_t rt1_primary,
                                 uint16_t rt1_secondary, size_t preamble, uint8_t polling_address,
-                                uint64_t unique_address, uint64_t *state) NENGAPIKO_NONNULL;
+                                uint64_t unique_address, size_t limit,
+                                uint64_t *state) NENGAPIKO_NONNULL;
 
 /*
  * A tick of a device: it takes what the line carried in the tick before, then its host's answer or
@@ -325,7 +336,7 @@ uint32_t nengapiko_device_start(uint16_t sto, uint16_t hold, uint16_t rt2, uint1
  *   contents          NENGAPIKO_SIZE_DATA bytes: the data of its burst content
  *   call              an enum nengapiko_device_call
  *   command           of a burst content; else it is not looked at
- *   put, count        the data bytes of an answer or of a burst content, 2 to 255
+ *   put, count        the data bytes of an answer or of a burst content, 2 to the limit of its start
  *   results           NENGAPIKO_SIZE_RESULTS words
  *
  * Returns 0, or the call's refusal: 8, 9 or 10 for an answer, 5 or 9 for a burst content.
@@ -336,6 +347,44 @@ uint32_t nengapiko_device_tick(uint64_t *NENGAPIKO_RESTRICT state,
                                uint8_t character, uint8_t call, uint8_t command,
                                const uint8_t *NENGAPIKO_RESTRICT put, size_t count,
                                uint64_t *NENGAPIKO_RESTRICT results) NENGAPIKO_NONNULL;
+
+/* ------------------------------------------------------------------------ how long a message waits
+ *
+ * Where the parties of a link start in one tick with one profile, one R and one data limit, the first
+ * character of every message goes out within so many ticks of its request, or of tick RT1 secondary if
+ * that is later, whatever the hosts give and whether devices answer or not: demand 3, which README.md
+ * has with its premises. The more data a frame may have, the longer this wait is.
+ */
+
+/*
+ * The most data for a wanted wait: the largest data length whose longest wait, without a bursting
+ * device, is no more than so many ticks.
+ *
+ *   sto .. rt1_secondary  the profile's five numbers, as for nengapiko_master_start
+ *   retries               R, 3 to 15
+ *   wait                  the longest wait that both masters may see, in ticks
+ *   length                set to the data length, 2 to 255, for the limit of each start; left as it
+ *                         was by a refusal
+ *
+ * Returns 0, 1, 2 or 26: 26 exactly where the longest wait of 2 data bytes is already longer.
+ */
+uint32_t nengapiko_data_length(uint16_t sto, uint16_t hold, uint16_t rt2, uint16_t rt1_primary,
+                               uint16_t rt1_secondary, uint8_t retries, uint32_t wait,
+                               uint8_t *length) NENGAPIKO_NONNULL;
+
+/*
+ * The longest wait for a data length: that of a link whose parties have it as their limit.
+ *
+ *   sto .. rt1_secondary  as for nengapiko_data_length; so is retries
+ *   length                the data length, 2 to 255
+ *   bursting              whether a device may burst while a message waits
+ *   wait                  set to the ticks; left as it was by a refusal
+ *
+ * Returns 0, 1, 2 or 9.
+ */
+uint32_t nengapiko_longest_wait(uint16_t sto, uint16_t hold, uint16_t rt2, uint16_t rt1_primary,
+                                uint16_t rt1_secondary, uint8_t retries, size_t length,
+                                bool bursting, uint32_t *wait) NENGAPIKO_NONNULL;
 
 #ifdef __cplusplus
 }

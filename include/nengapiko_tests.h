@@ -24,7 +24,7 @@ uint8_t nengapiko_check_bytes(uint8_t x, const uint8_t *bytes, size_t size, size
  * What a master answers to a request: 0, or the number of its refusal.
  *
  *   preamble .. command  as for nengapiko_master_tick
- *   bytes, count         its data bytes, 0 to 255
+ *   bytes, count         its data bytes, 0 to 255: it has no limit of its own
  *   message_in_hand      whether the master has a message already
  */
 uint32_t nengapiko_request(size_t preamble, uint8_t revision, bool long_address, uint64_t address,
@@ -119,6 +119,7 @@ size_t nengapiko_play(const uint8_t *NENGAPIKO_RESTRICT script, size_t size,
  *
  *   sto .. rt1_secondary  the profile's five numbers
  *   retries               R
+ *   limit                 the data limit of the link, 2 to 255; 255 where it has none of its own
  *   preambles, pollings, uniques
  *                         six numbers each, one for each slot: its device's preamble, polling and
  *                         unique address; a preamble of 0 is a slot without a device
@@ -126,15 +127,17 @@ size_t nengapiko_play(const uint8_t *NENGAPIKO_RESTRICT script, size_t size,
  *   events, room          for each tick how many send, plus 16 for a request of the primary that was
  *                         taken and 32 for one of the secondary, plus 64 if the primary sends and 128
  *                         if the secondary does
+ *   refusal               set to 0, or where the start is refused to its number: 2, 3, 4 or 9
  *
- * Returns how many ticks these are; 0 where a start is refused.
+ * Returns how many ticks these are; 0 where the start is refused.
  */
 size_t nengapiko_run(uint16_t sto, uint16_t hold, uint16_t rt2, uint16_t rt1_primary,
-                     uint16_t rt1_secondary, uint8_t retries, const uint8_t *preambles,
-                     const uint8_t *pollings, const uint64_t *uniques,
+                     uint16_t rt1_secondary, uint8_t retries, size_t limit,
+                     const uint8_t *preambles, const uint8_t *pollings, const uint64_t *uniques,
                      uint64_t primary_start, uint64_t secondary_start,
                      const uint8_t *NENGAPIKO_RESTRICT ticks, size_t size,
-                     uint8_t *NENGAPIKO_RESTRICT events, size_t room) NENGAPIKO_NONNULL;
+                     uint8_t *NENGAPIKO_RESTRICT events, size_t room,
+                     uint32_t *NENGAPIKO_RESTRICT refusal) NENGAPIKO_NONNULL;
 
 /*
  * Writes a load, a script for the player (docs/LOAD.md).

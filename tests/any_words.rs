@@ -122,22 +122,30 @@ fn master_fields() -> Vec<Field> {
     ];
     let timers = [Flag, Flag, Bits(32), Bits(32), Bits(32)];
     let noted = [Flag, Bits(64)];
-    let message = [STAGE, Bits(16), Bits(16)];
-    [&settings[..], &timers, &READER, &noted, &HEADER, &message].concat()
+    let message_and_limit = [STAGE, Bits(16), Bits(16), Bits(8)];
+    [
+        &settings[..],
+        &timers,
+        &READER,
+        &noted,
+        &HEADER,
+        &message_and_limit,
+    ]
+    .concat()
 }
 
 fn device_fields() -> Vec<Field> {
     let profile = [Bits(16); 5];
     let settings = [Bits(8), Bits(8), Bits(64)];
     let answering = [Flag, TURN, Wish, Bits(16)];
-    let bursting = [Flag, Flag, Bits(32), Flag, Bits(8), Bits(8)];
+    let bursting_and_limit = [Flag, Flag, Bits(32), Flag, Bits(8), Bits(8), Bits(8)];
     [
         &profile[..],
         &settings,
         &READER,
         &answering,
         &HEADER,
-        &bursting,
+        &bursting_and_limit,
     ]
     .concat()
 }
@@ -160,7 +168,7 @@ fn heard(random: &mut Xorshift) -> (u8, u8) {
 }
 
 fn masters_differ(random: &mut Xorshift) -> bool {
-    let states = words::<39>(&master_fields(), random);
+    let states = words::<40>(&master_fields(), random);
     let heard = heard(random);
     let requests = random.flag();
     let (long_address, address) = (random.flag(), random.below(70) as u64);
@@ -181,12 +189,12 @@ fn masters_differ(random: &mut Xorshift) -> bool {
         (returned, master.state, master.results.all(), buffers)
     });
     let fields = master_fields();
-    let written = (0..39).all(|at| done[0].1[at] == fields[at].same_value(done[0].1[at]));
+    let written = (0..40).all(|at| done[0].1[at] == fields[at].same_value(done[0].1[at]));
     done[0] != done[1] || !written
 }
 
 fn devices_differ(random: &mut Xorshift) -> bool {
-    let states = words::<40>(&device_fields(), random);
+    let states = words::<41>(&device_fields(), random);
     let heard = heard(random);
     let call = random.below(6) as u8;
     let count = random.below(4);
@@ -204,7 +212,7 @@ fn devices_differ(random: &mut Xorshift) -> bool {
         (returned, device.state, device.results.all(), buffers)
     });
     let fields = device_fields();
-    let written = (0..40).all(|at| done[0].1[at] == fields[at].same_value(done[0].1[at]));
+    let written = (0..41).all(|at| done[0].1[at] == fields[at].same_value(done[0].1[at]));
     done[0] != done[1] || !written
 }
 

@@ -71,15 +71,17 @@ pub struct MasterSettings {
     pub profile: Profile,
     pub primary: bool,
     pub retries: u8,
+    pub limit: usize,
 }
 
 impl MasterSettings {
     pub fn oracle(&self) -> oracle_ticks::Master {
-        oracle_ticks::Master::start(self.profile, self.primary, self.retries)
+        oracle_ticks::Master::start(self.profile, self.primary, self.retries, self.limit)
     }
 
     fn engine(&self) -> engine_archive::Master {
-        engine_archive::Master::start(words_of(&self.profile), self.primary, self.retries)
+        let profile = words_of(&self.profile);
+        engine_archive::Master::start(profile, self.primary, self.retries, self.limit)
             .expect("these settings are taken")
     }
 
@@ -108,16 +110,24 @@ pub struct DeviceSettings {
     pub preamble: usize,
     pub polling: u8,
     pub unique: u64,
+    pub limit: usize,
 }
 
 impl DeviceSettings {
     fn oracle(&self) -> oracle_ticks::Device {
-        oracle_ticks::Device::start(self.profile, self.preamble, self.polling, self.unique)
+        oracle_ticks::Device::start(
+            self.profile,
+            self.preamble,
+            self.polling,
+            self.unique,
+            self.limit,
+        )
     }
 
     fn engine(&self) -> engine_archive::Device {
         let profile = words_of(&self.profile);
-        engine_archive::Device::start(profile, self.preamble, self.polling, self.unique)
+        let (preamble, polling, unique) = (self.preamble, self.polling, self.unique);
+        engine_archive::Device::start(profile, preamble, polling, unique, self.limit)
             .expect("these settings are taken")
     }
 

@@ -1,11 +1,11 @@
-//! A device of document 01 in plain Rust, with document 02's items 1 and 6, and one with FSK over
+//! A device of document 01 in plain Rust, with document 02's items 1, 6 and 12, and one with FSK over
 //! recordings of what it hears. It shares nothing with the archive; over a recording it takes the
 //! same arguments and gives the same answers.
 
 use super::frame_oracle::{ACK, BACK, REFUSED_DATA_LENGTH, STX, TAKEN};
 use super::party_oracle::{
-    seeks_tag, Outgoing, Profile, BROADCAST, FSK, PREAMBLES, REFUSED_COMMAND, REFUSED_NO_REQUEST,
-    REFUSED_WISH, SENDS,
+    seeks_tag, Outgoing, Profile, BROADCAST, FSK, NO_LIMIT, PREAMBLES, REFUSED_COMMAND,
+    REFUSED_NO_REQUEST, REFUSED_WISH, SENDS,
 };
 use super::tick_oracle::{over, Event, Frame, Harm, Heard, Reader, Recorded};
 
@@ -59,11 +59,13 @@ pub struct Device {
     /// Silent ticks until the next BACK; 0 is a stopped timer.
     back_in: u32,
     out: Outgoing,
+    /// The most data bytes of an answer and of its burst content.
+    limit: usize,
 }
 
 impl Device {
     pub fn start(polling_address: u64, unique_address: u64) -> Device {
-        Device::start_with(FSK, PREAMBLES, polling_address, unique_address)
+        Device::start_with(FSK, PREAMBLES, polling_address, unique_address, NO_LIMIT)
     }
 
     pub fn start_with(
@@ -71,6 +73,7 @@ impl Device {
         preambles: usize,
         polling_address: u64,
         unique_address: u64,
+        limit: usize,
     ) -> Device {
         Device {
             profile,
@@ -86,6 +89,7 @@ impl Device {
             back_to_primary: true,
             back_in: 0,
             out: Outgoing::none(),
+            limit,
         }
     }
 
@@ -97,7 +101,7 @@ impl Device {
     /// What it holds from tick to tick, in the order of `packed` in crates/device_c/specs/Words.antt.
     /// A wish is held with the answer that waits or begins, and whom the next BACK is for, with the
     /// silent ticks until it, while it bursts; outside of these there is no such field here.
-    pub fn words(&self) -> [Option<u64>; 40] {
+    pub fn words(&self) -> [Option<u64>; 41] {
         let sent = self.out.sent() as u64;
         let (turn, wish) = match self.turn {
             Turn::Listening => (0, None),
@@ -111,7 +115,7 @@ impl Device {
         let (command, count) = self.content.as_ref().map_or((0, 0), |content| {
             (content.command.into(), content.data.len() as u64)
         });
-        let mut words = [None; 40];
+        let mut words = [None; 41];
         words[..5].copy_from_slice(&self.profile.words().map(Some));
         words[5] = Some(self.preambles as u64);
         words[6] = Some(self.polling_address);
@@ -128,6 +132,7 @@ impl Device {
         words[37] = Some(self.content.is_some().into());
         words[38] = Some(command);
         words[39] = Some(count);
+        words[40] = Some(self.limit as u64);
         words
     }
 
@@ -217,7 +222,7 @@ impl Device {
         if command == 254 {
             return REFUSED_COMMAND;
         }
-        if !(2..=255).contains(&data.len()) {
+        if !(2..=self.limit).contains(&data.len()) {
             return REFUSED_DATA_LENGTH;
         }
         let data = data.to_vec();
@@ -230,7 +235,7 @@ impl Device {
         let Turn::Asked(left) = self.turn else {
             return REFUSED_NO_REQUEST;
         };
-        if !(2..=255).contains(&data.len()) {
+        if !(2..=self.limit).contains(&data.len()) {
             return REFUSED_DATA_LENGTH;
         }
         if self.refuses_wish(wish) {

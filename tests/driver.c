@@ -171,8 +171,8 @@ static unsigned failed;
 
 static void start(struct master *m)
 {
-    /* The FSK profile, a primary, 3 retries. */
-    if (nengapiko_master_start(28, 2, 8, 33, 41, true, 3, m->state) != NENGAPIKO_REFUSAL_NONE)
+    /* The FSK profile, a primary, 3 retries, any data. */
+    if (nengapiko_master_start(28, 2, 8, 33, 41, true, 3, 255, m->state) != NENGAPIKO_REFUSAL_NONE)
         abort();
 }
 

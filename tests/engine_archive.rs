@@ -22,6 +22,7 @@ extern "C" {
         rt1_secondary: u16,
         primary: bool,
         retries: u8,
+        limit: usize,
         state: *mut u64,
     ) -> u32;
     fn nengapiko_master_tick(
@@ -49,6 +50,7 @@ extern "C" {
         preamble: usize,
         polling_address: u8,
         unique_address: u64,
+        limit: usize,
         state: *mut u64,
     ) -> u32;
     fn nengapiko_device_tick(
@@ -121,6 +123,9 @@ pub type Profile = [u16; 5];
 
 const FSK: Profile = [28, 2, 8, 33, 41];
 
+/// The data limit of a link that is given none.
+pub const NO_LIMIT: usize = 255;
+
 /// The number of what was heard, and the character.
 pub type Heard = (u8, u8);
 
@@ -159,7 +164,7 @@ impl Reader {
 }
 
 pub struct Master {
-    pub state: [u64; 39],
+    pub state: [u64; 40],
     pub frame: [u8; 284],
     pub data: [u8; 255],
     pub results: Results,
@@ -169,21 +174,31 @@ pub struct Master {
 pub const BEFORE: u64 = u64::MAX;
 
 /// What a start returns, and the state behind it.
-pub fn start_master(profile: Profile, primary: bool, retries: u8) -> (u32, [u64; 39]) {
-    let mut state = [BEFORE; 39];
+pub fn start_master(
+    profile: Profile,
+    primary: bool,
+    retries: u8,
+    limit: usize,
+) -> (u32, [u64; 40]) {
+    let mut state = [BEFORE; 40];
     let [sto, hold, rt2, rt1p, rt1s] = profile;
     // SAFETY: the state has as many words as the function takes.
     let returned = unsafe {
         let state = state.as_mut_ptr();
-        nengapiko_master_start(sto, hold, rt2, rt1p, rt1s, primary, retries, state)
+        nengapiko_master_start(sto, hold, rt2, rt1p, rt1s, primary, retries, limit, state)
     };
     (returned, state)
 }
 
 impl Master {
     /// A master that is started, or the refusal's number.
-    pub fn start(profile: Profile, primary: bool, retries: u8) -> Result<Master, u32> {
-        match start_master(profile, primary, retries) {
+    pub fn start(
+        profile: Profile,
+        primary: bool,
+        retries: u8,
+        limit: usize,
+    ) -> Result<Master, u32> {
+        match start_master(profile, primary, retries, limit) {
             (0, state) => Ok(Master {
                 state,
                 frame: [0; 284],
@@ -229,7 +244,7 @@ impl Master {
 }
 
 pub struct Device {
-    pub state: [u64; 40],
+    pub state: [u64; 41],
     pub frame: [u8; 284],
     pub data: [u8; 255],
     pub content: [u8; 255],
@@ -242,13 +257,16 @@ pub fn start_device(
     preamble: usize,
     polling: u8,
     unique: u64,
-) -> (u32, [u64; 40]) {
-    let mut state = [BEFORE; 40];
+    limit: usize,
+) -> (u32, [u64; 41]) {
+    let mut state = [BEFORE; 41];
     let [sto, hold, rt2, rt1p, rt1s] = profile;
     // SAFETY: the state has as many words as the function takes.
     let returned = unsafe {
         let state = state.as_mut_ptr();
-        nengapiko_device_start(sto, hold, rt2, rt1p, rt1s, preamble, polling, unique, state)
+        nengapiko_device_start(
+            sto, hold, rt2, rt1p, rt1s, preamble, polling, unique, limit, state,
+        )
     };
     (returned, state)
 }
@@ -260,8 +278,9 @@ impl Device {
         preamble: usize,
         polling: u8,
         unique: u64,
+        limit: usize,
     ) -> Result<Device, u32> {
-        match start_device(profile, preamble, polling, unique) {
+        match start_device(profile, preamble, polling, unique, limit) {
             (0, state) => Ok(Device {
                 state,
                 frame: [0; 284],
@@ -297,10 +316,10 @@ impl Device {
 
 /// A primary of the FSK profile with 3 retries.
 pub fn primary() -> Master {
-    Master::start(FSK, true, 3).expect("FSK and 3 retries are taken")
+    Master::start(FSK, true, 3, NO_LIMIT).expect("FSK and 3 retries are taken")
 }
 
 /// A device of the FSK profile with 5 preamble characters, polling address 0 and unique address 2.
 pub fn device_2() -> Device {
-    Device::start(FSK, 5, 0, 2).expect("these addresses are taken")
+    Device::start(FSK, 5, 0, 2, NO_LIMIT).expect("these addresses are taken")
 }

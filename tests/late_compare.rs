@@ -35,7 +35,7 @@ fn archive_numbers(setup: &Setup, ticks: &[Tick]) -> Option<Vec<u8>> {
     let mut events = vec![FILL; ticks.len() + SPARE];
     let count = run_archive::run(setup, &bytes_of(ticks), &mut events);
     let spare = events.split_off(ticks.len());
-    (count == ticks.len() && spare == [FILL; SPARE]).then_some(events)
+    (count == Ok(ticks.len()) && spare == [FILL; SPARE]).then_some(events)
 }
 
 fn both_send(number: u8) -> bool {
@@ -205,6 +205,7 @@ fn random_runs_agree() -> bool {
         let setup = Setup {
             profile: [28, 2, 8, 33, 41],
             retries: 3,
+            limit: None,
             preambles: [5, 5, 0, 0, 0, 0],
             polling_addresses: [0, 1, 0, 0, 0, 0],
             unique_addresses: [2, 3, 0, 0, 0, 0],

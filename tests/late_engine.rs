@@ -3,7 +3,7 @@
 //! nengapiko_run has it, what the hosts are told, and the frames that are sent.
 
 use crate::calls::{Given, Request, NOTHING};
-use crate::engine_archive::{Device, Master, Results};
+use crate::engine_archive::{Device, Master, Results, NO_LIMIT};
 use crate::oracles::frame_oracle::{self, Fields, ACK, STX};
 use crate::run_archive::Setup;
 use crate::tick_list::{Call, Tick, REVISION, SENDERS, SENDS, TAKEN};
@@ -179,7 +179,9 @@ impl Run {
 }
 
 pub fn run(setup: &Setup, ticks: &[Tick]) -> Run {
-    let master = |primary| Master::start(setup.profile, primary, setup.retries).expect("a master");
+    let limit = setup.limit.unwrap_or(NO_LIMIT);
+    let master =
+        |primary| Master::start(setup.profile, primary, setup.retries, limit).expect("a master");
     let mut masters = [true, false].map(master);
     let slots = (0..setup.preambles.len()).filter(|&slot| setup.preambles[slot] > 0);
     let mut devices: Vec<Device> = slots
@@ -187,7 +189,8 @@ pub fn run(setup: &Setup, ticks: &[Tick]) -> Run {
             let preamble = usize::from(setup.preambles[slot]);
             let polling_address = setup.polling_addresses[slot];
             let unique_address = setup.unique_addresses[slot];
-            Device::start(setup.profile, preamble, polling_address, unique_address)
+            let profile = setup.profile;
+            Device::start(profile, preamble, polling_address, unique_address, limit)
                 .expect("a device")
         })
         .collect();

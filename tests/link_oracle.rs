@@ -3,7 +3,7 @@
 use super::device_oracle::{Device, Wish};
 use super::frame_oracle::{self, Fields, BACK, STX};
 use super::master_oracle::Master;
-use super::party_oracle::{Outgoing, Profile, FSK, PREAMBLES};
+use super::party_oracle::{Outgoing, Profile, FSK, NO_LIMIT, PREAMBLES};
 use super::tick_oracle::{Damage, Heard};
 use std::io::Write;
 
@@ -84,7 +84,7 @@ pub struct Link {
 
 impl Link {
     fn start() -> Link {
-        let mut link = Link::start_with(FSK, RETRIES, [PREAMBLES; DEVICES]);
+        let mut link = Link::start_with(FSK, RETRIES, [PREAMBLES; DEVICES], NO_LIMIT);
         for device in &mut link.devices {
             device.burst_content(BURST_COMMAND, &ZEROS[..2]);
         }
@@ -92,13 +92,24 @@ impl Link {
     }
 
     /// Device at has polling address at, and as its unique address the number of its party.
-    pub fn start_with(profile: Profile, retries: u32, preambles: [usize; DEVICES]) -> Link {
+    pub fn start_with(
+        profile: Profile,
+        retries: u32,
+        preambles: [usize; DEVICES],
+        limit: usize,
+    ) -> Link {
         let device = |at| {
             let polling_address = at as u64;
             let unique_address = polling_address + MASTERS as u64;
-            Device::start_with(profile, preambles[at], polling_address, unique_address)
+            Device::start_with(
+                profile,
+                preambles[at],
+                polling_address,
+                unique_address,
+                limit,
+            )
         };
-        let master = |primary| Master::start_with(profile, retries, primary);
+        let master = |primary| Master::start_with(profile, retries, primary, limit);
         Link {
             masters: [master(true), master(false)],
             devices: std::array::from_fn(device),

@@ -16,7 +16,7 @@ enum { TICKS = 2100, TRANSMITTERS = 3, PARTIES = 2 + TRANSMITTERS };
 
 /* The FSK profile. */
 enum { STO = 28, HOLD = 2, RT2 = 8, RT1_PRIMARY = 33, RT1_SECONDARY = 41 };
-enum { RETRIES = 3, PREAMBLE = 5, REVISION = 7 };
+enum { RETRIES = 3, PREAMBLE = 5, REVISION = 7, LIMIT = 255 };
 
 /* Commands: who are you, your reading, burst on (data 1) or off (data 0). */
 enum { IDENTITY = 0, READING = 3, BURST_CONTROL = 109 };
@@ -224,7 +224,7 @@ static void requested(struct master *m, unsigned tick, const struct request *q, 
 static void start_master(struct master *m)
 {
     if (nengapiko_master_start(STO, HOLD, RT2, RT1_PRIMARY, RT1_SECONDARY, m->primary, RETRIES,
-                               m->state) != NENGAPIKO_REFUSAL_NONE)
+                               LIMIT, m->state) != NENGAPIKO_REFUSAL_NONE)
         abort();
 }
 
@@ -326,7 +326,7 @@ static struct call host_call(struct transmitter *t, unsigned tick)
 static void start_transmitter(struct transmitter *t)
 {
     if (nengapiko_device_start(STO, HOLD, RT2, RT1_PRIMARY, RT1_SECONDARY, PREAMBLE,
-                               t->polling_address, t->unique_address,
+                               t->polling_address, t->unique_address, LIMIT,
                                t->state) != NENGAPIKO_REFUSAL_NONE)
         abort();
 }

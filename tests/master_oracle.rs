@@ -1,11 +1,13 @@
-//! A master of document 01 in plain Rust, with document 02's items 1, 2 and 6, and a primary with
+//! A master of document 01 in plain Rust, with document 02's items 1, 2, 6 and 12, and a primary with
 //! FSK and three retries over recordings of what it hears. It shares nothing with the archive; over a
 //! recording it takes the same arguments and gives the same answers.
 
-use super::frame_oracle::{refusal, ACK, BACK, REFUSED_ADDRESS, REFUSED_PREAMBLE, STX, TAKEN};
+use super::frame_oracle::{
+    refusal, ACK, BACK, REFUSED_ADDRESS, REFUSED_DATA_LONG, REFUSED_PREAMBLE, STX, TAKEN,
+};
 use super::party_oracle::{
-    seeks_tag, Outgoing, Profile, BROADCAST, FSK, PREAMBLES, REFUSED_COMMAND, REFUSED_IN_HAND,
-    REFUSED_REVISION, REVISION, SENDS,
+    seeks_tag, Outgoing, Profile, BROADCAST, FSK, NO_LIMIT, PREAMBLES, REFUSED_COMMAND,
+    REFUSED_IN_HAND, REFUSED_REVISION, REVISION, SENDS,
 };
 use super::tick_oracle::{over, Event, Frame, Heard, Reader, Recorded};
 
@@ -45,14 +47,16 @@ pub struct Master {
     attempts: u32,
     message: Frame,
     out: Outgoing,
+    /// The most data bytes of a request.
+    limit: usize,
 }
 
 impl Master {
     pub fn start(primary: bool) -> Master {
-        Master::start_with(FSK, RETRIES, primary)
+        Master::start_with(FSK, RETRIES, primary, NO_LIMIT)
     }
 
-    pub fn start_with(profile: Profile, retries: u32, primary: bool) -> Master {
+    pub fn start_with(profile: Profile, retries: u32, primary: bool, limit: usize) -> Master {
         let Profile {
             rt2,
             rt1_primary,
@@ -77,6 +81,7 @@ impl Master {
             attempts: 0,
             message: Frame::default(),
             out: Outgoing::none(),
+            limit,
         }
     }
 
@@ -87,7 +92,7 @@ impl Master {
 
     /// What it holds from tick to tick, in the order of `packed` in crates/master_c/specs/Words.antt:
     /// every word has its field here.
-    pub fn words(&self) -> [u64; 39] {
+    pub fn words(&self) -> [u64; 40] {
         let stage = match self.stage {
             Stage::Free => 0,
             Stage::Waiting => 1,
@@ -95,7 +100,7 @@ impl Master {
             Stage::Awaiting(left) => 3 + 16 * u64::from(left),
         };
         let (noted_long, noted_address) = self.noted;
-        let mut words = [0; 39];
+        let mut words = [0; 40];
         words[0] = self.primary.into();
         words[1..6].copy_from_slice(&self.profile.words());
         words[6] = self.retries.into();
@@ -109,6 +114,7 @@ impl Master {
         words[36] = stage;
         words[37] = self.out.length() as u64;
         words[38] = self.attempts.into();
+        words[39] = self.limit as u64;
         words
     }
 
@@ -273,6 +279,7 @@ impl Master {
             unknown_address.then_some(REFUSED_ADDRESS),
             refused,
             no_command.then_some(REFUSED_COMMAND),
+            (data.len() > self.limit).then_some(REFUSED_DATA_LONG),
             (self.stage != Stage::Free).then_some(REFUSED_IN_HAND),
         ];
         if let Some(lowest) = refusals.into_iter().flatten().min() {

@@ -68,10 +68,11 @@ pub unsafe extern "C" fn nengapiko_master_start(
     rt1_secondary: u16,
     primary: bool,
     retries: u8,
+    limit: usize,
     state: *mut u64,
 ) -> u32 {
     let profile = profile_of(sto, hold, rt2, rt1_primary, rt1_secondary);
-    put(Master::start(profile, primary, retries), state)
+    put(Master::start(profile, primary, retries, limit), state)
 }
 
 #[no_mangle]
@@ -115,10 +116,11 @@ pub unsafe extern "C" fn nengapiko_device_start(
     preamble: usize,
     polling_address: u8,
     unique_address: u64,
+    limit: usize,
     state: *mut u64,
 ) -> u32 {
     let profile = profile_of(sto, hold, rt2, rt1_primary, rt1_secondary);
-    let device = Device::start(profile, preamble, polling_address, unique_address);
+    let device = Device::start(profile, preamble, polling_address, unique_address, limit);
     put(device, state)
 }
 

@@ -91,9 +91,9 @@ pub struct Master {
 }
 
 impl Master {
-    pub fn start(profile: Profile, primary: bool, retries: u8) -> Master {
+    pub fn start(profile: Profile, primary: bool, retries: u8, limit: usize) -> Master {
         Master {
-            party: master_oracle::Master::start_with(profile, retries.into(), primary),
+            party: master_oracle::Master::start_with(profile, retries.into(), primary, limit),
             ears: Ears::start(),
         }
     }
@@ -132,9 +132,16 @@ pub struct Device {
 }
 
 impl Device {
-    pub fn start(profile: Profile, preamble: usize, polling: u8, unique: u64) -> Device {
+    pub fn start(
+        profile: Profile,
+        preamble: usize,
+        polling: u8,
+        unique: u64,
+        limit: usize,
+    ) -> Device {
+        let polling = polling.into();
         Device {
-            party: device_oracle::Device::start_with(profile, preamble, polling.into(), unique),
+            party: device_oracle::Device::start_with(profile, preamble, polling, unique, limit),
             ears: Ears::start(),
         }
     }

@@ -19,7 +19,7 @@ use calls::{GIVEN, REFUSED_REQUESTS, TAKEN_REQUESTS};
 use frames::{random_frame, sealed, Xorshift};
 use oracle_ticks::heard_of;
 use oracles::frame_oracle::{ACK, LONG, PREAMBLE};
-use oracles::party_oracle::{Profile, FSK};
+use oracles::party_oracle::{Profile, FSK, NO_LIMIT};
 use oracles::tick_oracle::{silences, Silences};
 use oracles::{device_oracle, master_oracle};
 use std::collections::VecDeque;
@@ -40,12 +40,14 @@ const PRIMARY: MasterSettings = MasterSettings {
     profile: FSK,
     primary: true,
     retries: 3,
+    limit: NO_LIMIT,
 };
 const DEVICE_2: DeviceSettings = DeviceSettings {
     profile: FSK,
     preamble: 5,
     polling: 0,
     unique: 2,
+    limit: NO_LIMIT,
 };
 
 const C8PSK: Profile = Profile {
@@ -63,6 +65,9 @@ const SHORTEST: Profile = Profile {
     rt1_primary: 3,
     rt1_secondary: 5,
 };
+
+/// Data limits: none, and at or one below a length that calls.rs has.
+const LIMITS: [usize; 8] = [NO_LIMIT, NO_LIMIT, NO_LIMIT, 254, 17, 16, 3, 2];
 
 /// What a reader tells, by its number.
 const EVENTS: [&str; 5] = [
@@ -325,6 +330,7 @@ fn masters_differ(random: &mut Xorshift, seen: &mut Seen) -> Option<Difference> 
         profile: random.pick(&[FSK, FSK, C8PSK, SHORTEST]),
         primary: random.flag(),
         retries: random.pick(&[3, 3, 4, 15]),
+        limit: random.pick(&LIMITS),
     };
     let calls = match random.flag() {
         true => TAKEN_REQUESTS.to_vec(),
@@ -341,6 +347,7 @@ fn devices_differ(random: &mut Xorshift, seen: &mut Seen) -> Option<Difference> 
         preamble: random.pick(&[5, 5, 6, 20]),
         polling: random.pick(&[0, 0, 1, 63]),
         unique: random.pick(&[2, 2, 1, (1 << 38) - 1]),
+        limit: random.pick(&LIMITS),
     };
     let calls = random.pick(&[&GIVEN[..9], &GIVEN]);
     let recording = frames(random, |random| request(random, &settings), calls);

@@ -56,6 +56,9 @@ pub const SENDS: u8 = 4;
 
 pub const PREAMBLES: usize = 5;
 
+/// The data limit of a link that is given none.
+pub const NO_LIMIT: usize = 255;
+
 /// A frame on its way out, and how many of its characters are sent.
 pub struct Outgoing {
     bytes: [u8; LONGEST_FRAME],

@@ -2,6 +2,9 @@
 
 const SLOTS: usize = 6;
 
+/// The data limit of a link that is given none.
+const NO_LIMIT: usize = 255;
+
 #[link(name = "nengapiko_tests", kind = "static")]
 extern "C" {
     fn nengapiko_run(
@@ -11,6 +14,7 @@ extern "C" {
         rt1_primary: u16,
         rt1_secondary: u16,
         retries: u8,
+        limit: usize,
         preambles: *const u8,
         polling_addresses: *const u8,
         unique_addresses: *const u64,
@@ -20,6 +24,7 @@ extern "C" {
         size: usize,
         events: *mut u8,
         room: usize,
+        refusal: *mut u32,
     ) -> usize;
 }
 
@@ -29,6 +34,7 @@ pub struct Setup {
     /// STO, HOLD, RT2, RT1 primary, RT1 secondary.
     pub profile: [u16; 5],
     pub retries: u8,
+    pub limit: Option<usize>,
     pub preambles: [u8; SLOTS],
     pub polling_addresses: [u8; SLOTS],
     pub unique_addresses: [u64; SLOTS],
@@ -36,13 +42,15 @@ pub struct Setup {
     pub starts: [u64; 2],
 }
 
-/// Runs a list of ticks, writes each tick's number and returns how many they are.
-pub fn run(setup: &Setup, ticks: &[u8], events: &mut [u8]) -> usize {
+/// Runs a list of ticks, writes each tick's number and returns how many they are; or the number of the
+/// start's refusal.
+pub fn run(setup: &Setup, ticks: &[u8], events: &mut [u8]) -> Result<usize, u32> {
+    let mut refusal = u32::MAX;
     let [sto, hold, rt2, rt1_primary, rt1_secondary] = setup.profile;
     // SAFETY: each pointer comes from a borrow that outlives the call, a slice's with its own
-    // length, an array's with the six elements that are read; the events are borrowed mutably, so
-    // nothing overlaps them.
-    unsafe {
+    // length, an array's with the six elements that are read; what is written is borrowed mutably, so
+    // nothing overlaps it.
+    let count = unsafe {
         nengapiko_run(
             sto,
             hold,
@@ -50,6 +58,7 @@ pub fn run(setup: &Setup, ticks: &[u8], events: &mut [u8]) -> usize {
             rt1_primary,
             rt1_secondary,
             setup.retries,
+            setup.limit.unwrap_or(NO_LIMIT),
             setup.preambles.as_ptr(),
             setup.polling_addresses.as_ptr(),
             setup.unique_addresses.as_ptr(),
@@ -59,6 +68,11 @@ pub fn run(setup: &Setup, ticks: &[u8], events: &mut [u8]) -> usize {
             ticks.len(),
             events.as_mut_ptr(),
             events.len(),
+            &mut refusal,
         )
+    };
+    match refusal {
+        0 => Ok(count),
+        _ => Err(refusal),
     }
 }

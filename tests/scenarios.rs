@@ -1,8 +1,9 @@
-//! Scenarios of a link, read from text; tests/data/item-06/README.md says their form.
+//! Scenarios of a link, read from text; tests/data/item-06/README.md says their form, and
+//! tests/data/item-12/README.md what item 12 adds to it.
 
 use crate::oracles::device_oracle::Wish;
 use crate::oracles::link_oracle::{DEVICES, MASTERS};
-use crate::oracles::party_oracle::{Profile, FSK, PREAMBLES};
+use crate::oracles::party_oracle::{Profile, FSK, NO_LIMIT, PREAMBLES};
 use crate::oracles::tick_oracle::{Damage, Heard};
 use std::collections::HashMap;
 
@@ -29,6 +30,8 @@ pub struct Scenario {
     pub profile: Profile,
     pub retries: u32,
     pub preambles: [usize; DEVICES],
+    /// The data limit.
+    pub limit: usize,
     /// By tick and party.
     pub calls: HashMap<(u32, usize), Call>,
     /// What all who do not send hear of a tick, whatever is sent in it.
@@ -126,6 +129,7 @@ impl Scenario {
             profile: FSK,
             retries: 0,
             preambles: [PREAMBLES; DEVICES],
+            limit: NO_LIMIT,
             calls: HashMap::new(),
             injected: HashMap::new(),
             stop: 0,
@@ -146,7 +150,7 @@ impl Scenario {
 
     fn read_line(&mut self, line: &str) -> Option<()> {
         if let Some(expected) = line.strip_prefix("> ") {
-            self.expected.push(expected.to_string());
+            self.expected.push(with_zeros(expected)?);
             return Some(());
         }
         let mut words = Words(line.split_whitespace());
@@ -155,6 +159,7 @@ impl Scenario {
                 self.profile = words.profile()?;
                 self.retries = words.number()?;
             }
+            "limit" => self.limit = words.number()?,
             "device" => {
                 let device = words.number::<usize>()?.checked_sub(MASTERS)?;
                 *self.preambles.get_mut(device)? = words.number()?;
@@ -170,8 +175,30 @@ impl Scenario {
     }
 }
 
+/// `(N)` stands for N zero bytes in hexadecimal.
+fn with_zeros(event: &str) -> Option<String> {
+    let mut pieces = event.split('(');
+    let mut event = pieces.next()?.to_string();
+    for piece in pieces {
+        let (count, rest) = piece.split_once(')')?;
+        event.push_str(&"00".repeat(count.parse().ok()?));
+        event.push_str(rest);
+    }
+    Some(event)
+}
+
+/// The scenarios of a folder's files of these kinds.
+pub fn stored(folder: &str, kinds: &[&str]) -> Vec<Scenario> {
+    let of_kind = |kind: &&str| {
+        let path = format!("{folder}/{kind}.txt");
+        let text = std::fs::read_to_string(&path).unwrap_or_else(|why| panic!("{path}: {why}"));
+        read(&text)
+    };
+    kinds.iter().flat_map(of_kind).collect()
+}
+
 /// The scenarios of a file's text; one begins with a line "scenario", its name and what it shows.
-pub fn read(text: &str) -> Vec<Scenario> {
+fn read(text: &str) -> Vec<Scenario> {
     let mut scenarios: Vec<Scenario> = Vec::new();
     for line in text.lines() {
         if let Some(title) = line.strip_prefix("scenario ") {

@@ -1,6 +1,6 @@
 //! The starts of a master and of a device of libnengapiko.a, at the limits of their numbers and beside
-//! them, against document 01's refusals in plain Rust. Compared are what a start returns and the state
-//! behind it: that of the oracle's fresh party, or as it was.
+//! them, against the refusals of document 01 and of document 02's item 12 in plain Rust. Compared are
+//! what a start returns and the state behind it: that of the oracle's fresh party, or as it was.
 
 mod calls;
 mod engine_archive;
@@ -22,6 +22,10 @@ const PROFILE: u32 = 1;
 const RETRIES: u32 = 2;
 const PREAMBLE: u32 = 3;
 const ADDRESS: u32 = 4;
+const DATA_LENGTH: u32 = 9;
+
+/// Document 02, item 12: data limits, most often ones that are taken.
+const LIMITS: [usize; 10] = [255, 255, 2, 2, 3, 254, 1, 0, 256, usize::MAX];
 
 /// STO, HOLD, RT2, RT1 primary, RT1 secondary.
 type Numbers = [u16; 5];
@@ -74,7 +78,7 @@ fn numbers(random: &mut Xorshift) -> Numbers {
 /// How often each number was returned, and the differences.
 #[derive(Default)]
 struct Seen {
-    returned: [u64; 5],
+    returned: [u64; 10],
     differences: u64,
 }
 
@@ -98,14 +102,16 @@ impl Seen {
 fn master(random: &mut Xorshift, seen: &mut Seen) {
     let numbers = numbers(random);
     let (primary, retries) = (random.flag(), random.pick(&[0, 2, 3, 15, 16, 255]));
-    let wanted = match (is_profile(numbers), retries) {
-        (false, _) => PROFILE,
-        (true, 3..=15) => 0,
-        (true, _) => RETRIES,
+    let limit = random.pick(&LIMITS);
+    let wanted = match (is_profile(numbers), retries, limit) {
+        (false, ..) => PROFILE,
+        (true, 3..=15, 2..=255) => 0,
+        (true, 3..=15, _) => DATA_LENGTH,
+        (true, ..) => RETRIES,
     };
-    let (returned, state) = start_master(numbers, primary, retries);
-    let fresh = || Master::start_with(profile_of(numbers), retries.into(), primary).words();
-    let words = if wanted == 0 { fresh() } else { [BEFORE; 39] };
+    let (returned, state) = start_master(numbers, primary, retries, limit);
+    let fresh = || Master::start_with(profile_of(numbers), retries.into(), primary, limit).words();
+    let words = if wanted == 0 { fresh() } else { [BEFORE; 40] };
     seen.start(wanted, returned, state == words);
 }
 
@@ -115,19 +121,23 @@ fn device(random: &mut Xorshift, seen: &mut Seen) {
     let polling = random.pick(&[0, 1, 63, 64, 255]);
     let unique = random.pick(&[0, 1, 2, (1 << 38) - 1, 1 << 38, u64::MAX]);
     let addresses = polling <= 63 && (1..1 << 38).contains(&unique);
-    let wanted = match (is_profile(numbers), preamble) {
-        (false, _) => PROFILE,
-        (true, 5..=20) if addresses => 0,
-        (true, 5..=20) => ADDRESS,
-        (true, _) => PREAMBLE,
+    let limit = random.pick(&LIMITS);
+    let wanted = match (is_profile(numbers), preamble, limit) {
+        (false, ..) => PROFILE,
+        (true, 5..=20, 2..=255) if addresses => 0,
+        (true, 5..=20, _) if addresses => DATA_LENGTH,
+        (true, 5..=20, _) => ADDRESS,
+        (true, ..) => PREAMBLE,
     };
-    let (returned, state) = start_device(numbers, preamble, polling, unique);
-    let fresh =
-        || Device::start_with(profile_of(numbers), preamble, polling.into(), unique).words();
+    let (returned, state) = start_device(numbers, preamble, polling, unique, limit);
+    let fresh = || {
+        let profile = profile_of(numbers);
+        Device::start_with(profile, preamble, polling.into(), unique, limit).words()
+    };
     let words = if wanted == 0 {
         fresh()
     } else {
-        [Some(BEFORE); 40]
+        [Some(BEFORE); 41]
     };
     let mut both = words.iter().zip(&state);
     let same = both.all(|(word, state)| word.is_none_or(|word| word == *state));
@@ -142,8 +152,8 @@ fn main() -> ExitCode {
         device(&mut random, &mut devices);
     }
     let agree = [
-        masters.report("master", &[0, PROFILE, RETRIES]),
-        devices.report("device", &[0, PROFILE, PREAMBLE, ADDRESS]),
+        masters.report("master", &[0, PROFILE, RETRIES, DATA_LENGTH]),
+        devices.report("device", &[0, PROFILE, PREAMBLE, ADDRESS, DATA_LENGTH]),
     ];
     match agree == [true, true] {
         true => ExitCode::SUCCESS,

@@ -17,7 +17,7 @@ mod party_archive;
 use both_ticks::{DeviceSettings, Difference, MasterSettings, Seen};
 use frames::{sealed, Xorshift};
 use oracles::master_oracle::{self, Master};
-use oracles::party_oracle::{FSK, SENDS};
+use oracles::party_oracle::{FSK, NO_LIMIT, SENDS};
 use oracles::{device_oracle, tick_oracle::Recorded};
 use std::collections::VecDeque;
 use std::process::ExitCode;
@@ -90,6 +90,7 @@ fn masters_differ(recording: &[u8], seen: &mut Seen) -> Option<Difference> {
         profile: FSK,
         primary: true,
         retries: 3,
+        limit: NO_LIMIT,
     };
     primary.difference(recording, seen)
 }
@@ -100,6 +101,7 @@ fn devices_differ(recording: &[u8], seen: &mut Seen) -> Option<Difference> {
         preamble: 5,
         polling: 0,
         unique: 2,
+        limit: NO_LIMIT,
     };
     device.difference(recording, seen)
 }

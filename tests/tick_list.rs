@@ -2,7 +2,7 @@
 
 const PARTIES: usize = 8;
 
-const NO_CALL: u8 = 0;
+pub const NO_CALL: u8 = 0;
 /// Every request of these lists says this revision of its device.
 pub const REVISION: u8 = 7;
 const SHORT_ADDRESS: u8 = 1;
@@ -34,21 +34,31 @@ impl Call {
                 command,
                 data,
             } => {
-                let form = match long_address {
-                    true => LONG_ADDRESS,
-                    false => SHORT_ADDRESS,
-                };
-                let kind = 4 * REVISION + form;
+                let kind = request_kind(*long_address);
                 ([kind, *preamble, *command], *address, data)
             }
             Call::Answer { data } => ([ANSWER, 0, 0], 0, data),
         };
-        let count = u16::try_from(data.len()).expect("at most 256 data bytes");
-        bytes.extend(head);
-        bytes.extend(&address.to_be_bytes()[3..]);
-        bytes.extend(count.to_be_bytes());
-        bytes.extend(data);
+        put_call(head, address, data, bytes);
     }
+}
+
+/// A call by its kind, preamble and command, with its address and data.
+pub fn put_call(head: [u8; 3], address: u64, data: &[u8], bytes: &mut Vec<u8>) {
+    let count = u16::try_from(data.len()).expect("at most 256 data bytes");
+    bytes.extend(head);
+    bytes.extend(&address.to_be_bytes()[3..]);
+    bytes.extend(count.to_be_bytes());
+    bytes.extend(data);
+}
+
+/// The kind of a request.
+pub fn request_kind(long_address: bool) -> u8 {
+    let form = match long_address {
+        true => LONG_ADDRESS,
+        false => SHORT_ADDRESS,
+    };
+    4 * REVISION + form
 }
 
 /// The calls of one tick, one at most for each party.

@@ -2,7 +2,7 @@
 -- Document 01, "Refusals, by where each is checked": the table, and what a call comes to.
 use Prim.Native.Nat.{ℕ}
 use Rattle.base.specs.declared.Refusal.{Refusal}
-use Rattle.base.specs.declared.Refusal.the-variants.{BadProfile, BadRetries, PreambleLength, Address, Command, DataLong, MessageInHand, NoRequest, DataLength, BurstWish, FewPreambles, NoDelimiter, EndsEarly, Unsound, BufferShort, Revision, BadLoad, Register}
+use Rattle.base.specs.declared.Refusal.the-variants.{BadProfile, BadRetries, PreambleLength, Address, Command, DataLong, MessageInHand, NoRequest, DataLength, BurstWish, FewPreambles, NoDelimiter, EndsEarly, Unsound, BufferShort, Revision, BadLoad, Register, WaitTooShort}
 
 -- "A refusal gives its number only." 16, "bad script", is the player's, whose answer is a text: crates/player/specs/Play.antt.
 abbrev pub number : Refusal → ℕ
@@ -42,6 +42,8 @@ number Revision = 17
 number BadLoad = 18
 -- document 02, item 5: a write to one of the modem chip's bytes 0, 3 and 4 to 7, or any byte above 7
 number Register = 19
+-- document 02, item 12: 2 data bytes already wait too long
+number WaitTooShort = 26
 
 -- what a call comes to: accepted, with what it gives, or refused with a number of the table
 pub data Called (A : Type 0) : Type 0 where

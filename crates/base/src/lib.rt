@@ -4,7 +4,7 @@ ghost use mathlib.Core.Bool.{false};
 ghost use Rattle.base.specs.Choice.{if_then_else_, _outside_to_};
 ghost use Rattle.base.specs.Refusal.{number};
 
-// Why a call is refused. Each is a number of document 01's table, the last three of document 02, items 2, 4 and 5.
+// Why a call is refused. Each is a number of document 01's table, the last ones of document 02.
 pub enum Refusal {
     BadProfile,
     BadRetries,
@@ -24,6 +24,7 @@ pub enum Refusal {
     Revision,
     BadLoad,
     Register,
+    WaitTooShort,
 }
 
 impl Refusal {
@@ -50,6 +51,7 @@ impl Refusal {
             Refusal::Revision => 17,
             Refusal::BadLoad => 18,
             Refusal::Register => 19,
+            Refusal::WaitTooShort => 26,
         }
     }
 }

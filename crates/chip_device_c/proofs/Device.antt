@@ -27,7 +27,7 @@ use Rattle.chip_device_c.specs.Device.{step, ticked, deviceNumbers, plac
 
 -- a tick of what the line carried and of what was called
 pub step-is : (x : Chip) (d : Device) (frame bytes contents frame-after bytes-after contents-after : List ℕ) (first c : ℕ) (w : Carried) (call : DeviceHostCall) (r : DeviceBehind)
-    → w ≡ lineOf first c → call ≡ answerAt (first / 4 % 8) → DeviceBehindIs x w d call (0 ∷ 0 ∷ []) frame bytes contents r frame-after bytes-after contents-after
+    → w ≡ lineOf first c → call ≡ answerAt (first / 4 % 8) → DeviceBehindIs 255 x w d call (0 ∷ 0 ∷ []) frame bytes contents r frame-after bytes-after contents-after
     → behindOf r frame-after bytes-after contents-after ≡ step (placed x d frame bytes contents) first c
 step-is x d frame bytes contents frame-after bytes-after contents-after first c w call r p q e =
     behind-at-is (deviceStep 255) deviceCallAt x (sideOf d frame bytes contents) first c w (callOf call (0 ∷ 0 ∷ [])) (deviceDone (stepOf (r .ticked) frame-after bytes-after contents-after)) (r .ended) p (ap (λ (k : DeviceHostCall). callOf k (0 ∷ 0 ∷ [])) q) (e .behind .ticks) (e .behind .ends)

@@ -1,6 +1,7 @@
 // A device behind a modem chip for programs in C and Rust: over a recording of what is heard, with a number for each tick.
 use device::DeviceStarted;
 use modem::Chip;
+use modem_party::Arrival;
 use modem_party::DeviceBehind;
 use turns::Device;
 ghost use mathlib.Core.Path.{_≡_};
@@ -21,7 +22,11 @@ fn device_stepped(
 {
     let carried = chip_recording::line_of(first, c);
     let call = recorded_party::answer_at(first / 4 % 8);
-    modem_party::device_tick(x, carried, d, call, &[0, 0], contents, frame, bytes)
+    let arrival = Arrival {
+        chip: x,
+        carried: carried,
+    };
+    modem_party::device_tick(255, arrival, d, call, &[0, 0], contents, frame, bytes)
 }
 
 // The number of a tick that is wanted.

@@ -27,7 +27,7 @@ use Rattle.chip_master_c.specs.Master.{requestAt, masterCallAt, step, ti
 
 -- a tick of what the line carried and of what was called
 pub step-is : (x : Chip) (m : Master) (frame bytes frame-after bytes-after : List ℕ) (first c : ℕ) (w : Carried) (call : MasterHostCall) (r : MasterBehind)
-    → w ≡ lineOf first c → call ≡ requestAt (first / 4 % 8) → MasterBehindIs x w m call [] frame bytes r frame-after bytes-after
+    → w ≡ lineOf first c → call ≡ requestAt (first / 4 % 8) → MasterBehindIs 255 x w m call [] frame bytes r frame-after bytes-after
     → behindOf r frame-after bytes-after ≡ step (placed x m frame bytes) first c
 step-is x m frame bytes frame-after bytes-after first c w call r p q e =
     behind-at-is (masterStep 255) masterCallAt x (sideOf m frame bytes) first c w (callOf call []) (masterDone (stepOf (r .ticked) frame-after bytes-after)) (r .ended) p (ap (λ (k : MasterHostCall). callOf k []) q) (e .behind .ticks) (e .behind .ends)

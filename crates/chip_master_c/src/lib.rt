@@ -2,6 +2,7 @@
 use master::MasterStarted;
 use master::RequestFields;
 use modem::Chip;
+use modem_party::Arrival;
 use modem_party::MasterBehind;
 use turns::Master;
 ghost use mathlib.Core.Path.{_≡_};
@@ -55,7 +56,11 @@ fn master_stepped(
 {
     let carried = chip_recording::line_of(first, c);
     let call = request_at(first / 4 % 8);
-    modem_party::master_tick(x, carried, m, call, &[], frame, bytes)
+    let arrival = Arrival {
+        chip: x,
+        carried: carried,
+    };
+    modem_party::master_tick(255, arrival, m, call, &[], frame, bytes)
 }
 
 // The number of a tick that is wanted.

@@ -29,5 +29,5 @@ pub answered-at : (limit : ℕ) (d : Device) (wish : Wish) (count : ℕ) (turn :
 unfolding answered
 answered-at limit d wish count turn c e f = f ∙ ap (answeredBy limit d wish count) (sym e)
 
-pub count-small : (n : ℕ) (r : Bool) → r ≡ (n outside 2 to 255) → r ≡ false → n < 256
-count-small n r q e = omega (arith, inside-high n 2 255 r q e)
+pub count-small : (limit n : ℕ) (r : Bool) → limit < 256 → r ≡ (n outside 2 to limit) → r ≡ false → n < 256
+count-small limit n r b q e = omega (arith, b, inside-high n 2 limit r q e)

@@ -43,16 +43,16 @@ took d heard bytes frame s bytes-after after h p = record {
   frame-is = p ∙ ap (λ (x : DeviceTaken). errorFrame d (x .event) frame) (h .taken);
 }
 
-module _ (d : Device) (wish : Wish) (bytes frame : List ℕ) (c : DeviceCalled) (q : calledAs c ≡ answered 255 d wish (length bytes)) where
-  answer-is : (r : DeviceCalled) (after : List ℕ) → c ≡ r → after ≡ bufferBehind (calledAs r) (answerFrame d wish bytes frame) frame → AnswerIs d wish bytes frame r after
+module _ (limit : ℕ) (d : Device) (wish : Wish) (bytes frame : List ℕ) (c : DeviceCalled) (q : calledAs c ≡ answered limit d wish (length bytes)) where
+  answer-is : (r : DeviceCalled) (after : List ℕ) → c ≡ r → after ≡ bufferBehind (calledAs r) (answerFrame d wish bytes frame) frame → AnswerIs limit d wish bytes frame r after
   answer-is r after e p =
-      let is : calledAs r ≡ answered 255 d wish (length bytes) = ap calledAs (sym e) ∙ q in
+      let is : calledAs r ≡ answered limit d wish (length bytes) = ap calledAs (sym e) ∙ q in
       record { called = is; frame-is = p ∙ ap (λ (x : Called Device). bufferBehind x (answerFrame d wish bytes frame) frame) is }
 
-  pub answer-accepted : (e : Device) (after : List ℕ) → c ≡ DeviceCalled.Accepted e → after ≡ answerFrame d wish bytes frame → AnswerIs d wish bytes frame (DeviceCalled.Accepted e) after
+  pub answer-accepted : (e : Device) (after : List ℕ) → c ≡ DeviceCalled.Accepted e → after ≡ answerFrame d wish bytes frame → AnswerIs limit d wish bytes frame (DeviceCalled.Accepted e) after
   answer-accepted e after k p = answer-is (DeviceCalled.Accepted e) after k p
 
-  pub answer-refused : (why : Refusal) → c ≡ DeviceCalled.Refused why → AnswerIs d wish bytes frame (DeviceCalled.Refused why) frame
+  pub answer-refused : (why : Refusal) → c ≡ DeviceCalled.Refused why → AnswerIs limit d wish bytes frame (DeviceCalled.Refused why) frame
   answer-refused why k = answer-is (DeviceCalled.Refused why) frame k refl
 
 pub send-is : (d : Device) (contents frame : List ℕ) (s : DeviceSent) (after : List ℕ) → s ≡ deviceSends d after → after ≡ begunFrame d (d .turn) contents frame → SendIs d contents frame s after

@@ -5,7 +5,6 @@ use mathlib.Core.Bool.{Bool}
 use mathlib.Core.Path.{_≡_}
 use mathlib.Core.List.{List}
 use lib.ListN.{length}
-use Rattle.frame.specs.Limits.{mostData}
 use Rattle.line.specs.declared.Heard.{Heard}
 use Rattle.line.specs.declared.Receiver.{Receiver}
 use Rattle.turns.specs.Device.{deviceTakes, errorFrame, answered, answerFrame, sends, deviceSends, begunFrame}
@@ -25,9 +24,9 @@ pub record DeviceTakeIs (d : Device) (heard : Heard) (bytes frame : List ℕ) (t
   pub data-is : bytes-after ≡ deviceData (lent d bytes) heard
   pub frame-is : frame-after ≡ errorFrame d (deviceTakes d heard .event) frame
 
-pub record AnswerIs (d : Device) (wish : Wish) (bytes frame : List ℕ) (r : DeviceCalled) (frame-after : List ℕ) : Type 0 where
-  pub called : calledAs r ≡ answered mostData d wish (length bytes)
-  pub frame-is : frame-after ≡ bufferBehind (answered mostData d wish (length bytes)) (answerFrame d wish bytes frame) frame
+pub record AnswerIs (limit : ℕ) (d : Device) (wish : Wish) (bytes frame : List ℕ) (r : DeviceCalled) (frame-after : List ℕ) : Type 0 where
+  pub called : calledAs r ≡ answered limit d wish (length bytes)
+  pub frame-is : frame-after ≡ bufferBehind (answered limit d wish (length bytes)) (answerFrame d wish bytes frame) frame
 
 pub record SendIs (d : Device) (contents frame : List ℕ) (s : DeviceSent) (frame-after : List ℕ) : Type 0 where
   pub sent : s ≡ deviceSends d frame-after

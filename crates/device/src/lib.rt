@@ -183,10 +183,10 @@ fn answering(d: Device, wish: Wish, count: u8, left: u16) -> Device
 }
 
 // An answer of so many data bytes to the request in hand.
-fn answer_request(d: Device, wish: Wish, count: usize, left: u16) -> DeviceCalled
-    ensures { λ r. ⌜ calledAs r ≡ answeredBy mostData d wish count (Turn.Asked left) ⌝ }
+fn answer_request(limit: u8, d: Device, wish: Wish, count: usize, left: u16) -> DeviceCalled
+    ensures { λ r. ⌜ calledAs r ≡ answeredBy limit d wish count (Turn.Asked left) ⌝ }
 {
-    if base::outside(count, 2, 255) {
+    if base::outside(count, 2, limit as usize) {
         return DeviceCalled::Refused(Refusal::DataLength);
     }
     if wish_refused(d, wish) {
@@ -195,13 +195,13 @@ fn answer_request(d: Device, wish: Wish, count: usize, left: u16) -> DeviceCalle
     DeviceCalled::Accepted(answering(d, wish, count as u8, left))
 }
 
-fn answer_by(d: Device, wish: Wish, count: usize) -> DeviceCalled
-    ensures { λ r. ⌜ calledAs r ≡ answered mostData d wish count ⌝ }
+fn answer_by(limit: u8, d: Device, wish: Wish, count: usize) -> DeviceCalled
+    ensures { λ r. ⌜ calledAs r ≡ answered limit d wish count ⌝ }
 {
     let turn = d.turn;
     match turn {
         Turn::Listens => DeviceCalled::Refused(Refusal::NoRequest),
-        Turn::Asked(left) => answer_request(d, wish, count, left),
+        Turn::Asked(left) => answer_request(limit, d, wish, count, left),
         Turn::AnswerWaits => DeviceCalled::Refused(Refusal::NoRequest),
         Turn::Begins => DeviceCalled::Refused(Refusal::NoRequest),
         Turn::Answers(_) => DeviceCalled::Refused(Refusal::NoRequest),
@@ -223,11 +223,11 @@ fn put_answer(d: Device, wish: Wish, bytes: &[u8], frame: &mut [u8; 284])
     );
 }
 
-// Takes the host's answer to the request in hand, or refuses it with 8, 9 or 10 and leaves the lent frame buffer as it was.
-pub fn answer(d: Device, wish: Wish, bytes: &[u8], frame: &mut [u8; 284]) -> DeviceCalled
-    ensures { λ r. ⌜ AnswerIs d wish (now (bytes .entry)) (now (frame .entry)) r (now (frame .exit)) ⌝ }
+// Takes the host's answer to the request in hand, on a link with this data limit, or refuses it with 8, 9 or 10 and leaves the lent frame buffer as it was.
+pub fn answer(limit: u8, d: Device, wish: Wish, bytes: &[u8], frame: &mut [u8; 284]) -> DeviceCalled
+    ensures { λ r. ⌜ AnswerIs limit d wish (now (bytes .entry)) (now (frame .entry)) r (now (frame .exit)) ⌝ }
 {
-    let called = answer_by(d, wish, bytes.len());
+    let called = answer_by(limit, d, wish, bytes.len());
     match called {
         DeviceCalled::Accepted(e) => {
             put_answer(d, wish, bytes, frame);

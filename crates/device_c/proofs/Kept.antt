@@ -1,5 +1,5 @@
--- `unpacked (packed d)` is d, for every device whose numbers are values of their types.
-use Prim.Native.Nat.{ℕ}
+-- `unpacked (packed limit d)` is d, for every device whose numbers are values of their types.
+use Prim.Native.Nat.{ℕ, _<_, _^_}
 use mathlib.Core.Path.{_≡_, refl, sym, subst}
 use native.Mathlib.Omega.{arith}
 use Rattle.base.specs.Choice.{if_then_else_}
@@ -9,7 +9,7 @@ use Rattle.turns.specs.declared.Turn.the-variants.{Listens, Asked, AnswerWaits,
 use Rattle.turns.specs.declared.Wish.{Wish}
 use Rattle.turns.specs.declared.Wish.the-variants.{Same, On, Off}
 use Rattle.words.proofs.Kept.{flag-kept, number-kept, case-kept, header-kept, profile-kept, receiver-kept}
-use Rattle.device_c.specs.Words.{turnWord, turnBy, turnOf, wishWord, wishOf, packed, unpacked}
+use Rattle.device_c.specs.Words.{turnWord, turnBy, turnOf, wishWord, wishOf, packed, unpacked, limitAt}
 use Rattle.device_c.specs.Fits.{TurnFits, DeviceFits}
 
 turn-kept : (t : Turn) → TurnFits t → turnOf (turnWord t) ≡ t
@@ -28,8 +28,11 @@ wish-kept Same = refl
 wish-kept On = refl
 wish-kept Off = refl
 
-pub device-kept : (d : Device) → DeviceFits d → unpacked (packed d) ≡ d
-device-kept d f = λ i. record {
+pub limit-kept : (limit : ℕ) (d : Device) → limit < 2 ^ 8 → limitAt (packed limit d) ≡ limit
+limit-kept limit d f = number-kept 8 limit f
+
+pub device-kept : (limit : ℕ) (d : Device) → DeviceFits d → unpacked (packed limit d) ≡ d
+device-kept limit d f = λ i. record {
   profile = profile-kept (d .profile) (f .profile) i;
   preamble = number-kept 8 (d .preamble) (f .numbers .preamble-fits) i;
   polling = number-kept 8 (d .polling) (f .numbers .polling-fits) i;

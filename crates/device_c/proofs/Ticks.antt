@@ -1,8 +1,7 @@
 -- A tick by what its parts gave, and one with what was made of its arguments.
-use Prim.Native.Nat.{ℕ}
+use Prim.Native.Nat.{ℕ, _<_, _^_}
 use mathlib.Core.List.{List}
 use mathlib.Core.Path.{_≡_, ap, subst, _∙_}
-use Rattle.frame.specs.Limits.{mostData}
 use Rattle.line.specs.declared.Heard.{Heard}
 use Rattle.turns.specs.Device.{deviceTakes}
 use Rattle.turns.specs.Link.{DeviceStep, deviceTick}
@@ -13,21 +12,22 @@ use Rattle.device_tick.specs.Tick.{callOf, sideOf, DeviceTickIs}
 use Rattle.device_tick.specs.declared.DeviceHostCall.{DeviceHostCall}
 use Rattle.device_tick.specs.declared.DeviceTicked.{DeviceTicked}
 use Rattle.words.specs.Numbers.{tickNumbers, sentNumber, callNumber}
-use Rattle.device_c.specs.Words.{packed, unpacked}
+use Rattle.device_c.specs.Words.{packed, unpacked, limitAt}
 use Rattle.device_c.specs.Fits.{DeviceFits}
 use Rattle.device_c.specs.Tick.{StepIs}
-use Rattle.device_c.proofs.Kept.{device-kept}
+use Rattle.device_c.proofs.Kept.{device-kept, limit-kept}
 
 -- a tick of the device that the words were
-pub tick-is : (before frame bytes contents : List ℕ) (d : Device) (heard : Heard) (call : DeviceHostCall) (put : List ℕ) (t : DeviceTicked) (frame-after bytes-after contents-after words results : List ℕ) (sent told r : ℕ)
-    → d ≡ unpacked before → DeviceTickIs d heard call put frame bytes contents t frame-after bytes-after contents-after → DeviceFits (t .device) → words ≡ packed (t .device)
+pub tick-is : (limit : ℕ) (before frame bytes contents : List ℕ) (d : Device) (heard : Heard) (call : DeviceHostCall) (put : List ℕ) (t : DeviceTicked) (frame-after bytes-after contents-after words results : List ℕ) (sent told r : ℕ)
+    → limit ≡ limitAt before → limit < 2 ^ 8 → d ≡ unpacked before → DeviceTickIs limit d heard call put frame bytes contents t frame-after bytes-after contents-after → DeviceFits (t .device) → words ≡ packed limit (t .device)
     → results ≡ tickNumbers sent told 0 (t .event) → sent ≡ sentNumber (t .sent) → told ≡ deviceTells (t .told) .number → r ≡ callNumber (resultOf (t .result))
-    → StepIs (deviceTick mostData (sideOf (unpacked before) frame bytes contents) heard (callOf call put)) (deviceTakes (unpacked before) heard .event) words frame-after bytes-after contents-after results r
-tick-is before frame bytes contents d heard call put t frame-after bytes-after contents-after words results sent told r e v f w n a b q =
-    let step : _ = v .step ∙ ap (λ (x : Device). deviceTick mostData (sideOf x frame bytes contents) heard (callOf call put)) e in
+    → StepIs (limitAt before) (deviceTick (limitAt before) (sideOf (unpacked before) frame bytes contents) heard (callOf call put)) (deviceTakes (unpacked before) heard .event) words frame-after bytes-after contents-after results r
+tick-is limit before frame bytes contents d heard call put t frame-after bytes-after contents-after words results sent told r same small e v f w n a b q =
+    let step : _ = v .step ∙ (λ i. deviceTick (same i) (sideOf (e i) frame bytes contents) heard (callOf call put)) in
     record {
-      words-are = w ∙ ap (λ (s : DeviceStep). packed (s .side .device)) step;
-      unpacked-is = ap unpacked w ∙ device-kept (t .device) f ∙ ap (λ (s : DeviceStep). s .side .device) step;
+      words-are = w ∙ (λ i. packed (same i) (step i .side .device));
+      limit-is = ap limitAt w ∙ limit-kept limit (t .device) small ∙ same;
+      unpacked-is = ap unpacked w ∙ device-kept limit (t .device) f ∙ ap (λ (s : DeviceStep). s .side .device) step;
       frame-is = ap (λ (s : DeviceStep). s .side .frame) step;
       bytes-are = ap (λ (s : DeviceStep). s .side .bytes) step;
       contents-are = ap (λ (s : DeviceStep). s .side .contents) step;
@@ -41,7 +41,7 @@ tick-is before frame bytes contents d heard call put t frame-after bytes-after c
 
 abbrev Steps : List ℕ → List ℕ → List ℕ → List ℕ → List ℕ → List ℕ → List ℕ → List ℕ → List ℕ → List ℕ → ℕ → Heard → DeviceHostCall → Type 0
 Steps before frame bytes contents put words frame-after bytes-after contents-after results r heard call =
-    StepIs (deviceTick mostData (sideOf (unpacked before) frame bytes contents) heard (callOf call put)) (deviceTakes (unpacked before) heard .event)
+    StepIs (limitAt before) (deviceTick (limitAt before) (sideOf (unpacked before) frame bytes contents) heard (callOf call put)) (deviceTakes (unpacked before) heard .event)
     words frame-after bytes-after contents-after results r
 
 pub tick-called : (before frame bytes contents put words frame-after bytes-after contents-after results : List ℕ) (r : ℕ) (h heard : Heard) (c call : DeviceHostCall) → h ≡ heard → c ≡ call

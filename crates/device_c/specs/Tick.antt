@@ -4,7 +4,6 @@ use Prim.Native.Nat.{ℕ}
 use mathlib.Core.List.{List}
 use mathlib.Core.Path.{_≡_}
 use Rattle.base.specs.Lent.{Lent, before, after}
-use Rattle.frame.specs.Limits.{mostData}
 use Rattle.line.specs.declared.Event.{Event}
 use Rattle.line.specs.declared.Event.the-variants.{Frame}
 use Rattle.line.specs.declared.Heard.{Heard}
@@ -16,11 +15,12 @@ use Rattle.turns.specs.declared.DeviceTold.the-variants.{Nothing, Request, Broa
 use Rattle.device_tick.specs.Tick.{callOf, sideOf}
 use Rattle.device_tick.specs.declared.DeviceHostCall.{DeviceHostCall}
 use Rattle.words.specs.Numbers.{tickNumbers, sentNumber, callNumber}
-use Rattle.device_c.specs.Words.{packed, unpacked}
+use Rattle.device_c.specs.Words.{packed, unpacked, limitAt}
 
 -- what a call leaves behind a tick: the words and the three lent buffers, the results and what it returns
-pub record StepIs (s : DeviceStep) (event : Event) (words frame bytes contents results : List ℕ) (r : ℕ) : Type 0 where
-  pub words-are : words ≡ packed (s .side .device)
+pub record StepIs (limit : ℕ) (s : DeviceStep) (event : Event) (words frame bytes contents results : List ℕ) (r : ℕ) : Type 0 where
+  pub words-are : words ≡ packed limit (s .side .device)
+  pub limit-is : limitAt words ≡ limit
   pub unpacked-is : unpacked words ≡ s .side .device
   pub frame-is : frame ≡ s .side .frame
   pub bytes-are : bytes ≡ s .side .bytes
@@ -33,7 +33,8 @@ abbrev pub DeviceTicks : Lent (List ℕ) → Lent (List ℕ) → Lent (List ℕ)
     → Heard → DeviceHostCall → Lent (List ℕ) → Lent (List ℕ) → ℕ → Type 0
 DeviceTicks words frame bytes contents heard call put results r =
     StepIs
-    (deviceTick mostData (sideOf (unpacked (before words)) (before frame) (before bytes) (before contents)) heard (callOf call (before put)))
+    (limitAt (before words))
+    (deviceTick (limitAt (before words)) (sideOf (unpacked (before words)) (before frame) (before bytes) (before contents)) heard (callOf call (before put)))
     (deviceTakes (unpacked (before words)) heard .event)
     (after words) (after frame) (after bytes) (after contents) (after results) r
 

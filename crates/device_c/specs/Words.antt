@@ -1,5 +1,5 @@
 -- How the code stands for what is to be believed.
--- A device as 40 words of 64 bits, one for each field, in four parts: what it was started with, its reader, its answer and its burst mode. The words of a program in C are some device, whatever they hold; proofs/Kept.antt says that `unpacked (packed d)` is d, for every device whose numbers are within their types (`DeviceFits` in specs/Fits.antt). That is every device that the code holds: its fields have these types.
+-- A device and its data limit as 41 words of 64 bits, one for each field, in four parts: what it was started with, its reader, its answer, and its burst mode with the data limit. The words of a program in C are some device, whatever they hold; proofs/Kept.antt says that `unpacked (packed limit d)` is d, for every device whose numbers are within their types (`DeviceFits` in specs/Fits.antt). That is every device that the code holds: its fields have these types.
 use Prim.Native.Nat.{ℕ, _+_, _*_, _/_, _%_, _^_}
 use mathlib.Core.List.{List, [], _∷_, _++_}
 use Rattle.base.specs.Choice.{if_then_else_, _=?_}
@@ -76,15 +76,16 @@ answeringAt words = record {
   request = headerAt words 28;
 }
 
--- burst mode: 6 words
-abbrev pub burstingWords : Device → List ℕ
-burstingWords d =
+-- burst mode and the data limit: 7 words
+abbrev pub burstingWords : ℕ → Device → List ℕ
+burstingWords limit d =
     flagWord (d .burst) ∷
     flagWord (d .primary) ∷
     d .due ∷
     flagWord (d .content .given) ∷
     d .content .command ∷
     d .content .count ∷
+    limit ∷
     []
 
 abbrev pub contentAt : List ℕ → ℕ → Content
@@ -95,8 +96,13 @@ burstingAt words = record { burst = flagAt words 34; primary = flagAt words 35; 
 
 -- ---- the device
 
-abbrev pub packed : Device → List ℕ
-packed d = settingsWords (d .profile) (d .preamble) (d .polling) (d .unique) ++ (receiverWords (d .receiver) ++ (answeringWords d ++ burstingWords d))
+-- document 02, item 12: the data limit that it was started with
+abbrev pub limitAt : List ℕ → ℕ
+limitAt words = numberAt 8 words 40
+
+abbrev pub packed : ℕ → Device → List ℕ
+packed limit d =
+    settingsWords (d .profile) (d .preamble) (d .polling) (d .unique) ++ (receiverWords (d .receiver) ++ (answeringWords d ++ burstingWords limit d))
 
 -- the device with these parts
 abbrev pub joined : Settings → Receiver → Answering → Bursting → Device

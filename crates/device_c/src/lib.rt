@@ -15,7 +15,7 @@ ghost use Rattle.base.specs.Lent.{before, after};
 ghost use Rattle.recording.specs.Recording.{heardOf};
 ghost use Rattle.turns.specs.Told.{deviceTells};
 ghost use Rattle.device_c.specs.Words.{turnWord, turnBy, turnOf, wishWord, wishOf, settingsWords, settingsAt};
-ghost use Rattle.device_c.specs.Words.{answeringWords, answeringAt, burstingWords, contentAt, burstingAt, packed, joined, unpacked};
+ghost use Rattle.device_c.specs.Words.{answeringWords, answeringAt, burstingWords, contentAt, burstingAt, packed, joined, unpacked, limitAt};
 ghost use Rattle.device_c.specs.Fits.{TurnFits, ContentFits, NumbersFit, DeviceFits};
 ghost use Rattle.device_tick.specs.Tick.{hostCallBy};
 ghost use Rattle.device_c.specs.Tick.{DeviceTicks};
@@ -111,7 +111,7 @@ fn wish_of(word: u64) -> Wish
     Wish::Same
 }
 
-fn settings_at(words: &[u64; 40]) -> Settings
+fn settings_at(words: &[u64; 41]) -> Settings
     ensures { λ r. ⌜ r ≡ settingsAt (before words) ⌝ }
 {
     let profile = words::profile_at(words, 0);
@@ -123,7 +123,7 @@ fn settings_at(words: &[u64; 40]) -> Settings
     }
 }
 
-fn answering_at(words: &[u64; 40]) -> Answering
+fn answering_at(words: &[u64; 41]) -> Answering
     ensures { λ r. ⌜ r ≡ answeringAt (before words) ⌝ }
 {
     let turn = turn_of(words::word_at(words, 25));
@@ -149,7 +149,7 @@ fn content_at(words: &[u64], place: u16) -> Content
     }
 }
 
-fn bursting_at(words: &[u64; 40]) -> Bursting
+fn bursting_at(words: &[u64; 41]) -> Bursting
     ensures { λ r. ⌜ r ≡ burstingAt (before words) ⌝ }
 {
     let content = content_at(words, 37);
@@ -188,7 +188,7 @@ fn join(s: Settings, r: Receiver, a: Answering, b: Bursting) -> Device
 }
 
 // The device that some words are.
-fn unpack(words: &[u64; 40]) -> Device
+fn unpack(words: &[u64; 41]) -> Device
     ensures { λ d. ⌜ d ≡ unpacked (before words) ⌝ }
 {
     let settings = settings_at(words);
@@ -233,8 +233,8 @@ fn answering_words(d: Device) -> [u64; 10]
     ]
 }
 
-fn bursting_words(d: Device) -> [u64; 6]
-    ensures { λ r. ⌜ r ≡ burstingWords d ⌝ }
+fn bursting_words(limit: u8, d: Device) -> [u64; 7]
+    ensures { λ r. ⌜ r ≡ burstingWords limit d ⌝ }
 {
     let c = d.content;
     [
@@ -244,28 +244,40 @@ fn bursting_words(d: Device) -> [u64; 6]
         c.given as u64,
         c.command as u64,
         c.count as u64,
+        limit as u64,
     ]
 }
 
-// The words of a device.
-pub fn pack(words: &mut [u64; 40], d: Device)
-    ensures { λ _. ⌜ after words ≡ packed d ⌝ }
+// The words of a device and its data limit.
+pub fn pack(words: &mut [u64; 41], limit: u8, d: Device)
+    ensures { λ _. ⌜ after words ≡ packed limit d ⌝ }
 {
     let p = d.profile;
     let r = d.receiver;
     let settings = settings_words(p, d.preamble, d.polling, d.unique);
     let reader = words::receiver_words(r);
     let answering = answering_words(d);
-    let bursting = bursting_words(d);
+    let bursting = bursting_words(limit, d);
     words::put(words, 0, &settings);
     words::put(words, 8, &reader);
     words::put(words, 24, &answering);
     words::put(words, 34, &bursting);
 }
 
-// The next five do nothing. The contract of each says that the numbers of a value are within their types, which the prover knows of a parameter; `device-kept` needs it.
+// The data limit that some words hold.
+fn limit_at(words: &[u64; 41]) -> u8
+    ensures { λ r. ⌜ r ≡ limitAt (before words) ⌝ }
+{
+    words::u8_at(words, 40)
+}
+
+// The next six do nothing. The contract of each says that the numbers of a value are within their types, which the prover knows of a parameter; `device-kept` needs it.
 fn u16_fits(n: u16)
     ensures { λ _. ⌜ n < 2 ^ 16 ⌝ }
+{}
+
+fn limit_fits(limit: u8)
+    ensures { λ _. ⌜ limit < 2 ^ 8 ⌝ }
 {}
 
 fn turn_fits(turn: Turn)
@@ -318,7 +330,7 @@ fn told_number(told: DeviceTold) -> u64
 
 // A tick of the device that the words are. Lent are the data of an answer or of a burst content, the burst content, the buffer that holds the device's ACK or BACK and the one for the data of the frame that it hears.
 fn tick(
-    words: &mut [u64; 40],
+    words: &mut [u64; 41],
     frame: &mut [u8; 284],
     bytes: &mut [u8; 255],
     contents: &mut [u8; 255],
@@ -330,14 +342,16 @@ fn tick(
     ensures { λ r. ⌜ DeviceTicks words frame bytes contents heard call put results r ⌝ }
 {
     let d = unpack(words);
-    let t = device_tick::tick(d, heard, call, put, contents, frame, bytes);
+    let limit = limit_at(words);
+    let t = device_tick::tick(limit, d, heard, call, put, contents, frame, bytes);
     let next = t.device;
     let sent = t.sent;
     let told = t.told;
     let event = t.event;
     let result = t.result;
     device_fits(next);
-    pack(words, next);
+    limit_fits(limit);
+    pack(words, limit, next);
     *results = words::tick_numbers(words::sent_number(sent), told_number(told), 0, event);
     words::call_number(result)
 }
@@ -345,7 +359,7 @@ fn tick(
 // A tick of a device; gives 0, or the refusal's number of its host's answer or burst content.
 #[no_mangle]
 pub extern "C" fn nengapiko_device_tick(
-    state: &mut [u64; 40],
+    state: &mut [u64; 41],
     frame: &mut [u8; 284],
     bytes: &mut [u8; 255],
     contents: &mut [u8; 255],

@@ -1,5 +1,5 @@
 -- Laws of the burst content: where the call was taken, its data fit.
-use Prim.Native.Nat.{ℕ, _≤_}
+use Prim.Native.Nat.{ℕ, _≤_, _<_}
 use native.Mathlib.Omega.{arith}
 use mathlib.Core.Path.{_≡_, refl, sym, ap, _∙_}
 use mathlib.Core.List.{List}
@@ -19,24 +19,24 @@ use Rattle.device_tick.specs.Content.{ContentIs}
 pub storing-begins : (contents bytes : List ℕ) → length bytes ≤ 255 → 255 ≤ length contents → Storing contents bytes (length bytes) contents 0
 storing-begins contents bytes h k = storing-none contents bytes (length bytes) refl (omega arith)
 
-module _ (d : Device) (command : ℕ) (bytes contents : List ℕ) (c : DeviceCalled) (q : calledAs c ≡ contentGiven 255 d command (length bytes)) where
-  content-is : (r : DeviceCalled) (after : List ℕ) → c ≡ r → after ≡ bufferBehind (calledAs r) (stored contents 0 bytes) contents → ContentIs d command bytes contents r after
+module _ (limit : ℕ) (d : Device) (command : ℕ) (bytes contents : List ℕ) (c : DeviceCalled) (q : calledAs c ≡ contentGiven limit d command (length bytes)) where
+  content-is : (r : DeviceCalled) (after : List ℕ) → c ≡ r → after ≡ bufferBehind (calledAs r) (stored contents 0 bytes) contents → ContentIs limit d command bytes contents r after
   content-is r after e p =
-      let is : calledAs r ≡ contentGiven 255 d command (length bytes) = ap calledAs (sym e) ∙ q in
+      let is : calledAs r ≡ contentGiven limit d command (length bytes) = ap calledAs (sym e) ∙ q in
       record { called = is; contents-are = p ∙ ap (λ (x : Called Device). bufferBehind x (stored contents 0 bytes) contents) is }
 
   -- data that are taken are at most 255
-  pub content-room : (e : Device) → c ≡ DeviceCalled.Accepted e → length bytes ≤ 255
-  content-room e k = go (content-view 255 d command (length bytes))
+  pub content-room : (e : Device) → limit < 256 → c ≡ DeviceCalled.Accepted e → length bytes ≤ 255
+  content-room e b k = go (content-view limit d command (length bytes))
     where
-      go : ContentView 255 d command (length bytes) → length bytes ≤ 255
+      go : ContentView limit d command (length bytes) → length bytes ≤ 255
       go (ContentView.is-refused why g) = absurd (refused-accepted (sym g ∙ sym q ∙ ap calledAs k))
-      go (ContentView.is-taken low high g) = high
+      go (ContentView.is-taken low high g) = omega (arith, high, b)
 
-  pub content-accepted : (e : Device) (after : List ℕ) → c ≡ DeviceCalled.Accepted e → after ≡ stored contents 0 bytes → ContentIs d command bytes contents (DeviceCalled.Accepted e) after
+  pub content-accepted : (e : Device) (after : List ℕ) → c ≡ DeviceCalled.Accepted e → after ≡ stored contents 0 bytes → ContentIs limit d command bytes contents (DeviceCalled.Accepted e) after
   content-accepted e after k p = content-is (DeviceCalled.Accepted e) after k p
 
-  pub content-refused : (why : Refusal) → c ≡ DeviceCalled.Refused why → ContentIs d command bytes contents (DeviceCalled.Refused why) contents
+  pub content-refused : (why : Refusal) → c ≡ DeviceCalled.Refused why → ContentIs limit d command bytes contents (DeviceCalled.Refused why) contents
   content-refused why k = content-is (DeviceCalled.Refused why) contents k refl
 
 pub ruleset contents-given = (content-room, content-accepted, content-refused)

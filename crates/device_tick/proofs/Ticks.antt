@@ -25,21 +25,21 @@ use Rattle.device_tick.specs.Tick.{callOf, sideOf, stepOf, uncalled, cal
 
 -- ---- the call
 
-module _ (d : Device) (call : DeviceHostCall) (put frame contents : List ℕ) (r : DeviceCallTaken) where
-  pub call-none : call ≡ DeviceHostCall.Nothing → r ≡ uncalled d → DeviceCalledIs d call put frame contents r frame contents
-  call-none k e = subst (λ (h : DeviceHostCall). DeviceCalledIs d h put frame contents r frame contents) (sym k) (subst (λ (x : DeviceCallTaken). DeviceCalledIs d DeviceHostCall.Nothing put frame contents x frame contents) (sym e) (record { goes = λ told event bytes. refl }))
+module _ (limit : ℕ) (d : Device) (call : DeviceHostCall) (put frame contents : List ℕ) (r : DeviceCallTaken) where
+  pub call-none : call ≡ DeviceHostCall.Nothing → r ≡ uncalled d → DeviceCalledIs limit d call put frame contents r frame contents
+  call-none k e = subst (λ (h : DeviceHostCall). DeviceCalledIs limit d h put frame contents r frame contents) (sym k) (subst (λ (x : DeviceCallTaken). DeviceCalledIs limit d DeviceHostCall.Nothing put frame contents x frame contents) (sym e) (record { goes = λ told event bytes. refl }))
 
   -- the host's answer
-  by-answer : (wish : Wish) (c : DeviceCalled) (frame-after : List ℕ) → AnswerIs d wish put frame c frame-after → DeviceCalledIs d (DeviceHostCall.Answers wish) put frame contents (calledBy d c) frame-after contents
+  by-answer : (wish : Wish) (c : DeviceCalled) (frame-after : List ℕ) → AnswerIs limit d wish put frame c frame-after → DeviceCalledIs limit d (DeviceHostCall.Answers wish) put frame contents (calledBy d c) frame-after contents
   by-answer wish c frame-after a = go c refl
     where
-      became : (x : DeviceCalled) → c ≡ x → answered 255 d wish (length put) ≡ calledAs x
+      became : (x : DeviceCalled) → c ≡ x → answered limit d wish (length put) ≡ calledAs x
       became x k = sym (a .called) ∙ ap calledAs k
 
       buffer-is : (x : DeviceCalled) → c ≡ x → bufferBehind (calledAs x) (answerFrame d wish put frame) frame ≡ frame-after
       buffer-is x k = sym (a .frame-is ∙ ap (λ (y : Called Device). bufferBehind y (answerFrame d wish put frame) frame) (became x k))
 
-      go : (x : DeviceCalled) → c ≡ x → DeviceCalledIs d (DeviceHostCall.Answers wish) put frame contents (calledBy d x) frame-after contents
+      go : (x : DeviceCalled) → c ≡ x → DeviceCalledIs limit d (DeviceHostCall.Answers wish) put frame contents (calledBy d x) frame-after contents
       go (DeviceCalled.Accepted e) k = record {
         goes = λ told event bytes.
             ap (λ (y : Called Device). answerCalled y d (answerFrame d wish put frame) frame bytes contents told) (became (DeviceCalled.Accepted e) k)
@@ -51,22 +51,22 @@ module _ (d : Device) (call : DeviceHostCall) (put frame contents : List ℕ) (r
             ∙ ap (λ (l : List ℕ). deviceSent d l bytes contents told (was-refused (number why))) (buffer-is (DeviceCalled.Refused why) k);
       }
 
-  pub call-answer : (wish : Wish) (c : DeviceCalled) (frame-after : List ℕ) → call ≡ DeviceHostCall.Answers wish → AnswerIs d wish put frame c frame-after → r ≡ calledBy d c → DeviceCalledIs d call put frame contents r frame-after contents
+  pub call-answer : (wish : Wish) (c : DeviceCalled) (frame-after : List ℕ) → call ≡ DeviceHostCall.Answers wish → AnswerIs limit d wish put frame c frame-after → r ≡ calledBy d c → DeviceCalledIs limit d call put frame contents r frame-after contents
   call-answer wish c frame-after k a e =
-      subst (λ (h : DeviceHostCall). DeviceCalledIs d h put frame contents r frame-after contents) (sym k)
-      (subst (λ (x : DeviceCallTaken). DeviceCalledIs d (DeviceHostCall.Answers wish) put frame contents x frame-after contents) (sym e) (by-answer wish c frame-after a))
+      subst (λ (h : DeviceHostCall). DeviceCalledIs limit d h put frame contents r frame-after contents) (sym k)
+      (subst (λ (x : DeviceCallTaken). DeviceCalledIs limit d (DeviceHostCall.Answers wish) put frame contents x frame-after contents) (sym e) (by-answer wish c frame-after a))
 
   -- the burst content
-  by-content : (command : ℕ) (c : DeviceCalled) (contents-after : List ℕ) → ContentIs d command put contents c contents-after → DeviceCalledIs d (DeviceHostCall.Content command) put frame contents (calledBy d c) frame contents-after
+  by-content : (command : ℕ) (c : DeviceCalled) (contents-after : List ℕ) → ContentIs limit d command put contents c contents-after → DeviceCalledIs limit d (DeviceHostCall.Content command) put frame contents (calledBy d c) frame contents-after
   by-content command c contents-after a = go c refl
     where
-      became : (x : DeviceCalled) → c ≡ x → contentGiven 255 d command (length put) ≡ calledAs x
+      became : (x : DeviceCalled) → c ≡ x → contentGiven limit d command (length put) ≡ calledAs x
       became x k = sym (a .called) ∙ ap calledAs k
 
       buffer-is : (x : DeviceCalled) → c ≡ x → bufferBehind (calledAs x) (stored contents 0 put) contents ≡ contents-after
       buffer-is x k = sym (a .contents-are ∙ ap (λ (y : Called Device). bufferBehind y (stored contents 0 put) contents) (became x k))
 
-      go : (x : DeviceCalled) → c ≡ x → DeviceCalledIs d (DeviceHostCall.Content command) put frame contents (calledBy d x) frame contents-after
+      go : (x : DeviceCalled) → c ≡ x → DeviceCalledIs limit d (DeviceHostCall.Content command) put frame contents (calledBy d x) frame contents-after
       go (DeviceCalled.Accepted e) k = record {
         goes = λ told event bytes.
             ap (λ (y : Called Device). contentCalled y d put frame bytes contents told) (became (DeviceCalled.Accepted e) k)
@@ -78,10 +78,10 @@ module _ (d : Device) (call : DeviceHostCall) (put frame contents : List ℕ) (r
             ∙ ap (λ (l : List ℕ). deviceSent d frame bytes l told (was-refused (number why))) (buffer-is (DeviceCalled.Refused why) k);
       }
 
-  pub call-content : (command : ℕ) (c : DeviceCalled) (contents-after : List ℕ) → call ≡ DeviceHostCall.Content command → ContentIs d command put contents c contents-after → r ≡ calledBy d c → DeviceCalledIs d call put frame contents r frame contents-after
+  pub call-content : (command : ℕ) (c : DeviceCalled) (contents-after : List ℕ) → call ≡ DeviceHostCall.Content command → ContentIs limit d command put contents c contents-after → r ≡ calledBy d c → DeviceCalledIs limit d call put frame contents r frame contents-after
   call-content command c contents-after k a e =
-      subst (λ (h : DeviceHostCall). DeviceCalledIs d h put frame contents r frame contents-after) (sym k)
-      (subst (λ (x : DeviceCallTaken). DeviceCalledIs d (DeviceHostCall.Content command) put frame contents x frame contents-after) (sym e) (by-content command c contents-after a))
+      subst (λ (h : DeviceHostCall). DeviceCalledIs limit d h put frame contents r frame contents-after) (sym k)
+      (subst (λ (x : DeviceCallTaken). DeviceCalledIs limit d (DeviceHostCall.Content command) put frame contents x frame contents-after) (sym e) (by-content command c contents-after a))
 
 -- a definition by cases, at a case that a `match` has told
 pub called-at : (d : Device) (p q : DeviceCalled) (t : DeviceCallTaken) → p ≡ q → t ≡ calledBy d q → t ≡ calledBy d p
@@ -89,12 +89,12 @@ called-at d p q t e f = f ∙ ap (calledBy d) (sym e)
 
 -- ---- the whole tick
 
-module _ (d : Device) (heard : Heard) (call : DeviceHostCall) (put frame bytes contents heard-frame called-frame frame-after bytes-after contents-after : List ℕ) (t : DeviceTaken) (c : DeviceCallTaken) (s : DeviceSent) where
+module _ (limit : ℕ) (d : Device) (heard : Heard) (call : DeviceHostCall) (put frame bytes contents heard-frame called-frame frame-after bytes-after contents-after : List ℕ) (t : DeviceTaken) (c : DeviceCallTaken) (s : DeviceSent) where
   abbrev ticked : DeviceTicked
   ticked = record { device = s .device; sent = s .sent; told = t .told; event = t .event; result = c .result }
 
-  pub tick-is : DeviceTakeIs d heard bytes frame t bytes-after heard-frame → DeviceCalledIs (t .device) call put heard-frame contents c called-frame contents-after → SendIs (c .device) contents-after called-frame s frame-after
-      → DeviceTickIs d heard call put frame bytes contents ticked frame-after bytes-after contents-after
+  pub tick-is : DeviceTakeIs d heard bytes frame t bytes-after heard-frame → DeviceCalledIs limit (t .device) call put heard-frame contents c called-frame contents-after → SendIs (c .device) contents-after called-frame s frame-after
+      → DeviceTickIs limit d heard call put frame bytes contents ticked frame-after bytes-after contents-after
   unfolding deviceTick
   tick-is p q r = record {
     step = whole;
@@ -111,16 +111,16 @@ module _ (d : Device) (heard : Heard) (call : DeviceHostCall) (put frame bytes c
       begun : sent-from frame-after ≡ deviceSent (c .device) called-frame bytes-after contents-after (t .told) (resultOf (c .result))
       begun = ap sent-from (r .frame-is)
 
-      called : deviceSent (c .device) called-frame bytes-after contents-after (t .told) (resultOf (c .result)) ≡ deviceCalls 255 t (callOf call put) heard-frame bytes-after contents
+      called : deviceSent (c .device) called-frame bytes-after contents-after (t .told) (resultOf (c .result)) ≡ deviceCalls limit t (callOf call put) heard-frame bytes-after contents
       called = sym (q .goes (t .told) (t .event) bytes-after)
 
-      taken-is : deviceCalls 255 t (callOf call put) heard-frame bytes-after contents ≡ deviceTick 255 (sideOf d frame bytes contents) heard (callOf call put)
+      taken-is : deviceCalls limit t (callOf call put) heard-frame bytes-after contents ≡ deviceTick limit (sideOf d frame bytes contents) heard (callOf call put)
       taken-is =
-          ap (λ (x : DeviceTaken). deviceCalls 255 x (callOf call put) heard-frame bytes-after contents) (p .taken)
-          ∙ ap (λ (l : List ℕ). deviceCalls 255 (deviceTakes d heard) (callOf call put) l bytes-after contents) (p .frame-is)
-          ∙ ap (λ (l : List ℕ). deviceCalls 255 (deviceTakes d heard) (callOf call put) (errorFrame d (deviceTakes d heard .event) frame) l contents) (p .data-is)
+          ap (λ (x : DeviceTaken). deviceCalls limit x (callOf call put) heard-frame bytes-after contents) (p .taken)
+          ∙ ap (λ (l : List ℕ). deviceCalls limit (deviceTakes d heard) (callOf call put) l bytes-after contents) (p .frame-is)
+          ∙ ap (λ (l : List ℕ). deviceCalls limit (deviceTakes d heard) (callOf call put) (errorFrame d (deviceTakes d heard .event) frame) l contents) (p .data-is)
 
-      whole : stepOf ticked frame-after bytes-after contents-after ≡ deviceTick 255 (sideOf d frame bytes contents) heard (callOf call put)
+      whole : stepOf ticked frame-after bytes-after contents-after ≡ deviceTick limit (sideOf d frame bytes contents) heard (callOf call put)
       whole = sends-is ∙ begun ∙ called ∙ taken-is
 
 pub ruleset ticks = (refl, call-none, call-answer, call-content, called-at, tick-is)

@@ -4,7 +4,6 @@ use Prim.Native.Nat.{ℕ}
 use mathlib.Core.List.{List}
 use mathlib.Core.Path.{_≡_}
 use Rattle.base.specs.Choice.{if_then_else_, _=?_}
-use Rattle.frame.specs.Limits.{mostData}
 use Rattle.line.specs.declared.Event.{Event}
 use Rattle.line.specs.declared.Heard.{Heard}
 use Rattle.turns.specs.Device.{tells, deviceTakes}
@@ -50,14 +49,14 @@ calledBy d (DeviceCalled.Accepted e) = record { device = e; result = CallStatus.
 calledBy d (DeviceCalled.Refused why) = record { device = d; result = CallStatus.Refused why }
 
 -- a call, whatever the tick told before it and whatever data it heard: `frame-after` and `contents-after` are the frame buffer and the burst content behind the call
-pub record DeviceCalledIs (d : Device) (call : DeviceHostCall) (put frame contents : List ℕ) (r : DeviceCallTaken)
+pub record DeviceCalledIs (limit : ℕ) (d : Device) (call : DeviceHostCall) (put frame contents : List ℕ) (r : DeviceCallTaken)
     (frame-after contents-after : List ℕ) : Type 0 where
   pub goes : (told : DeviceTold) (event : Event) (bytes : List ℕ)
-      → deviceCalls mostData (tells d told event) (callOf call put) frame bytes contents
+      → deviceCalls limit (tells d told event) (callOf call put) frame bytes contents
       ≡ deviceSent (r .device) frame-after bytes contents-after told (resultOf (r .result))
 
 -- a tick: what is sent, told and answered, the state and the lent buffers behind it; and each frame that its reader found
-pub record DeviceTickIs (d : Device) (heard : Heard) (call : DeviceHostCall) (put frame bytes contents : List ℕ) (r : DeviceTicked)
+pub record DeviceTickIs (limit : ℕ) (d : Device) (heard : Heard) (call : DeviceHostCall) (put frame bytes contents : List ℕ) (r : DeviceTicked)
     (frame-after bytes-after contents-after : List ℕ) : Type 0 where
-  pub step : stepOf r frame-after bytes-after contents-after ≡ deviceTick mostData (sideOf d frame bytes contents) heard (callOf call put)
+  pub step : stepOf r frame-after bytes-after contents-after ≡ deviceTick limit (sideOf d frame bytes contents) heard (callOf call put)
   pub found : r .event ≡ deviceTakes d heard .event

@@ -96,13 +96,13 @@ fn with_content(d: Device, command: u8, count: u8) -> Device
 }
 
 // The device behind a burst content of so many data bytes.
-fn content_by(d: Device, command: u8, count: usize) -> DeviceCalled
-    ensures { λ r. ⌜ calledAs r ≡ contentGiven mostData d command count ⌝ }
+fn content_by(limit: u8, d: Device, command: u8, count: usize) -> DeviceCalled
+    ensures { λ r. ⌜ calledAs r ≡ contentGiven limit d command count ⌝ }
 {
     if command == 254 {
         return DeviceCalled::Refused(Refusal::Command);
     }
-    if base::outside(count, 2, 255) {
+    if base::outside(count, 2, limit as usize) {
         return DeviceCalled::Refused(Refusal::DataLength);
     }
     DeviceCalled::Accepted(with_content(d, command, count as u8))
@@ -121,10 +121,16 @@ fn put_content(bytes: &[u8], contents: &mut [u8])
 }
 
 // Takes the burst content, or refuses it with 5 or 9 and leaves the lent content as it was.
-fn content(d: Device, command: u8, bytes: &[u8], contents: &mut [u8; 255]) -> DeviceCalled
-    ensures { λ r. ⌜ ContentIs d command (now (bytes .entry)) (now (contents .entry)) r (now (contents .exit)) ⌝ }
+fn content(
+    limit: u8,
+    d: Device,
+    command: u8,
+    bytes: &[u8],
+    contents: &mut [u8; 255],
+) -> DeviceCalled
+    ensures { λ r. ⌜ ContentIs limit d command (now (bytes .entry)) (now (contents .entry)) r (now (contents .exit)) ⌝ }
 {
-    let called = content_by(d, command, bytes.len());
+    let called = content_by(limit, d, command, bytes.len());
     match called {
         DeviceCalled::Accepted(e) => {
             put_content(bytes, contents);
@@ -160,23 +166,26 @@ fn no_call(d: Device) -> DeviceCallTaken
 }
 
 fn take_call(
+    limit: u8,
     d: Device,
     call: DeviceHostCall,
     put: &[u8],
     contents: &mut [u8; 255],
     frame: &mut [u8; 284],
 ) -> DeviceCallTaken
-    ensures { λ r. ⌜ DeviceCalledIs d call (now (put .entry)) (now (frame .entry)) (now (contents .entry)) r (now (frame .exit)) (now (contents .exit)) ⌝ }
+    ensures { λ r. ⌜ DeviceCalledIs limit d call (now (put .entry)) (now (frame .entry)) (now (contents .entry)) r
+        (now (frame .exit)) (now (contents .exit)) ⌝ }
 {
     match call {
         DeviceHostCall::Nothing => no_call(d),
-        DeviceHostCall::Answers(wish) => called_by(d, device::answer(d, wish, put, frame)),
-        DeviceHostCall::Content(command) => called_by(d, content(d, command, put, contents)),
+        DeviceHostCall::Answers(wish) => called_by(d, device::answer(limit, d, wish, put, frame)),
+        DeviceHostCall::Content(command) => called_by(d, content(limit, d, command, put, contents)),
     }
 }
 
-// A tick. Lent are the data of an answer or of a burst content, the burst content, the buffer that holds the device's ACK or BACK and the one for the data of the frame that it hears.
+// A tick, on a link with this data limit. Lent are the data of an answer or of a burst content, the burst content, the buffer that holds the device's ACK or BACK and the one for the data of the frame that it hears.
 pub fn tick(
+    limit: u8,
     d: Device,
     heard: Heard,
     call: DeviceHostCall,
@@ -185,13 +194,14 @@ pub fn tick(
     frame: &mut [u8; 284],
     bytes: &mut [u8; 255],
 ) -> DeviceTicked
-    ensures { λ r. ⌜ DeviceTickIs d heard call (before put) (before frame) (before bytes) (before contents) r (after frame) (after bytes) (after contents) ⌝ }
+    ensures { λ r. ⌜ DeviceTickIs limit d heard call (before put) (before frame) (before bytes) (before contents) r
+        (after frame) (after bytes) (after contents) ⌝ }
 {
     let t = device::take(d, heard, bytes, frame);
     let taken = t.device;
     let told = t.told;
     let event = t.event;
-    let c = take_call(taken, call, put, contents, frame);
+    let c = take_call(limit, taken, call, put, contents, frame);
     let called = c.device;
     let result = c.result;
     let s = device::send(called, contents, frame);

@@ -41,20 +41,20 @@ use Rattle.late_run.specs.declared.StartTicks.{StartTicks}
 -- ---- a master
 
 -- a fresh master that has no call sends nothing, and its buffers stay
-fresh-ticked : (x : MasterSide) (heard : Heard) → Fresh (x .master)
-    → masterTick 255 x heard no-request ≡ masterSent (sends (x .master) false (x .master .timer) (x .master .message) (x .master .receiver) Silent) (x .frame) (x .bytes) MasterTold.Nothing none
+fresh-ticked : (limit : ℕ) (x : MasterSide) (heard : Heard) → Fresh (x .master)
+    → masterTick limit x heard no-request ≡ masterSent (sends (x .master) false (x .master .timer) (x .master .message) (x .master .receiver) Silent) (x .frame) (x .bytes) MasterTold.Nothing none
 unfolding masterTick masterTakes masterSends
-fresh-ticked x heard f =
+fresh-ticked limit x heard f =
     let takes : masterTakes (x .master) heard (masterData x heard) ≡ tells (x .master) MasterTold.Nothing Nothing = if-is-true (x .master .deaf) _ _ (f .hears-nothing) in
     let bytes : masterData x heard ≡ x .bytes = if-is-true (x .master .deaf) _ _ (f .hears-nothing) in
     (λ i. masterSent (masterSends (takes i .master) (x .frame)) (x .frame) (bytes i) (takes i .told) none)
     ∙ ap (λ (g : Stage). masterSent (sendsBy (x .master) (x .frame) g) (x .frame) (x .bytes) MasterTold.Nothing none) (f .no-message)
 
 -- what the code makes of a master in a tick is what lateMaster gives
-pub record AsLate (start : ℕ) (x : MasterSide) (heard : Heard) (call : L.MasterCall) (t : MasterStep) : Type 0 where
-  pub sent-is : t .sent ≡ lateMaster 255 start x heard call .sent
-  pub answer-is : t .result ≡ lateMaster 255 start x heard call .result
-  pub side-is : M.sideOf (masterBehind start (x .master) (t .side .master)) (t .side .frame) (t .side .bytes) ≡ lateMaster 255 start x heard call .side
+pub record AsLate (limit start : ℕ) (x : MasterSide) (heard : Heard) (call : L.MasterCall) (t : MasterStep) : Type 0 where
+  pub sent-is : t .sent ≡ lateMaster limit start x heard call .sent
+  pub answer-is : t .result ≡ lateMaster limit start x heard call .result
+  pub side-is : M.sideOf (masterBehind start (x .master) (t .side .master)) (t .side .frame) (t .side .bytes) ≡ lateMaster limit start x heard call .side
 
 not-started : (n : ℕ) → (suc n =? 0) ≡ false
 not-started n = ne-eqb (suc n) 0 (λ e. omega (arith, e))
@@ -65,16 +65,16 @@ none-taken n c = if-is-false (suc n =? 0) _ _ (not-started n)
 put-back : (n : ℕ) (before ticked : Master) → masterBehind (suc n) before ticked ≡ before
 put-back n before ticked = if-is-false (suc n =? 0) _ _ (not-started n)
 
-as-late : (start : ℕ) (x : MasterSide) (heard : Heard) (c : MasterCall) (put : List ℕ) (t : MasterStep) → (0 < start → Fresh (x .master))
-    → t ≡ masterTick 255 x heard (masterCallOf put (callTaken start c)) → AsLate start x heard (masterCallOf put c) t
+as-late : (limit start : ℕ) (x : MasterSide) (heard : Heard) (c : MasterCall) (put : List ℕ) (t : MasterStep) → (0 < start → Fresh (x .master))
+    → t ≡ masterTick limit x heard (masterCallOf put (callTaken start c)) → AsLate limit start x heard (masterCallOf put c) t
 unfolding if_then_else_
-as-late zero x heard c put t f e = record {
+as-late limit zero x heard c put t f e = record {
   sent-is = ap (λ (u : MasterStep). u .sent) e;
   answer-is = ap (λ (u : MasterStep). u .result) e;
   side-is = ap (λ (u : MasterStep). u .side) e;
 }
-as-late (suc n) x heard c put t f e =
-    let q = e ∙ ap (λ (k : MasterCall). masterTick 255 x heard (masterCallOf put k)) (none-taken n c) ∙ fresh-ticked x heard (f (omega arith)) in
+as-late limit (suc n) x heard c put t f e =
+    let q = e ∙ ap (λ (k : MasterCall). masterTick limit x heard (masterCallOf put k)) (none-taken n c) ∙ fresh-ticked limit x heard (f (omega arith)) in
     record {
       sent-is = ap (λ (u : MasterStep). u .sent) q;
       answer-is = ap (λ (u : MasterStep). u .result) q;
@@ -87,29 +87,29 @@ still-fresh (suc n) before ticked f h = subst Fresh (sym (put-back n before tick
 
 -- ---- the tick
 
-module _ (l : Link) (starts : StartTicks) (ticks : List ℕ) (at : ℕ) (x x-after : Rows) (sent sent-after : List (List ℕ)) (read : TickRead) (t : Ticked)
-    (is : T.RunIs l (callsTaken starts (read .calls)) ticks 1 x sent t x-after sent-after) where
+module _ (limit : ℕ) (l : Link) (starts : StartTicks) (ticks : List ℕ) (at : ℕ) (x x-after : Rows) (sent sent-after : List (List ℕ)) (read : TickRead) (t : Ticked)
+    (is : T.RunIs limit l (callsTaken starts (read .calls)) ticks 1 x sent t x-after sent-after) where
   -- what the code did, and what turns gives for the calls that were read
   abbrev did : LinkStep
-  did = stepWith l (callsTaken starts (read .calls)) ticks x
+  did = stepWith limit l (callsTaken starts (read .calls)) ticks x
 
   abbrev given : LinkStep
-  given = lateTick 255 (starts .primary) (starts .secondary) (linkOf l x) (callsOf ticks (heres (l .devices)) (read .calls))
+  given = lateTick limit (starts .primary) (starts .secondary) (linkOf l x) (callsOf ticks (heres (l .devices)) (read .calls))
 
   abbrev calls : ℕ → MasterCall
   calls i = getD (read .calls .masters) i noMasterCall
 
   behind : linkOf (t .link) x-after ≡ linkAfter did
-  behind = one-link l (callsTaken starts (read .calls)) ticks x x-after sent sent-after t is
+  behind = one-link limit l (callsTaken starts (read .calls)) ticks x x-after sent sent-after t is
 
   module _ (k : LateReady starts l) where
-    for-primary : AsLate (starts .primary) (linkOf l x .primary) (l .line) (masterCallOf ticks (calls 0)) (did .for-primary)
+    for-primary : AsLate limit (starts .primary) (linkOf l x .primary) (l .line) (masterCallOf ticks (calls 0)) (did .for-primary)
     unfolding linkTick
-    for-primary = as-late (starts .primary) (linkOf l x .primary) (l .line) (calls 0) ticks (did .for-primary) (k .primary) refl
+    for-primary = as-late limit (starts .primary) (linkOf l x .primary) (l .line) (calls 0) ticks (did .for-primary) (k .primary) refl
 
-    for-secondary : AsLate (starts .secondary) (linkOf l x .secondary) (l .line) (masterCallOf ticks (calls 1)) (did .for-secondary)
+    for-secondary : AsLate limit (starts .secondary) (linkOf l x .secondary) (l .line) (masterCallOf ticks (calls 1)) (did .for-secondary)
     unfolding linkTick
-    for-secondary = as-late (starts .secondary) (linkOf l x .secondary) (l .line) (calls 1) ticks (did .for-secondary) (k .secondary) refl
+    for-secondary = as-late limit (starts .secondary) (linkOf l x .secondary) (l .line) (calls 1) ticks (did .for-secondary) (k .secondary) refl
 
     for-devices : did .for-devices ≡ given .for-devices
     unfolding lateTick linkTick
@@ -143,20 +143,20 @@ module _ (l : Link) (starts : StartTicks) (ticks : List ℕ) (at : ℕ) (x x-aft
     }
 
   step-is : (link : Link) (number : ℕ) → read ≡ tickAt ticks at → link ≡ linkBehind starts l (t .link) → number ≡ rowNumber (getD sent-after 0 []) (t .masters)
-      → LateReady starts l → LateStepping l starts ticks at x (record { link = link; number = number; next = read .next }) x-after
+      → LateReady starts l → LateStepping limit l starts ticks at x (record { link = link; number = number; next = read .next }) x-after
   step-is link number reads e n k =
-      let here : given ≡ stepAt l starts x ticks at = ap (lateTick 255 (starts .primary) (starts .secondary) (linkOf l x)) (calls-read l ticks at x x-after sent sent-after read t reads (k .six)) in
+      let here : given ≡ stepAt limit l starts x ticks at = ap (lateTick limit (starts .primary) (starts .secondary) (linkOf l x)) (calls-read limit l ticks at x x-after sent sent-after read t reads (k .six)) in
       record {
         behind-is = ap (λ (y : Link). linkOf y x-after) e ∙ link-given k ∙ ap linkAfter here;
-        number-is = n ∙ number-agrees l ticks at x x-after sent sent-after read t (callsTaken starts (read .calls)) is (k .six) ∙ number-given k ∙ ap tickNumber here;
+        number-is = n ∙ number-agrees limit l ticks at x x-after sent sent-after read t (callsTaken starts (read .calls)) is (k .six) ∙ number-given k ∙ ap tickNumber here;
         ready = subst (λ (y : Link). LateReady (startsBehind starts) y) (sym e) (ready-behind k);
         slots = ap (λ (y : Link). heres (y .devices)) e ∙ is .slots;
-        next = next-read l ticks at x x-after sent sent-after read t reads (k .six);
+        next = next-read limit l ticks at x x-after sent sent-after read t reads (k .six);
       }
 
 -- with the calls as the code has them
-pub step-taken : (l : Link) (starts : StartTicks) (ticks : List ℕ) (at : ℕ) (x x-after : Rows) (sent sent-after : List (List ℕ)) (read : TickRead) (t : Ticked) (calls : Calls) (link : Link) (number : ℕ)
-    → read ≡ tickAt ticks at → calls ≡ callsTaken starts (read .calls) → T.RunIs l calls ticks 1 x sent t x-after sent-after → link ≡ linkBehind starts l (t .link) → number ≡ rowNumber (getD sent-after 0 []) (t .masters)
-    → LateReady starts l → LateStepping l starts ticks at x (record { link = link; number = number; next = read .next }) x-after
-step-taken l starts ticks at x x-after sent sent-after read t calls link number reads e is f n k =
-    step-is l starts ticks at x x-after sent sent-after read t (subst (λ (c : Calls). T.RunIs l c ticks 1 x sent t x-after sent-after) e is) link number reads f n k
+pub step-taken : (limit : ℕ) (l : Link) (starts : StartTicks) (ticks : List ℕ) (at : ℕ) (x x-after : Rows) (sent sent-after : List (List ℕ)) (read : TickRead) (t : Ticked) (calls : Calls) (link : Link) (number : ℕ)
+    → read ≡ tickAt ticks at → calls ≡ callsTaken starts (read .calls) → T.RunIs limit l calls ticks 1 x sent t x-after sent-after → link ≡ linkBehind starts l (t .link) → number ≡ rowNumber (getD sent-after 0 []) (t .masters)
+    → LateReady starts l → LateStepping limit l starts ticks at x (record { link = link; number = number; next = read .next }) x-after
+step-taken limit l starts ticks at x x-after sent sent-after read t calls link number reads e is f n k =
+    step-is limit l starts ticks at x x-after sent sent-after read t (subst (λ (c : Calls). T.RunIs limit l c ticks 1 x sent t x-after sent-after) e is) link number reads f n k

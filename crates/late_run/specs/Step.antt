@@ -8,7 +8,6 @@ use lib.ListN.{length, drop, getD}
 use Rattle.base.specs.Choice.{if_then_else_, _=?_}
 use Rattle.base.specs.Lent as B
 use Rattle.base.specs.Lent.{Lent}
-use Rattle.frame.specs.Limits.{mostData}
 use Rattle.recording.specs.Recording.{RunIs}
 use Rattle.turns.specs.Link.{LinkStep, linkAfter}
 use Rattle.runs.specs.Late.{lateTick, lateRun}
@@ -63,27 +62,27 @@ pub record LateReady (s : StartTicks) (l : Link) : Type 0 where
   pub secondary : 0 < s .secondary → Fresh (getD (l .masters) 1 anyMaster)
 
 -- the numbers of a whole run from a link on
-abbrev pub lateNumbers : Link → StartTicks → Rows → List ℕ → List ℕ
-lateNumbers l starts x ticks = numbersOf (lateRun mostData (starts .primary) (starts .secondary) (linkOf l x) (ticksOf (heres (l .devices)) ticks))
+abbrev pub lateNumbers : ℕ → Link → StartTicks → Rows → List ℕ → List ℕ
+lateNumbers limit l starts x ticks = numbersOf (lateRun limit (starts .primary) (starts .secondary) (linkOf l x) (ticksOf (heres (l .devices)) ticks))
 
-abbrev pub LateRunIs : Link → StartTicks → List ℕ → Lent (List ℕ) → Lent (List (List ℕ)) → Lent (List (List ℕ)) → Lent (List (List ℕ)) → ℕ → Type 0
-LateRunIs l starts ticks events frames bytes contents r =
-    RunIs (lateNumbers l starts (rowsOf (B.before frames) (B.before bytes) (B.before contents)) ticks) (B.before events) r (B.after events)
+abbrev pub LateRunIs : ℕ → Link → StartTicks → List ℕ → Lent (List ℕ) → Lent (List (List ℕ)) → Lent (List (List ℕ)) → Lent (List (List ℕ)) → ℕ → Type 0
+LateRunIs limit l starts ticks events frames bytes contents r =
+    RunIs (lateNumbers limit l starts (rowsOf (B.before frames) (B.before bytes) (B.before contents)) ticks) (B.before events) r (B.after events)
 
 -- the tick that turns gives for the calls at this place of the list
-abbrev pub stepAt : Link → StartTicks → Rows → List ℕ → ℕ → LinkStep
-stepAt l starts x ticks at = lateTick mostData (starts .primary) (starts .secondary) (linkOf l x) (callsIn (heres (l .devices)) (drop at ticks))
+abbrev pub stepAt : ℕ → Link → StartTicks → Rows → List ℕ → ℕ → LinkStep
+stepAt limit l starts x ticks at = lateTick limit (starts .primary) (starts .secondary) (linkOf l x) (callsIn (heres (l .devices)) (drop at ticks))
 
-pub record LateStepping (l : Link) (starts : StartTicks) (ticks : List ℕ) (at : ℕ) (x : Rows) (r : Stepped) (x-after : Rows) : Type 0 where
-  pub behind-is : linkOf (r .link) x-after ≡ linkAfter (stepAt l starts x ticks at)
-  pub number-is : r .number ≡ tickNumber (stepAt l starts x ticks at)
+pub record LateStepping (limit : ℕ) (l : Link) (starts : StartTicks) (ticks : List ℕ) (at : ℕ) (x : Rows) (r : Stepped) (x-after : Rows) : Type 0 where
+  pub behind-is : linkOf (r .link) x-after ≡ linkAfter (stepAt limit l starts x ticks at)
+  pub number-is : r .number ≡ tickNumber (stepAt limit l starts x ticks at)
   pub ready : LateReady (startsBehind starts) (r .link)
   pub slots : heres (r .link .devices) ≡ heres (l .devices)
   pub next : drop (r .next) ticks ≡ behind 8 (drop at ticks)
 
 -- so it is for a link that is ready
-abbrev pub LateStepIs : Link → StartTicks → List ℕ → ℕ → Lent (List (List ℕ)) → Lent (List (List ℕ)) → Lent (List (List ℕ)) → Stepped → Type 0
-LateStepIs l starts ticks at frames bytes contents r =
+abbrev pub LateStepIs : ℕ → Link → StartTicks → List ℕ → ℕ → Lent (List (List ℕ)) → Lent (List (List ℕ)) → Lent (List (List ℕ)) → Stepped → Type 0
+LateStepIs limit l starts ticks at frames bytes contents r =
     LateReady starts l
-    → LateStepping l starts ticks at (rowsOf (B.before frames) (B.before bytes) (B.before contents)) r
+    → LateStepping limit l starts ticks at (rowsOf (B.before frames) (B.before bytes) (B.before contents)) r
     (rowsOf (B.after frames) (B.after bytes) (B.after contents))

@@ -4,6 +4,7 @@ use link_run::RunEnded;
 use link_run::Stepped;
 use link_start::Setting;
 use link_start::StartAnswer;
+use link_ticks::Most;
 use parties::Calls;
 use parties::Link;
 use parties::MasterCall;
@@ -109,10 +110,16 @@ fn link_behind(s: StartTicks, l: Link, t: Link) -> Link
     }
 }
 
+// A link with a data limit whose masters have so many ticks to wait for their start.
+struct Late {
+    limit: u8,
+    link: Link,
+    starts: StartTicks,
+}
+
 // The tick that stands at this place of the list. All parties are ticked: a master that has not started has no call, sends nothing and is put back as it was.
 fn step_at(
-    l: Link,
-    s: StartTicks,
+    x: Late,
     ticks: &[u8],
     at: usize,
     frames: &mut [[u8; 284]; 8],
@@ -120,12 +127,19 @@ fn step_at(
     contents: &mut [[u8; 255]; 6],
     sent: &mut [[u16; 8]; 64],
 ) -> Stepped
-    ensures { λ r. ⌜ LateStepIs l s (before ticks) at frames bytes contents r ⌝ }
+    ensures { λ r. ⌜ LateStepIs (x .limit) (x .link) (x .starts) (before ticks) at frames bytes contents r ⌝ }
 {
+    let limit = x.limit;
+    let l = x.link;
+    let s = x.starts;
     let read = tick_list::read(ticks, at);
     let listed = read.calls;
     let calls = calls_taken(s, listed);
-    let t = link_ticks::ticks(l, calls, ticks, 1, frames, bytes, contents, sent);
+    let most = Most {
+        ticks: 1,
+        data: limit,
+    };
+    let t = link_ticks::ticks(most, l, calls, ticks, frames, bytes, contents, sent);
     let ticked = t.link;
     let masters = t.masters;
     Stepped {
@@ -137,6 +151,7 @@ fn step_at(
 
 // A run from a link on.
 fn run_from(
+    limit: u8,
     start: Link,
     starts: StartTicks,
     ticks: &[u8],
@@ -146,7 +161,7 @@ fn run_from(
     contents: &mut [[u8; 255]; 6],
 ) -> usize
     requires { ⌜ LateReady starts start ⌝ }
-    ensures { λ r. ⌜ LateRunIs start starts (before ticks) events frames bytes contents r ⌝ }
+    ensures { λ r. ⌜ LateRunIs limit start starts (before ticks) events frames bytes contents r ⌝ }
 {
     let mut sent = [[256u16; 8]; 64];
     let mut l = start;
@@ -159,7 +174,12 @@ fn run_from(
         }
         let place = i;
         i += 1;
-        let t = step_at(l, s, ticks, at, frames, bytes, contents, &mut sent);
+        let x = Late {
+            limit: limit,
+            link: l,
+            starts: s,
+        };
+        let t = step_at(x, ticks, at, frames, bytes, contents, &mut sent);
         events[place] = t.number;
         at = t.next;
         l = t.link;
@@ -169,14 +189,15 @@ fn run_from(
 }
 
 // A run of a link that was started, with rows of its own.
-fn run_started(start: Link, starts: StartTicks, ticks: &[u8], events: &mut [u8]) -> usize
+fn run_started(limit: u8, start: Link, starts: StartTicks, ticks: &[u8], events: &mut [u8]) -> usize
     requires { ⌜ LateReady starts start ⌝ }
-    ensures { λ r. ⌜ RunIs (lateNumbers start starts rowsFresh (before ticks)) (before events) r (after events) ⌝ }
+    ensures { λ r. ⌜ RunIs (lateNumbers limit start starts rowsFresh (before ticks)) (before events) r (after events) ⌝ }
 {
     let mut frames = [[0u8; 284]; 8];
     let mut bytes = [[0u8; 255]; 8];
     let mut contents = [[0u8; 255]; 6];
     run_from(
+        limit,
         start,
         starts,
         ticks,
@@ -187,8 +208,9 @@ fn run_started(start: Link, starts: StartTicks, ticks: &[u8], events: &mut [u8])
     )
 }
 
-// Starts a link whose devices start in tick 0 and whose masters in the ticks that are named, and runs it over a lent list of ticks. Each tick's number goes to the front of the lent events, for as many ticks as both hold. What is promised is the run that the definitions give, and item 14 of it.
+// Starts a link with a data limit, whose devices start in tick 0 and whose masters in the ticks that are named, and runs it over a lent list of ticks. Each tick's number goes to the front of the lent events, for as many ticks as both hold. What is promised is the run that the definitions give, and item 14 of it.
 pub fn run(
+    limit: usize,
     profile: Profile,
     retries: u8,
     settings: [Setting; 6],
@@ -196,13 +218,19 @@ pub fn run(
     ticks: &[u8],
     events: &mut [u8],
 ) -> RunEnded
-    ensures { λ r. ⌜ LateKeeps profile retries settings (starts .primary) (starts .secondary) (before ticks) (before events) r (after events) ⌝ }
+    ensures { λ r. ⌜ LateKeeps limit profile retries settings (starts .primary) (starts .secondary) (before ticks) (before events) r (after events) ⌝ }
 {
-    let started = link_start::start(profile, retries, settings);
+    let started = link_start::start_limited(limit, profile, retries, settings);
     let answer = started.answer;
     let link = started.link;
     match answer {
-        StartAnswer::Started => RunEnded::Ran(run_started(link, starts, ticks, events)),
+        StartAnswer::Started => RunEnded::Ran(run_started(
+            limit as u8,
+            link,
+            starts,
+            ticks,
+            events,
+        )),
         StartAnswer::Refused(why) => RunEnded::Refused(why),
     }
 }

@@ -36,7 +36,7 @@ abbrev pub deviceSide : ℕ → DeviceSide → DeviceSide
 deviceSide n x = withDevice x (deviceRested n (x .device)) (x .bytes)
 
 pub device-tick : (x : DeviceSide) → DeviceRests (x .device) → deviceTick 255 x Silence no-call ≡ quietDevice (deviceSide 1 x)
-device-tick x r = sym (device-counts x Silence DeviceHost.DeviceHostCall.Nothing [] false false (x .device .receiver) r)
+device-tick x r = sym (device-counts 255 x Silence DeviceHost.DeviceHostCall.Nothing [] false false (x .device .receiver) r)
 
 -- it rests on
 pub device-rests-on : (n : ℕ) (d : Device) → DeviceRests d → DeviceRests (deviceRested n d)
@@ -61,7 +61,7 @@ masterSide n x = withMaster x (masterRested n (x .master)) (x .bytes)
 
 pub master-tick : (x : MasterSide) → MasterRests (x .master) → masterTick 255 x Silence no-request ≡ quietMaster (masterSide 1 x)
 unfolding timerRested
-master-tick x r = sym (master-counts x Silence MasterHost.MasterHostCall.Nothing [] false false (x .master .receiver) r)
+master-tick x r = sym (master-counts 255 x Silence MasterHost.MasterHostCall.Nothing [] false false (x .master .receiver) r)
 
 pub master-rests-on : (n : ℕ) (m : Master) → MasterRests m → MasterRests (masterRested n m)
 unfolding masterWay if_then_else_

@@ -9,7 +9,8 @@ use Rattle.turns.specs.Link.{Calls}
 use Rattle.parties.specs.Stands.{heres}
 use Rattle.parties.specs.declared.Link.{Link}
 use Rattle.link_start.specs.Fresh.{rowsFresh, lentFresh}
-use Rattle.link_start.specs.Start.{linkStarts}
+use Rattle.link_start.specs.Start.{limitedStarts}
+use Rattle.link_start.proofs.Started.{limited-bounds}
 use Rattle.link_start.specs.declared.Setting.{Setting}
 use Rattle.tick_list.specs.Encode.{ticksBytes, Bytes}
 use Rattle.tick_list.specs.Nearest.{nearestTicks, TicksGive}
@@ -25,9 +26,9 @@ bytesFor l ticks = ticksBytes (heres (l .devices)) (nearestTicks (heres (l .devi
 pub are-bytes : (l : Link) (ticks : List Calls) → Bytes (bytesFor l ticks)
 are-bytes l ticks = every-list (heres (l .devices)) (nearestTicks (heres (l .devices)) ticks) (nearest-codable (heres (l .devices)) ticks) .are-bytes
 
-pub every-list-runs : (p : Profile) (retries : ℕ) (s : List Setting) (l : Link) (ticks : List Calls) → linkStarts p retries s ≡ accepted l → TicksGive ticks
-    → stepsOf p retries s (bytesFor l ticks) ≡ runSteps (lentFresh l) ticks
+pub every-list-runs : (limit : ℕ) (p : Profile) (retries : ℕ) (s : List Setting) (l : Link) (ticks : List Calls) → limitedStarts limit p retries s ≡ accepted l → TicksGive ticks
+    → stepsOf limit p retries s (bytesFor l ticks) ≡ runSteps limit (lentFresh l) ticks
 unfolding stepsOf
-every-list-runs p retries s l ticks e g =
-    ap (λ c. stepsBy c (bytesFor l ticks)) e
-    ∙ every-run 255 (omega arith) (heres (l .devices)) (lentFresh l) ticks (devices-here rowsFresh 0 (l .devices)) g
+every-list-runs limit p retries s l ticks e g =
+    ap (λ c. stepsBy limit c (bytesFor l ticks)) e
+    ∙ every-run limit (omega (arith, limited-bounds limit p retries s l e .1)) (heres (l .devices)) (lentFresh l) ticks (devices-here rowsFresh 0 (l .devices)) g

@@ -27,46 +27,46 @@ pub ticks-first : (here : Here) (rest : List ℕ) → length here ≡ 6 → 0 < 
 ticks-first here rest six h = ticks-more here rest h ∙ ap (λ (n : ℕ). callsIn here rest ∷ ticksOf here (behind (suc (suc n)) rest)) six
 
 -- the numbers of what is left: a link, and the ticks that it has still to make
-abbrev left : (L.Link × List Calls) → List ℕ
-left s = numbersOf (runSteps (s .0) (s .1))
+abbrev left : ℕ → (L.Link × List Calls) → List ℕ
+left limit s = numbersOf (runSteps limit (s .0) (s .1))
 
-pub record Going (here : Here) (numbers ticks before : List ℕ) (l : Link) (x : Rows) (events : List ℕ) (at i : ℕ) : Type 0 where
+pub record Going (limit : ℕ) (here : Here) (numbers ticks before : List ℕ) (l : Link) (x : Rows) (events : List ℕ) (at i : ℕ) : Type 0 where
   pub six : length (l .devices) ≡ 6
   pub here-is : heres (l .devices) ≡ here
-  pub filling : Filling left numbers before (linkOf l x, ticksOf here (drop at ticks)) events i
+  pub filling : Filling (left limit) numbers before (linkOf l x, ticksOf here (drop at ticks)) events i
 
-pub going-begun : (l : Link) (x : Rows) (ticks before : List ℕ) → length (l .devices) ≡ 6 → Going (heres (l .devices)) (allNumbers l x ticks) ticks before l x before 0 0
-going-begun l x ticks before h = record {
+pub going-begun : (limit : ℕ) (l : Link) (x : Rows) (ticks before : List ℕ) → length (l .devices) ≡ 6 → Going limit (heres (l .devices)) (allNumbers limit l x ticks) ticks before l x before 0 0
+going-begun limit l x ticks before h = record {
   six = h;
   here-is = refl;
-  filling = filling-begun left before (linkOf l x, ticksOf (heres (l .devices)) ticks);
+  filling = filling-begun (left limit) before (linkOf l x, ticksOf (heres (l .devices)) ticks);
 }
 
-module _ (here : Here) (numbers ticks before : List ℕ) (l : Link) (x : Rows) (events : List ℕ) (at i : ℕ) (g : Going here numbers ticks before l x events at i) where
-  pub going-on : (r : Stepped) (x-after : Rows) → i < length events → at < length ticks → (length (l .devices) ≡ 6 → StepIs l ticks at x r x-after)
-      → Going here numbers ticks before (r .link) x-after (set events i (r .number)) (r .next) (i + 1)
+module _ (limit : ℕ) (here : Here) (numbers ticks before : List ℕ) (l : Link) (x : Rows) (events : List ℕ) (at i : ℕ) (g : Going limit here numbers ticks before l x events at i) where
+  pub going-on : (r : Stepped) (x-after : Rows) → i < length events → at < length ticks → (length (l .devices) ≡ 6 → StepIs limit l ticks at x r x-after)
+      → Going limit here numbers ticks before (r .link) x-after (set events i (r .number)) (r .next) (i + 1)
   unfolding numbersOf run
   going-on r x-after h k is =
       let t = is (g .six) in
       let as-many : length here ≡ length (l .devices) = ap length (sym (g .here-is)) ∙ heres-length (l .devices) in
       let first = ticks-first here (drop at ticks) (as-many ∙ g .six) (omega (arith, length-drop at ticks, k)) in
-      let step : linkTick 255 (linkOf l x) (callsIn here (drop at ticks)) ≡ stepAt l x ticks at = ap (λ (y : Here). linkTick 255 (linkOf l x) (callsIn y (drop at ticks))) (sym (g .here-is)) in
+      let step : linkTick limit (linkOf l x) (callsIn here (drop at ticks)) ≡ stepAt limit l x ticks at = ap (λ (y : Here). linkTick limit (linkOf l x) (callsIn y (drop at ticks))) (sym (g .here-is)) in
       record {
         six = sym (heres-length (r .link .devices)) ∙ ap length (t .slots) ∙ heres-length (l .devices) ∙ g .six;
         here-is = t .slots ∙ g .here-is;
-        filling = filling-more left numbers before (linkOf l x, ticksOf here (drop at ticks)) (linkOf (r .link) x-after, ticksOf here (drop (r .next) ticks)) events i (r .number) (g .filling) h
-            (ap (λ (cs : List Calls). numbersOf (runSteps (linkOf l x) cs)) first
-            ∙ (λ j. tickNumber (step j) ∷ numbersOf (runSteps (linkAfter (step j)) (ticksOf here (behind 8 (drop at ticks)))))
-            ∙ (λ j. sym (t .number-is) j ∷ numbersOf (runSteps (sym (t .behind-is) j) (ticksOf here (sym (t .next) j)))));
+        filling = filling-more (left limit) numbers before (linkOf l x, ticksOf here (drop at ticks)) (linkOf (r .link) x-after, ticksOf here (drop (r .next) ticks)) events i (r .number) (g .filling) h
+            (ap (λ (cs : List Calls). numbersOf (runSteps limit (linkOf l x) cs)) first
+            ∙ (λ j. tickNumber (step j) ∷ numbersOf (runSteps limit (linkAfter (step j)) (ticksOf here (behind 8 (drop at ticks)))))
+            ∙ (λ j. sym (t .number-is) j ∷ numbersOf (runSteps limit (sym (t .behind-is) j) (ticksOf here (sym (t .next) j)))));
       }
 
   pub going-ended : length ticks ≤ at → RunIs numbers before i events
   unfolding numbersOf run
   going-ended h =
-      filling-ended left numbers before (linkOf l x, ticksOf here (drop at ticks)) events i (g .filling)
-      (ap (λ (cs : List Calls). numbersOf (runSteps (linkOf l x) cs)) (ticks-none here (drop at ticks) (omega (arith, length-drop at ticks))))
+      filling-ended (left limit) numbers before (linkOf l x, ticksOf here (drop at ticks)) events i (g .filling)
+      (ap (λ (cs : List Calls). numbersOf (runSteps limit (linkOf l x) cs)) (ticks-none here (drop at ticks) (omega (arith, length-drop at ticks))))
 
   pub going-full : length events ≤ i → RunIs numbers before i events
-  going-full h = filling-full left numbers before (linkOf l x, ticksOf here (drop at ticks)) events i (g .filling) h
+  going-full h = filling-full (left limit) numbers before (linkOf l x, ticksOf here (drop at ticks)) events i (g .filling) h
 
 pub ruleset goings = (refl, going-begun, going-on, going-ended, going-full)

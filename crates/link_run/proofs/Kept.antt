@@ -18,11 +18,11 @@ use Rattle.runs.proofs.Backs.{backs-in-a-run}
 use Rattle.parties.specs.Stands.{heres}
 use Rattle.parties.specs.declared.Link.{Link}
 use Rattle.link_start.specs.Fresh.{lentFresh}
-use Rattle.link_start.specs.Start.{linkStarts, made, StartedIs}
+use Rattle.link_start.specs.Start.{limitedStarts, made, LimitedIs}
 use Rattle.link_start.specs.declared.Setting.{Setting}
 use Rattle.link_start.specs.declared.LinkStarted.{LinkStarted}
 use Rattle.link_start.specs.declared.StartAnswer.{StartAnswer}
-use Rattle.link_start.proofs.Started.{slots-started, all-start}
+use Rattle.link_start.proofs.Started.{slots-started, all-start, limited-bounds, limited-link}
 use Rattle.tick_list.specs.Ticks.{ticksOf}
 use Rattle.link_run.specs.Run.{runSteps, stepsBy, stepsOf, devicesBy, FindsBy, numbersOf, ranAs, ranBy, OneSender, RunPremises, Demand3Of, CreditOf, BacksOf, written, RunKeeps}
 use Rattle.link_run.specs.declared.RunEnded.{RunEnded}
@@ -30,89 +30,96 @@ use Rattle.link_run.proofs.Senders.{none-in-tick, written-tells}
 
 -- ---- demand 3
 
-no-wait : (p : Profile) (retries : ℕ) → WaitIn 255 p retries []
-no-wait p retries primary t s after e a = absurd (impossible (sym (drop-nil t) ∙ e))
+no-wait : (limit : ℕ) (p : Profile) (retries : ℕ) → WaitIn limit p retries []
+no-wait limit p retries primary t s after e a = absurd (impossible (sym (drop-nil t) ∙ e))
   where
     impossible : [] ≡ s ∷ after → ⊥
     impossible q = let k : _≡_ {A = ℕ} 0 (length (s ∷ after)) = ap length q in omega (arith, k)
 
 -- the premises of turns, for the link that was started
-premises : (p : Profile) (retries : ℕ) (s : List Setting) (six : length s ≡ 6) (ticks : List ℕ) (l : Link) → linkStarts p retries s ≡ accepted l → RunPremises p retries s ticks → Premises 255 p retries (lentFresh l) (ticksOf (heres (l .devices)) ticks)
+premises : (limit : ℕ) (p : Profile) (retries : ℕ) (s : List Setting) (six : length s ≡ 6) (ticks : List ℕ) (l : Link) → limitedStarts limit p retries s ≡ accepted l → RunPremises limit p retries s ticks → Premises limit p retries (lentFresh l) (ticksOf (heres (l .devices)) ticks)
 unfolding stepsOf
-premises p retries s six ticks l e k = record {
+premises limit p retries s six ticks l e k = record {
   made = k .made;
-  starts = all-start p retries s six l e (subst (λ (c : Called Link). Distinct (devicesBy c)) e (k .distinct));
-  one-bursts = subst (λ (c : Called Link). EachTick OneBursts (stepsBy c ticks)) e (k .one-bursts);
-  one-finds = subst (λ (c : Called Link). FindsBy c ticks) e (k .one-finds);
+  starts = all-start p retries s six l (limited-link limit p retries s l e) (subst (λ (c : Called Link). Distinct (devicesBy c)) e (k .distinct));
+  one-bursts = subst (λ (c : Called Link). EachTick OneBursts (stepsBy limit c ticks)) e (k .one-bursts);
+  one-finds = subst (λ (c : Called Link). FindsBy limit c ticks) e (k .one-finds);
 }
 
-demand-3-kept : (p : Profile) (retries : ℕ) (s : List Setting) (six : length s ≡ 6) (ticks : List ℕ) → RunPremises p retries s ticks → Demand3Of p retries s ticks
+demand-3-kept : (limit : ℕ) (p : Profile) (retries : ℕ) (s : List Setting) (six : length s ≡ 6) (ticks : List ℕ) → RunPremises limit p retries s ticks → Demand3Of limit p retries s ticks
 unfolding stepsOf
-demand-3-kept p retries s six ticks k = by (linkStarts p retries s) refl
+demand-3-kept limit p retries s six ticks k = by (limitedStarts limit p retries s) refl
   where
-    by : (c : Called Link) → linkStarts p retries s ≡ c → EachTick NoTwoSend (stepsBy c ticks) × WaitIn 255 p retries (stepsBy c ticks)
-    by (refused why) e = (no-tick, no-wait p retries)
+    by : (c : Called Link) → limitedStarts limit p retries s ≡ c → EachTick NoTwoSend (stepsBy limit c ticks) × WaitIn limit p retries (stepsBy limit c ticks)
+    by (refused why) e = (no-tick, no-wait limit p retries)
     by (accepted l) e =
-        let claim = W.demand-3 255 (omega arith) (omega arith) in
-        let met = premises p retries s six ticks l e k in
+        let bounds = limited-bounds limit p retries s l e in
+        let claim = W.demand-3 limit (bounds .0) (bounds .1) in
+        let met = premises limit p retries s six ticks l e k in
         (claim .0 p retries (lentFresh l) (ticksOf (heres (l .devices)) ticks) met, claim .1 p retries (lentFresh l) (ticksOf (heres (l .devices)) ticks) met)
 
 -- ---- the credited answer and the BACKs: the masters' buffers have 255 bytes
 
-pub credit-kept : (p : Profile) (retries : ℕ) (s : List Setting) (six : length s ≡ 6) (ticks : List ℕ) → RunPremises p retries s ticks → CreditOf p retries s ticks
-credit-kept p retries s six ticks k l e =
+pub credit-kept : (limit : ℕ) (p : Profile) (retries : ℕ) (s : List Setting) (six : length s ≡ 6) (ticks : List ℕ) → RunPremises limit p retries s ticks → CreditOf limit p retries s ticks
+credit-kept limit p retries s six ticks k l e =
     let room = length-replicate {A = ℕ} 255 0 in
-    credit-in-a-run 255 (omega arith) (omega arith) p retries (lentFresh l) (ticksOf (heres (l .devices)) ticks) (premises p retries s six ticks l e k) (omega (arith, room)) (omega (arith, room))
+    let bounds = limited-bounds limit p retries s l e in
+    credit-in-a-run limit (bounds .0) (bounds .1) p retries (lentFresh l) (ticksOf (heres (l .devices)) ticks) (premises limit p retries s six ticks l e k) (omega (arith, room)) (omega (arith, room))
 
-pub backs-kept : (p : Profile) (retries : ℕ) (s : List Setting) (six : length s ≡ 6) (ticks : List ℕ) → RunPremises p retries s ticks → BacksOf p retries s ticks
-backs-kept p retries s six ticks k l e =
+pub backs-kept : (limit : ℕ) (p : Profile) (retries : ℕ) (s : List Setting) (six : length s ≡ 6) (ticks : List ℕ) → RunPremises limit p retries s ticks → BacksOf limit p retries s ticks
+backs-kept limit p retries s six ticks k l e =
     let room = length-replicate {A = ℕ} 255 0 in
-    backs-in-a-run 255 (omega arith) (omega arith) p retries (lentFresh l) (ticksOf (heres (l .devices)) ticks) (premises p retries s six ticks l e k) (omega (arith, room)) (omega (arith, room))
+    let bounds = limited-bounds limit p retries s l e in
+    backs-in-a-run limit (bounds .0) (bounds .1) p retries (lentFresh l) (ticksOf (heres (l .devices)) ticks) (premises limit p retries s six ticks l e k) (omega (arith, room)) (omega (arith, room))
 
 -- ---- at most one sender in each number
 
-one-sender-kept : (p : Profile) (retries : ℕ) (s : List Setting) (six : length s ≡ 6) (ticks before after : List ℕ) → after ≡ stored before 0 (written (stepsOf p retries s ticks) before)
-    → RunPremises p retries s ticks → (i : ℕ) → i < length (written (stepsOf p retries s ticks) before) → OneSender (getD after i 0)
-one-sender-kept p retries s six ticks before after e k i h =
-    let steps = stepsOf p retries s ticks in
-    written-tells steps before after i e h (none-in-tick steps i (demand-3-kept p retries s six ticks k .0))
+one-sender-kept : (limit : ℕ) (p : Profile) (retries : ℕ) (s : List Setting) (six : length s ≡ 6) (ticks before after : List ℕ) → after ≡ stored before 0 (written (stepsOf limit p retries s ticks) before)
+    → RunPremises limit p retries s ticks → (i : ℕ) → i < length (written (stepsOf limit p retries s ticks) before) → OneSender (getD after i 0)
+one-sender-kept limit p retries s six ticks before after e k i h =
+    let steps = stepsOf limit p retries s ticks in
+    written-tells steps before after i e h (none-in-tick steps i (demand-3-kept limit p retries s six ticks k .0))
 
 -- ---- the run
 
 -- a run that answers and writes what the definitions give keeps the rest
-pub run-keeps : (p : Profile) (retries : ℕ) (s : List Setting) (six : length s ≡ 6) (ticks before : List ℕ) (r : RunEnded) (after : List ℕ) → ranAs r ≡ ranBy (linkStarts p retries s) (length (written (stepsOf p retries s ticks) before))
-    → after ≡ stored before 0 (written (stepsOf p retries s ticks) before) → RunKeeps p retries s ticks before r after
-run-keeps p retries s six ticks before r after x y = record {
+pub run-keeps : (limit : ℕ) (p : Profile) (retries : ℕ) (s : List Setting) (six : length s ≡ 6) (ticks before : List ℕ) (r : RunEnded) (after : List ℕ) → ranAs r ≡ ranBy (limitedStarts limit p retries s) (length (written (stepsOf limit p retries s ticks) before))
+    → after ≡ stored before 0 (written (stepsOf limit p retries s ticks) before) → RunKeeps limit p retries s ticks before r after
+run-keeps limit p retries s six ticks before r after x y = record {
   answered = x;
   events = y;
-  demand-3 = demand-3-kept p retries s six ticks;
-  credit = credit-kept p retries s six ticks;
-  backs = backs-kept p retries s six ticks;
-  one-sender = one-sender-kept p retries s six ticks before after y;
+  demand-3 = demand-3-kept limit p retries s six ticks;
+  credit = credit-kept limit p retries s six ticks;
+  backs = backs-kept limit p retries s six ticks;
+  one-sender = one-sender-kept limit p retries s six ticks before after y;
 }
 
-module _ (p : Profile) (retries : ℕ) (s : List Setting) (ticks before : List ℕ) (started : LinkStarted) (six : length s ≡ 6) (q : StartedIs p retries s started) where
-  promised : (c : Called Link) (r : RunEnded) (after : List ℕ) → linkStarts p retries s ≡ c → ranAs r ≡ ranBy c (length (written (stepsBy c ticks) before)) → after ≡ stored before 0 (written (stepsBy c ticks) before)
-      → RunKeeps p retries s ticks before r after
+module _ (limit : ℕ) (p : Profile) (retries : ℕ) (s : List Setting) (ticks before : List ℕ) (started : LinkStarted) (six : length s ≡ 6) (q : LimitedIs limit p retries s started) where
+  promised : (c : Called Link) (r : RunEnded) (after : List ℕ) → limitedStarts limit p retries s ≡ c → ranAs r ≡ ranBy c (length (written (stepsBy limit c ticks) before)) → after ≡ stored before 0 (written (stepsBy limit c ticks) before)
+      → RunKeeps limit p retries s ticks before r after
   unfolding stepsOf
   promised c r after e x y =
-      run-keeps p retries s six ticks before r after (x ∙ ap (λ (k : Called Link). ranBy k (length (written (stepsBy k ticks) before))) (sym e))
-      (y ∙ ap (λ (k : Called Link). stored before 0 (written (stepsBy k ticks) before)) (sym e))
+      run-keeps limit p retries s six ticks before r after (x ∙ ap (λ (k : Called Link). ranBy k (length (written (stepsBy limit k ticks) before))) (sym e))
+      (y ∙ ap (λ (k : Called Link). stored before 0 (written (stepsBy limit k ticks) before)) (sym e))
 
   -- what the answer says of the start
-  pub was-started : started .answer ≡ StartAnswer.Started → linkStarts p retries s ≡ accepted (started .link)
+  pub was-started : started .answer ≡ StartAnswer.Started → limitedStarts limit p retries s ≡ accepted (started .link)
   was-started e = sym (q .answer-is) ∙ ap (made (started .link)) e
 
   -- the link that was started has six slots
   pub six-slots : started .answer ≡ StartAnswer.Started → length (started .link .devices) ≡ 6
-  six-slots e = slots-started p retries s (started .link) (was-started e) ∙ six
+  six-slots e = slots-started p retries s (started .link) (limited-link limit p retries s (started .link) (was-started e)) ∙ six
+
+  -- its limit is a byte
+  pub limit-small : started .answer ≡ StartAnswer.Started → limit < 256
+  limit-small e = omega (arith, limited-bounds limit p retries s (started .link) (was-started e))
 
   pub run-accepted : (n : ℕ) (after : List ℕ) → started .answer ≡ StartAnswer.Started
-      → RunIs (numbersOf (runSteps (lentFresh (started .link)) (ticksOf (heres (started .link .devices)) ticks))) before n after → RunKeeps p retries s ticks before (RunEnded.Ran n) after
+      → RunIs (numbersOf (runSteps limit (lentFresh (started .link)) (ticksOf (heres (started .link .devices)) ticks))) before n after → RunKeeps limit p retries s ticks before (RunEnded.Ran n) after
   run-accepted n after e r = promised (accepted (started .link)) (RunEnded.Ran n) after (was-started e) (ap (λ (k : ℕ). accepted k) (r .returned)) (r .events)
 
-  pub run-refused : (why : Refusal) → started .answer ≡ StartAnswer.Refused why → RunKeeps p retries s ticks before (RunEnded.Refused why) before
+  pub run-refused : (why : Refusal) → started .answer ≡ StartAnswer.Refused why → RunKeeps limit p retries s ticks before (RunEnded.Refused why) before
   unfolding numbersOf stored
   run-refused why e = promised (refused (number why)) (RunEnded.Refused why) before (sym (q .answer-is) ∙ ap (made (started .link)) e) refl (sym (ap (λ (l : List ℕ). stored before 0 l) (take-nil (length before))))
 
-pub ruleset kept = (refl, six-slots, run-accepted, run-refused)
+pub ruleset kept = (refl, six-slots, limit-small, run-accepted, run-refused)

@@ -28,7 +28,7 @@ use Rattle.runs.proofs.Premises.{short, short-taken, lone, lone-finds}
 use Rattle.parties.specs.Stands.{devicesFrom}
 use Rattle.parties.specs.declared.Link.{Link}
 use Rattle.link_start.specs.Fresh.{lentFresh}
-use Rattle.link_start.specs.Start.{absent, devicesStart, linkStarts}
+use Rattle.link_start.specs.Start.{absent, devicesStart, limitedStarts}
 use Rattle.link_start.specs.declared.Setting.{Setting}
 use Rattle.tick_list.specs.Ticks.{behindCall, behind, slotsIn, callsIn, ticksFrom}
 use Rattle.link_run.specs.Run.{numbersOf, stepsOf, devicesBy, callsBy, RunPremises}
@@ -61,12 +61,12 @@ bytes =
     ++ ((0 ∷ 0 ∷ []) ++ ((2 ∷ 0 ∷ 0 ∷ 0 ∷ 0 ∷ 0 ∷ 0 ∷ 0 ∷ 0 ∷ 2 ∷ 0 ∷ 0 ∷ []) ++ (replicate 5 0 ++ quiet 32)))))))
 
 -- 16: the primary's request is taken. It sends in ticks 4 to 17, 65; the device its ACK and a BACK from tick 19 to 50, 1.
-pub numbers-are : numbersOf (stepsOf short 3 one-slot bytes) ≡ 16 ∷ (replicate 3 0 ++ (replicate 14 65 ++ (0 ∷ (replicate 32 1 ++ (0 ∷ [])))))
-unfolding numbersOf stepsOf one-slot bytes short devicesStart devicesFrom ticksFrom callsIn slotsIn behind behindCall run deviceSenders linkTick deviceTicks sides carried masterTick deviceTick requested requestedUpTo masterTakes masterSends deviceTakes deviceSends answered contentGiven taken takenData atIdle atPreamble atFirst atAddress atExpansion atCommand atCount atData atCheck writeBuffer writeAnswer frameBytes preambleBytes bodyBytes protectedBytes headerBytes xorFrom delimiterOf stored if_then_else_
+pub numbers-are : numbersOf (stepsOf 255 short 3 one-slot bytes) ≡ 16 ∷ (replicate 3 0 ++ (replicate 14 65 ++ (0 ∷ (replicate 32 1 ++ (0 ∷ [])))))
+unfolding numbersOf stepsOf limitedStarts one-slot bytes short devicesStart devicesFrom ticksFrom callsIn slotsIn behind behindCall run deviceSenders linkTick deviceTicks sides carried masterTick deviceTick requested requestedUpTo masterTakes masterSends deviceTakes deviceSends answered contentGiven taken takenData atIdle atPreamble atFirst atAddress atExpansion atCommand atCount atData atCheck writeBuffer writeAnswer frameBytes preambleBytes bodyBytes protectedBytes headerBytes xorFrom delimiterOf stored if_then_else_
 numbers-are = refl
 
-pub started : linkStarts short 3 one-slot ≡ accepted link
-unfolding one-slot link short devicesStart if_then_else_
+pub started : limitedStarts 255 short 3 one-slot ≡ accepted link
+unfolding one-slot link short limitedStarts devicesStart if_then_else_
 started = refl
 
 -- its calls, tick by tick
@@ -89,8 +89,8 @@ unfolding linkBehind link bytes short devicesFrom ticksFrom callsIn slotsIn behi
 back-found = refl
 
 -- it meets the premises
-pub met : RunPremises short 3 one-slot bytes
-unfolding stepsOf one-slot link short devicesStart devicesFrom blanks if_then_else_
+pub met : RunPremises 255 short 3 one-slot bytes
+unfolding stepsOf limitedStarts one-slot link short devicesStart devicesFrom blanks if_then_else_
 met = record {
   made = short-taken;
   distinct = Distinct.and none Distinct.none;
@@ -104,10 +104,10 @@ six-settings = refl
 
 -- so the contract speaks of them
 pub run-credited : EachCredited 255 noneAsked (blanks (devicesBy (accepted link))) (lentFresh link) calls
-run-credited = credit-kept short 3 one-slot six-settings bytes met link started
+run-credited = credit-kept 255 short 3 one-slot six-settings bytes met link started
 
 pub run-backs : EachBack 255 (noContents (devicesBy (accepted link))) (lentFresh link) calls
-run-backs = backs-kept short 3 one-slot six-settings bytes met link started
+run-backs = backs-kept 255 short 3 one-slot six-settings bytes met link started
 
 -- ---- two devices with one polling address
 
@@ -121,6 +121,6 @@ both-reply =
     ++ ((0 ∷ 0 ∷ []) ++ ((1 ∷ 0 ∷ 0 ∷ 0 ∷ 0 ∷ 0 ∷ 0 ∷ 0 ∷ 0 ∷ 2 ∷ 0 ∷ 0 ∷ []) ++ ((1 ∷ 0 ∷ 0 ∷ 0 ∷ 0 ∷ 0 ∷ 0 ∷ 0 ∷ 0 ∷ 2 ∷ 0 ∷ 0 ∷ []) ++ replicate 4 0)))))
 
 -- the number of tick 15 tells of two senders
-pub two-told : numbersOf (stepsOf short 3 alike both-reply) ≡ 16 ∷ (replicate 3 0 ++ (replicate 10 65 ++ (0 ∷ 2 ∷ [])))
-unfolding numbersOf stepsOf alike both-reply short devicesStart devicesFrom ticksFrom callsIn slotsIn behind behindCall run deviceSenders linkTick deviceTicks sides carried masterTick deviceTick requested requestedUpTo masterTakes masterSends deviceTakes deviceSends answered contentGiven taken takenData atIdle atPreamble atFirst atAddress atExpansion atCommand atCount atData atCheck writeBuffer writeAnswer frameBytes preambleBytes bodyBytes protectedBytes headerBytes xorFrom delimiterOf stored if_then_else_
+pub two-told : numbersOf (stepsOf 255 short 3 alike both-reply) ≡ 16 ∷ (replicate 3 0 ++ (replicate 10 65 ++ (0 ∷ 2 ∷ [])))
+unfolding numbersOf stepsOf limitedStarts alike both-reply short devicesStart devicesFrom ticksFrom callsIn slotsIn behind behindCall run deviceSenders linkTick deviceTicks sides carried masterTick deviceTick requested requestedUpTo masterTakes masterSends deviceTakes deviceSends answered contentGiven taken takenData atIdle atPreamble atFirst atAddress atExpansion atCommand atCount atData atCheck writeBuffer writeAnswer frameBytes preambleBytes bodyBytes protectedBytes headerBytes xorFrom delimiterOf stored if_then_else_
 two-told = refl

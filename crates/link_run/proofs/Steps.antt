@@ -119,16 +119,16 @@ devices-here x i (s ∷ ss) = by (s .here) (devices-here x (suc i) ss)
 
 -- ---- the tick
 
-module _ (l : Link) (ticks : List ℕ) (at : ℕ) (x x-after : Rows) (sent sent-after : List (List ℕ)) (read : TickRead) (t : Ticked) where
+module _ (limit : ℕ) (l : Link) (ticks : List ℕ) (at : ℕ) (x x-after : Rows) (sent sent-after : List (List ℕ)) (read : TickRead) (t : Ticked) where
   -- the number that the code gives, whatever the calls were
-  pub number-agrees : (c : Calls) → T.RunIs l c ticks 1 x sent t x-after sent-after → length (l .devices) ≡ 6 → rowNumber (getD sent-after 0 []) (t .masters) ≡ tickNumber (stepWith l c ticks x)
+  pub number-agrees : (c : Calls) → T.RunIs limit l c ticks 1 x sent t x-after sent-after → length (l .devices) ≡ 6 → rowNumber (getD sent-after 0 []) (t .masters) ≡ tickNumber (stepWith limit l c ticks x)
   unfolding linkTick
   number-agrees c is six =
-      let s = stepWith l c ticks x in
-      (λ i. rowNumber (one-row l c ticks x x-after sent sent-after t is i) (one-masters l c ticks x x-after sent sent-after t is i))
+      let s = stepWith limit l c ticks x in
+      (λ i. rowNumber (one-row limit l c ticks x x-after sent sent-after t is i) (one-masters limit l c ticks x x-after sent sent-after t is i))
       ∙ number-is (heres (l .devices)) s (heres-length (l .devices) ∙ six)
-      (ticked-each (l .line) (devicesFrom x 0 (l .devices)) _ ∙ devices-here x 0 (l .devices))
-      (one-bytes l c ticks x x-after sent sent-after t is)
+      (ticked-each limit (l .line) (devicesFrom x 0 (l .devices)) _ ∙ devices-here x 0 (l .devices))
+      (one-bytes limit l c ticks x x-after sent sent-after t is)
 
   module _ (reads : read ≡ tickAt ticks at) (six : length (l .devices) ≡ 6) where
     pub calls-read : callsOf ticks (heres (l .devices)) (read .calls) ≡ callsIn (heres (l .devices)) (drop at ticks)
@@ -137,12 +137,12 @@ module _ (l : Link) (ticks : List ℕ) (at : ℕ) (x x-after : Rows) (sent sent-
     pub next-read : drop (read .next) ticks ≡ behind 8 (drop at ticks)
     next-read = ap (λ (r : TickRead). drop (r .next) ticks) reads ∙ rest-is ticks at
 
-  pub step-is : (number : ℕ) → read ≡ tickAt ticks at → T.RunIs l (read .calls) ticks 1 x sent t x-after sent-after → number ≡ rowNumber (getD sent-after 0 []) (t .masters) → length (l .devices) ≡ 6
-      → StepIs l ticks at x (record { link = t .link; number = number; next = read .next }) x-after
+  pub step-is : (number : ℕ) → read ≡ tickAt ticks at → T.RunIs limit l (read .calls) ticks 1 x sent t x-after sent-after → number ≡ rowNumber (getD sent-after 0 []) (t .masters) → length (l .devices) ≡ 6
+      → StepIs limit l ticks at x (record { link = t .link; number = number; next = read .next }) x-after
   step-is number reads is n six =
-      let step : stepWith l (read .calls) ticks x ≡ stepAt l x ticks at = ap (linkTick 255 (linkOf l x)) (calls-read reads six) in
+      let step : stepWith limit l (read .calls) ticks x ≡ stepAt limit l x ticks at = ap (linkTick limit (linkOf l x)) (calls-read reads six) in
       record {
-        behind-is = one-link l (read .calls) ticks x x-after sent sent-after t is ∙ ap linkAfter step;
+        behind-is = one-link limit l (read .calls) ticks x x-after sent sent-after t is ∙ ap linkAfter step;
         number-is = n ∙ number-agrees (read .calls) is six ∙ ap tickNumber step;
         slots = is .slots;
         next = next-read reads six;

@@ -6,7 +6,6 @@ use mathlib.Core.List.{List, [], _∷_}
 use lib.ListN.{length, take, getD}
 use Rattle.base.specs.Refusal.{number, Called, accepted, refused}
 use Rattle.base.specs.Store.{stored}
-use Rattle.frame.specs.Limits.{mostData}
 use Rattle.line.specs.Profile.{profileMade}
 use Rattle.line.specs.declared.Profile.{Profile}
 use Rattle.turns.specs.Party.{CallResult, none, was-taken, was-refused}
@@ -20,24 +19,24 @@ use Rattle.runs.specs.Backs.{noContents, EachBack}
 use Rattle.parties.specs.Stands.{heres}
 use Rattle.parties.specs.declared.Link.{Link}
 use Rattle.link_start.specs.Fresh.{lentFresh}
-use Rattle.link_start.specs.Start.{linkStarts}
+use Rattle.link_start.specs.Start.{limitedStarts}
 use Rattle.link_start.specs.declared.Setting.{Setting}
 use Rattle.tick_list.specs.Ticks.{ticksOf}
 use Rattle.link_run.specs.declared.RunEnded.{RunEnded}
 
--- ---- the run
+-- ---- the run, with a data limit (document 02, item 12)
 
 -- what every party does in each tick
-abbrev pub runSteps : L.Link → List Calls → List LinkStep
-runSteps l ticks = L.run mostData l ticks
+abbrev pub runSteps : ℕ → L.Link → List Calls → List LinkStep
+runSteps limit l ticks = L.run limit l ticks
 
 -- the same from the parties' start on, with the list as bytes; no tick where a start is refused
-abbrev pub stepsBy : Called Link → List ℕ → List LinkStep
-stepsBy (accepted l) ticks = runSteps (lentFresh l) (ticksOf (heres (l .devices)) ticks)
-stepsBy (refused why) ticks = []
+abbrev pub stepsBy : ℕ → Called Link → List ℕ → List LinkStep
+stepsBy limit (accepted l) ticks = runSteps limit (lentFresh l) (ticksOf (heres (l .devices)) ticks)
+stepsBy limit (refused why) ticks = []
 
-unfoldable pub stepsOf : Profile → ℕ → List Setting → List ℕ → List LinkStep
-stepsOf p retries s ticks = stepsBy (linkStarts p retries s) ticks
+unfoldable pub stepsOf : ℕ → Profile → ℕ → List Setting → List ℕ → List LinkStep
+stepsOf limit p retries s ticks = stepsBy limit (limitedStarts limit p retries s) ticks
 
 abbrev pub devicesBy : Called Link → List DeviceSide
 devicesBy (accepted l) = lentFresh l .devices
@@ -49,8 +48,8 @@ callsBy (accepted l) ticks = ticksOf (heres (l .devices)) ticks
 callsBy (refused why) ticks = []
 
 -- item 6: "one tag, one device, so that at most one host's answer to each command 11 is taken"
-abbrev pub FindsBy : Called Link → List ℕ → Type 0
-FindsBy c ticks = OneFinds (blanks (devicesBy c)) (callsBy c ticks) (stepsBy c ticks)
+abbrev pub FindsBy : ℕ → Called Link → List ℕ → Type 0
+FindsBy limit c ticks = OneFinds (blanks (devicesBy c)) (callsBy c ticks) (stepsBy limit c ticks)
 
 -- ---- what is written of it
 
@@ -102,27 +101,27 @@ pub record OneSender (n : ℕ) : Type 0 where
 -- ---- demand 3, the credited answer and the BACKs, for the run that was made
 
 -- "Let a primary master, a secondary master and devices that share no address all start in the same tick with one profile and one retry limit R. .. if .. at most one device bursts at a time" and, by item 6, "at most one host's answer to each command 11 is taken". That all start so is how the run begins; that no character is damaged or lost is how its line is defined.
-pub record RunPremises (p : Profile) (retries : ℕ) (s : List Setting) (ticks : List ℕ) : Type 0 where
+pub record RunPremises (limit : ℕ) (p : Profile) (retries : ℕ) (s : List Setting) (ticks : List ℕ) : Type 0 where
   -- the profile is one that the check takes
   pub made : profileMade p ≡ accepted p
-  pub distinct : Distinct (devicesBy (linkStarts p retries s))
-  pub one-bursts : EachTick OneBursts (stepsOf p retries s ticks)
-  pub one-finds : FindsBy (linkStarts p retries s) ticks
+  pub distinct : Distinct (devicesBy (limitedStarts limit p retries s))
+  pub one-bursts : EachTick OneBursts (stepsOf limit p retries s ticks)
+  pub one-finds : FindsBy limit (limitedStarts limit p retries s) ticks
 
 -- "then no two send in one tick, and every accepted message's first character goes out within" its ticks
-abbrev pub Demand3Of : Profile → ℕ → List Setting → List ℕ → Type 0
-Demand3Of p retries s ticks = EachTick NoTwoSend (stepsOf p retries s ticks) × WaitIn mostData p retries (stepsOf p retries s ticks)
+abbrev pub Demand3Of : ℕ → Profile → ℕ → List Setting → List ℕ → Type 0
+Demand3Of limit p retries s ticks = EachTick NoTwoSend (stepsOf limit p retries s ticks) × WaitIn limit p retries (stepsOf limit p retries s ticks)
 
 -- beyond demand 3, of the link l that was started: every answer that a master reports is credited
-abbrev pub CreditOf : Profile → ℕ → List Setting → List ℕ → Type 0
-CreditOf p retries s ticks =
-    (l : Link) → linkStarts p retries s ≡ accepted l
-    → EachCredited mostData noneAsked (blanks (devicesBy (accepted l))) (lentFresh l) (callsBy (accepted l) ticks)
+abbrev pub CreditOf : ℕ → Profile → ℕ → List Setting → List ℕ → Type 0
+CreditOf limit p retries s ticks =
+    (l : Link) → limitedStarts limit p retries s ≡ accepted l
+    → EachCredited limit noneAsked (blanks (devicesBy (accepted l))) (lentFresh l) (callsBy (accepted l) ticks)
 
 -- and every BACK that a master finds whole is as its device's host gave it
-abbrev pub BacksOf : Profile → ℕ → List Setting → List ℕ → Type 0
-BacksOf p retries s ticks =
-    (l : Link) → linkStarts p retries s ≡ accepted l → EachBack mostData (noContents (devicesBy (accepted l))) (lentFresh l) (callsBy (accepted l) ticks)
+abbrev pub BacksOf : ℕ → Profile → ℕ → List Setting → List ℕ → Type 0
+BacksOf limit p retries s ticks =
+    (l : Link) → limitedStarts limit p retries s ≡ accepted l → EachBack limit (noContents (devicesBy (accepted l))) (lentFresh l) (callsBy (accepted l) ticks)
 
 -- ---- what a run promises
 
@@ -131,10 +130,10 @@ abbrev pub written : List LinkStep → List ℕ → List ℕ
 written steps before = take (length before) (numbersOf steps)
 
 -- its answer, and the numbers at the front of the lent events; and where the premises hold demand 3, the credited answer and the BACKs of the run, and at most one sender in each number that was written
-pub record RunKeeps (p : Profile) (retries : ℕ) (s : List Setting) (ticks before : List ℕ) (r : RunEnded) (after : List ℕ) : Type 0 where
-  pub answered : ranAs r ≡ ranBy (linkStarts p retries s) (length (written (stepsOf p retries s ticks) before))
-  pub events : after ≡ stored before 0 (written (stepsOf p retries s ticks) before)
-  pub demand-3 : RunPremises p retries s ticks → Demand3Of p retries s ticks
-  pub credit : RunPremises p retries s ticks → CreditOf p retries s ticks
-  pub backs : RunPremises p retries s ticks → BacksOf p retries s ticks
-  pub one-sender : RunPremises p retries s ticks → (i : ℕ) → i < length (written (stepsOf p retries s ticks) before) → OneSender (getD after i 0)
+pub record RunKeeps (limit : ℕ) (p : Profile) (retries : ℕ) (s : List Setting) (ticks before : List ℕ) (r : RunEnded) (after : List ℕ) : Type 0 where
+  pub answered : ranAs r ≡ ranBy (limitedStarts limit p retries s) (length (written (stepsOf limit p retries s ticks) before))
+  pub events : after ≡ stored before 0 (written (stepsOf limit p retries s ticks) before)
+  pub demand-3 : RunPremises limit p retries s ticks → Demand3Of limit p retries s ticks
+  pub credit : RunPremises limit p retries s ticks → CreditOf limit p retries s ticks
+  pub backs : RunPremises limit p retries s ticks → BacksOf limit p retries s ticks
+  pub one-sender : RunPremises limit p retries s ticks → (i : ℕ) → i < length (written (stepsOf limit p retries s ticks) before) → OneSender (getD after i 0)

@@ -6,7 +6,6 @@ use mathlib.Core.List.{List, [], _∷_}
 use lib.ListN.{length, drop, getD}
 use Rattle.base.specs.Choice.{if_then_else_, _<?_}
 use Rattle.base.specs.Lent.{Lent, before, after}
-use Rattle.frame.specs.Limits.{mostData}
 use Rattle.turns.specs.Link.{LinkStep, linkTick, linkAfter}
 use Rattle.parties.specs.Stands.{Rows, rowsOf, linkOf, heres}
 use Rattle.parties.specs.declared.CallOutcome.{CallOutcome}
@@ -43,22 +42,22 @@ rowNumber row dids = sendersIn row + 16 * masterNumber row dids 0 + 32 * masterN
 -- ---- a run
 
 -- the numbers of a whole run from a link on
-abbrev pub allNumbers : Link → Rows → List ℕ → List ℕ
-allNumbers l x ticks = numbersOf (runSteps (linkOf l x) (ticksOf (heres (l .devices)) ticks))
+abbrev pub allNumbers : ℕ → Link → Rows → List ℕ → List ℕ
+allNumbers limit l x ticks = numbersOf (runSteps limit (linkOf l x) (ticksOf (heres (l .devices)) ticks))
 
 -- ---- the tick that turns gives for the calls at this place of the list
 
-abbrev pub stepAt : Link → Rows → List ℕ → ℕ → LinkStep
-stepAt l x ticks at = linkTick mostData (linkOf l x) (callsIn (heres (l .devices)) (drop at ticks))
+abbrev pub stepAt : ℕ → Link → Rows → List ℕ → ℕ → LinkStep
+stepAt limit l x ticks at = linkTick limit (linkOf l x) (callsIn (heres (l .devices)) (drop at ticks))
 
-pub record StepIs (l : Link) (ticks : List ℕ) (at : ℕ) (x : Rows) (r : Stepped) (x-after : Rows) : Type 0 where
-  pub behind-is : linkOf (r .link) x-after ≡ linkAfter (stepAt l x ticks at)
-  pub number-is : r .number ≡ tickNumber (stepAt l x ticks at)
+pub record StepIs (limit : ℕ) (l : Link) (ticks : List ℕ) (at : ℕ) (x : Rows) (r : Stepped) (x-after : Rows) : Type 0 where
+  pub behind-is : linkOf (r .link) x-after ≡ linkAfter (stepAt limit l x ticks at)
+  pub number-is : r .number ≡ tickNumber (stepAt limit l x ticks at)
   pub slots : heres (r .link .devices) ≡ heres (l .devices)
   pub next : drop (r .next) ticks ≡ behind 8 (drop at ticks)
 
 -- a link has six slots
-abbrev pub SteppedIs : Link → List ℕ → ℕ → Lent (List (List ℕ)) → Lent (List (List ℕ)) → Lent (List (List ℕ)) → Stepped → Type 0
-SteppedIs l ticks at frames bytes contents r =
+abbrev pub SteppedIs : ℕ → Link → List ℕ → ℕ → Lent (List (List ℕ)) → Lent (List (List ℕ)) → Lent (List (List ℕ)) → Stepped → Type 0
+SteppedIs limit l ticks at frames bytes contents r =
     length (l .devices) ≡ 6
-    → StepIs l ticks at (rowsOf (before frames) (before bytes) (before contents)) r (rowsOf (after frames) (after bytes) (after contents))
+    → StepIs limit l ticks at (rowsOf (before frames) (before bytes) (before contents)) r (rowsOf (after frames) (after bytes) (after contents))

@@ -3,6 +3,7 @@ use base::Refusal;
 use line::Profile;
 use link_start::Setting;
 use link_start::StartAnswer;
+use link_ticks::Most;
 use parties::CallOutcome;
 use parties::Link;
 use parties::MasterDid;
@@ -86,6 +87,7 @@ pub struct Stepped {
 
 // The tick that stands at this place of the list.
 fn step_at(
+    limit: u8,
     l: Link,
     ticks: &[u8],
     at: usize,
@@ -94,11 +96,15 @@ fn step_at(
     contents: &mut [[u8; 255]; 6],
     sent: &mut [[u16; 8]; 64],
 ) -> Stepped
-    ensures { λ r. ⌜ SteppedIs l (before ticks) at frames bytes contents r ⌝ }
+    ensures { λ r. ⌜ SteppedIs limit l (before ticks) at frames bytes contents r ⌝ }
 {
     let read = tick_list::read(ticks, at);
     let calls = read.calls;
-    let t = link_ticks::ticks(l, calls, ticks, 1, frames, bytes, contents, sent);
+    let most = Most {
+        ticks: 1,
+        data: limit,
+    };
+    let t = link_ticks::ticks(most, l, calls, ticks, frames, bytes, contents, sent);
     let link = t.link;
     let masters = t.masters;
     Stepped {
@@ -110,6 +116,7 @@ fn step_at(
 
 // A run from a link on.
 fn run_from(
+    limit: u8,
     start: Link,
     ticks: &[u8],
     events: &mut [u8],
@@ -118,7 +125,8 @@ fn run_from(
     contents: &mut [[u8; 255]; 6],
 ) -> usize
     requires { ⌜ length (start .devices) ≡ 6 ⌝ }
-    ensures { λ r. ⌜ RunIs (allNumbers start (rowsOf (before frames) (before bytes) (before contents)) (before ticks)) (before events) r (after events) ⌝ }
+    ensures { λ r. ⌜ RunIs (allNumbers limit start (rowsOf (before frames) (before bytes) (before contents)) (before ticks))
+        (before events) r (after events) ⌝ }
 {
     let mut sent = [[256u16; 8]; 64];
     let mut l = start;
@@ -130,7 +138,7 @@ fn run_from(
         }
         let place = i;
         i += 1;
-        let s = step_at(l, ticks, at, frames, bytes, contents, &mut sent);
+        let s = step_at(limit, l, ticks, at, frames, bytes, contents, &mut sent);
         events[place] = s.number;
         at = s.next;
         l = s.link;
@@ -139,14 +147,22 @@ fn run_from(
 }
 
 // A run of a link that was started, with rows of its own.
-fn run_started(start: Link, ticks: &[u8], events: &mut [u8]) -> usize
+fn run_started(limit: u8, start: Link, ticks: &[u8], events: &mut [u8]) -> usize
     requires { ⌜ length (start .devices) ≡ 6 ⌝ }
-    ensures { λ r. ⌜ RunIs (numbersOf (runSteps (lentFresh start) (ticksOf (heres (start .devices)) (before ticks)))) (before events) r (after events) ⌝ }
+    ensures { λ r. ⌜ RunIs (numbersOf (runSteps limit (lentFresh start) (ticksOf (heres (start .devices)) (before ticks)))) (before events) r (after events) ⌝ }
 {
     let mut frames = [[0u8; 284]; 8];
     let mut bytes = [[0u8; 255]; 8];
     let mut contents = [[0u8; 255]; 6];
-    run_from(start, ticks, events, &mut frames, &mut bytes, &mut contents)
+    run_from(
+        limit,
+        start,
+        ticks,
+        events,
+        &mut frames,
+        &mut bytes,
+        &mut contents,
+    )
 }
 
 // What a run answers: how many ticks it gave numbers of, or why the link's start was refused.
@@ -155,21 +171,22 @@ pub enum RunEnded {
     Refused(Refusal),
 }
 
-// Starts a link and runs it over a lent list of ticks. Each tick's number goes to the front of the lent events, for as many ticks as both hold. What is promised is the run that the definitions give, demand 3, the credited answer and the BACKs of it, and at most one sender in each number.
+// Starts a link with a data limit and runs it over a lent list of ticks. Each tick's number goes to the front of the lent events, for as many ticks as both hold. What is promised is the run that the definitions give, demand 3, the credited answer and the BACKs of it, and at most one sender in each number.
 pub fn run(
+    limit: usize,
     profile: Profile,
     retries: u8,
     settings: [Setting; 6],
     ticks: &[u8],
     events: &mut [u8],
 ) -> RunEnded
-    ensures { λ r. ⌜ RunKeeps profile retries settings (before ticks) (before events) r (after events) ⌝ }
+    ensures { λ r. ⌜ RunKeeps limit profile retries settings (before ticks) (before events) r (after events) ⌝ }
 {
-    let started = link_start::start(profile, retries, settings);
+    let started = link_start::start_limited(limit, profile, retries, settings);
     let answer = started.answer;
     let link = started.link;
     match answer {
-        StartAnswer::Started => RunEnded::Ran(run_started(link, ticks, events)),
+        StartAnswer::Started => RunEnded::Ran(run_started(limit as u8, link, ticks, events)),
         StartAnswer::Refused(why) => RunEnded::Refused(why),
     }
 }

@@ -5,9 +5,10 @@ use mathlib.Core.Bool.{Bool, true, false}
 use mathlib.Core.List.{List, [], _∷_}
 use mathlib.Core.Path.{_≡_, refl, sym, ap, subst, _∙_}
 use lib.ListN.{length, getD, replicate, length-replicate, getD-replicate}
-use Rattle.base.specs.Choice.{if_then_else_}
+use Rattle.base.specs.Choice.{if_then_else_, _outside_to_}
+use Rattle.base.proofs.Choices.{if-is-true, inside-low, inside-high}
 use Rattle.base.specs.Refusal.{Called, accepted, refused}
-use Rattle.frame.specs.Limits.{mostData, longestFrame}
+use Rattle.frame.specs.Limits.{fewestAnswered, mostData, longestFrame}
 use Rattle.line.specs.declared.Profile.{Profile}
 use Rattle.turns.specs.Master.{masterStarts}
 use Rattle.turns.specs.Device.{deviceStarts}
@@ -18,7 +19,7 @@ use Rattle.parties.specs.Stands.{anyMaster, devicesFrom}
 use Rattle.parties.specs.declared.Link.{Link}
 use Rattle.parties.specs.declared.Slot.{Slot}
 use Rattle.link_start.specs.Fresh.{rowsFresh, lentFresh}
-use Rattle.link_start.specs.Start.{absent, lower, both, inSlot, deviceSlot, slotStarts, inFront, devicesStart, primaryFirst, mastersStart, freshLink, linkStarts}
+use Rattle.link_start.specs.Start.{absent, lower, both, inSlot, deviceSlot, slotStarts, inFront, devicesStart, primaryFirst, mastersStart, freshLink, linkStarts, limitTaken, theLink, limitedStarts}
 use Rattle.link_start.specs.declared.Setting.{Setting}
 
 -- ---- what was accepted was not refused
@@ -126,3 +127,22 @@ module _ (p : Profile) (retries : ℕ) (s : List Setting) (six : length s ≡ 6)
     devices = slots;
     distinct = distinct;
   }
+
+-- ---- with a data limit
+
+pub limited-bounds : (limit : ℕ) (p : Profile) (retries : ℕ) (s : List Setting) (l : Link) → limitedStarts limit p retries s ≡ accepted l → (fewestAnswered ≤ limit) × (limit ≤ mostData)
+unfolding limitedStarts
+limited-bounds limit p retries s l e =
+    let b = both-accepted theLink (limitTaken limit) (linkStarts p retries s) l e in
+    let inside : (limit outside fewestAnswered to mostData) ≡ false = by (limit outside fewestAnswered to mostData) (b .first) (b .first-is) in
+    (inside-low limit fewestAnswered mostData (limit outside fewestAnswered to mostData) refl inside, inside-high limit fewestAnswered mostData (limit outside fewestAnswered to mostData) refl inside)
+  where
+    by : (t : Bool) (x : Unit {0}) → (if t then refused 9 else accepted tt) ≡ accepted x → t ≡ false
+    by false x k = refl
+    by true x k = absurd (unlike 9 x (sym (if-is-true true (refused 9) (accepted tt) refl) ∙ k))
+
+pub limited-link : (limit : ℕ) (p : Profile) (retries : ℕ) (s : List Setting) (l : Link) → limitedStarts limit p retries s ≡ accepted l → linkStarts p retries s ≡ accepted l
+unfolding limitedStarts
+limited-link limit p retries s l e =
+    let b = both-accepted theLink (limitTaken limit) (linkStarts p retries s) l e in
+    b .second-is ∙ ap accepted (b .makes)

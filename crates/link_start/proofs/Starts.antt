@@ -8,7 +8,9 @@ use lib.ListN.{length, drop, getD, set, replicate, length-set, drop-of-length-le
 use lib.Seq.{drop-cons, drop-set-lt, getD-set-same}
 use Rattle.base.specs.Refusal.{number, Called, accepted, refused}
 use Rattle.base.specs.declared.Refusal.{Refusal}
-use Rattle.base.proofs.Choices.{if-true, if-false, if-at-most, if-above}
+use Rattle.base.specs.Choice.{if_then_else_, _outside_to_}
+use Rattle.base.proofs.Choices.{if-is-true, if-is-false, if-true, if-false, if-at-most, if-above}
+use Rattle.frame.specs.Limits.{fewestAnswered, mostData}
 use Rattle.line.specs.declared.Profile.{Profile}
 use Rattle.turns.specs.Master.{masterStarts, freshMaster}
 use Rattle.turns.specs.Device.{deviceStarts, freshDevice}
@@ -21,7 +23,8 @@ use Rattle.master.specs.declared.MasterStarted.{MasterStarted}
 use Rattle.parties.specs.Stands.{anyMaster}
 use Rattle.parties.specs.declared.Link.{Link}
 use Rattle.parties.specs.declared.Slot.{Slot}
-use Rattle.link_start.specs.Start.{noProfile, anyDevice, absent, lower, both, inSlot, deviceSlot, slotStarts, inFront, devicesStart, primaryFirst, mastersStart, freshLink, linkStarts, made, answerAs, lowest, emptyLink, linkOr, StartedIs}
+use Rattle.link_start.specs.Start.{noProfile, anyDevice, absent, lower, both, inSlot, deviceSlot, slotStarts, inFront, devicesStart, primaryFirst, mastersStart, freshLink, linkStarts, made, answerAs, lowest, emptyLink, linkOr, StartedIs, limitTaken, theLink, limitedStarts, refusedLink, LimitedIs}
+use Rattle.link_start.specs.declared.LinkStarted.{LinkStarted}
 use Rattle.link_start.specs.declared.Setting.{Setting}
 use Rattle.link_start.specs.declared.StartAnswer.{StartAnswer}
 use Rattle.link_start.specs.declared.StartAnswer.the-variants.{Started, Refused}
@@ -168,6 +171,39 @@ module _ (p : Profile) (retries : ℕ) (ss : List Setting) (ms : List Master) (s
   link-refused why l q k =
       let is : _≡_ {A = Called Link} (refused (number why)) (linkStarts p retries ss) = ap (made (freshLink ms slots)) (sym q) ∙ link-made p retries ss ms slots x y v e f g in
       record { answer-is = is; link-is = k ∙ ap linkOr is }
+
+-- ---- with a data limit
+
+module _ (limit : ℕ) (p : Profile) (retries : ℕ) (ss : List Setting) (x : LinkStarted) (b : Bool) (is : StartedIs p retries ss x) (q : b ≡ (limit outside fewestAnswered to mostData)) where
+  limited : (t : Called (Unit {0})) (c : Called Link) (r : LinkStarted) → limitTaken limit ≡ t → linkStarts p retries ss ≡ c → made (r .link) (r .answer) ≡ both theLink t c → r .link ≡ linkOr (both theLink t c) → LimitedIs limit p retries ss r
+  unfolding limitedStarts
+  limited t c r e f k l = let same : both theLink (limitTaken limit) (linkStarts p retries ss) ≡ both theLink t c = λ i. both theLink (e i) (f i) in record { answer-is = k ∙ sym same; link-is = l ∙ ap linkOr (sym same) }
+
+  pub limit-inside : b ≡ false → LimitedIs limit p retries ss x
+  limit-inside e = limited (accepted tt) (linkStarts p retries ss) x (if-is-false (limit outside fewestAnswered to mostData) _ _ (sym q ∙ e)) refl (inside (linkStarts p retries ss) (is .answer-is)) (is .link-is ∙ same (linkStarts p retries ss))
+    where
+      inside : (c : Called Link) → made (x .link) (x .answer) ≡ c → made (x .link) (x .answer) ≡ both theLink (accepted tt) c
+      inside (accepted l) k = k
+      inside (refused why) k = k
+
+      same : (c : Called Link) → linkOr c ≡ linkOr (both theLink (accepted tt) c)
+      same (accepted l) = refl
+      same (refused why) = refl
+
+  pub limit-alone : (r : LinkStarted) → b ≡ true → x .answer ≡ Started → r ≡ refusedLink Refusal.DataLength → LimitedIs limit p retries ss r
+  limit-alone r e f k =
+      subst (LimitedIs limit p retries ss) (sym k)
+      (limited (refused 9) (accepted (x .link)) (refusedLink Refusal.DataLength) (if-is-true (limit outside fewestAnswered to mostData) _ _ (sym q ∙ e)) (sym (is .answer-is) ∙ ap (made (x .link)) f) refl refl)
+
+  pub limit-lowest : (r : LinkStarted) (why v : Refusal) → b ≡ true → x .answer ≡ Refused why → number v ≡ lower (number Refusal.DataLength) (number why) → r ≡ refusedLink v → LimitedIs limit p retries ss r
+  limit-lowest r why v e f n k =
+      subst (LimitedIs limit p retries ss) (sym k)
+      (limited (refused 9) (refused (number why)) (refusedLink v) (if-is-true (limit outside fewestAnswered to mostData) _ _ (sym q ∙ e)) (sym (is .answer-is) ∙ ap (made (x .link)) f) (ap refused n) refl)
+
+pub refused-link : (why : Refusal) (l : Link) → l ≡ emptyLink → _≡_ {A = LinkStarted} (record { answer = Refused why; link = l }) (refusedLink why)
+refused-link why l e = λ i. record { answer = Refused why; link = e i }
+
+pub ruleset limits = (refl, limit-inside, limit-alone, limit-lowest, refused-link)
 
 pub ruleset parts = (refl, master-any, device-any, slot-absent, link-empty)
 

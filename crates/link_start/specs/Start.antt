@@ -5,8 +5,10 @@ use mathlib.Core.Bool.{true, false}
 use mathlib.Core.List.{List, [], _∷_}
 use mathlib.Core.Path.{_≡_}
 use lib.ListN.{replicate}
-use Rattle.base.specs.Choice.{if_then_else_, _≤?_}
+use Rattle.base.specs.Choice.{if_then_else_, _≤?_, _outside_to_}
 use Rattle.base.specs.Refusal.{number, Called, accepted, refused}
+use Rattle.base.specs.declared.Refusal.{Refusal}
+use Rattle.frame.specs.Limits.{fewestAnswered, mostData}
 use Rattle.line.specs.declared.Heard.the-variants.{Silence}
 use Rattle.line.specs.declared.Profile.{Profile}
 use Rattle.turns.specs.Master.{masterStarts}
@@ -100,3 +102,23 @@ linkOr (refused why) = emptyLink
 pub record StartedIs (p : Profile) (retries : ℕ) (s : List Setting) (r : LinkStarted) : Type 0 where
   pub answer-is : made (r .link) (r .answer) ≡ linkStarts p retries s
   pub link-is : r .link ≡ linkOr (linkStarts p retries s)
+
+-- ---- document 02, item 12: a link that is given a data limit
+
+-- "a start with a length outside 2 to 255 with 9"
+abbrev pub limitTaken : ℕ → Called (Unit {0})
+limitTaken limit = if limit outside fewestAnswered to mostData then refused 9 else accepted tt
+
+abbrev pub theLink : Unit {0} → Link → Link
+theLink t l = l
+
+-- the link, or the lowest of this refusal and its parties': 9 only where none of 2, 3 and 4 applies
+unfoldable pub limitedStarts : ℕ → Profile → ℕ → List Setting → Called Link
+limitedStarts limit p retries s = both theLink (limitTaken limit) (linkStarts p retries s)
+
+abbrev pub refusedLink : Refusal → LinkStarted
+refusedLink why = record { answer = Refused why; link = emptyLink }
+
+pub record LimitedIs (limit : ℕ) (p : Profile) (retries : ℕ) (s : List Setting) (r : LinkStarted) : Type 0 where
+  pub answer-is : made (r .link) (r .answer) ≡ limitedStarts limit p retries s
+  pub link-is : r .link ≡ linkOr (limitedStarts limit p retries s)

@@ -11,7 +11,7 @@ ghost use mathlib.Core.Path.{_≡_};
 ghost use Rattle.base.specs.Refusal.{number, accepted, refused};
 ghost use Rattle.turns.specs.Master.{masterStarts};
 ghost use Rattle.parties.specs.Stands.{anyMaster};
-ghost use Rattle.link_start.specs.Start.{noProfile, anyDevice, absent, emptyLink, lower, both, deviceSlot, slotStarts, devicesStart, mastersStart, made, answerAs, lowest, StartedIs};
+ghost use Rattle.link_start.specs.Start.{noProfile, anyDevice, absent, emptyLink, lower, both, deviceSlot, slotStarts, devicesStart, mastersStart, made, answerAs, lowest, StartedIs, refusedLink, LimitedIs};
 
 // What a device is started with, where one is here.
 pub struct Setting {
@@ -249,4 +249,35 @@ pub fn start(profile: Profile, retries: u8, settings: [Setting; 6]) -> LinkStart
             link: empty_link(),
         },
     }
+}
+
+// A start that was refused.
+fn refused_link(why: Refusal) -> LinkStarted
+    ensures { λ r. ⌜ r ≡ refusedLink why ⌝ }
+{
+    let link = empty_link();
+    LinkStarted {
+        answer: StartAnswer::Refused(why),
+        link: link,
+    }
+}
+
+// The same with a data limit: the lowest refusal is 2, 3, 4, or 9 for a limit outside 2 to 255. The link does not hold the limit: whoever starts it hands the same number on to every `link_ticks::ticks` of it, as the runs of link_run and late_run do.
+pub fn start_limited(
+    limit: usize,
+    profile: Profile,
+    retries: u8,
+    settings: [Setting; 6],
+) -> LinkStarted
+    ensures { λ r. ⌜ LimitedIs limit profile retries settings r ⌝ }
+{
+    let started = start(profile, retries, settings);
+    let answer = started.answer;
+    if base::outside(limit, 2, 255) {
+        return match answer {
+            StartAnswer::Started => refused_link(Refusal::DataLength),
+            StartAnswer::Refused(why) => refused_link(lower_of(Refusal::DataLength, why)),
+        };
+    }
+    started
 }

@@ -27,38 +27,38 @@ use Rattle.link_ticks.specs.Ticks.{masterTells, deviceTells, devicesTell
 -- ---- of one tick
 
 -- the tick with these calls
-abbrev pub stepWith : Link → Calls → List ℕ → Rows → LinkStep
-stepWith l c put x = linkTick 255 (linkOf l x) (callsOf put (heres (l .devices)) c)
+abbrev pub stepWith : ℕ → Link → Calls → List ℕ → Rows → LinkStep
+stepWith limit l c put x = linkTick limit (linkOf l x) (callsOf put (heres (l .devices)) c)
 
 no-more : (b : Bool) → _≡_ {A = List LinkStep} (if b then [] else []) []
 unfolding if_then_else_
 no-more true = refl
 no-more false = refl
 
-one-step : (l : Link) (c : Calls) (put : List ℕ) (x : Rows) → stepsOf l c put 1 x ≡ stepWith l c put x ∷ []
+one-step : (limit : ℕ) (l : Link) (c : Calls) (put : List ℕ) (x : Rows) → stepsOf limit l c put 1 x ≡ stepWith limit l c put x ∷ []
 unfolding upToTold callsFirst run if_then_else_
-one-step l c put x = ap (λ (ss : List LinkStep). stepWith l c put x ∷ ss) (no-more (tells (stepWith l c put x)))
+one-step limit l c put x = ap (λ (ss : List LinkStep). stepWith limit l c put x ∷ ss) (no-more (tells (stepWith limit l c put x)))
 
 first-holds : {P : LinkStep → Type 0} {s : LinkStep} {ss : List LinkStep} → EachTick P (s ∷ ss) → P s
 first-holds (tick-and p ps) = p
 
-module _ (l : Link) (c : Calls) (put : List ℕ) (x x-after : Rows) (sent sent-after : List (List ℕ)) (r : Ticked) (is : RunIs l c put 1 x sent r x-after sent-after) where
-  pub one-link : linkOf (r .link) x-after ≡ linkAfter (stepWith l c put x)
+module _ (limit : ℕ) (l : Link) (c : Calls) (put : List ℕ) (x x-after : Rows) (sent sent-after : List (List ℕ)) (r : Ticked) (is : RunIs limit l c put 1 x sent r x-after sent-after) where
+  pub one-link : linkOf (r .link) x-after ≡ linkAfter (stepWith limit l c put x)
   unfolding linkBehind
-  one-link = is .link-is ∙ ap (linkBehind (linkOf l x)) (one-step l c put x)
+  one-link = is .link-is ∙ ap (linkBehind (linkOf l x)) (one-step limit l c put x)
 
-  pub one-row : getD sent-after 0 [] ≡ codes (heres (l .devices)) (stepWith l c put x)
+  pub one-row : getD sent-after 0 [] ≡ codes (heres (l .devices)) (stepWith limit l c put x)
   unfolding codesOf
   one-row =
       ap (λ (rows : List (List ℕ)). getD rows 0 [])
-      (is .sent-is ∙ ap (λ (ss : List LinkStep). codesOf (heres (l .devices)) ss ++ drop (length ss) sent) (one-step l c put x))
+      (is .sent-is ∙ ap (λ (ss : List LinkStep). codesOf (heres (l .devices)) ss ++ drop (length ss) sent) (one-step limit l c put x))
 
-  pub one-bytes : SendBytes (stepWith l c put x)
-  one-bytes = first-holds (subst (EachTick SendBytes) (one-step l c put x) (is .bytes-sent))
+  pub one-bytes : SendBytes (stepWith limit l c put x)
+  one-bytes = first-holds (subst (EachTick SendBytes) (one-step limit l c put x) (is .bytes-sent))
 
-  pub one-masters : r .masters ≡ mastersDo (stepWith l c put x) (replicate 2 masterNothing)
+  pub one-masters : r .masters ≡ mastersDo (stepWith limit l c put x) (replicate 2 masterNothing)
   unfolding mastersDid
-  one-masters = is .masters-are ∙ ap (λ (ss : List LinkStep). mastersDid ss (replicate 2 masterNothing)) (one-step l c put x)
+  one-masters = is .masters-are ∙ ap (λ (ss : List LinkStep). mastersDid ss (replicate 2 masterNothing)) (one-step limit l c put x)
 
 -- ---- of several ticks
 
@@ -85,50 +85,50 @@ data Course : LinkStep → List LinkStep → Type 0 where
   ends : {s : LinkStep} → Course s []
   goes-on : {s t : LinkStep} {ss : List LinkStep} → tells s ≡ false → length (t .for-devices) ≡ length (s .for-devices) → Unanswered t → Course t ss → Course s (t ∷ ss)
 
-no-answers : (heard : Heard) (xs : List DeviceSide) → Quiet (deviceTicks 255 heard xs [])
+no-answers : (limit : ℕ) (heard : Heard) (xs : List DeviceSide) → Quiet (deviceTicks limit heard xs [])
 unfolding deviceTicks deviceTick
-no-answers heard [] = quiet-none
-no-answers heard (x ∷ xs) = quiet-and refl (no-answers heard xs)
+no-answers limit heard [] = quiet-none
+no-answers limit heard (x ∷ xs) = quiet-and refl (no-answers limit heard xs)
 
-unanswered : (l : L.Link) → Unanswered (linkTick 255 l uncalled)
+unanswered : (limit : ℕ) (l : L.Link) → Unanswered (linkTick limit l uncalled)
 unfolding linkTick masterTick
-unanswered l = record { primary-none = refl; secondary-none = refl; devices-none = no-answers (l .line) (l .devices) }
+unanswered limit l = record { primary-none = refl; secondary-none = refl; devices-none = no-answers limit (l .line) (l .devices) }
 
 -- each device ticks once
-pub ticked-each : (heard : Heard) (xs : List DeviceSide) (cs : List L.DeviceCall) → length (deviceTicks 255 heard xs cs) ≡ length xs
+pub ticked-each : (limit : ℕ) (heard : Heard) (xs : List DeviceSide) (cs : List L.DeviceCall) → length (deviceTicks limit heard xs cs) ≡ length xs
 unfolding deviceTicks
-ticked-each heard [] cs = refl
-ticked-each heard (x ∷ xs) [] = ap suc (ticked-each heard xs [])
-ticked-each heard (x ∷ xs) (c ∷ cs) = ap suc (ticked-each heard xs cs)
+ticked-each limit heard [] cs = refl
+ticked-each limit heard (x ∷ xs) [] = ap suc (ticked-each limit heard xs [])
+ticked-each limit heard (x ∷ xs) (c ∷ cs) = ap suc (ticked-each limit heard xs cs)
 
 sides-each : (xs : List DeviceStep) → length (sides xs) ≡ length xs
 unfolding sides
 sides-each [] = refl
 sides-each (x ∷ xs) = ap suc (sides-each xs)
 
-as-many : (s : LinkStep) → length (linkTick 255 (linkAfter s) uncalled .for-devices) ≡ length (s .for-devices)
+as-many : (limit : ℕ) (s : LinkStep) → length (linkTick limit (linkAfter s) uncalled .for-devices) ≡ length (s .for-devices)
 unfolding linkTick
-as-many s = ticked-each (linkAfter s .line) (sides (s .for-devices)) [] ∙ sides-each (s .for-devices)
+as-many limit s = ticked-each limit (linkAfter s .line) (sides (s .for-devices)) [] ∙ sides-each (s .for-devices)
 
 -- the tick behind a step, and what follows it
-abbrev pub next : LinkStep → LinkStep
-next s = linkTick 255 (linkAfter s) uncalled
+abbrev pub next : ℕ → LinkStep → LinkStep
+next limit s = linkTick limit (linkAfter s) uncalled
 
-abbrev pub further : ℕ → LinkStep → List LinkStep
-further n s = if tells s then [] else upToTold (run 255 (linkAfter s) (replicate n uncalled))
+abbrev pub further : ℕ → ℕ → LinkStep → List LinkStep
+further limit n s = if tells s then [] else upToTold (run limit (linkAfter s) (replicate n uncalled))
 
-course : (n : ℕ) (s : LinkStep) → Course s (further n s)
+course : (limit n : ℕ) (s : LinkStep) → Course s (further limit n s)
 unfolding upToTold run if_then_else_
-course zero s = by (tells s)
+course limit zero s = by (tells s)
   where
     by : (b : Bool) → Course s (if b then [] else [])
     by true = ends
     by false = ends
-course (suc n) s = by (tells s) refl (course n (next s))
+course limit (suc n) s = by (tells s) refl (course limit n (next limit s))
   where
-    by : (b : Bool) → tells s ≡ b → Course (next s) (further n (next s)) → Course s (if b then [] else (next s ∷ further n (next s)))
+    by : (b : Bool) → tells s ≡ b → Course (next limit s) (further limit n (next limit s)) → Course s (if b then [] else (next limit s ∷ further limit n (next limit s)))
     by true e c = ends
-    by false e c = goes-on e (as-many s) (unanswered (linkAfter s)) c
+    by false e c = goes-on e (as-many limit s) (unanswered limit (linkAfter s)) c
 
 -- ---- the masters
 
@@ -222,17 +222,17 @@ slots-first (true ∷ hs) (x ∷ xs) (suc n) = λ i. record { told = device-told
 
 -- ---- the ticks of one call
 
-module _ (l : Link) (c : Calls) (put : List ℕ) (x x-after : Rows) (sent sent-after : List (List ℕ)) (most : ℕ) (r : Ticked) (is : RunIs l c put (suc most) x sent r x-after sent-after) where
+module _ (limit : ℕ) (l : Link) (c : Calls) (put : List ℕ) (x x-after : Rows) (sent sent-after : List (List ℕ)) (most : ℕ) (r : Ticked) (is : RunIs limit l c put (suc most) x sent r x-after sent-after) where
   -- the first tick, and those behind it
   abbrev pub first : LinkStep
-  first = stepWith l c put x
+  first = stepWith limit l c put x
 
   abbrev pub later : List LinkStep
-  later = further (atMost (suc most) - 1) first
+  later = further limit (atMost (suc most) - 1) first
 
-  steps-are : stepsOf l c put (suc most) x ≡ first ∷ later
+  steps-are : stepsOf limit l c put (suc most) x ≡ first ∷ later
   unfolding upToTold run callsFirst
-  steps-are = ap (λ (n : ℕ). upToTold (run 255 (linkOf l x) (callsFirst n (callsOf put (heres (l .devices)) c)))) (some most)
+  steps-are = ap (λ (n : ℕ). upToTold (run limit (linkOf l x) (callsFirst n (callsOf put (heres (l .devices)) c)))) (some most)
     where
       at-least : (n : ℕ) → 0 < atMost (suc n)
       at-least n = if-both (λ (k : ℕ). 0 < k) (suc n <? 64) (suc n) 64 (omega arith) (omega arith)
@@ -249,7 +249,7 @@ module _ (l : Link) (c : Calls) (put : List ℕ) (x x-after : Rows) (sent sent-a
       ∙ (λ i. mastersDid later
       (record { told = master-told (first .for-primary .told) i; result = answerKept CallOutcome.Nothing (first .for-primary .result) }
       ∷ record { told = master-told (first .for-secondary .told) i; result = answerKept CallOutcome.Nothing (first .for-secondary .result) } ∷ []))
-      ∙ masters-on first later _ _ (course (atMost (suc most) - 1) first)
+      ∙ masters-on first later _ _ (course limit (atMost (suc most) - 1) first)
 
   -- each device's host alike
   pub devices-told-last : r .devices ≡ onHere deviceTold (heres (l .devices)) (lastOf first later .for-devices) (onHere deviceAnswered (heres (l .devices)) (first .for-devices) (replicate 6 deviceNothing))
@@ -258,4 +258,4 @@ module _ (l : Link) (c : Calls) (put : List ℕ) (x x-after : Rows) (sent sent-a
       is .devices-are
       ∙ ap (λ (ss : List LinkStep). devicesDid (heres (l .devices)) ss (replicate 6 deviceNothing)) steps-are
       ∙ ap (devicesDid (heres (l .devices)) later) (slots-first (heres (l .devices)) (first .for-devices) 6)
-      ∙ devices-on (heres (l .devices)) first later _ (course (atMost (suc most) - 1) first)
+      ∙ devices-on (heres (l .devices)) first later _ (course limit (atMost (suc most) - 1) first)

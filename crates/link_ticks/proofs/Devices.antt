@@ -57,9 +57,9 @@ below x i k f y z (s ∷ ss) h = λ n. ifHere (s .here)
     (getD-set-other (x .contents) i k z [] (λ q. omega (arith, q, h)) n))
     (below x i (suc k) f y z ss (omega arith) n)
 
-module _ (heard : Heard) (put : List ℕ) (call : ℕ → DeviceCall) where
+module _ (limit : ℕ) (heard : Heard) (put : List ℕ) (call : ℕ → DeviceCall) where
   abbrev pub stepAt : Rows → ℕ → Device → DeviceStep
-  stepAt x i d = deviceTick 255 (deviceAt x i d) heard (deviceCallOf put (call i))
+  stepAt x i d = deviceTick limit (deviceAt x i d) heard (deviceCallOf put (call i))
 
   unfoldable pub stepsFrom : Rows → ℕ → List Slot → List DeviceStep
   stepsFrom x i [] = []
@@ -149,7 +149,7 @@ module _ (heard : Heard) (put : List ℕ) (call : ℕ → DeviceCall) where
 
     -- its step, by what is lent to it now
     own-step : (e : Device) → stepAt (b .rows) i e ≡ stepAt (a .rows) i e
-    own-step e = λ n. deviceTick 255
+    own-step e = λ n. deviceTick limit
         (D.sideOf e (v .frames-left (i + 2) [] (omega arith) n) (v .bytes-left (i + 2) [] (omega arith) n) (v .contents-left i [] (omega arith) n))
         heard (deviceCallOf put (call i))
 
@@ -301,14 +301,14 @@ module _ (heard : Heard) (put : List ℕ) (call : ℕ → DeviceCall) where
       abbrev lent : DeviceSide
       lent = deviceAt (b .rows) (n - 1) this
 
-      as-called : (c : DeviceCall) → c ≡ call (n - 1) → deviceTick 255 lent heard (deviceCallOf put c) ≡ stepAt (b .rows) (n - 1) this
-      as-called c e = ap (λ (q : DeviceCall). deviceTick 255 lent heard (deviceCallOf put q)) e
+      as-called : (c : DeviceCall) → c ≡ call (n - 1) → deviceTick limit lent heard (deviceCallOf put c) ≡ stepAt (b .rows) (n - 1) this
+      as-called c e = ap (λ (q : DeviceCall). deviceTick limit lent heard (deviceCallOf put q)) e
 
       pub device-counted : (w : Way) (e : Slot) (follows hears : Bool) (reader : Receiver) → w ≡ deviceWay this heard (c .call) follows hears reader → w ≡ Counts → e ≡ inSlot (countedDevice this)
           → Ticking a (record { slots = set (b .slots) (n - 1) e; rows = b .rows; row = b .row; dids = b .dids; told = b .told; line = b .line }) (n - 1)
       device-counted w e follows hears reader p q r =
           subst (λ (s : Slot). Ticking a (record { slots = set (b .slots) (n - 1) s; rows = b .rows; row = b .row; dids = b .dids; told = b .told; line = b .line }) (n - 1)) (sym r)
-          (still a b (n - 1) d at-last k (inSlot (countedDevice this)) refl (device-counts lent heard (c .call) (dataOf (c .part) put) follows hears reader (sym p ∙ q) ∙ as-called c own))
+          (still a b (n - 1) d at-last k (inSlot (countedDevice this)) refl (device-counts limit lent heard (c .call) (dataOf (c .part) put) follows hears reader (sym p ∙ q) ∙ as-called c own))
 
       pub device-heard : (w : Way) (e : Slot) (r : Receiver) (y : List ℕ) (follows hears : Bool) (reader : Receiver) → w ≡ deviceWay this heard (c .call) follows hears reader → w ≡ Hears
           → (follows ≡ true → this .receiver ≡ reader) → (hears ≡ true → taken reader heard ≡ R.tells r Nothing)
@@ -317,10 +317,10 @@ module _ (heard : Heard) (put : List ℕ) (call : ℕ → DeviceCall) where
       device-heard w e r y follows hears reader p q has step l f =
           subst (λ (s : Slot). Ticking a (record { slots = set (b .slots) (n - 1) s; rows = rowsOf (b .rows .frames) (set (b .rows .bytes) (n - 1 + 2) y) (b .rows .contents); row = b .row; dids = b .dids; told = b .told; line = b .line }) (n - 1)) (sym f)
           (quiet a b (n - 1) d at-last k (inSlot (heardDevice this r)) refl y
-          (ap (λ (xs : List ℕ). quietDevice (withDevice lent (heardDevice this r) xs)) l ∙ device-hears lent heard (c .call) (dataOf (c .part) put) follows hears reader r (sym p ∙ q) has step ∙ as-called c own))
+          (ap (λ (xs : List ℕ). quietDevice (withDevice lent (heardDevice this r) xs)) l ∙ device-hears limit lent heard (c .call) (dataOf (c .part) put) follows hears reader r (sym p ∙ q) has step ∙ as-called c own))
 
       pub device-acted : (r : DeviceTicked) (f y z : List ℕ) (e : Slot) (x : ℕ) (q : DeviceDid) (u : DeviceDid) (told : Bool) (line : Heard)
-          → D.DeviceTickIs this heard (c .call) (dataOf (c .part) put) (getD (b .rows .frames) (n - 1 + 2) []) (getD (b .rows .bytes) (n - 1 + 2) []) (getD (b .rows .contents) (n - 1) []) r f y z
+          → D.DeviceTickIs limit this heard (c .call) (dataOf (c .part) put) (getD (b .rows .frames) (n - 1 + 2) []) (getD (b .rows .bytes) (n - 1 + 2) []) (getD (b .rows .contents) (n - 1) []) r f y z
           → e ≡ inSlot (r .device) → CodeIs (r .sent) x → q ≡ deviceDidBy (getD (b .dids) (n - 1) u) (r .told) (resultOf (r .result))
           → told ≡ deviceTells (r .told) (b .told) → line ≡ joins (r .sent) (b .line)
           → Ticking a (record { slots = set (b .slots) (n - 1) e; rows = stored (b .rows) (n - 1) f y z; row = set (b .row) (n - 1 + 2) x; dids = set (b .dids) (n - 1) q; told = told; line = line }) (n - 1)

@@ -41,27 +41,27 @@ deviceCallAt t cs i = deviceCallIn t (getD cs i noDeviceCall)
 abbrev pub masterCallAt : ℕ → List MasterCall → ℕ → MasterCall
 masterCallAt t cs i = masterCallIn t (getD cs i noMasterCall)
 
-module _ (heard : Heard) (put : List ℕ) (x : Rows) where
-  first-steps : (cs : List DeviceCall) (i : ℕ) (ss : List Slot) → stepsFrom heard put (deviceCallAt 0 cs) x i ss ≡ deviceTicks 255 heard (devicesFrom x i ss) (deviceCallsFrom put cs i (heres ss))
+module _ (limit : ℕ) (heard : Heard) (put : List ℕ) (x : Rows) where
+  first-steps : (cs : List DeviceCall) (i : ℕ) (ss : List Slot) → stepsFrom limit heard put (deviceCallAt 0 cs) x i ss ≡ deviceTicks limit heard (devicesFrom x i ss) (deviceCallsFrom put cs i (heres ss))
   unfolding stepsFrom deviceTicks devicesFrom deviceCallsFrom if_then_else_
   first-steps cs i [] = refl
   first-steps cs i (s ∷ ss) = by (s .here) (first-steps cs (suc i) ss)
     where
-      by : (h : Bool) → stepsFrom heard put (deviceCallAt 0 cs) x (suc i) ss ≡ deviceTicks 255 heard (devicesFrom x (suc i) ss) (deviceCallsFrom put cs (suc i) (heres ss))
-          → ifHere h (stepAt heard put (deviceCallAt 0 cs) x i (s .device)) (stepsFrom heard put (deviceCallAt 0 cs) x (suc i) ss)
-          ≡ deviceTicks 255 heard (ifHere h (deviceAt x i (s .device)) (devicesFrom x (suc i) ss)) (ifHere h (deviceCallOf put (getD cs i noDeviceCall)) (deviceCallsFrom put cs (suc i) (heres ss)))
-      by true e = ap (λ (l : List DeviceStep). deviceTick 255 (deviceAt x i (s .device)) heard (deviceCallOf put (getD cs i noDeviceCall)) ∷ l) e
+      by : (h : Bool) → stepsFrom limit heard put (deviceCallAt 0 cs) x (suc i) ss ≡ deviceTicks limit heard (devicesFrom x (suc i) ss) (deviceCallsFrom put cs (suc i) (heres ss))
+          → ifHere h (stepAt limit heard put (deviceCallAt 0 cs) x i (s .device)) (stepsFrom limit heard put (deviceCallAt 0 cs) x (suc i) ss)
+          ≡ deviceTicks limit heard (ifHere h (deviceAt x i (s .device)) (devicesFrom x (suc i) ss)) (ifHere h (deviceCallOf put (getD cs i noDeviceCall)) (deviceCallsFrom put cs (suc i) (heres ss)))
+      by true e = ap (λ (l : List DeviceStep). deviceTick limit (deviceAt x i (s .device)) heard (deviceCallOf put (getD cs i noDeviceCall)) ∷ l) e
       by false e = e
 
-  later-steps : (t : ℕ) (cs : List DeviceCall) (i : ℕ) (ss : List Slot) → stepsFrom heard put (deviceCallAt (suc t) cs) x i ss ≡ deviceTicks 255 heard (devicesFrom x i ss) []
+  later-steps : (t : ℕ) (cs : List DeviceCall) (i : ℕ) (ss : List Slot) → stepsFrom limit heard put (deviceCallAt (suc t) cs) x i ss ≡ deviceTicks limit heard (devicesFrom x i ss) []
   unfolding stepsFrom deviceTicks devicesFrom if_then_else_
   later-steps t cs i [] = refl
   later-steps t cs i (s ∷ ss) = by (s .here) (later-steps t cs (suc i) ss)
     where
-      by : (h : Bool) → stepsFrom heard put (deviceCallAt (suc t) cs) x (suc i) ss ≡ deviceTicks 255 heard (devicesFrom x (suc i) ss) []
-          → ifHere h (stepAt heard put (deviceCallAt (suc t) cs) x i (s .device)) (stepsFrom heard put (deviceCallAt (suc t) cs) x (suc i) ss)
-          ≡ deviceTicks 255 heard (ifHere h (deviceAt x i (s .device)) (devicesFrom x (suc i) ss)) []
-      by true e = ap (λ (l : List DeviceStep). deviceTick 255 (deviceAt x i (s .device)) heard no-call ∷ l) e
+      by : (h : Bool) → stepsFrom limit heard put (deviceCallAt (suc t) cs) x (suc i) ss ≡ deviceTicks limit heard (devicesFrom x (suc i) ss) []
+          → ifHere h (stepAt limit heard put (deviceCallAt (suc t) cs) x i (s .device)) (stepsFrom limit heard put (deviceCallAt (suc t) cs) x (suc i) ss)
+          ≡ deviceTicks limit heard (ifHere h (deviceAt x i (s .device)) (devicesFrom x (suc i) ss)) []
+      by true e = ap (λ (l : List DeviceStep). deviceTick limit (deviceAt x i (s .device)) heard no-call ∷ l) e
       by false e = e
 
 -- the calls of the tick with this number
@@ -70,25 +70,25 @@ callsIn zero put hs ms ds = callsOf put hs (callsWith ms ds)
 callsIn (suc t) put hs ms ds = uncalled
 
 -- what all do in it
-abbrev pub stepIn : ℕ → List ℕ → List MasterCall → List DeviceCall → Heard → Rows → List Master → List Slot → LinkStep
-stepIn t put ms-calls ds-calls heard x ms ss = record {
-  for-primary = stepOf heard put (masterCallAt t ms-calls) (record { masters = ms; rows = x; row = []; dids = []; told = false; line = Silence }) 0;
-  for-secondary = stepOf heard put (masterCallAt t ms-calls) (record { masters = ms; rows = x; row = []; dids = []; told = false; line = Silence }) 1;
-  for-devices = stepsFrom heard put (deviceCallAt t ds-calls) x 0 ss;
+abbrev pub stepIn : ℕ → ℕ → List ℕ → List MasterCall → List DeviceCall → Heard → Rows → List Master → List Slot → LinkStep
+stepIn limit t put ms-calls ds-calls heard x ms ss = record {
+  for-primary = stepOf limit heard put (masterCallAt t ms-calls) (record { masters = ms; rows = x; row = []; dids = []; told = false; line = Silence }) 0;
+  for-secondary = stepOf limit heard put (masterCallAt t ms-calls) (record { masters = ms; rows = x; row = []; dids = []; told = false; line = Silence }) 1;
+  for-devices = stepsFrom limit heard put (deviceCallAt t ds-calls) x 0 ss;
 }
 
-step-is : (t : ℕ) (put : List ℕ) (ms-calls : List MasterCall) (ds-calls : List DeviceCall) (heard : Heard) (x : Rows) (ms : List Master) (ss : List Slot)
-    → stepIn t put ms-calls ds-calls heard x ms ss ≡ linkTick 255 (linkOf (linkWith ms ss heard) x) (callsIn t put (heres ss) ms-calls ds-calls)
+step-is : (limit t : ℕ) (put : List ℕ) (ms-calls : List MasterCall) (ds-calls : List DeviceCall) (heard : Heard) (x : Rows) (ms : List Master) (ss : List Slot)
+    → stepIn limit t put ms-calls ds-calls heard x ms ss ≡ linkTick limit (linkOf (linkWith ms ss heard) x) (callsIn t put (heres ss) ms-calls ds-calls)
 unfolding linkTick if_then_else_
-step-is zero put ms-calls ds-calls heard x ms ss = λ n. record {
-  for-primary = stepIn zero put ms-calls ds-calls heard x ms ss .for-primary;
-  for-secondary = stepIn zero put ms-calls ds-calls heard x ms ss .for-secondary;
-  for-devices = first-steps heard put x ds-calls 0 ss n;
+step-is limit zero put ms-calls ds-calls heard x ms ss = λ n. record {
+  for-primary = stepIn limit zero put ms-calls ds-calls heard x ms ss .for-primary;
+  for-secondary = stepIn limit zero put ms-calls ds-calls heard x ms ss .for-secondary;
+  for-devices = first-steps limit heard put x ds-calls 0 ss n;
 }
-step-is (suc t) put ms-calls ds-calls heard x ms ss = λ n. record {
-  for-primary = stepIn (suc t) put ms-calls ds-calls heard x ms ss .for-primary;
-  for-secondary = stepIn (suc t) put ms-calls ds-calls heard x ms ss .for-secondary;
-  for-devices = later-steps heard put x t ds-calls 0 ss n;
+step-is limit (suc t) put ms-calls ds-calls heard x ms ss = λ n. record {
+  for-primary = stepIn limit (suc t) put ms-calls ds-calls heard x ms ss .for-primary;
+  for-secondary = stepIn limit (suc t) put ms-calls ds-calls heard x ms ss .for-secondary;
+  for-devices = later-steps limit heard put x t ds-calls 0 ss n;
 }
 
 -- the calls that are left
@@ -177,12 +177,12 @@ standing ms ss line frames bytes contents sent mdids ddids told = record { maste
 abbrev pub linkNow : Stand → L.Link
 linkNow a = linkOf (linkWith (a .masters) (a .slots) (a .line)) (a .rows)
 
-module _ (put : List ℕ) (most : ℕ) (ms-calls : List MasterCall) (ds-calls : List DeviceCall) where
+module _ (limit : ℕ) (put : List ℕ) (most : ℕ) (ms-calls : List MasterCall) (ds-calls : List DeviceCall) where
   abbrev pub leftOf : Stand → Stand → ℕ → List LinkStep
-  leftOf a b t = if b .told then [] else upToTold (run 255 (linkNow b) (drop t (callsFirst (atMost most) (callsOf put (heres (a .slots)) (callsWith ms-calls ds-calls)))))
+  leftOf a b t = if b .told then [] else upToTold (run limit (linkNow b) (drop t (callsFirst (atMost most) (callsOf put (heres (a .slots)) (callsWith ms-calls ds-calls)))))
 
   abbrev pub wholeOf : Stand → List LinkStep
-  wholeOf a = stepsOf (linkWith (a .masters) (a .slots) (a .line)) (callsWith ms-calls ds-calls) put most (a .rows)
+  wholeOf a = stepsOf limit (linkWith (a .masters) (a .slots) (a .line)) (callsWith ms-calls ds-calls) put most (a .rows)
 
   pub record Going (a b : Stand) (t : ℕ) : Type 0 where
     pub two : length (b .masters) ≡ 2
@@ -247,24 +247,24 @@ module _ (put : List ℕ) (most : ℕ) (ms-calls : List MasterCall) (ds-calls : 
     mcall = masterCallAt t ms-calls
 
     abbrev step : LinkStep
-    step = stepIn t put ms-calls ds-calls (b .line) (b .rows) (b .masters) (b .slots)
+    step = stepIn limit t put ms-calls ds-calls (b .line) (b .rows) (b .masters) (b .slots)
 
-    step-turns : step ≡ linkTick 255 (linkNow b) (callsIn t put (heres (a .slots)) ms-calls ds-calls)
+    step-turns : step ≡ linkTick limit (linkNow b) (callsIn t put (heres (a .slots)) ms-calls ds-calls)
     step-turns =
-        step-is t put ms-calls ds-calls (b .line) (b .rows) (b .masters) (b .slots)
-        ∙ ap (λ (hs : List Bool). linkTick 255 (linkNow b) (callsIn t put hs ms-calls ds-calls)) (v .flags)
+        step-is limit t put ms-calls ds-calls (b .line) (b .rows) (b .masters) (b .slots)
+        ∙ ap (λ (hs : List Bool). linkTick limit (linkNow b) (callsIn t put hs ms-calls ds-calls)) (v .flags)
 
     -- what the ticks left are, with this one in front
-    left-is : leftOf a b t ≡ step ∷ (if tells step then [] else upToTold (run 255 (linkAfter step) (leftCalls a (suc t))))
+    left-is : leftOf a b t ≡ step ∷ (if tells step then [] else upToTold (run limit (linkAfter step) (leftCalls a (suc t))))
     unfolding run upToTold
     left-is =
         if-is-false (b .told) [] _ calm
-        ∙ ap (λ (cs : List L.Calls). upToTold (run 255 (linkNow b) cs)) (calls-left t (atMost most) put (heres (a .slots)) ms-calls ds-calls goes)
-        ∙ ap (λ (s : LinkStep). s ∷ (if tells s then [] else upToTold (run 255 (linkAfter s) (leftCalls a (suc t))))) (sym step-turns)
+        ∙ ap (λ (cs : List L.Calls). upToTold (run limit (linkNow b) cs)) (calls-left t (atMost most) put (heres (a .slots)) ms-calls ds-calls goes)
+        ∙ ap (λ (s : LinkStep). s ∷ (if tells s then [] else upToTold (run limit (linkAfter s) (leftCalls a (suc t))))) (sym step-turns)
 
     module _ (row : List ℕ) (d : At) (m : MastersAt) (blank : row ≡ replicate 8 256)
-        (w : Ticking (b .line) put dcall (record { slots = b .slots; rows = b .rows; row = row; dids = b .devices-did; told = b .told; line = Silence }) d 0)
-        (z : MastersTicking (b .line) put mcall (record { masters = b .masters; rows = d .rows; row = d .row; dids = b .masters-did; told = d .told; line = d .line }) m 0) where
+        (w : Ticking limit (b .line) put dcall (record { slots = b .slots; rows = b .rows; row = row; dids = b .devices-did; told = b .told; line = Silence }) d 0)
+        (z : MastersTicking limit (b .line) put mcall (record { masters = b .masters; rows = d .rows; row = d .row; dids = b .masters-did; told = d .told; line = d .line }) m 0) where
       abbrev before-masters : MastersAt
       before-masters = record { masters = b .masters; rows = d .rows; row = d .row; dids = b .masters-did; told = d .told; line = d .line }
 
@@ -272,15 +272,15 @@ module _ (put : List ℕ) (most : ℕ) (ms-calls : List MasterCall) (ds-calls : 
       next = record { masters = m .masters; slots = d .slots; line = m .line; rows = m .rows; sent = set (b .sent) t (m .row); masters-did = m .dids; devices-did = d .dids; told = m .told }
 
       -- the devices' loop leaves the masters' rows
-      master-step : (j : ℕ) → j < 2 → stepOf (b .line) put mcall before-masters j ≡ stepOf (b .line) put mcall (record { masters = b .masters; rows = b .rows; row = []; dids = []; told = false; line = Silence }) j
-      master-step j h = λ n. L.masterTick 255
+      master-step : (j : ℕ) → j < 2 → stepOf limit (b .line) put mcall before-masters j ≡ stepOf limit (b .line) put mcall (record { masters = b .masters; rows = b .rows; row = []; dids = []; told = false; line = Silence }) j
+      master-step j h = λ n. L.masterTick limit
           (M.sideOf (getD (b .masters) j anyMaster) (w .frames-left j [] (omega (arith, h)) n) (w .bytes-left j [] (omega (arith, h)) n))
           (b .line) (masterCallOf put (mcall j))
 
-      primary-is : stepOf (b .line) put mcall before-masters 0 ≡ step .for-primary
+      primary-is : stepOf limit (b .line) put mcall before-masters 0 ≡ step .for-primary
       primary-is = master-step 0 (omega arith)
 
-      secondary-is : stepOf (b .line) put mcall before-masters 1 ≡ step .for-secondary
+      secondary-is : stepOf limit (b .line) put mcall before-masters 1 ≡ step .for-secondary
       secondary-is = master-step 1 (omega arith)
 
       link-after : linkNow next ≡ linkAfter step
@@ -340,7 +340,7 @@ module _ (put : List ℕ) (most : ℕ) (ms-calls : List MasterCall) (ds-calls : 
             v .left
             ∙ ap (λ (l : List LinkStep). v .steps ++ l) left-is
             ∙ sym (append-assoc (v .steps) (step ∷ []) _)
-            ∙ (λ i. (v .steps ++ (step ∷ [])) ++ (if sym tells-is i then [] else upToTold (run 255 (sym link-after i) (leftCalls a (sym (add-one t) i)))));
+            ∙ (λ i. (v .steps ++ (step ∷ [])) ++ (if sym tells-is i then [] else upToTold (run limit (sym link-after i) (leftCalls a (sym (add-one t) i)))));
         count-is = length-append (v .steps) (step ∷ []) ∙ ap (λ (n : ℕ). n + 1) (v .count-is);
         link-is = link-after ∙ sym (behind-more (linkNow a) (v .steps) step);
         flags = w .flags ∙ v .flags;
@@ -374,7 +374,7 @@ module _ (put : List ℕ) (most : ℕ) (ms-calls : List MasterCall) (ds-calls : 
   none-left : (a b : Stand) (t : ℕ) → atMost most ≤ t → leftOf a b t ≡ []
   unfolding run upToTold if_then_else_
   none-left a b t h =
-      ap (λ (cs : List L.Calls). if b .told then [] else upToTold (run 255 (linkNow b) cs)) (drop-of-length-le (callsFirst (atMost most) (callsOf put (heres (a .slots)) (callsWith ms-calls ds-calls))) {i = t} (omega (arith, calls-length (atMost most) (callsOf put (heres (a .slots)) (callsWith ms-calls ds-calls)), h)))
+      ap (λ (cs : List L.Calls). if b .told then [] else upToTold (run limit (linkNow b) cs)) (drop-of-length-le (callsFirst (atMost most) (callsOf put (heres (a .slots)) (callsWith ms-calls ds-calls))) {i = t} (omega (arith, calls-length (atMost most) (callsOf put (heres (a .slots)) (callsWith ms-calls ds-calls)), h)))
       ∙ same (b .told)
     where
       same : (x : Bool) → _≡_ {A = List LinkStep} (if x then [] else []) []
@@ -382,7 +382,7 @@ module _ (put : List ℕ) (most : ℕ) (ms-calls : List MasterCall) (ds-calls : 
       same false = refl
 
   pub going-all : (a b : Stand) (t : ℕ) → Going a b t → leftOf a b t ≡ []
-      → RunIs (linkWith (a .masters) (a .slots) (a .line)) (callsWith ms-calls ds-calls) put most (a .rows) (a .sent)
+      → RunIs limit (linkWith (a .masters) (a .slots) (a .line)) (callsWith ms-calls ds-calls) put most (a .rows) (a .sent)
       (record { link = linkWith (b .masters) (b .slots) (b .line); count = t; masters = b .masters-did; devices = b .devices-did }) (b .rows) (b .sent)
   going-all a b t v none =
       let e : v .steps ≡ wholeOf a = sym (v .left ∙ ap (λ (l : List LinkStep). v .steps ++ l) none ∙ append-nil (v .steps)) in
@@ -407,7 +407,7 @@ module _ (put : List ℕ) (most : ℕ) (ms-calls : List MasterCall) (ds-calls : 
   over a b t e = by (b .told) refl
     where
       by : (x : Bool) → b .told ≡ x → leftOf a b t ≡ []
-      by true k = if-is-true (b .told) [] (upToTold (run 255 (linkNow b) (leftCalls a t))) k
+      by true k = if-is-true (b .told) [] (upToTold (run limit (linkNow b) (leftCalls a t))) k
       by false k = none-left a b t (ends-at t (t <? most) (t <? 64) refl refl (sym (if-is-false (b .told) false (if t <? most then t <? 64 else false) k) ∙ e))
 
   -- where it goes on
@@ -430,20 +430,20 @@ module _ (put : List ℕ) (most : ℕ) (ms-calls : List MasterCall) (ds-calls : 
 
   -- a turn of the loop, by the two loops in it
   pub going-on : (a b : Stand) (t : ℕ) (g : Bool) (row : List ℕ) (d : At) (m : MastersAt) (n k : ℕ) → Going a b t → g ≡ goesOn t most (b .told) → g ≡ true → row ≡ replicate 8 256
-      → Ticking (b .line) put (deviceCallAt t ds-calls) (record { slots = b .slots; rows = b .rows; row = row; dids = b .devices-did; told = b .told; line = Silence }) d n → n ≤ 0
-      → MastersTicking (b .line) put (masterCallAt t ms-calls) (record { masters = b .masters; rows = d .rows; row = d .row; dids = b .masters-did; told = d .told; line = d .line }) m k → k ≤ 0
+      → Ticking limit (b .line) put (deviceCallAt t ds-calls) (record { slots = b .slots; rows = b .rows; row = row; dids = b .devices-did; told = b .told; line = Silence }) d n → n ≤ 0
+      → MastersTicking limit (b .line) put (masterCallAt t ms-calls) (record { masters = b .masters; rows = d .rows; row = d .row; dids = b .masters-did; told = d .told; line = d .line }) m k → k ≤ 0
       → Going a (record { masters = m .masters; slots = d .slots; line = m .line; rows = m .rows; sent = set (b .sent) t (m .row); masters-did = m .dids; devices-did = d .dids; told = m .told }) (t + 1)
   going-on a b t g row d m n k v e p blank w h z l =
       let goes : goesOn t most (b .told) ≡ true = sym e ∙ p in
       let n-none : n ≡ 0 = omega arith in
       let k-none : k ≡ 0 = omega arith in
       going-more a b t v (goes-told t (b .told) goes) (goes-below t (b .told) goes) row d m blank
-      (subst (Ticking (b .line) put (deviceCallAt t ds-calls) (record { slots = b .slots; rows = b .rows; row = row; dids = b .devices-did; told = b .told; line = Silence }) d) n-none w)
-      (subst (MastersTicking (b .line) put (masterCallAt t ms-calls) (record { masters = b .masters; rows = d .rows; row = d .row; dids = b .masters-did; told = d .told; line = d .line }) m) k-none z)
+      (subst (Ticking limit (b .line) put (deviceCallAt t ds-calls) (record { slots = b .slots; rows = b .rows; row = row; dids = b .devices-did; told = b .told; line = Silence }) d) n-none w)
+      (subst (MastersTicking limit (b .line) put (masterCallAt t ms-calls) (record { masters = b .masters; rows = d .rows; row = d .row; dids = b .masters-did; told = d .told; line = d .line }) m) k-none z)
       (goes-within t (b .told) goes)
 
   pub going-over : (a b : Stand) (t : ℕ) (g : Bool) → Going a b t → g ≡ goesOn t most (b .told) → g ≡ false
-      → RunIs (linkWith (a .masters) (a .slots) (a .line)) (callsWith ms-calls ds-calls) put most (a .rows) (a .sent)
+      → RunIs limit (linkWith (a .masters) (a .slots) (a .line)) (callsWith ms-calls ds-calls) put most (a .rows) (a .sent)
       (record { link = linkWith (b .masters) (b .slots) (b .line); count = t; masters = b .masters-did; devices = b .devices-did }) (b .rows) (b .sent)
   going-over a b t g v e p = going-all a b t v (over a b t (sym e ∙ p))
 
@@ -456,17 +456,17 @@ module _ (put : List ℕ) (most : ℕ) (ms-calls : List MasterCall) (ds-calls : 
       going-none (standing ms ss line frames bytes contents sent (replicate 2 x) (replicate 6 y) false) m s f b z e r g (ap (replicate 2) p) (ap (replicate 6) q) refl
 
   pub devices-first : (a b : Stand) (t : ℕ) → Going a b t
-      → Ticking (b .line) put (deviceCallAt t ds-calls) (record { slots = b .slots; rows = b .rows; row = replicate 8 256; dids = b .devices-did; told = b .told; line = Silence })
+      → Ticking limit (b .line) put (deviceCallAt t ds-calls) (record { slots = b .slots; rows = b .rows; row = replicate 8 256; dids = b .devices-did; told = b .told; line = Silence })
       (record { slots = b .slots; rows = b .rows; row = replicate 8 256; dids = b .devices-did; told = b .told; line = Silence }) 6
   devices-first a b t v =
-      ticking-none (b .line) put (deviceCallAt t ds-calls) (record { slots = b .slots; rows = b .rows; row = replicate 8 256; dids = b .devices-did; told = b .told; line = Silence })
+      ticking-none limit (b .line) put (deviceCallAt t ds-calls) (record { slots = b .slots; rows = b .rows; row = replicate 8 256; dids = b .devices-did; told = b .told; line = Silence })
       (v .six) (v .frames-eight) (v .bytes-eight) (v .contents-six) refl (v .dids-six) refl
 
-  pub masters-first : (a b : Stand) (t : ℕ) (x d : At) (n : ℕ) → Going a b t → Ticking (b .line) put (deviceCallAt t ds-calls) x d n
-      → MastersTicking (b .line) put (masterCallAt t ms-calls) (record { masters = b .masters; rows = d .rows; row = d .row; dids = b .masters-did; told = d .told; line = d .line })
+  pub masters-first : (a b : Stand) (t : ℕ) (x d : At) (n : ℕ) → Going a b t → Ticking limit (b .line) put (deviceCallAt t ds-calls) x d n
+      → MastersTicking limit (b .line) put (masterCallAt t ms-calls) (record { masters = b .masters; rows = d .rows; row = d .row; dids = b .masters-did; told = d .told; line = d .line })
       (record { masters = b .masters; rows = d .rows; row = d .row; dids = b .masters-did; told = d .told; line = d .line }) 2
   masters-first a b t x d n v w =
-      masters-none (b .line) put (masterCallAt t ms-calls) (record { masters = b .masters; rows = d .rows; row = d .row; dids = b .masters-did; told = d .told; line = d .line })
+      masters-none limit (b .line) put (masterCallAt t ms-calls) (record { masters = b .masters; rows = d .rows; row = d .row; dids = b .masters-did; told = d .told; line = d .line })
       (v .two) (w .frames-eight) (w .bytes-eight) (w .row-eight) (v .dids-two) (λ j h. w .row-left j 256 (omega (arith, h)) ∙ w .blank j (omega (arith, h)))
 
   -- one tick less is left
@@ -482,4 +482,4 @@ master-call-is t cs i d c p e h = p ∙ ap (masterCallIn t) (any-default cs i d 
 
 -- there is a row for this tick
 pub goes-in : (most t : ℕ) (told g : Bool) → g ≡ goesOn t most told → g ≡ true → t < 64
-goes-in most t told g e p = goes-within [] most [] [] t told (sym e ∙ p)
+goes-in most t told g e p = goes-within 0 [] most [] [] t told (sym e ∙ p)

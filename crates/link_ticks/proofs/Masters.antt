@@ -62,9 +62,9 @@ from P zero (suc j) h p f = f (omega arith)
 from P (suc i) zero h p f = absurd (omega arith)
 from P (suc i) (suc j) h p f = from (λ (k : ℕ). P (suc k)) i j (omega arith) p (λ g. f (omega arith))
 
-module _ (heard : Heard) (put : List ℕ) (call : ℕ → MasterCall) where
+module _ (limit : ℕ) (heard : Heard) (put : List ℕ) (call : ℕ → MasterCall) where
   abbrev pub stepWith : Rows → ℕ → Master → MasterStep
-  stepWith x i m = masterTick 255 (masterAt x i m) heard (masterCallOf put (call i))
+  stepWith x i m = masterTick limit (masterAt x i m) heard (masterCallOf put (call i))
 
   abbrev pub stepOf : MastersAt → ℕ → MasterStep
   stepOf a i = stepWith (a .rows) i (getD (a .masters) i anyMaster)
@@ -146,7 +146,7 @@ module _ (heard : Heard) (put : List ℕ) (call : ℕ → MasterCall) where
 
     -- its step, by what it has now
     own-step : stepOf b i ≡ stepOf a i
-    own-step = λ n. masterTick 255
+    own-step = λ n. masterTick limit
         (M.sideOf (v .masters-left i anyMaster (omega arith) n) (v .frames-left i [] (omega arith) n) (v .bytes-left i [] (omega arith) n))
         heard (masterCallOf put (call i))
 
@@ -231,8 +231,8 @@ module _ (heard : Heard) (put : List ℕ) (call : ℕ → MasterCall) where
     abbrev lent : Master → MasterSide
     lent m = masterAt (b .rows) (n - 1) m
 
-    as-called : (m : Master) → getD (b .masters) (n - 1) d ≡ m → masterTick 255 (lent (getD (b .masters) (n - 1) d)) heard (masterCallOf put c) ≡ stepWith (b .rows) (n - 1) m
-    as-called m e = λ i. masterTick 255 (lent (e i)) heard (masterCallOf put (own i))
+    as-called : (m : Master) → getD (b .masters) (n - 1) d ≡ m → masterTick limit (lent (getD (b .masters) (n - 1) d)) heard (masterCallOf put c) ≡ stepWith (b .rows) (n - 1) m
+    as-called m e = λ i. masterTick limit (lent (e i)) heard (masterCallOf put (own i))
 
     same : getD (b .masters) (n - 1) d ≡ getD (b .masters) (n - 1) anyMaster
     same = any-default (b .masters) (n - 1) d anyMaster (omega (arith, v .two, v .within, h))
@@ -242,7 +242,7 @@ module _ (heard : Heard) (put : List ℕ) (call : ℕ → MasterCall) where
     master-counted w e follows hears reader p q r =
         still a b (n - 1) at-last e
         (ap (λ (m : Master). quietMaster (withMaster (lent (getD (b .masters) (n - 1) d)) m (getD (b .rows .bytes) (n - 1) []))) r
-        ∙ master-counts (lent (getD (b .masters) (n - 1) d)) heard (c .call) (dataOf (c .part) put) follows hears reader (sym p ∙ q) ∙ as-called _ same)
+        ∙ master-counts limit (lent (getD (b .masters) (n - 1) d)) heard (c .call) (dataOf (c .part) put) follows hears reader (sym p ∙ q) ∙ as-called _ same)
 
     pub master-heard : (w : Way) (e : Master) (r : Receiver) (y : List ℕ) (follows hears : Bool) (reader : Receiver) → w ≡ masterWay (getD (b .masters) (n - 1) d) heard (c .call) follows hears reader → w ≡ Hears
         → (follows ≡ true → getD (b .masters) (n - 1) d .receiver ≡ reader) → (hears ≡ true → taken reader heard ≡ R.tells r Nothing)
@@ -251,10 +251,10 @@ module _ (heard : Heard) (put : List ℕ) (call : ℕ → MasterCall) where
     master-heard w e r y follows hears reader p q has step l f =
         quiet a b (n - 1) at-last e y
         ((λ i. quietMaster (withMaster (lent (getD (b .masters) (n - 1) d)) (f i) (l i)))
-        ∙ master-hears (lent (getD (b .masters) (n - 1) d)) heard (c .call) (dataOf (c .part) put) follows hears reader r (sym p ∙ q) has step ∙ as-called _ same)
+        ∙ master-hears limit (lent (getD (b .masters) (n - 1) d)) heard (c .call) (dataOf (c .part) put) follows hears reader r (sym p ∙ q) has step ∙ as-called _ same)
 
     pub master-acted : (r : MasterTicked) (f y : List ℕ) (x : ℕ) (q : MasterDid) (u : MasterDid) (told : Bool) (line : Heard)
-        → M.MasterTickIs (getD (b .masters) (n - 1) d) heard (c .call) (dataOf (c .part) put) (getD (b .rows .frames) (n - 1) []) (getD (b .rows .bytes) (n - 1) []) r f y
+        → M.MasterTickIs limit (getD (b .masters) (n - 1) d) heard (c .call) (dataOf (c .part) put) (getD (b .rows .frames) (n - 1) []) (getD (b .rows .bytes) (n - 1) []) r f y
         → CodeIs (r .sent) x → q ≡ masterDidBy (getD (b .dids) (n - 1) u) (r .told) (resultOf (r .result))
         → told ≡ masterTells (r .told) (b .told) → line ≡ joins (r .sent) (b .line)
         → MastersTicking a (record { masters = set (b .masters) (n - 1) (r .master); rows = kept (b .rows) (n - 1) f y; row = set (b .row) (n - 1) x; dids = set (b .dids) (n - 1) q; told = told; line = line }) (n - 1)

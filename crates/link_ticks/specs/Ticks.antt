@@ -7,7 +7,6 @@ use mathlib.Core.Path.{_≡_}
 use lib.ListN.{length, drop, getD, replicate}
 use Rattle.base.specs.Choice.{if_then_else_, _<?_}
 use Rattle.base.specs.Lent.{Lent, before, after}
-use Rattle.frame.specs.Limits.{mostData}
 use Rattle.line.specs.declared.Heard.{Heard}
 use Rattle.turns.specs.Party.{CallResult, none, was-taken, was-refused}
 use Rattle.turns.specs.Link.{MasterStep, DeviceStep, LinkStep, linkAfter, run}
@@ -78,8 +77,9 @@ goesOn t most told = if told then false else if t <? most then t <? 64 else fals
 abbrev pub atMost : ℕ → ℕ
 atMost most = if most <? 64 then most else 64
 
-abbrev pub stepsOf : Link → Calls → List ℕ → ℕ → Rows → List LinkStep
-stepsOf l c put most x = upToTold (run mostData (linkOf l x) (callsFirst (atMost most) (callsOf put (heres (l .devices)) c)))
+-- `limit` is the link's data limit
+abbrev pub stepsOf : ℕ → Link → Calls → List ℕ → ℕ → Rows → List LinkStep
+stepsOf limit l c put most x = upToTold (run limit (linkOf l x) (callsFirst (atMost most) (callsOf put (heres (l .devices)) c)))
 
 -- the link behind a run
 unfoldable pub linkBehind : L.Link → List LinkStep → L.Link
@@ -186,19 +186,19 @@ callsWith masters devices = record { masters = masters; devices = devices }
 
 -- ---- the promise: `x` and `sent` are the rows and what stands in `sent` before, `x-after` and `sent-after` behind the ticks
 
-pub record RunIs (l : Link) (c : Calls) (put : List ℕ) (most : ℕ) (x : Rows) (sent : List (List ℕ))
+pub record RunIs (limit : ℕ) (l : Link) (c : Calls) (put : List ℕ) (most : ℕ) (x : Rows) (sent : List (List ℕ))
     (r : Ticked) (x-after : Rows) (sent-after : List (List ℕ)) : Type 0 where
-  pub link-is : linkOf (r .link) x-after ≡ linkBehind (linkOf l x) (stepsOf l c put most x)
+  pub link-is : linkOf (r .link) x-after ≡ linkBehind (linkOf l x) (stepsOf limit l c put most x)
   pub slots : heres (r .link .devices) ≡ heres (l .devices)
-  pub count-is : r .count ≡ length (stepsOf l c put most x)
+  pub count-is : r .count ≡ length (stepsOf limit l c put most x)
   -- a row of what each party sent for each tick; the other rows stay
-  pub sent-is : sent-after ≡ codesOf (heres (l .devices)) (stepsOf l c put most x) ++ drop (length (stepsOf l c put most x)) sent
-  pub bytes-sent : EachTick SendBytes (stepsOf l c put most x)
-  pub masters-are : r .masters ≡ mastersDid (stepsOf l c put most x) (replicate 2 masterNothing)
-  pub devices-are : r .devices ≡ devicesDid (heres (l .devices)) (stepsOf l c put most x) (replicate 6 deviceNothing)
+  pub sent-is : sent-after ≡ codesOf (heres (l .devices)) (stepsOf limit l c put most x) ++ drop (length (stepsOf limit l c put most x)) sent
+  pub bytes-sent : EachTick SendBytes (stepsOf limit l c put most x)
+  pub masters-are : r .masters ≡ mastersDid (stepsOf limit l c put most x) (replicate 2 masterNothing)
+  pub devices-are : r .devices ≡ devicesDid (heres (l .devices)) (stepsOf limit l c put most x) (replicate 6 deviceNothing)
 
-abbrev pub TicksAre : Link → Calls → List ℕ → ℕ
+abbrev pub TicksAre : ℕ → Link → Calls → List ℕ → ℕ
     → Lent (List (List ℕ)) → Lent (List (List ℕ)) → Lent (List (List ℕ)) → Lent (List (List ℕ)) → Ticked → Type 0
-TicksAre l c put most frames bytes contents sent r =
-    RunIs l c put most (rowsOf (before frames) (before bytes) (before contents)) (before sent) r
+TicksAre limit l c put most frames bytes contents sent r =
+    RunIs limit l c put most (rowsOf (before frames) (before bytes) (before contents)) (before sent) r
     (rowsOf (after frames) (after bytes) (after contents)) (after sent)

@@ -178,6 +178,7 @@ fn rows_each(frames: &[[u8; 284]], bytes: &[[u8; 255]], contents: &[[u8; 255]], 
 
 // The ticks, with link and calls taken apart. In each the devices tick from the last to the first, then the masters, and the line joins what they send in that order. `reader` is the line's, and ms_follow and ds_follow say who is known to have it: who heard in the last tick as it did.
 fn ticks_of(
+    limit: u8,
     masters: [Master; 2],
     devices: [Slot; 6],
     heard: Heard,
@@ -190,7 +191,7 @@ fn ticks_of(
     contents: &mut [[u8; 255]; 6],
     sent: &mut [[u16; 8]; 64],
 ) -> Ticked
-    ensures { λ r. ⌜ TicksAre (linkWith masters devices heard) (callsWith requests calls) (before put) most frames bytes contents sent r ⌝ }
+    ensures { λ r. ⌜ TicksAre limit (linkWith masters devices heard) (callsWith requests calls) (before put) most frames bytes contents sent r ⌝ }
 {
     rows_each(frames, bytes, contents, sent);
     let mut ms = masters;
@@ -241,6 +242,7 @@ fn ticks_of(
                         let same = at.device;
                         let did = ds_did[i];
                         let s = parties::device_tick(
+                            limit,
                             same,
                             line,
                             call,
@@ -287,6 +289,7 @@ fn ticks_of(
                     let same = ms[i];
                     let did = ms_did[i];
                     let s = parties::master_tick(
+                        limit,
                         same,
                         line,
                         call,
@@ -326,18 +329,24 @@ fn ticks_of(
     }
 }
 
-// The tick with these calls, and more without a call, so many in all and at most 64; they end behind a tick in which a host is told something. Row t of `sent` is what each party sent in tick t: the character, or 256. Each call names its data in what is put.
+// The most that is taken: so many ticks, and so many bytes of data in a host's call, the link's data limit.
+pub struct Most {
+    pub ticks: u16,
+    pub data: u8,
+}
+
+// The tick with these calls, and more without a call, so many in all and at most 64; they end behind a tick in which a host is told something. Row t of `sent` is what each party sent in tick t: the character, or 256. Each call names its data in what is put. The link does not hold its data limit: whoever started it with `link_start::start_limited` hands that limit on in every call, and whoever started it with `link_start::start` hands on 255.
 pub fn ticks(
+    most: Most,
     link: Link,
     calls: Calls,
     put: &[u8],
-    most: u16,
     frames: &mut [[u8; 284]; 8],
     bytes: &mut [[u8; 255]; 8],
     contents: &mut [[u8; 255]; 6],
     sent: &mut [[u16; 8]; 64],
 ) -> Ticked
-    ensures { λ r. ⌜ TicksAre link calls (before put) most frames bytes contents sent r ⌝ }
+    ensures { λ r. ⌜ TicksAre (most .data) link calls (before put) (most .ticks) frames bytes contents sent r ⌝ }
 {
     let masters = link.masters;
     let devices = link.devices;
@@ -345,13 +354,14 @@ pub fn ticks(
     let requests = calls.masters;
     let given = calls.devices;
     ticks_of(
+        most.data,
         masters,
         devices,
         line,
         requests,
         given,
         put,
-        most,
+        most.ticks,
         frames,
         bytes,
         contents,

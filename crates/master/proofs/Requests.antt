@@ -11,7 +11,7 @@ use Rattle.base.proofs.Choices.{inside-low, inside-high, if-is-false}
 use Rattle.base.specs.Store.{stored}
 use Rattle.base.specs.Refusal.{number, Called, accepted, refused}
 use Rattle.base.specs.declared.Refusal.{Refusal}
-use Rattle.frame.specs.Limits.{fewestPreambles, mostPreambles, largestPolling, mostData}
+use Rattle.frame.specs.Limits.{fewestPreambles, mostPreambles, largestPolling}
 use Rattle.frame.specs.Address.{addressLength, largestWith, addressAbove}
 use Rattle.frame.specs.Delimiter.{stx, isType}
 use Rattle.frame.specs.Frame.{tooFew, frameBytes, frameLength}
@@ -66,12 +66,12 @@ module _ (preamble : ℕ) (h : Header) (bytes frame after : List ℕ) (r : Writt
       absurd (omega arith)
 
 -- an STX that no test refuses can be written
-pub stx-fits : (polling preamble : ℕ) (h : Header) (count : ℕ) (s : Bool) → Fitting polling preamble → s ≡ addressAbove polling h → s ≡ false → count ≤ 255 → h .frame ≡ stx → Fits preamble h count
-stx-fits polling preamble h count s w q f n t = record {
+pub stx-fits : (limit polling preamble : ℕ) (h : Header) (count : ℕ) (s : Bool) → limit < 256 → Fitting polling preamble → s ≡ addressAbove polling h → s ≡ false → count ≤ limit → h .frame ≡ stx → Fits preamble h count
+stx-fits limit polling preamble h count s b w q f n t = record {
   preamble-low = w .preamble-low;
   preamble-high = w .preamble-high;
   address-high = omega (arith, ltb-false (largestWith polling (h .long)) (h .address) (sym q ∙ f), largest-with polling largestPolling (h .long) (w .polling-high));
-  count-high = n;
+  count-high = omega (arith, n, b);
   enough = ap (λ (n : ℕ). tooFew n count) t ∙ stx-enough count;
   typed = ap isType t ∙ stx-typed;
 }
@@ -96,12 +96,12 @@ module _ (m : Master) (q : Request) (bytes frame : List ℕ) where
       record { result = result; buffer = p .buffer ∙ ap (λ (x : Called Master). askedFrame x frame put) result }
 
   -- behind preamble and revision, what the rest comes to
-  pub from-address : (polling : ℕ) (a b : Bool) (x : MasterRequested) (after : List ℕ) → a ≡ (q .preamble outside fewestPreambles to mostPreambles) → a ≡ false → b ≡ (q .revision outside 3 to 7) → b ≡ false
-      → polling ≡ pollingUpTo (q .revision) → UpToIs polling m q bytes frame x after → RequestIs m q bytes frame x after
+  pub from-address : (limit polling : ℕ) (a b : Bool) (x : MasterRequested) (after : List ℕ) → a ≡ (q .preamble outside fewestPreambles to mostPreambles) → a ≡ false → b ≡ (q .revision outside 3 to 7) → b ≡ false
+      → polling ≡ pollingUpTo (q .revision) → UpToIs limit polling m q bytes frame x after → RequestIs limit m q bytes frame x after
   unfolding requested
-  from-address polling a b x after p e r f same is =
+  from-address limit polling a b x after p e r f same is =
       subst (λ (c : Called Master). AskedIs c m q bytes frame x after)
-      (ap (λ (n : ℕ). requestedUpTo n mostData m q (length bytes)) same
+      (ap (λ (n : ℕ). requestedUpTo n limit m q (length bytes)) same
       ∙ sym (if-is-false (q .preamble outside fewestPreambles to mostPreambles) _ _ (sym p ∙ e) ∙ if-is-false (q .revision outside 3 to 7) _ _ (sym r ∙ f))) is
 
 pub ruleset requests = (stx-fits, is-refused, is-accepted)

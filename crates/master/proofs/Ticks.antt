@@ -32,18 +32,18 @@ use Rattle.master.specs.declared.MasterTicked.{MasterTicked}
 use Rattle.master.specs.declared.RequestFields.{RequestFields}
 
 -- a request that was answered
-module _ (m : Master) (w : RequestFields) (put frame after : List ℕ) (r : MasterRequested) where
+module _ (limit : ℕ) (m : Master) (w : RequestFields) (put frame after : List ℕ) (r : MasterRequested) where
   q : Request
   q = asks w
 
   stx : List ℕ
   stx = frameBytes (q .preamble) (requestHeader m q) put
 
-  module _ (is : RequestIs m (asks w) put frame r after) where
-    pub call-accepted : (n : Master) → r ≡ MasterRequested.Accepted n → MasterCalledIs m (MasterHostCall.Requests w) put frame (record { master = n; result = CallStatus.Taken }) after
+  module _ (is : RequestIs limit m (asks w) put frame r after) where
+    pub call-accepted : (n : Master) → r ≡ MasterRequested.Accepted n → MasterCalledIs limit m (MasterHostCall.Requests w) put frame (record { master = n; result = CallStatus.Taken }) after
     unfolding q stx
     call-accepted n e =
-        let called : requested 255 m q (length put) ≡ accepted n = sym (is .result) ∙ ap asked e in
+        let called : requested limit m q (length put) ≡ accepted n = sym (is .result) ∙ ap asked e in
         let buffer : stored frame 0 stx ≡ after = sym (is .buffer ∙ ap (λ (c : Called Master). askedFrame c frame stx) called) in
         record {
           goes = λ told event bytes.
@@ -51,10 +51,10 @@ module _ (m : Master) (w : RequestFields) (put frame after : List ℕ) (r : Mast
               ∙ ap (λ (f : List ℕ). masterSent (masterSends n f) f bytes told was-taken) buffer;
         }
 
-    pub call-refused : (why : Refusal) → r ≡ MasterRequested.Refused why → MasterCalledIs m (MasterHostCall.Requests w) put frame (record { master = m; result = CallStatus.Refused why }) after
+    pub call-refused : (why : Refusal) → r ≡ MasterRequested.Refused why → MasterCalledIs limit m (MasterHostCall.Requests w) put frame (record { master = m; result = CallStatus.Refused why }) after
     unfolding q stx
     call-refused why e =
-        let called : requested 255 m q (length put) ≡ refused (number why) = sym (is .result) ∙ ap asked e in
+        let called : requested limit m q (length put) ≡ refused (number why) = sym (is .result) ∙ ap asked e in
         let buffer : frame ≡ after = sym (is .buffer ∙ ap (λ (c : Called Master). askedFrame c frame stx) called) in
         record {
           goes = λ told event bytes.
@@ -63,16 +63,16 @@ module _ (m : Master) (w : RequestFields) (put frame after : List ℕ) (r : Mast
         }
 
 -- by the call
-pub call-none : (m : Master) (call : MasterHostCall) (put frame : List ℕ) (r : MasterCallTaken) → call ≡ MasterHostCall.Nothing → r ≡ uncalled m → MasterCalledIs m call put frame r frame
-call-none m call put frame r e p = record {
+pub call-none : (limit : ℕ) (m : Master) (call : MasterHostCall) (put frame : List ℕ) (r : MasterCallTaken) → call ≡ MasterHostCall.Nothing → r ≡ uncalled m → MasterCalledIs limit m call put frame r frame
+call-none limit m call put frame r e p = record {
   goes = λ told event bytes.
-      ap (λ (c : MasterHostCall). masterCalls 255 (tells m told event) (callOf c put) frame bytes) e
+      ap (λ (c : MasterHostCall). masterCalls limit (tells m told event) (callOf c put) frame bytes) e
       ∙ ap (λ (x : MasterCallTaken). masterSent (masterSends (x .master) frame) frame bytes told (resultOf (x .result))) (sym p);
 }
 
-pub call-some : (m : Master) (call : MasterHostCall) (w : RequestFields) (put frame after : List ℕ) (r : MasterCallTaken) → call ≡ MasterHostCall.Requests w → MasterCalledIs m (MasterHostCall.Requests w) put frame r after → MasterCalledIs m call put frame r after
-call-some m call w put frame after r e p = record {
-  goes = λ told event bytes. ap (λ (c : MasterHostCall). masterCalls 255 (tells m told event) (callOf c put) frame bytes) e ∙ p .goes told event bytes;
+pub call-some : (limit : ℕ) (m : Master) (call : MasterHostCall) (w : RequestFields) (put frame after : List ℕ) (r : MasterCallTaken) → call ≡ MasterHostCall.Requests w → MasterCalledIs limit m (MasterHostCall.Requests w) put frame r after → MasterCalledIs limit m call put frame r after
+call-some limit m call w put frame after r e p = record {
+  goes = λ told event bytes. ap (λ (c : MasterHostCall). masterCalls limit (tells m told event) (callOf c put) frame bytes) e ∙ p .goes told event bytes;
 }
 
 -- a message and a master are what their fields make of them
@@ -84,19 +84,19 @@ pub master-same : (m : Master) (r : Receiver) (n : Noted) (g : Message) → r �
 master-same m r n g p q e = λ i. masterWith m (p i) (m .burst) (q i) (m .timer) (e i)
 
 -- the whole tick
-pub tick-is : (m own : Master) (heard : Heard) (call : MasterHostCall) (put frame bytes frame-after bytes-after : List ℕ) (t : MasterTaken) (c : MasterCallTaken) (s : MasterSent)
-    → own ≡ m → MasterTakeIs own heard bytes t bytes-after → MasterCalledIs (t .master) call put frame c frame-after → s ≡ masterSends (c .master) frame-after
-    → MasterTickIs m heard call put frame bytes (record { master = s .master; sent = s .sent; told = t .told; event = t .event; result = c .result }) frame-after bytes-after
+pub tick-is : (limit : ℕ) (m own : Master) (heard : Heard) (call : MasterHostCall) (put frame bytes frame-after bytes-after : List ℕ) (t : MasterTaken) (c : MasterCallTaken) (s : MasterSent)
+    → own ≡ m → MasterTakeIs own heard bytes t bytes-after → MasterCalledIs limit (t .master) call put frame c frame-after → s ≡ masterSends (c .master) frame-after
+    → MasterTickIs limit m heard call put frame bytes (record { master = s .master; sent = s .sent; told = t .told; event = t .event; result = c .result }) frame-after bytes-after
 unfolding masterTick
-tick-is m own heard call put frame bytes frame-after bytes-after t c s same p q e =
+tick-is limit m own heard call put frame bytes frame-after bytes-after t c s same p q e =
     let takes : t ≡ masterTakes m heard bytes-after = p .takes ∙ ap (λ (x : Master). masterTakes x heard bytes-after) same in
     let buffer : bytes-after ≡ heardBytes m heard bytes = p .buffer ∙ ap (λ (x : Master). heardBytes x heard bytes) same in
     record {
       step =
           ap (λ (x : MasterSent). masterSent x frame-after bytes-after (t .told) (resultOf (c .result))) e
           ∙ sym (q .goes (t .told) (t .event) bytes-after)
-          ∙ ap (λ (x : MasterTaken). masterCalls 255 x (callOf call put) frame bytes-after) takes
-          ∙ ap (λ (b : List ℕ). masterCalls 255 (masterTakes m heard b) (callOf call put) frame b) buffer;
+          ∙ ap (λ (x : MasterTaken). masterCalls limit x (callOf call put) frame bytes-after) takes
+          ∙ ap (λ (b : List ℕ). masterCalls limit (masterTakes m heard b) (callOf call put) frame b) buffer;
       found = ap (λ (x : MasterTaken). x .event) takes;
     }
 

@@ -7,7 +7,6 @@ use mathlib.Core.List.{List}
 use lib.ListN.{length}
 use Rattle.base.specs.Refusal.{number, Called, accepted, refused}
 use Rattle.base.specs.Store.{stored}
-use Rattle.frame.specs.Limits.{mostData}
 use Rattle.frame.specs.Frame.{frameBytes}
 use Rattle.turns.specs.Party.{Request}
 use Rattle.turns.specs.Master.{requestHeader, requested, requestedUpTo}
@@ -41,9 +40,10 @@ pub record AskedIs (c : Called Master) (m : Master) (q : Request) (bytes frame :
   pub result : asked r ≡ c
   pub buffer : after ≡ askedFrame c frame (frameBytes (q .preamble) (requestHeader m q) bytes)
 
-abbrev pub RequestIs : Master → Request → List ℕ → List ℕ → MasterRequested → List ℕ → Type 0
-RequestIs m q bytes frame r after = AskedIs (requested mostData m q (length bytes)) m q bytes frame r after
+-- `limit` is the link's data limit
+abbrev pub RequestIs : ℕ → Master → Request → List ℕ → List ℕ → MasterRequested → List ℕ → Type 0
+RequestIs limit m q bytes frame r after = AskedIs (requested limit m q (length bytes)) m q bytes frame r after
 
 -- from the address on, where polling addresses go up to `polling`
-abbrev pub UpToIs : ℕ → Master → Request → List ℕ → List ℕ → MasterRequested → List ℕ → Type 0
-UpToIs polling m q bytes frame r after = AskedIs (requestedUpTo polling mostData m q (length bytes)) m q bytes frame r after
+abbrev pub UpToIs : ℕ → ℕ → Master → Request → List ℕ → List ℕ → MasterRequested → List ℕ → Type 0
+UpToIs limit polling m q bytes frame r after = AskedIs (requestedUpTo polling limit m q (length bytes)) m q bytes frame r after

@@ -3,7 +3,6 @@
 use Prim.Native.Nat.{ℕ}
 use mathlib.Core.List.{List}
 use mathlib.Core.Path.{_≡_}
-use Rattle.frame.specs.Limits.{mostData}
 use Rattle.line.specs.declared.Event.{Event}
 use Rattle.line.specs.declared.Heard.{Heard}
 use Rattle.turns.specs.Master.{tells, masterTakes, masterSends}
@@ -33,13 +32,13 @@ abbrev pub uncalled : Master → MasterCallTaken
 uncalled m = record { master = m; result = CallStatus.Nothing }
 
 -- a call, whatever the tick told before it and whatever data it heard: `after` is the frame buffer behind the call
-pub record MasterCalledIs (m : Master) (call : MasterHostCall) (put frame : List ℕ) (r : MasterCallTaken) (after : List ℕ) : Type 0 where
+pub record MasterCalledIs (limit : ℕ) (m : Master) (call : MasterHostCall) (put frame : List ℕ) (r : MasterCallTaken) (after : List ℕ) : Type 0 where
   pub goes : (told : MasterTold) (event : Event) (bytes : List ℕ)
-      → masterCalls mostData (tells m told event) (callOf call put) frame bytes
+      → masterCalls limit (tells m told event) (callOf call put) frame bytes
       ≡ masterSent (masterSends (r .master) after) after bytes told (resultOf (r .result))
 
 -- a tick: what is sent, told and answered, the state and both lent buffers behind it; and each frame that its reader found
-pub record MasterTickIs (m : Master) (heard : Heard) (call : MasterHostCall) (put frame bytes : List ℕ) (r : MasterTicked)
+pub record MasterTickIs (limit : ℕ) (m : Master) (heard : Heard) (call : MasterHostCall) (put frame bytes : List ℕ) (r : MasterTicked)
     (frame-after bytes-after : List ℕ) : Type 0 where
-  pub step : stepOf r frame-after bytes-after ≡ masterTick mostData (sideOf m frame bytes) heard (callOf call put)
+  pub step : stepOf r frame-after bytes-after ≡ masterTick limit (sideOf m frame bytes) heard (callOf call put)
   pub found : r .event ≡ masterTakes m heard bytes-after .event

@@ -137,8 +137,9 @@ fn polling_up_to(revision: u8) -> u64
     63
 }
 
-// A request, from its address on, where polling addresses go up to the first parameter.
+// A request, from its address on, where polling addresses go up to the second parameter.
 fn request_up_to(
+    limit: u8,
     polling: u64,
     m: Master,
     q: RequestFields,
@@ -146,7 +147,7 @@ fn request_up_to(
     frame: &mut [u8; 284],
 ) -> MasterRequested
     requires { ⌜ Fitting polling (q .preamble) ⌝ }
-    ensures { λ r. ⌜ UpToIs polling m (asks q) (now (bytes .entry)) (now (frame .entry)) r (now (frame .exit)) ⌝ }
+    ensures { λ r. ⌜ UpToIs limit polling m (asks q) (now (bytes .entry)) (now (frame .entry)) r (now (frame .exit)) ⌝ }
 {
     let g = m.message;
     let stage = g.stage;
@@ -164,7 +165,7 @@ fn request_up_to(
     if command_refused(q.long, q.command) {
         return MasterRequested::Refused(Refusal::Command);
     }
-    if 255 < bytes.len() {
+    if (limit as usize) < bytes.len() {
         return MasterRequested::Refused(Refusal::DataLong);
     }
     if has_message(stage) {
@@ -174,9 +175,15 @@ fn request_up_to(
     MasterRequested::Accepted(with_message(m, h, length))
 }
 
-// A host's request: its STX is put into the lent frame buffer, or it is refused and the buffer stays as it was.
-pub fn request(m: Master, q: RequestFields, bytes: &[u8], frame: &mut [u8; 284]) -> MasterRequested
-    ensures { λ r. ⌜ RequestIs m (asks q) (now (bytes .entry)) (now (frame .entry)) r (now (frame .exit)) ⌝ }
+// A host's request, on a link with this data limit: its STX is put into the lent frame buffer, or it is refused and the buffer stays as it was.
+pub fn request(
+    limit: u8,
+    m: Master,
+    q: RequestFields,
+    bytes: &[u8],
+    frame: &mut [u8; 284],
+) -> MasterRequested
+    ensures { λ r. ⌜ RequestIs limit m (asks q) (now (bytes .entry)) (now (frame .entry)) r (now (frame .exit)) ⌝ }
 {
     if base::outside(q.preamble, 5, 20) {
         return MasterRequested::Refused(Refusal::PreambleLength);
@@ -185,7 +192,7 @@ pub fn request(m: Master, q: RequestFields, bytes: &[u8], frame: &mut [u8; 284])
         return MasterRequested::Refused(Refusal::Revision);
     }
     let polling = polling_up_to(q.revision);
-    request_up_to(polling, m, q, bytes, frame)
+    request_up_to(limit, polling, m, q, bytes, frame)
 }
 
 // What a master sends, and the master behind it.
@@ -356,10 +363,16 @@ pub fn start(profile: Profile, primary: bool, retries: u8) -> MasterStarted
     MasterStarted::Started(fresh_master(profile, primary, retries))
 }
 
-fn request_by(m: Master, q: RequestFields, put: &[u8], frame: &mut [u8; 284]) -> MasterCallTaken
-    ensures { λ r. ⌜ MasterCalledIs m (MasterHostCall.Requests q) (now (put .entry)) (now (frame .entry)) r (now (frame .exit)) ⌝ }
+fn request_by(
+    limit: u8,
+    m: Master,
+    q: RequestFields,
+    put: &[u8],
+    frame: &mut [u8; 284],
+) -> MasterCallTaken
+    ensures { λ r. ⌜ MasterCalledIs limit m (MasterHostCall.Requests q) (now (put .entry)) (now (frame .entry)) r (now (frame .exit)) ⌝ }
 {
-    let r = request(m, q, put, frame);
+    let r = request(limit, m, q, put, frame);
     match r {
         MasterRequested::Accepted(n) => MasterCallTaken {
             master: n,
@@ -381,12 +394,18 @@ fn no_call(m: Master) -> MasterCallTaken
     }
 }
 
-fn take_call(m: Master, call: MasterHostCall, put: &[u8], frame: &mut [u8; 284]) -> MasterCallTaken
-    ensures { λ r. ⌜ MasterCalledIs m call (now (put .entry)) (now (frame .entry)) r (now (frame .exit)) ⌝ }
+fn take_call(
+    limit: u8,
+    m: Master,
+    call: MasterHostCall,
+    put: &[u8],
+    frame: &mut [u8; 284],
+) -> MasterCallTaken
+    ensures { λ r. ⌜ MasterCalledIs limit m call (now (put .entry)) (now (frame .entry)) r (now (frame .exit)) ⌝ }
 {
     match call {
         MasterHostCall::Nothing => no_call(m),
-        MasterHostCall::Requests(q) => request_by(m, q, put, frame),
+        MasterHostCall::Requests(q) => request_by(limit, m, q, put, frame),
     }
 }
 
@@ -438,8 +457,9 @@ fn same_master(m: Master) -> Master
     }
 }
 
-// A tick. Lent are the data of a request, the buffer that holds the master's STX and the one for the data of the frame that it hears.
+// A tick, on a link with this data limit. Lent are the data of a request, the buffer that holds the master's STX and the one for the data of the frame that it hears.
 pub fn tick(
+    limit: u8,
     m: Master,
     heard: Heard,
     call: MasterHostCall,
@@ -447,14 +467,14 @@ pub fn tick(
     frame: &mut [u8; 284],
     bytes: &mut [u8; 255],
 ) -> MasterTicked
-    ensures { λ r. ⌜ MasterTickIs m heard call (now (put .entry)) (now (frame .entry)) (now (bytes .entry)) r (now (frame .exit)) (now (bytes .exit)) ⌝ }
+    ensures { λ r. ⌜ MasterTickIs limit m heard call (now (put .entry)) (now (frame .entry)) (now (bytes .entry)) r (now (frame .exit)) (now (bytes .exit)) ⌝ }
 {
     let own = same_master(m);
     let t = hears::take(own, heard, bytes);
     let taken = t.master;
     let told = t.told;
     let event = t.event;
-    let c = take_call(taken, call, put, frame);
+    let c = take_call(limit, taken, call, put, frame);
     let called = c.master;
     let result = c.result;
     let s = send(called, frame);

@@ -1,5 +1,5 @@
--- `unpacked (packed m)` is m, for every master whose numbers are values of their types.
-use Prim.Native.Nat.{ℕ}
+-- `unpacked (packed limit m)` is m, for every master whose numbers are values of their types.
+use Prim.Native.Nat.{ℕ, _<_, _^_}
 use mathlib.Core.Bool.{Bool}
 use mathlib.Core.List.{List, _++_}
 use mathlib.Core.Path.{_≡_, refl, sym, ap, subst, _∙_}
@@ -19,7 +19,7 @@ use Rattle.words.specs.Fields.{numberAt, flagAt}
 use Rattle.words.specs.Reader.{profileAt, receiverWords, receiverAt}
 use Rattle.words.proofs.Puts.{part-behind, all-put}
 use Rattle.words.proofs.Kept.{flag-kept, number-kept, case-kept, header-kept, profile-kept, receiver-kept}
-use Rattle.master_c.specs.Words.{stageWord, stageBy, stageOf, messageWords, messageAt, timerAt, notedAt, frontWords, endWords, packed, unpacked, StageFits, MessageFits, TimerFits, MasterFits}
+use Rattle.master_c.specs.Words.{stageWord, stageBy, stageOf, messageWords, messageAt, timerAt, notedAt, frontWords, endWords, packed, unpacked, limitAt, StageFits, MessageFits, TimerFits, MasterFits}
 
 pub stage-kept : (s : Stage) → StageFits s → stageOf (stageWord s) ≡ s
 unfolding if_then_else_
@@ -36,8 +36,8 @@ message-kept g f = λ i. record {
   attempts = number-kept 16 (g .attempts) (f .attempts) i;
 }
 
-pub master-kept : (m : Master) → MasterFits m → unpacked (packed m) ≡ m
-master-kept m f = λ i. record {
+pub master-kept : (limit : ℕ) (m : Master) → MasterFits m → unpacked (packed limit m) ≡ m
+master-kept limit m f = λ i. record {
   primary = flag-kept (m .primary) i;
   profile = profile-kept (m .profile) (f .profile) i;
   retries = number-kept 8 (m .retries) (f .retries) i;
@@ -58,17 +58,20 @@ pub stage-shown : (s q : Stage) → s ≡ q → StageFits q → StageFits s
 stage-shown s q e f = subst StageFits (sym e) f
 
 -- packed, part by part
-pub packed-is : (m : Master) (before first second words front reader end : List ℕ)
-    → front ≡ frontWords m → reader ≡ receiverWords (m .receiver) → end ≡ endWords m
-    → first ≡ stored before 0 front → second ≡ stored first 12 reader → words ≡ stored second 28 end → length before ≡ 39
-    → words ≡ packed m
-packed-is m before first second words front reader end f r e p q t n =
+pub limit-kept : (limit : ℕ) (m : Master) → limit < 2 ^ 8 → limitAt (packed limit m) ≡ limit
+limit-kept limit m f = number-kept 8 limit f
+
+pub packed-is : (limit : ℕ) (m : Master) (before first second words front reader end : List ℕ)
+    → front ≡ frontWords m → reader ≡ receiverWords (m .receiver) → end ≡ endWords limit m
+    → first ≡ stored before 0 front → second ≡ stored first 12 reader → words ≡ stored second 28 end → length before ≡ 40
+    → words ≡ packed limit m
+packed-is limit m before first second words front reader end f r e p q t n =
     let one : first ≡ stored before 0 (frontWords m) = p ∙ ap (λ (l : List ℕ). stored before 0 l) f in
     let two : second ≡ stored before 0 (frontWords m ++ receiverWords (m .receiver)) =
     part-behind 12 before first second (frontWords m) (receiverWords (m .receiver)) one refl (q ∙ ap (λ (l : List ℕ). stored first 12 l) r) in
-    let three : words ≡ stored before 0 ((frontWords m ++ receiverWords (m .receiver)) ++ endWords m) =
-    part-behind 28 before second words (frontWords m ++ receiverWords (m .receiver)) (endWords m) two refl (t ∙ ap (λ (l : List ℕ). stored second 28 l) e) in
-    all-put before words (packed m) three (sym n)
+    let three : words ≡ stored before 0 ((frontWords m ++ receiverWords (m .receiver)) ++ endWords limit m) =
+    part-behind 28 before second words (frontWords m ++ receiverWords (m .receiver)) (endWords limit m) two refl (t ∙ ap (λ (l : List ℕ). stored second 28 l) e) in
+    all-put before words (packed limit m) three (sym n)
 
 -- unpacked, part by part
 pub unpacked-is : (words : List ℕ) (primary deaf burst : Bool) (profile : Profile) (retries : ℕ) (timer : Timer) (receiver : Receiver) (noted : Noted) (message : Message)

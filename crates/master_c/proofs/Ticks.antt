@@ -1,8 +1,7 @@
 -- A tick by what its parts gave, and one with what was made of its arguments.
-use Prim.Native.Nat.{ℕ}
+use Prim.Native.Nat.{ℕ, _<_, _^_}
 use mathlib.Core.List.{List}
 use mathlib.Core.Path.{_≡_, ap, subst, _∙_}
-use Rattle.frame.specs.Limits.{mostData}
 use Rattle.line.specs.declared.Heard.{Heard}
 use Rattle.turns.specs.Link.{MasterStep, masterTick}
 use Rattle.turns.specs.Master.{masterTakes}
@@ -13,21 +12,22 @@ use Rattle.master.specs.Tick.{callOf, sideOf, MasterTickIs}
 use Rattle.master.specs.declared.MasterHostCall.{MasterHostCall}
 use Rattle.master.specs.declared.MasterTicked.{MasterTicked}
 use Rattle.words.specs.Numbers.{tickNumbers, sentNumber, callNumber}
-use Rattle.master_c.specs.Words.{packed, unpacked, MasterFits}
+use Rattle.master_c.specs.Words.{packed, unpacked, limitAt, MasterFits}
 use Rattle.master_c.specs.Tick.{toldAttempts, StepIs}
-use Rattle.master_c.proofs.Kept.{master-kept}
+use Rattle.master_c.proofs.Kept.{master-kept, limit-kept}
 
 -- a tick of the master that the words were
-pub tick-is : (before frame bytes : List ℕ) (m : Master) (heard : Heard) (call : MasterHostCall) (put : List ℕ) (t : MasterTicked) (frame-after bytes-after words results : List ℕ) (sent told attempts r : ℕ)
-    → m ≡ unpacked before → MasterTickIs m heard call put frame bytes t frame-after bytes-after → MasterFits (t .master) → words ≡ packed (t .master)
+pub tick-is : (limit : ℕ) (before frame bytes : List ℕ) (m : Master) (heard : Heard) (call : MasterHostCall) (put : List ℕ) (t : MasterTicked) (frame-after bytes-after words results : List ℕ) (sent told attempts r : ℕ)
+    → limit ≡ limitAt before → limit < 2 ^ 8 → m ≡ unpacked before → MasterTickIs limit m heard call put frame bytes t frame-after bytes-after → MasterFits (t .master) → words ≡ packed limit (t .master)
     → results ≡ tickNumbers sent told attempts (t .event) → sent ≡ sentNumber (t .sent) → told ≡ masterTells (t .told) .number → attempts ≡ toldAttempts (t .told)
     → r ≡ callNumber (resultOf (t .result))
-    → StepIs (masterTick mostData (sideOf (unpacked before) frame bytes) heard (callOf call put)) (masterTakes (unpacked before) heard bytes-after .event) words frame-after bytes-after results r
-tick-is before frame bytes m heard call put t frame-after bytes-after words results sent told attempts r d v f w n a b e q =
-    let step : _ = v .step ∙ ap (λ (x : Master). masterTick mostData (sideOf x frame bytes) heard (callOf call put)) d in
+    → StepIs (limitAt before) (masterTick (limitAt before) (sideOf (unpacked before) frame bytes) heard (callOf call put)) (masterTakes (unpacked before) heard bytes-after .event) words frame-after bytes-after results r
+tick-is limit before frame bytes m heard call put t frame-after bytes-after words results sent told attempts r same small d v f w n a b e q =
+    let step : _ = v .step ∙ (λ i. masterTick (same i) (sideOf (d i) frame bytes) heard (callOf call put)) in
     record {
-      words-are = w ∙ ap (λ (s : MasterStep). packed (s .side .master)) step;
-      unpacked-is = ap unpacked w ∙ master-kept (t .master) f ∙ ap (λ (s : MasterStep). s .side .master) step;
+      words-are = w ∙ (λ i. packed (same i) (step i .side .master));
+      limit-is = ap limitAt w ∙ limit-kept limit (t .master) small ∙ same;
+      unpacked-is = ap unpacked w ∙ master-kept limit (t .master) f ∙ ap (λ (s : MasterStep). s .side .master) step;
       frame-is = ap (λ (s : MasterStep). s .side .frame) step;
       bytes-are = ap (λ (s : MasterStep). s .side .bytes) step;
       results-are = n ∙ (λ i. tickNumbers
@@ -40,7 +40,7 @@ tick-is before frame bytes m heard call put t frame-after bytes-after words resu
 
 abbrev Steps : List ℕ → List ℕ → List ℕ → List ℕ → List ℕ → List ℕ → List ℕ → List ℕ → ℕ → Heard → MasterHostCall → Type 0
 Steps before frame bytes put words frame-after bytes-after results r heard call =
-    StepIs (masterTick mostData (sideOf (unpacked before) frame bytes) heard (callOf call put)) (masterTakes (unpacked before) heard bytes-after .event) words frame-after bytes-after results r
+    StepIs (limitAt before) (masterTick (limitAt before) (sideOf (unpacked before) frame bytes) heard (callOf call put)) (masterTakes (unpacked before) heard bytes-after .event) words frame-after bytes-after results r
 
 pub tick-called : (before frame bytes put words frame-after bytes-after results : List ℕ) (r : ℕ) (h heard : Heard) (c call : MasterHostCall) → h ≡ heard → c ≡ call
     → Steps before frame bytes put words frame-after bytes-after results r h c → Steps before frame bytes put words frame-after bytes-after results r heard call

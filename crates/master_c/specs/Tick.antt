@@ -6,7 +6,6 @@ use mathlib.Core.List.{List}
 use mathlib.Core.Path.{_≡_}
 use Rattle.base.specs.Choice.{if_then_else_}
 use Rattle.base.specs.Lent.{Lent, before, after}
-use Rattle.frame.specs.Limits.{mostData}
 use Rattle.line.specs.declared.Event.{Event}
 use Rattle.line.specs.declared.Event.the-variants.{Frame}
 use Rattle.line.specs.declared.Heard.{Heard}
@@ -18,7 +17,7 @@ use Rattle.turns.specs.declared.MasterTold.the-variants.{Nothing, Answered, Giv
 use Rattle.master.specs.Tick.{callOf, sideOf}
 use Rattle.master.specs.declared.MasterHostCall.{MasterHostCall}
 use Rattle.words.specs.Numbers.{tickNumbers, sentNumber, callNumber}
-use Rattle.master_c.specs.Words.{packed, unpacked}
+use Rattle.master_c.specs.Words.{packed, unpacked, limitAt}
 
 -- the host's request, field by field, or none
 abbrev pub requestOf : Bool → ℕ → ℕ → Bool → ℕ → ℕ → MasterHostCall
@@ -33,8 +32,9 @@ toldAttempts (GivenUp n) = n
 toldAttempts BroadcastSent = 0
 
 -- what a call leaves behind a tick: the words and both lent buffers, the results and what it returns
-pub record StepIs (s : MasterStep) (event : Event) (words frame bytes results : List ℕ) (r : ℕ) : Type 0 where
-  pub words-are : words ≡ packed (s .side .master)
+pub record StepIs (limit : ℕ) (s : MasterStep) (event : Event) (words frame bytes results : List ℕ) (r : ℕ) : Type 0 where
+  pub words-are : words ≡ packed limit (s .side .master)
+  pub limit-is : limitAt words ≡ limit
   pub unpacked-is : unpacked words ≡ s .side .master
   pub frame-is : frame ≡ s .side .frame
   pub bytes-are : bytes ≡ s .side .bytes
@@ -45,7 +45,8 @@ pub record StepIs (s : MasterStep) (event : Event) (words frame bytes results : 
 abbrev pub MasterTicks : Lent (List ℕ) → Lent (List ℕ) → Lent (List ℕ) → Heard → MasterHostCall → Lent (List ℕ) → Lent (List ℕ) → ℕ → Type 0
 MasterTicks words frame bytes heard call put results r =
     StepIs
-    (masterTick mostData (sideOf (unpacked (before words)) (before frame) (before bytes)) heard (callOf call (before put)))
+    (limitAt (before words))
+    (masterTick (limitAt (before words)) (sideOf (unpacked (before words)) (before frame) (before bytes)) heard (callOf call (before put)))
     (masterTakes (unpacked (before words)) heard (after bytes) .event)
     (after words) (after frame) (after bytes) (after results) r
 

@@ -1,5 +1,5 @@
 -- How the code stands for what is to be believed.
--- A master as 39 words of 64 bits, one for each field, in the order of `packed`. The words of a program in C are some master, whatever they hold; proofs/Kept.antt says that `unpacked (packed m)` is m, for every master whose numbers are within their types (`MasterFits`). That is every master that the code holds: its fields have these types.
+-- A master and its data limit as 40 words of 64 bits, one for each field, in the order of `packed`. The words of a program in C are some master, whatever they hold; proofs/Kept.antt says that `unpacked (packed limit m)` is m, for every master whose numbers are within their types (`MasterFits`). That is every master that the code holds: its fields have these types.
 use Prim.Native.Nat.{ℕ, _+_, _*_, _/_, _%_, _^_, _<_}
 use mathlib.Core.List.{List, [], _∷_, _++_}
 use Rattle.base.specs.Choice.{if_then_else_, _=?_}
@@ -60,12 +60,16 @@ frontWords m =
     m .timer .quiet ∷
     [])
 
--- the address that BURST was set by, and the message: 11 words, behind the reader's 16
-abbrev pub endWords : Master → List ℕ
-endWords m = flagWord (m .noted .long) ∷ m .noted .address ∷ messageWords (m .message)
+-- the address that BURST was set by, the message and the data limit: 12 words, behind the reader's 16
+abbrev pub endWords : ℕ → Master → List ℕ
+endWords limit m = flagWord (m .noted .long) ∷ m .noted .address ∷ messageWords (m .message) ++ (limit ∷ [])
 
-abbrev pub packed : Master → List ℕ
-packed m = frontWords m ++ (receiverWords (m .receiver) ++ endWords m)
+abbrev pub packed : ℕ → Master → List ℕ
+packed limit m = frontWords m ++ (receiverWords (m .receiver) ++ endWords limit m)
+
+-- document 02, item 12: the data limit that it was started with
+abbrev pub limitAt : List ℕ → ℕ
+limitAt words = numberAt 8 words 39
 
 abbrev pub unpacked : List ℕ → Master
 unpacked words = record {

@@ -13,7 +13,7 @@ ghost use mathlib.Core.Path.{_≡_};
 ghost use Rattle.base.specs.Lent.{before, after};
 ghost use Rattle.recording.specs.Recording.{heardOf};
 ghost use Rattle.turns.specs.Told.{masterTells};
-ghost use Rattle.master_c.specs.Words.{stageWord, stageBy, stageOf, messageAt, timerAt, notedAt, frontWords, endWords, packed, unpacked};
+ghost use Rattle.master_c.specs.Words.{stageWord, stageBy, stageOf, messageAt, timerAt, notedAt, frontWords, endWords, packed, unpacked, limitAt};
 ghost use Rattle.master_c.specs.Words.{StageFits, MessageFits, TimerFits, MasterFits};
 ghost use Rattle.master_c.specs.Tick.{toldAttempts, requestOf, MasterTicks};
 
@@ -85,7 +85,7 @@ fn noted_at(words: &[u64], place: u16) -> Noted
 }
 
 // The master that some words are.
-fn unpack(words: &[u64; 39]) -> Master
+fn unpack(words: &[u64; 40]) -> Master
     ensures { λ m. ⌜ m ≡ unpacked (before words) ⌝ }
 {
     let profile = words::profile_at(words, 1);
@@ -127,8 +127,8 @@ fn front_words(m: Master) -> [u64; 12]
     ]
 }
 
-fn end_words(m: Master) -> [u64; 11]
-    ensures { λ r. ⌜ r ≡ endWords m ⌝ }
+fn end_words(limit: u8, m: Master) -> [u64; 12]
+    ensures { λ r. ⌜ r ≡ endWords limit m ⌝ }
 {
     let n = m.noted;
     let g = m.message;
@@ -146,25 +146,37 @@ fn end_words(m: Master) -> [u64; 11]
         stage_word(stage),
         g.length as u64,
         g.attempts as u64,
+        limit as u64,
     ]
 }
 
-// The words of a master.
-pub fn pack(words: &mut [u64; 39], m: Master)
-    ensures { λ _. ⌜ after words ≡ packed m ⌝ }
+// The words of a master and its data limit.
+pub fn pack(words: &mut [u64; 40], limit: u8, m: Master)
+    ensures { λ _. ⌜ after words ≡ packed limit m ⌝ }
 {
     let r = m.receiver;
     let front = front_words(m);
     let reader = words::receiver_words(r);
-    let end = end_words(m);
+    let end = end_words(limit, m);
     words::put(words, 0, &front);
     words::put(words, 12, &reader);
     words::put(words, 28, &end);
 }
 
-// The next five do nothing. The contract of each says that the numbers of a value are within their types, which the prover knows of a parameter; `master-kept` needs it.
+// The data limit that some words hold.
+fn limit_at(words: &[u64; 40]) -> u8
+    ensures { λ r. ⌜ r ≡ limitAt (before words) ⌝ }
+{
+    words::u8_at(words, 39)
+}
+
+// The next six do nothing. The contract of each says that the numbers of a value are within their types, which the prover knows of a parameter; `master-kept` needs it.
 fn u16_fits(n: u16)
     ensures { λ _. ⌜ n < 2 ^ 16 ⌝ }
+{}
+
+fn limit_fits(limit: u8)
+    ensures { λ _. ⌜ limit < 2 ^ 8 ⌝ }
 {}
 
 fn stage_fits(stage: Stage)
@@ -228,7 +240,7 @@ fn told_attempts(told: MasterTold) -> u64
 
 // A tick of the master that the words are. Lent are the data of a request, the buffer that holds the master's STX and the one for the data of the frame that it hears.
 fn tick(
-    words: &mut [u64; 39],
+    words: &mut [u64; 40],
     frame: &mut [u8; 284],
     bytes: &mut [u8; 255],
     heard: Heard,
@@ -239,14 +251,16 @@ fn tick(
     ensures { λ r. ⌜ MasterTicks words frame bytes heard call put results r ⌝ }
 {
     let m = unpack(words);
-    let t = master::tick(m, heard, call, put, frame, bytes);
+    let limit = limit_at(words);
+    let t = master::tick(limit, m, heard, call, put, frame, bytes);
     let next = t.master;
     let sent = t.sent;
     let told = t.told;
     let event = t.event;
     let result = t.result;
     master_fits(next);
-    pack(words, next);
+    limit_fits(limit);
+    pack(words, limit, next);
     *results = words::tick_numbers(
         words::sent_number(sent),
         told_number(told),
@@ -281,7 +295,7 @@ fn request_of(
 // A tick of a master; gives 0, or the refusal's number of the request.
 #[no_mangle]
 pub extern "C" fn nengapiko_master_tick(
-    state: &mut [u64; 39],
+    state: &mut [u64; 40],
     frame: &mut [u8; 284],
     bytes: &mut [u8; 255],
     kind: u8,

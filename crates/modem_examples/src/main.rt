@@ -7,6 +7,7 @@ use master::RequestFields;
 use modem::Carried;
 use modem::Chip;
 use modem::Mark;
+use modem_party::Arrival;
 use party::CallStatus;
 use texts::put_bytes;
 use texts::put_decimal;
@@ -228,7 +229,11 @@ fn run(start: Master, frame: &mut [u8; 284], bytes: &mut [u8; 255]) {
         let tick = next;
         next += 1;
         let call = call_at(tick);
-        let b = modem_party::master_tick(x, carried, m, call, &[], frame, bytes);
+        let arrival = Arrival {
+            chip: x,
+            carried: carried,
+        };
+        let b = modem_party::master_tick(255, arrival, m, call, &[], frame, bytes);
         let ticked = b.ticked;
         let ended = b.ended;
         let sent = ended.carried;

@@ -2,7 +2,6 @@
 use Prim.Native.Nat.{ℕ}
 use mathlib.Core.List.{List}
 use mathlib.Core.Path.{_≡_, refl, sym, ap, subst, _∙_}
-use Rattle.frame.specs.Limits.{mostData}
 use Rattle.modem.specs.Chip.{arrives, tickEnds}
 use Rattle.modem.specs.Driver.{hears}
 use Rattle.modem.specs.declared.Carried.{Carried}
@@ -28,20 +27,20 @@ use Rattle.modem_party.proofs.Devices.{device-hears-not}
 pub says-at : (x : Chip) (p q : Sent) (r : Chip) → p ≡ q → r ≡ says x q → r ≡ says x p
 says-at x p q r e f = f ∙ ap (says x) (sym e)
 
-module _ (x : Chip) (w : Carried) (m : Master) (call : MC.MasterHostCall) (put frame bytes frame-after bytes-after : List ℕ) (z y : Chip) (g : ChipHeard) (t : MasterTicked) (e : TickEnded) where
-  pub master-behind : z ≡ arrives x w → g ≡ hears z → M.MasterTickIs m (g .heard) call put frame bytes t frame-after bytes-after → y ≡ says (g .chip) (t .sent) → e ≡ tickEnds y
-      → MasterBehindIs x w m call put frame bytes (record { ticked = t; ended = e }) frame-after bytes-after
+module _ (limit : ℕ) (x : Chip) (w : Carried) (m : Master) (call : MC.MasterHostCall) (put frame bytes frame-after bytes-after : List ℕ) (z y : Chip) (g : ChipHeard) (t : MasterTicked) (e : TickEnded) where
+  pub master-behind : z ≡ arrives x w → g ≡ hears z → M.MasterTickIs limit m (g .heard) call put frame bytes t frame-after bytes-after → y ≡ says (g .chip) (t .sent) → e ≡ tickEnds y
+      → MasterBehindIs limit x w m call put frame bytes (record { ticked = t; ended = e }) frame-after bytes-after
   master-behind p q i k n = record {
-    ticks = subst (λ (a : ChipHeard). M.MasterTickIs m (a .heard) call put frame bytes t frame-after bytes-after) (q ∙ ap hears p) i;
-    behind = made-behind (masterStep mostData) masterDeaf (master-hears-not mostData) x w (M.sideOf m frame bytes) (M.callOf call put) z y g (masterDone (M.stepOf t frame-after bytes-after)) e p q (ap masterDone (i .step)) k n;
+    ticks = subst (λ (a : ChipHeard). M.MasterTickIs limit m (a .heard) call put frame bytes t frame-after bytes-after) (q ∙ ap hears p) i;
+    behind = made-behind (masterStep limit) masterDeaf (master-hears-not limit) x w (M.sideOf m frame bytes) (M.callOf call put) z y g (masterDone (M.stepOf t frame-after bytes-after)) e p q (ap masterDone (i .step)) k n;
   }
 
-module _ (x : Chip) (w : Carried) (d : Device) (call : DC.DeviceHostCall) (put frame bytes contents frame-after bytes-after contents-after : List ℕ) (z y : Chip) (g : ChipHeard) (t : DeviceTicked) (e : TickEnded) where
-  pub device-behind : z ≡ arrives x w → g ≡ hears z → D.DeviceTickIs d (g .heard) call put frame bytes contents t frame-after bytes-after contents-after → y ≡ says (g .chip) (t .sent) → e ≡ tickEnds y
-      → DeviceBehindIs x w d call put frame bytes contents (record { ticked = t; ended = e }) frame-after bytes-after contents-after
+module _ (limit : ℕ) (x : Chip) (w : Carried) (d : Device) (call : DC.DeviceHostCall) (put frame bytes contents frame-after bytes-after contents-after : List ℕ) (z y : Chip) (g : ChipHeard) (t : DeviceTicked) (e : TickEnded) where
+  pub device-behind : z ≡ arrives x w → g ≡ hears z → D.DeviceTickIs limit d (g .heard) call put frame bytes contents t frame-after bytes-after contents-after → y ≡ says (g .chip) (t .sent) → e ≡ tickEnds y
+      → DeviceBehindIs limit x w d call put frame bytes contents (record { ticked = t; ended = e }) frame-after bytes-after contents-after
   device-behind p q i k n = record {
-    ticks = subst (λ (a : ChipHeard). D.DeviceTickIs d (a .heard) call put frame bytes contents t frame-after bytes-after contents-after) (q ∙ ap hears p) i;
-    behind = made-behind (deviceStep mostData) deviceDeaf (device-hears-not mostData) x w (D.sideOf d frame bytes contents) (D.callOf call put) z y g (deviceDone (D.stepOf t frame-after bytes-after contents-after)) e p q (ap deviceDone (i .step)) k n;
+    ticks = subst (λ (a : ChipHeard). D.DeviceTickIs limit d (a .heard) call put frame bytes contents t frame-after bytes-after contents-after) (q ∙ ap hears p) i;
+    behind = made-behind (deviceStep limit) deviceDeaf (device-hears-not limit) x w (D.sideOf d frame bytes contents) (D.callOf call put) z y g (deviceDone (D.stepOf t frame-after bytes-after contents-after)) e p q (ap deviceDone (i .step)) k n;
   }
 
 pub ruleset ticks = (refl, says-at, master-behind, device-behind)

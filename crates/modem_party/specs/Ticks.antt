@@ -4,7 +4,6 @@ use Prim.Native.Nat.{ℕ}
 use mathlib.Core.Bool.{Bool}
 use mathlib.Core.List.{List}
 use Rattle.base.specs.Lent.{Lent, before, after}
-use Rattle.frame.specs.Limits.{mostData}
 use Rattle.line.specs.declared.Heard.{Heard}
 use Rattle.modem.specs.Chip.{arrives}
 use Rattle.modem.specs.Driver.{hears}
@@ -50,17 +49,21 @@ DeviceSame limit = BehindSame (deviceStep limit) deviceDeaf
 
 -- ---- what a tick of the code promises: the party's tick, each frame that its reader found in it, and what holds of any party behind a chip
 
-pub record MasterBehindIs (x : Chip) (w : Carried) (m : Master) (call : MC.MasterHostCall) (put frame bytes : List ℕ) (r : MasterBehind) (frame-after bytes-after : List ℕ) : Type 0 where
-  pub ticks : M.MasterTickIs m (hears (arrives x w) .heard) call put frame bytes (r .ticked) frame-after bytes-after
-  pub behind : BehindIs (masterStep mostData) masterDeaf x w (M.sideOf m frame bytes) (M.callOf call put) (masterDone (M.stepOf (r .ticked) frame-after bytes-after)) (r .ended)
+pub record MasterBehindIs (limit : ℕ) (x : Chip) (w : Carried) (m : Master) (call : MC.MasterHostCall) (put frame bytes : List ℕ)
+    (r : MasterBehind) (frame-after bytes-after : List ℕ) : Type 0 where
+  pub ticks : M.MasterTickIs limit m (hears (arrives x w) .heard) call put frame bytes (r .ticked) frame-after bytes-after
+  pub behind : BehindIs (masterStep limit) masterDeaf x w (M.sideOf m frame bytes) (M.callOf call put)
+      (masterDone (M.stepOf (r .ticked) frame-after bytes-after)) (r .ended)
 
-abbrev pub MasterTicks : Chip → Carried → Master → MC.MasterHostCall → Lent (List ℕ) → Lent (List ℕ) → Lent (List ℕ) → MasterBehind → Type 0
-MasterTicks x w m call put frame bytes r = MasterBehindIs x w m call (before put) (before frame) (before bytes) r (after frame) (after bytes)
+abbrev pub MasterTicks : ℕ → Chip → Carried → Master → MC.MasterHostCall → Lent (List ℕ) → Lent (List ℕ) → Lent (List ℕ) → MasterBehind → Type 0
+MasterTicks limit x w m call put frame bytes r = MasterBehindIs limit x w m call (before put) (before frame) (before bytes) r (after frame) (after bytes)
 
-pub record DeviceBehindIs (x : Chip) (w : Carried) (d : Device) (call : DC.DeviceHostCall) (put frame bytes contents : List ℕ) (r : DeviceBehind) (frame-after bytes-after contents-after : List ℕ) : Type 0 where
-  pub ticks : D.DeviceTickIs d (hears (arrives x w) .heard) call put frame bytes contents (r .ticked) frame-after bytes-after contents-after
-  pub behind : BehindIs (deviceStep mostData) deviceDeaf x w (D.sideOf d frame bytes contents) (D.callOf call put) (deviceDone (D.stepOf (r .ticked) frame-after bytes-after contents-after)) (r .ended)
+pub record DeviceBehindIs (limit : ℕ) (x : Chip) (w : Carried) (d : Device) (call : DC.DeviceHostCall) (put frame bytes contents : List ℕ)
+    (r : DeviceBehind) (frame-after bytes-after contents-after : List ℕ) : Type 0 where
+  pub ticks : D.DeviceTickIs limit d (hears (arrives x w) .heard) call put frame bytes contents (r .ticked) frame-after bytes-after contents-after
+  pub behind : BehindIs (deviceStep limit) deviceDeaf x w (D.sideOf d frame bytes contents) (D.callOf call put)
+      (deviceDone (D.stepOf (r .ticked) frame-after bytes-after contents-after)) (r .ended)
 
-abbrev pub DeviceTicks : Chip → Carried → Device → DC.DeviceHostCall → Lent (List ℕ) → Lent (List ℕ) → Lent (List ℕ) → Lent (List ℕ) → DeviceBehind → Type 0
-DeviceTicks x w d call put frame bytes contents r =
-    DeviceBehindIs x w d call (before put) (before frame) (before bytes) (before contents) r (after frame) (after bytes) (after contents)
+abbrev pub DeviceTicks : ℕ → Chip → Carried → Device → DC.DeviceHostCall → Lent (List ℕ) → Lent (List ℕ) → Lent (List ℕ) → Lent (List ℕ) → DeviceBehind → Type 0
+DeviceTicks limit x w d call put frame bytes contents r =
+    DeviceBehindIs limit x w d call (before put) (before frame) (before bytes) (before contents) r (after frame) (after bytes) (after contents)

@@ -11,6 +11,12 @@ ghost use mathlib.Core.Path.{_≡_};
 ghost use Rattle.modem_party.specs.Behind.{says};
 ghost use Rattle.modem_party.specs.Ticks.{MasterTicks, DeviceTicks};
 
+// A chip, and what the line carried in the tick before.
+pub struct Arrival {
+    pub chip: Chip,
+    pub carried: Carried,
+}
+
 // A master behind a tick, and its chip with what goes out.
 pub struct MasterBehind {
     pub ticked: MasterTicked,
@@ -33,22 +39,24 @@ fn say(x: Chip, sent: Sent) -> Chip
     }
 }
 
-// A tick of a master behind a chip, with what the line carried in the tick before. Lent is what a master's tick is lent.
+// A tick of a master behind a chip, on a link with this data limit. Lent is what a master's tick is lent.
 pub fn master_tick(
-    x: Chip,
-    carried: Carried,
+    limit: u8,
+    arrival: Arrival,
     m: Master,
     call: master::MasterHostCall,
     put: &[u8],
     frame: &mut [u8; 284],
     bytes: &mut [u8; 255],
 ) -> MasterBehind
-    ensures { λ r. ⌜ MasterTicks x carried m call put frame bytes r ⌝ }
+    ensures { λ r. ⌜ MasterTicks limit (arrival .chip) (arrival .carried) m call put frame bytes r ⌝ }
 {
+    let x = arrival.chip;
+    let carried = arrival.carried;
     let h = modem::hear(modem::arrive(x, carried));
     let chip = h.chip;
     let heard = h.heard;
-    let ticked = master::tick(m, heard, call, put, frame, bytes);
+    let ticked = master::tick(limit, m, heard, call, put, frame, bytes);
     let sent = ticked.sent;
     let ended = modem::end_tick(say(chip, sent));
     MasterBehind {
@@ -57,10 +65,10 @@ pub fn master_tick(
     }
 }
 
-// A tick of a device behind a chip, with what the line carried in the tick before. Lent is what a device's tick is lent.
+// A tick of a device behind a chip, on a link with this data limit. Lent is what a device's tick is lent.
 pub fn device_tick(
-    x: Chip,
-    carried: Carried,
+    limit: u8,
+    arrival: Arrival,
     d: Device,
     call: device_tick::DeviceHostCall,
     put: &[u8],
@@ -68,12 +76,14 @@ pub fn device_tick(
     frame: &mut [u8; 284],
     bytes: &mut [u8; 255],
 ) -> DeviceBehind
-    ensures { λ r. ⌜ DeviceTicks x carried d call put frame bytes contents r ⌝ }
+    ensures { λ r. ⌜ DeviceTicks limit (arrival .chip) (arrival .carried) d call put frame bytes contents r ⌝ }
 {
+    let x = arrival.chip;
+    let carried = arrival.carried;
     let h = modem::hear(modem::arrive(x, carried));
     let chip = h.chip;
     let heard = h.heard;
-    let ticked = device_tick::tick(d, heard, call, put, contents, frame, bytes);
+    let ticked = device_tick::tick(limit, d, heard, call, put, contents, frame, bytes);
     let sent = ticked.sent;
     let ended = modem::end_tick(say(chip, sent));
     DeviceBehind {

@@ -120,15 +120,15 @@ pub ruleset equals = (refl, in-slot, counted-device-is, counted-master-is, heard
 -- ---- the part of what is put
 
 module _ (put : List ℕ) (b : Bounds) where
-  pub master-part : (m : Master) (heard : Heard) (c : MasterCall) (frame bytes : List ℕ) (r : MasterTicked) (frame-after bytes-after : List ℕ)
+  pub master-part : (limit : ℕ) (m : Master) (heard : Heard) (c : MasterCall) (frame bytes : List ℕ) (r : MasterTicked) (frame-after bytes-after : List ℕ)
       → PartIs (c .part .from) (c .part .count) (length put) b
-      → M.MasterTickIs m heard (c .call) (take (b .end - b .start) (drop (b .start) put)) frame bytes r frame-after bytes-after
-      → M.MasterTickIs m heard (c .call) (dataOf (c .part) put) frame bytes r frame-after bytes-after
-  master-part m heard c frame bytes r frame-after bytes-after p q = subst (λ (l : List ℕ). M.MasterTickIs m heard (c .call) l frame bytes r frame-after bytes-after) (p .is put refl) q
+      → M.MasterTickIs limit m heard (c .call) (take (b .end - b .start) (drop (b .start) put)) frame bytes r frame-after bytes-after
+      → M.MasterTickIs limit m heard (c .call) (dataOf (c .part) put) frame bytes r frame-after bytes-after
+  master-part limit m heard c frame bytes r frame-after bytes-after p q = subst (λ (l : List ℕ). M.MasterTickIs limit m heard (c .call) l frame bytes r frame-after bytes-after) (p .is put refl) q
 
-  pub device-part : (d : Device) (heard : Heard) (c : DeviceCall) (frame bytes contents : List ℕ) (r : DeviceTicked) (frame-after bytes-after contents-after : List ℕ)
+  pub device-part : (limit : ℕ) (d : Device) (heard : Heard) (c : DeviceCall) (frame bytes contents : List ℕ) (r : DeviceTicked) (frame-after bytes-after contents-after : List ℕ)
       → PartIs (c .part .from) (c .part .count) (length put) b
-      → D.DeviceTickIs d heard (c .call) (take (b .end - b .start) (drop (b .start) put)) frame bytes contents r frame-after bytes-after contents-after
-      → D.DeviceTickIs d heard (c .call) (dataOf (c .part) put) frame bytes contents r frame-after bytes-after contents-after
-  device-part d heard c frame bytes contents r frame-after bytes-after contents-after p q =
-      subst (λ (l : List ℕ). D.DeviceTickIs d heard (c .call) l frame bytes contents r frame-after bytes-after contents-after) (p .is put refl) q
+      → D.DeviceTickIs limit d heard (c .call) (take (b .end - b .start) (drop (b .start) put)) frame bytes contents r frame-after bytes-after contents-after
+      → D.DeviceTickIs limit d heard (c .call) (dataOf (c .part) put) frame bytes contents r frame-after bytes-after contents-after
+  device-part limit d heard c frame bytes contents r frame-after bytes-after contents-after p q =
+      subst (λ (l : List ℕ). D.DeviceTickIs limit d heard (c .call) l frame bytes contents r frame-after bytes-after contents-after) (p .is put refl) q

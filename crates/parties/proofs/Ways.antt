@@ -147,7 +147,7 @@ hearingDevice d = record {
   content = d .content;
 }
 
-module _ (x : DeviceSide) (deaf : x .device .deaf ≡ false) where
+module _ (limit : ℕ) (x : DeviceSide) (deaf : x .device .deaf ≡ false) where
   listening-device : (p : Place) → x .device .receiver .place ≡ p → x .device .burst ≡ false → x .device .turn ≡ Listens → x .device ≡ listeningDevice (x .device) p
   listening-device p at calm turn-is = let d = x .device in λ i. record {
     profile = d .profile;
@@ -186,16 +186,16 @@ module _ (x : DeviceSide) (deaf : x .device .deaf ≡ false) where
 
   -- a silent tick outside a frame
   counts-at : (p : Place) → insideFrame p ≡ false → x .device .receiver .place ≡ p → x .device .burst ≡ false → x .device .turn ≡ Listens
-      → quietDevice (withDevice x (countedDevice (x .device)) (x .bytes)) ≡ deviceTick 255 x Silence no-call
+      → quietDevice (withDevice x (countedDevice (x .device)) (x .bytes)) ≡ deviceTick limit x Silence no-call
   unfolding deviceTick deviceTakes deviceSends taken takenData if_then_else_
   counts-at Passing o at calm turn-is =
       let e = listening-device Passing at calm turn-is in
-      let known : quietDevice (withDevice x (countedDevice (listeningDevice (x .device) Passing)) (x .bytes)) ≡ deviceTick 255 (withDevice x (listeningDevice (x .device) Passing) (x .bytes)) Silence no-call = refl in
-      ap (λ (d : Device). quietDevice (withDevice x (countedDevice d) (x .bytes))) e ∙ known ∙ ap (λ (d : Device). deviceTick 255 (withDevice x d (x .bytes)) Silence no-call) (sym e)
+      let known : quietDevice (withDevice x (countedDevice (listeningDevice (x .device) Passing)) (x .bytes)) ≡ deviceTick limit (withDevice x (listeningDevice (x .device) Passing) (x .bytes)) Silence no-call = refl in
+      ap (λ (d : Device). quietDevice (withDevice x (countedDevice d) (x .bytes))) e ∙ known ∙ ap (λ (d : Device). deviceTick limit (withDevice x d (x .bytes)) Silence no-call) (sym e)
   counts-at Idle o at calm turn-is =
       let e = listening-device Idle at calm turn-is in
-      let known : quietDevice (withDevice x (countedDevice (listeningDevice (x .device) Idle)) (x .bytes)) ≡ deviceTick 255 (withDevice x (listeningDevice (x .device) Idle) (x .bytes)) Silence no-call = refl in
-      ap (λ (d : Device). quietDevice (withDevice x (countedDevice d) (x .bytes))) e ∙ known ∙ ap (λ (d : Device). deviceTick 255 (withDevice x d (x .bytes)) Silence no-call) (sym e)
+      let known : quietDevice (withDevice x (countedDevice (listeningDevice (x .device) Idle)) (x .bytes)) ≡ deviceTick limit (withDevice x (listeningDevice (x .device) Idle) (x .bytes)) Silence no-call = refl in
+      ap (λ (d : Device). quietDevice (withDevice x (countedDevice d) (x .bytes))) e ∙ known ∙ ap (λ (d : Device). deviceTick limit (withDevice x d (x .bytes)) Silence no-call) (sym e)
   counts-at (Preamble n) o at calm turn-is = absurd (true-false o)
   counts-at First o at calm turn-is = absurd (true-false o)
   counts-at (Address n) o at calm turn-is = absurd (true-false o)
@@ -207,24 +207,24 @@ module _ (x : DeviceSide) (deaf : x .device .deaf ≡ false) where
 
   -- a character, by the reader's step
   abbrev heardBy : Device → Taken → List ℕ → DeviceStep
-  heardBy d t bytes = deviceCalls 255 (D.onCharacter d (t .receiver) (t .event)) no-call (errorFrame d (D.onCharacter d (t .receiver) (t .event) .event) (x .frame)) bytes (x .contents)
+  heardBy d t bytes = deviceCalls limit (D.onCharacter d (t .receiver) (t .event)) no-call (errorFrame d (D.onCharacter d (t .receiver) (t .event) .event) (x .frame)) bytes (x .contents)
 
   hears-at : (c : ℕ) (r : Receiver) → taken (x .device .receiver) (Character c) ≡ R.tells r Nothing
-      → quietDevice (withDevice x (heardDevice (x .device) r) (takenData (x .device .receiver) (Character c) (x .bytes))) ≡ deviceTick 255 x (Character c) no-call
+      → quietDevice (withDevice x (heardDevice (x .device) r) (takenData (x .device .receiver) (Character c) (x .bytes))) ≡ deviceTick limit x (Character c) no-call
   unfolding deviceTick deviceTakes deviceSends if_then_else_
   hears-at c r k =
       let d = x .device in
       let e = hearing-device in
       let bytes = takenData (d .receiver) (Character c) (x .bytes) in
       let known : quietDevice (withDevice x (heardDevice (hearingDevice d) r) bytes) ≡ heardBy (hearingDevice d) (R.tells r Nothing) bytes = refl in
-      let whole : heardBy (hearingDevice d) (taken (d .receiver) (Character c)) bytes ≡ deviceTick 255 (withDevice x (hearingDevice d) (x .bytes)) (Character c) no-call = refl in
+      let whole : heardBy (hearingDevice d) (taken (d .receiver) (Character c)) bytes ≡ deviceTick limit (withDevice x (hearingDevice d) (x .bytes)) (Character c) no-call = refl in
       ap (λ (y : Device). quietDevice (withDevice x (heardDevice y r) bytes)) e
       ∙ known
       ∙ ap (λ (t : Taken). heardBy (hearingDevice d) t bytes) (sym k)
       ∙ whole
-      ∙ ap (λ (y : Device). deviceTick 255 (withDevice x y (x .bytes)) (Character c) no-call) (sym e)
+      ∙ ap (λ (y : Device). deviceTick limit (withDevice x y (x .bytes)) (Character c) no-call) (sym e)
 
-module _ (x : DeviceSide) (heard : Heard) (call : DeviceHost.DeviceHostCall) (put : List ℕ) (follows quiet : Bool) (reader : Receiver) where
+module _ (limit : ℕ) (x : DeviceSide) (heard : Heard) (call : DeviceHost.DeviceHostCall) (put : List ℕ) (follows quiet : Bool) (reader : Receiver) where
   -- what is left of a way that is not to act
   open-way : (w : Way) → deviceWay (x .device) heard call follows quiet reader ≡ w → (Acts ≡ w → ⊥) → (x .device .deaf ≡ false) × ((callsDevice call ≡ false) × (deviceHears (x .device) heard follows quiet reader ≡ w))
   unfolding deviceWay
@@ -233,18 +233,18 @@ module _ (x : DeviceSide) (heard : Heard) (call : DeviceHost.DeviceHostCall) (pu
       let b = went-else (callsDevice call) Acts _ w (a .1) f in
       (a .0, (b .0, b .1))
 
-  pub device-counts : deviceWay (x .device) heard call follows quiet reader ≡ Counts → quietDevice (withDevice x (countedDevice (x .device)) (x .bytes)) ≡ deviceTick 255 x heard (DT.callOf call put)
+  pub device-counts : deviceWay (x .device) heard call follows quiet reader ≡ Counts → quietDevice (withDevice x (countedDevice (x .device)) (x .bytes)) ≡ deviceTick limit x heard (DT.callOf call put)
   device-counts e =
       let o = open-way Counts e acts-counts in
       by call heard (o .1 .0) (o .1 .1)
     where
       by : (c : DeviceHost.DeviceHostCall) (h : Heard) → callsDevice c ≡ false → deviceHears (x .device) h follows quiet reader ≡ Counts
-          → quietDevice (withDevice x (countedDevice (x .device)) (x .bytes)) ≡ deviceTick 255 x h (DT.callOf c put)
+          → quietDevice (withDevice x (countedDevice (x .device)) (x .bytes)) ≡ deviceTick limit x h (DT.callOf c put)
       by DeviceHost.DeviceHostCall.Nothing Silence k l =
           let o = open-way Counts e acts-counts in
           let a = not-first (x .device .burst) (if insideFrame (x .device .receiver .place) then false else isListening (x .device .turn)) (went-then (deviceCounts (x .device)) Counts Acts Counts l acts-counts .0) in
           let b = not-first (insideFrame (x .device .receiver .place)) (isListening (x .device .turn)) (a .1) in
-          counts-at x (o .0) (x .device .receiver .place) (b .0) refl (a .0) (listening-is (x .device .turn) (b .1))
+          counts-at limit x (o .0) (x .device .receiver .place) (b .0) refl (a .0) (listening-is (x .device .turn) (b .1))
       by DeviceHost.DeviceHostCall.Nothing (Character c) k l = absurd (character-counts follows quiet (sameReader (x .device .receiver) reader) l)
       by DeviceHost.DeviceHostCall.Nothing (Heard.Damaged c kind) k l = absurd (acts-counts l)
       by (DeviceHost.DeviceHostCall.Answers w) h k l = absurd (true-false k)
@@ -252,19 +252,19 @@ module _ (x : DeviceSide) (heard : Heard) (call : DeviceHost.DeviceHostCall) (pu
 
   pub device-hears : (r : Receiver) → deviceWay (x .device) heard call follows quiet reader ≡ Hears
       → (follows ≡ true → x .device .receiver ≡ reader) → (quiet ≡ true → taken reader heard ≡ R.tells r Nothing)
-      → quietDevice (withDevice x (heardDevice (x .device) r) (takenData (x .device .receiver) heard (x .bytes))) ≡ deviceTick 255 x heard (DT.callOf call put)
+      → quietDevice (withDevice x (heardDevice (x .device) r) (takenData (x .device .receiver) heard (x .bytes))) ≡ deviceTick limit x heard (DT.callOf call put)
   device-hears r e same step =
       let o = open-way Hears e acts-hears in
       by call heard (o .1 .0) (o .1 .1) step
     where
       by : (c : DeviceHost.DeviceHostCall) (h : Heard) → callsDevice c ≡ false → deviceHears (x .device) h follows quiet reader ≡ Hears
           → (quiet ≡ true → taken reader h ≡ R.tells r Nothing)
-          → quietDevice (withDevice x (heardDevice (x .device) r) (takenData (x .device .receiver) h (x .bytes))) ≡ deviceTick 255 x h (DT.callOf c put)
+          → quietDevice (withDevice x (heardDevice (x .device) r) (takenData (x .device .receiver) h (x .bytes))) ≡ deviceTick limit x h (DT.callOf c put)
       by DeviceHost.DeviceHostCall.Nothing Silence k l f = absurd (silence-hears (deviceCounts (x .device)) l)
       by DeviceHost.DeviceHostCall.Nothing (Character c) k l f =
           let o = open-way Hears e acts-hears in
           let both = character-hears follows quiet (sameReader (x .device .receiver) reader) (x .device .receiver ≡ reader) same (readers-equal (x .device .receiver) reader) l in
-          hears-at x (o .0) c r (ap (λ (q : Receiver). taken q (Character c)) (both .0) ∙ f (both .1))
+          hears-at limit x (o .0) c r (ap (λ (q : Receiver). taken q (Character c)) (both .0) ∙ f (both .1))
       by DeviceHost.DeviceHostCall.Nothing (Heard.Damaged c kind) k l f = absurd (acts-hears l)
       by (DeviceHost.DeviceHostCall.Answers w) h k l f = absurd (true-false k)
       by (DeviceHost.DeviceHostCall.Content n) h k l f = absurd (true-false k)
@@ -303,7 +303,7 @@ hearingMaster m s = record {
   message = record { stage = s; header = m .message .header; length = m .message .length; attempts = m .message .attempts };
 }
 
-module _ (x : MasterSide) (deaf : x .master .deaf ≡ false) where
+module _ (limit : ℕ) (x : MasterSide) (deaf : x .master .deaf ≡ false) where
   free-master : (p : Place) → x .master .receiver .place ≡ p → x .master .burst ≡ false → x .master .message .stage ≡ Free → x .master ≡ freeMaster (x .master) p
   free-master p at clear free = let m = x .master in λ i. record {
     primary = m .primary;
@@ -331,16 +331,16 @@ module _ (x : MasterSide) (deaf : x .master .deaf ≡ false) where
   }
 
   clear-at : (p : Place) → insideFrame p ≡ false → x .master .receiver .place ≡ p → x .master .burst ≡ false → x .master .message .stage ≡ Free
-      → quietMaster (withMaster x (countedMaster (x .master)) (x .bytes)) ≡ masterTick 255 x Silence no-request
+      → quietMaster (withMaster x (countedMaster (x .master)) (x .bytes)) ≡ masterTick limit x Silence no-request
   unfolding masterTick masterTakes masterSends taken takenData if_then_else_
   clear-at Passing o at clear free =
       let e = free-master Passing at clear free in
-      let known : quietMaster (withMaster x (countedMaster (freeMaster (x .master) Passing)) (x .bytes)) ≡ masterTick 255 (withMaster x (freeMaster (x .master) Passing) (x .bytes)) Silence no-request = refl in
-      ap (λ (m : Master). quietMaster (withMaster x (countedMaster m) (x .bytes))) e ∙ known ∙ ap (λ (m : Master). masterTick 255 (withMaster x m (x .bytes)) Silence no-request) (sym e)
+      let known : quietMaster (withMaster x (countedMaster (freeMaster (x .master) Passing)) (x .bytes)) ≡ masterTick limit (withMaster x (freeMaster (x .master) Passing) (x .bytes)) Silence no-request = refl in
+      ap (λ (m : Master). quietMaster (withMaster x (countedMaster m) (x .bytes))) e ∙ known ∙ ap (λ (m : Master). masterTick limit (withMaster x m (x .bytes)) Silence no-request) (sym e)
   clear-at Idle o at clear free =
       let e = free-master Idle at clear free in
-      let known : quietMaster (withMaster x (countedMaster (freeMaster (x .master) Idle)) (x .bytes)) ≡ masterTick 255 (withMaster x (freeMaster (x .master) Idle) (x .bytes)) Silence no-request = refl in
-      ap (λ (m : Master). quietMaster (withMaster x (countedMaster m) (x .bytes))) e ∙ known ∙ ap (λ (m : Master). masterTick 255 (withMaster x m (x .bytes)) Silence no-request) (sym e)
+      let known : quietMaster (withMaster x (countedMaster (freeMaster (x .master) Idle)) (x .bytes)) ≡ masterTick limit (withMaster x (freeMaster (x .master) Idle) (x .bytes)) Silence no-request = refl in
+      ap (λ (m : Master). quietMaster (withMaster x (countedMaster m) (x .bytes))) e ∙ known ∙ ap (λ (m : Master). masterTick limit (withMaster x m (x .bytes)) Silence no-request) (sym e)
   clear-at (Preamble n) o at clear free = absurd (true-false o)
   clear-at First o at clear free = absurd (true-false o)
   clear-at (Address n) o at clear free = absurd (true-false o)
@@ -351,7 +351,7 @@ module _ (x : MasterSide) (deaf : x .master .deaf ≡ false) where
   clear-at Check o at clear free = absurd (true-false o)
 
   abbrev masterBy : Master → Taken → List ℕ → MasterStep
-  masterBy m t bytes = masterCalls 255 (M.onCharacter m (t .receiver) (t .event) bytes) no-request (x .frame) bytes
+  masterBy m t bytes = masterCalls limit (M.onCharacter m (t .receiver) (t .event) bytes) no-request (x .frame) bytes
 
   -- a character, at a stage in which nothing is sent
   abbrev Quiet : ℕ → Receiver → Stage → Type 0
@@ -367,21 +367,21 @@ module _ (x : MasterSide) (deaf : x .master .deaf ≡ false) where
   quiet-at c r (Awaiting n) k = refl
 
   heard-at : (c : ℕ) (r : Receiver) → isSending (x .master .message .stage) ≡ false → taken (x .master .receiver) (Character c) ≡ R.tells r Nothing
-      → quietMaster (withMaster x (heardMaster (x .master) r) (takenData (x .master .receiver) (Character c) (x .bytes))) ≡ masterTick 255 x (Character c) no-request
+      → quietMaster (withMaster x (heardMaster (x .master) r) (takenData (x .master .receiver) (Character c) (x .bytes))) ≡ masterTick limit x (Character c) no-request
   unfolding masterTick masterTakes if_then_else_
   heard-at c r k l =
       let m = x .master in
       let s = m .message .stage in
       let e = hearing-master s refl in
       let bytes = takenData (m .receiver) (Character c) (x .bytes) in
-      let whole : masterBy (hearingMaster m s) (taken (m .receiver) (Character c)) bytes ≡ masterTick 255 (withMaster x (hearingMaster m s) (x .bytes)) (Character c) no-request = refl in
+      let whole : masterBy (hearingMaster m s) (taken (m .receiver) (Character c)) bytes ≡ masterTick limit (withMaster x (hearingMaster m s) (x .bytes)) (Character c) no-request = refl in
       ap (λ (y : Master). quietMaster (withMaster x (heardMaster y r) bytes)) e
       ∙ quiet-at c r s k
       ∙ ap (λ (t : Taken). masterBy (hearingMaster m s) t bytes) (sym l)
       ∙ whole
-      ∙ ap (λ (y : Master). masterTick 255 (withMaster x y (x .bytes)) (Character c) no-request) (sym e)
+      ∙ ap (λ (y : Master). masterTick limit (withMaster x y (x .bytes)) (Character c) no-request) (sym e)
 
-module _ (x : MasterSide) (heard : Heard) (call : MasterHost.MasterHostCall) (put : List ℕ) (follows quiet : Bool) (reader : Receiver) where
+module _ (limit : ℕ) (x : MasterSide) (heard : Heard) (call : MasterHost.MasterHostCall) (put : List ℕ) (follows quiet : Bool) (reader : Receiver) where
   opened-way : (w : Way) → masterWay (x .master) heard call follows quiet reader ≡ w → (Acts ≡ w → ⊥) → (x .master .deaf ≡ false) × ((callsMaster call ≡ false) × (masterHears (x .master) heard follows quiet reader ≡ w))
   unfolding masterWay
   opened-way w e f =
@@ -389,18 +389,18 @@ module _ (x : MasterSide) (heard : Heard) (call : MasterHost.MasterHostCall) (pu
       let b = went-else (callsMaster call) Acts _ w (a .1) f in
       (a .0, (b .0, b .1))
 
-  pub master-counts : masterWay (x .master) heard call follows quiet reader ≡ Counts → quietMaster (withMaster x (countedMaster (x .master)) (x .bytes)) ≡ masterTick 255 x heard (MT.callOf call put)
+  pub master-counts : masterWay (x .master) heard call follows quiet reader ≡ Counts → quietMaster (withMaster x (countedMaster (x .master)) (x .bytes)) ≡ masterTick limit x heard (MT.callOf call put)
   master-counts e =
       let o = opened-way Counts e acts-counts in
       by call heard (o .1 .0) (o .1 .1)
     where
       by : (c : MasterHost.MasterHostCall) (h : Heard) → callsMaster c ≡ false → masterHears (x .master) h follows quiet reader ≡ Counts
-          → quietMaster (withMaster x (countedMaster (x .master)) (x .bytes)) ≡ masterTick 255 x h (MT.callOf c put)
+          → quietMaster (withMaster x (countedMaster (x .master)) (x .bytes)) ≡ masterTick limit x h (MT.callOf c put)
       by MasterHost.MasterHostCall.Nothing Silence k l =
           let o = opened-way Counts e acts-counts in
           let a = not-first (x .master .burst) (if insideFrame (x .master .receiver .place) then false else isFree (x .master .message .stage)) (went-then (masterCounts (x .master)) Counts Acts Counts l acts-counts .0) in
           let b = not-first (insideFrame (x .master .receiver .place)) (isFree (x .master .message .stage)) (a .1) in
-          clear-at x (o .0) (x .master .receiver .place) (b .0) refl (a .0) (free-is (x .master .message .stage) (b .1))
+          clear-at limit x (o .0) (x .master .receiver .place) (b .0) refl (a .0) (free-is (x .master .message .stage) (b .1))
       by MasterHost.MasterHostCall.Nothing (Character c) k l =
           absurd (character-counts follows quiet (sameReader (x .master .receiver) reader) (went-else (isSending (x .master .message .stage)) Acts _ Counts l acts-counts .1))
       by MasterHost.MasterHostCall.Nothing (Heard.Damaged c kind) k l = absurd (acts-counts l)
@@ -408,19 +408,19 @@ module _ (x : MasterSide) (heard : Heard) (call : MasterHost.MasterHostCall) (pu
 
   pub master-hears : (r : Receiver) → masterWay (x .master) heard call follows quiet reader ≡ Hears
       → (follows ≡ true → x .master .receiver ≡ reader) → (quiet ≡ true → taken reader heard ≡ R.tells r Nothing)
-      → quietMaster (withMaster x (heardMaster (x .master) r) (takenData (x .master .receiver) heard (x .bytes))) ≡ masterTick 255 x heard (MT.callOf call put)
+      → quietMaster (withMaster x (heardMaster (x .master) r) (takenData (x .master .receiver) heard (x .bytes))) ≡ masterTick limit x heard (MT.callOf call put)
   master-hears r e same step =
       let o = opened-way Hears e acts-hears in
       by call heard (o .1 .0) (o .1 .1) step
     where
       by : (c : MasterHost.MasterHostCall) (h : Heard) → callsMaster c ≡ false → masterHears (x .master) h follows quiet reader ≡ Hears
           → (quiet ≡ true → taken reader h ≡ R.tells r Nothing)
-          → quietMaster (withMaster x (heardMaster (x .master) r) (takenData (x .master .receiver) h (x .bytes))) ≡ masterTick 255 x h (MT.callOf c put)
+          → quietMaster (withMaster x (heardMaster (x .master) r) (takenData (x .master .receiver) h (x .bytes))) ≡ masterTick limit x h (MT.callOf c put)
       by MasterHost.MasterHostCall.Nothing Silence k l f = absurd (silence-hears (masterCounts (x .master)) l)
       by MasterHost.MasterHostCall.Nothing (Character c) k l f =
           let o = opened-way Hears e acts-hears in
           let s = went-else (isSending (x .master .message .stage)) Acts _ Hears l acts-hears in
           let both = character-hears follows quiet (sameReader (x .master .receiver) reader) (x .master .receiver ≡ reader) same (readers-equal (x .master .receiver) reader) (s .1) in
-          heard-at x (o .0) c r (s .0) (ap (λ (q : Receiver). taken q (Character c)) (both .0) ∙ f (both .1))
+          heard-at limit x (o .0) c r (s .0) (ap (λ (q : Receiver). taken q (Character c)) (both .0) ∙ f (both .1))
       by MasterHost.MasterHostCall.Nothing (Heard.Damaged c kind) k l f = absurd (acts-hears l)
       by (MasterHost.MasterHostCall.Requests q) h k l f = absurd (true-false k)

@@ -112,9 +112,10 @@ codeOf (Character c) = c
 
 -- ---- a tick of a party, whose call names its data in what is put
 
-abbrev pub MasterIs : Master → Heard → MasterCall → List ℕ → Lent (List ℕ) → Lent (List ℕ) → MasterTicked → Type 0
-MasterIs m heard c put frame bytes r = M.MasterTickIs m heard (c .call) (dataOf (c .part) put) (before frame) (before bytes) r (after frame) (after bytes)
+abbrev pub MasterIs : ℕ → Master → Heard → MasterCall → List ℕ → Lent (List ℕ) → Lent (List ℕ) → MasterTicked → Type 0
+MasterIs limit m heard c put frame bytes r =
+    M.MasterTickIs limit m heard (c .call) (dataOf (c .part) put) (before frame) (before bytes) r (after frame) (after bytes)
 
-abbrev pub DeviceIs : Device → Heard → DeviceCall → List ℕ → Lent (List ℕ) → Lent (List ℕ) → Lent (List ℕ) → DeviceTicked → Type 0
-DeviceIs d heard c put frame bytes contents r =
-    D.DeviceTickIs d heard (c .call) (dataOf (c .part) put) (before frame) (before bytes) (before contents) r (after frame) (after bytes) (after contents)
+abbrev pub DeviceIs : ℕ → Device → Heard → DeviceCall → List ℕ → Lent (List ℕ) → Lent (List ℕ) → Lent (List ℕ) → DeviceTicked → Type 0
+DeviceIs limit d heard c put frame bytes contents r =
+    D.DeviceTickIs limit d heard (c .call) (dataOf (c .part) put) (before frame) (before bytes) (before contents) r (after frame) (after bytes) (after contents)

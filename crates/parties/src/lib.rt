@@ -632,6 +632,7 @@ pub fn heard_master(m: Master, r: Receiver) -> Master
 
 // A master's tick, whose call names its data in what is put.
 pub fn master_tick(
+    limit: u8,
     m: Master,
     heard: Heard,
     called: MasterCall,
@@ -639,18 +640,19 @@ pub fn master_tick(
     frame: &mut [u8; 284],
     bytes: &mut [u8; 255],
 ) -> MasterTicked
-    ensures { λ r. ⌜ MasterIs m heard called (before put) frame bytes r ⌝ }
+    ensures { λ r. ⌜ MasterIs limit m heard called (before put) frame bytes r ⌝ }
 {
     let call = called.call;
     let part = called.part;
     let b = bounds_of(part, put.len());
     let start = b.start;
     let end = b.end;
-    master::tick(m, heard, call, &put[start..end], frame, bytes)
+    master::tick(limit, m, heard, call, &put[start..end], frame, bytes)
 }
 
 // A device's tick, whose call names its data in what is put.
 pub fn device_tick(
+    limit: u8,
     d: Device,
     heard: Heard,
     called: DeviceCall,
@@ -659,12 +661,21 @@ pub fn device_tick(
     bytes: &mut [u8; 255],
     contents: &mut [u8; 255],
 ) -> DeviceTicked
-    ensures { λ r. ⌜ DeviceIs d heard called (before put) frame bytes contents r ⌝ }
+    ensures { λ r. ⌜ DeviceIs limit d heard called (before put) frame bytes contents r ⌝ }
 {
     let call = called.call;
     let part = called.part;
     let b = bounds_of(part, put.len());
     let start = b.start;
     let end = b.end;
-    device_tick::tick(d, heard, call, &put[start..end], contents, frame, bytes)
+    device_tick::tick(
+        limit,
+        d,
+        heard,
+        call,
+        &put[start..end],
+        contents,
+        frame,
+        bytes,
+    )
 }

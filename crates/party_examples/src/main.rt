@@ -173,7 +173,15 @@ fn master_ticks(side: MasterSide, input: Reception, script: &[u8], tick: u16) ->
     let o = look(script, tick, b'm');
     let fives = [5u8; 6];
     let put = texts::front(&fives, data_count(o));
-    let ticked = master::tick(t.master, heard, master_call(o), put, &mut frame, &mut bytes);
+    let ticked = master::tick(
+        255,
+        t.master,
+        heard,
+        master_call(o),
+        put,
+        &mut frame,
+        &mut bytes,
+    );
     MasterSide {
         ticked: ticked,
         frame: frame,
@@ -203,6 +211,7 @@ fn device_ticks(side: DeviceSide, input: Reception, script: &[u8], tick: u16) ->
     let put = texts::front(&zeros, o.number as usize);
     let call = device_call(o);
     let ticked = device_tick::tick(
+        255,
         t.device,
         heard,
         call,

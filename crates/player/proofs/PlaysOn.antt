@@ -152,7 +152,7 @@ module _ (script : List ℕ) (stop : ℕ) (p : Playing) (x : Rows) (k : Stands s
   ticks-fit : p .tick + (n + 1) ≤ stop
   ticks-fit = ticks-within script stop p w n (k, h) wanted f
 
-  module _ (c : Calls) (called : c ≡ callsFor (p .tick) w) (sent sent-after : List (List ℕ)) (t : Ticked) (x-after : Rows) (is : RunIs (p .link) c zeroBytes (n + 1) x sent t x-after sent-after) where
+  module _ (c : Calls) (called : c ≡ callsFor (p .tick) w) (sent sent-after : List (List ℕ)) (t : Ticked) (x-after : Rows) (is : RunIs 255 (p .link) c zeroBytes (n + 1) x sent t x-after sent-after) where
     abbrev link : L.Link
     link = linkOf (p .link) x
 
@@ -168,7 +168,7 @@ module _ (script : List ℕ) (stop : ℕ) (p : Playing) (x : Rows) (k : Stands s
     first : Front entries link (p .tick) (atMost (n + 1))
     first = front entries (atMost (n + 1)) (p .tick) link
 
-    steps-are : stepsOf (p .link) c zeroBytes (n + 1) x ≡ run 255 link (callsFrom (p .tick) (first .count) entries)
+    steps-are : stepsOf 255 (p .link) c zeroBytes (n + 1) x ≡ run 255 link (callsFrom (p .tick) (first .count) entries)
     steps-are =
         ap (λ (z : L.Calls). upToTold (run 255 link (callsFirst (atMost (n + 1)) z))) calls-are
         ∙ ap upToTold (first-run entries (atMost (n + 1)) (p .tick) link (λ i party g. free .wants-none i party (omega (arith, g, at-most-most (n + 1)))))
@@ -189,12 +189,12 @@ module _ (script : List ℕ) (stop : ℕ) (p : Playing) (x : Rows) (k : Stands s
     abbrev ran : List LinkStep
     ran = run 255 link (callsFrom (p .tick) (t .count) entries)
 
-    ran-is : stepsOf (p .link) c zeroBytes (n + 1) x ≡ ran
+    ran-is : stepsOf 255 (p .link) c zeroBytes (n + 1) x ≡ ran
     ran-is = steps-are ∙ ap (λ (m : ℕ). run 255 link (callsFrom (p .tick) m entries)) (sym count-is)
 
     rows-are : stop < 65536 → rowsSent (take (rowsListed (p .tick) (t .count)) sent-after) ≡ sentIn ran
     rows-are s =
-        listed-sent (p .tick) (t .count) (heres (p .link .devices)) (stepsOf (p .link) c zeroBytes (n + 1) x) sent sent-after (k .there)
+        listed-sent (p .tick) (t .count) (heres (p .link .devices)) (stepsOf 255 (p .link) c zeroBytes (n + 1) x) sent sent-after (k .there)
         (subst (EachTick SixTick) (sym ran-is) (six-run (callsFrom (p .tick) (t .count) entries) link (six-here x (p .link .devices) (k .there))))
         (is .bytes-sent) (is .count-is) few (omega (arith, count-fits, s)) (is .sent-is)
         ∙ ap sentIn ran-is

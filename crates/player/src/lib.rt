@@ -1,6 +1,7 @@
 // The player: it plays a script on a link and lists the frames that were sent to the end.
 use line::Profile;
 use link_start::Setting;
+use link_ticks::Most;
 use listing::Monitors;
 use parties::Link;
 ghost use mathlib.Core.Path.{_≡_};
@@ -67,7 +68,11 @@ fn tick_on(
     let wanted = script::calls_at(script, p.next, p.tick as usize);
     let calls = player_calls::calls_of(p.tick as usize, wanted);
     let free = script::free_ticks(script, wanted.next, p.tick + 1, stop);
-    let t = link_ticks::ticks(l, calls, &put, free + 1, frames, bytes, contents, sent);
+    let most = Most {
+        ticks: free + 1,
+        data: 255,
+    };
+    let t = link_ticks::ticks(most, l, calls, &put, frames, bytes, contents, sent);
     let h = listing::list_ticks(monitors, p.tick, t.count, sent, out, p.at);
     let link = t.link;
     let heard = h.monitors;

@@ -21,7 +21,7 @@ use Rattle.recorded_device_c.specs.Device.{deviceNumber, step, ticked, d
 
 -- a tick of what was heard and called
 pub step-is : (d : Device) (frame bytes contents frame-after bytes-after contents-after : List ℕ) (first c : ℕ) (h : Heard) (call : DeviceHostCall) (t : DeviceTicked)
-    → h ≡ heardOf (first / 32) c → call ≡ answerAt (first % 32) → DeviceTickIs d h call (0 ∷ 0 ∷ []) frame bytes contents t frame-after bytes-after contents-after
+    → h ≡ heardOf (first / 32) c → call ≡ answerAt (first % 32) → DeviceTickIs 255 d h call (0 ∷ 0 ∷ []) frame bytes contents t frame-after bytes-after contents-after
     → stepOf t frame-after bytes-after contents-after ≡ step (sideOf d frame bytes contents) first c
 step-is d frame bytes contents frame-after bytes-after contents-after first c h call t p q e =
     e .step

@@ -31,7 +31,7 @@ fn device_stepped(
 {
     let heard = recording::heard_of(first / 32, c);
     let call = recorded_party::answer_at(first % 32);
-    device_tick::tick(d, heard, call, &[0, 0], contents, frame, bytes)
+    device_tick::tick(255, d, heard, call, &[0, 0], contents, frame, bytes)
 }
 
 // A device over a recording, from this state on.

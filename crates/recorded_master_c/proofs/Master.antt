@@ -30,7 +30,7 @@ tag-none low e = if-unequal low 2 (take 0 (replicate 6 0)) (replicate 6 0) [] e 
 -- a tick of what was heard and called
 pub step-is : (m : Master) (frame bytes frame-after bytes-after : List ℕ) (first c : ℕ) (h : Heard) (call : MasterHostCall) (n : ℕ) (t : MasterTicked)
     → take n (replicate 6 0) ≡ tagAt (first % 32) → h ≡ heardOf (first / 32) c → call ≡ requestAt (first % 32)
-    → MasterTickIs m h call (take n (replicate 6 0)) frame bytes t frame-after bytes-after → stepOf t frame-after bytes-after ≡ step (sideOf m frame bytes) first c
+    → MasterTickIs 255 m h call (take n (replicate 6 0)) frame bytes t frame-after bytes-after → stepOf t frame-after bytes-after ≡ step (sideOf m frame bytes) first c
 step-is m frame bytes frame-after bytes-after first c h call n t r p q e =
     e .step
     ∙ ap (λ (x : Heard). masterTick 255 (sideOf m frame bytes) x (callOf call (take n (replicate 6 0)))) p

@@ -70,7 +70,7 @@ fn master_stepped(
     let call = request_at(first % 32);
     let tag = [0u8; 6];
     let length = tag_length(first % 32);
-    master::tick(m, heard, call, &tag[..length], frame, bytes)
+    master::tick(255, m, heard, call, &tag[..length], frame, bytes)
 }
 
 // A master over a recording, from this state on.

@@ -28,13 +28,13 @@ behind-accepted r m n e = sym (ap (λ (x : MasterRequested). behindRequest (aske
 pub behind-refused : (r : MasterRequested) (m : Master) (why : Refusal) → r ≡ MasterRequested.Refused why → m ≡ behindRequest (asked r) m
 behind-refused r m why e = sym (ap (λ (x : MasterRequested). behindRequest (asked x) m) e)
 
-pub with-one : (busy : Bool) (m n : Master) (r : MasterRequested) (frame after : List ℕ) → busy ≡ true → RequestIs m (fields 5 7 false 0 0) [] frame r after → n ≡ behindRequest (asked r) m → n ≡ withMessage busy m
+pub with-one : (busy : Bool) (m n : Master) (r : MasterRequested) (frame after : List ℕ) → busy ≡ true → RequestIs 255 m (fields 5 7 false 0 0) [] frame r after → n ≡ behindRequest (asked r) m → n ≡ withMessage busy m
 with-one busy m n r frame after e is q = q ∙ ap (λ (c : Called Master). behindRequest c m) (is .result) ∙ sym (if-is-true busy _ _ e)
 
 pub with-none : (busy : Bool) (m : Master) → busy ≡ false → m ≡ withMessage busy m
 with-none busy m e = sym (if-is-false busy _ _ e)
 
-pub answered-so : (m n : Master) (busy : Bool) (q : Request) (bytes frame after : List ℕ) (r : MasterRequested) (k : ℕ) → n ≡ withMessage busy m → RequestIs n q bytes frame r after → k ≡ numberOf (asked r)
+pub answered-so : (m n : Master) (busy : Bool) (q : Request) (bytes frame after : List ℕ) (r : MasterRequested) (k : ℕ) → n ≡ withMessage busy m → RequestIs 255 n q bytes frame r after → k ≡ numberOf (asked r)
     → k ≡ answers m busy q (length bytes)
 answered-so m n busy q bytes frame after r k e is p = p ∙ ap numberOf (is .result) ∙ ap (λ (x : Master). numberOf (requested mostData x q (length bytes))) e
 

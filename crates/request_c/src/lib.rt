@@ -40,7 +40,7 @@ fn with_message(busy: bool, m: Master, frame: &mut [u8; 284]) -> Master
             address: 0,
             command: 0,
         };
-        let r = master::request(m, first, &[], frame);
+        let r = master::request(255, m, first, &[], frame);
         return behind_request(r, m);
     }
     m
@@ -52,7 +52,7 @@ fn answers_to(m: Master, busy: bool, q: RequestFields, bytes: &[u8]) -> u32
 {
     let mut frame = [0u8; 284];
     let n = with_message(busy, m, &mut frame);
-    let r = master::request(n, q, bytes, &mut frame);
+    let r = master::request(255, n, q, bytes, &mut frame);
     number_of(r)
 }
 

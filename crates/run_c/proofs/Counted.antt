@@ -1,56 +1,57 @@
--- The answer of a run is how many numbers it gave: none where a start is refused.
+-- What the call gives: how many numbers the run gave, none where a start is refused, and that start's number.
 use Prim.Native.Nat.{ℕ}
 use mathlib.Core.Path.{_≡_, refl, sym, ap, subst, _∙_}
 use mathlib.Core.List.{List}
 use lib.ListN.{length, take}
 use lib.Seq.{take-nil}
+use Rattle.base.specs.Lent.{Lent, before, after}
 use Rattle.base.specs.Refusal.{number, Called, accepted, refused}
 use Rattle.base.specs.declared.Refusal.{Refusal}
 use Rattle.line.specs.declared.Profile.{Profile}
-use Rattle.recording.specs.Recording.{RunIs}
 use Rattle.parties.specs.declared.Link.{Link}
-use Rattle.link_start.specs.Start.{linkStarts}
+use Rattle.link_start.specs.Start.{limitedStarts}
 use Rattle.link_start.specs.declared.Setting.{Setting}
-use Rattle.link_start.proofs.Started.{unlike}
 use Rattle.link_run.specs.Run.{numbersOf, ranAs, ranBy}
 use Rattle.link_run.specs.declared.RunEnded.{RunEnded}
 use Rattle.late_run.specs.Late.{lateStepsBy, lateSteps, LateKeeps}
+use Rattle.run_c.specs.Settings.{refusalOf, countOf, EndsAs, RunsAs}
 
-abbrev got : Called ℕ → ℕ
-got (accepted n) = n
-got (refused why) = 0
+-- ---- a run whose start was refused
 
-module _ (p : Profile) (retries : ℕ) (s : List Setting) (a b : ℕ) (ticks before : List ℕ) (r : RunEnded) (after : List ℕ) (k : LateKeeps p retries s a b ticks before r after) where
+pub ended-refused : (why : Refusal) (n : ℕ) (ended : RunEnded) (refusal : Lent ℕ) → ended ≡ RunEnded.Refused why → n ≡ number why → after refusal ≡ n → EndsAs ended refusal 0
+ended-refused why n ended refusal e q k = record {
+  returned = ap (λ (x : RunEnded). countOf (ranAs x)) (sym e);
+  refusal-is = k ∙ q ∙ ap (λ (x : RunEnded). refusalOf (ranAs x)) (sym e);
+}
+
+pub ruleset ends = (refl, ended-refused)
+
+-- ---- the run, with the settings as the code has them
+
+module _ (limit : ℕ) (p : Profile) (retries : ℕ) (s : List Setting) (a b : ℕ) (ticks events : Lent (List ℕ)) where
   -- how many numbers were given
   abbrev counted : Called Link → ℕ
-  counted c = length (take (length before) (numbersOf (lateStepsBy a b c ticks)))
+  counted c = length (take (length (before events)) (numbersOf (lateStepsBy limit a b c (before ticks))))
 
-  none-given : (c : Called Link) (why : ℕ) → ranBy c (counted c) ≡ refused why → counted c ≡ 0
+  count-is : (c : Called Link) → countOf (ranBy c (counted c)) ≡ counted c
   unfolding numbersOf
-  none-given (accepted l) why e = absurd (unlike why (counted (accepted l)) (sym e))
-  none-given (refused w) why e = ap length (take-nil (length before))
+  count-is (accepted l) = refl
+  count-is (refused why) = sym (ap length (take-nil (length (before events))))
 
-  all-given : (c : Called Link) (n : ℕ) → ranBy c (counted c) ≡ accepted n → counted c ≡ n
-  all-given (accepted l) n e = ap got e
-  all-given (refused w) n e = absurd (unlike w n e)
+  refusal-by : (c : Called Link) (n : ℕ) → refusalOf (ranBy c n) ≡ refusalOf c
+  refusal-by (accepted l) n = refl
+  refusal-by (refused why) n = refl
 
-  ran-so-many : (n : ℕ) → r ≡ RunEnded.Ran n → RunIs (numbersOf (lateSteps p retries s a b ticks)) before n after
+  runs-as : (ended : RunEnded) (refusal : Lent ℕ) (r : ℕ) → LateKeeps limit p retries s a b (before ticks) (before events) ended (after events) → EndsAs ended refusal r
+      → RunsAs p retries limit s a b ticks events refusal r
   unfolding lateSteps
-  ran-so-many n e = record { events = k .events; returned = sym (all-given (linkStarts p retries s) n (sym (k .answered) ∙ ap ranAs e)) }
+  runs-as ended refusal r k e = record {
+    numbers = record { events = k .events; returned = e .returned ∙ ap countOf (k .answered) ∙ count-is (limitedStarts limit p retries s) };
+    refusal-is = e .refusal-is ∙ ap refusalOf (k .answered) ∙ refusal-by (limitedStarts limit p retries s) _;
+  }
 
-  ran-none : (why : Refusal) → r ≡ RunEnded.Refused why → RunIs (numbersOf (lateSteps p retries s a b ticks)) before 0 after
-  unfolding lateSteps
-  ran-none why e = record { events = k .events; returned = sym (none-given (linkStarts p retries s) (number why) (sym (k .answered) ∙ ap ranAs e)) }
+  pub run-ends : (made : List Setting) (ended : RunEnded) (refusal : Lent ℕ) (r : ℕ) → made ≡ s → LateKeeps limit p retries made a b (before ticks) (before events) ended (after events)
+      → EndsAs ended refusal r → RunsAs p retries limit s a b ticks events refusal r
+  run-ends made ended refusal r e k = runs-as ended refusal r (subst (λ (x : List Setting). LateKeeps limit p retries x a b (before ticks) (before events) ended (after events)) e k)
 
--- with the settings as the code has them
-module _ (p : Profile) (retries : ℕ) (s made : List Setting) (a b : ℕ) (ticks before : List ℕ) (r : RunEnded) (after : List ℕ) (e : made ≡ s) (k : LateKeeps p retries made a b ticks before r after) where
-  same : LateKeeps p retries s a b ticks before r after
-  same = subst (λ (x : List Setting). LateKeeps p retries x a b ticks before r after) e k
-
-  pub gave-so-many : (n : ℕ) → r ≡ RunEnded.Ran n → RunIs (numbersOf (lateSteps p retries s a b ticks)) before n after
-  gave-so-many = ran-so-many p retries s a b ticks before r after same
-
-  pub gave-none : (why : Refusal) → r ≡ RunEnded.Refused why → RunIs (numbersOf (lateSteps p retries s a b ticks)) before 0 after
-  gave-none = ran-none p retries s a b ticks before r after same
-
-pub ruleset counts = (refl, gave-so-many, gave-none)
+pub ruleset counts = (refl, run-ends)

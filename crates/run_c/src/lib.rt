@@ -6,7 +6,7 @@ use link_start::Setting;
 ghost use mathlib.Core.Path.{_≡_};
 ghost use lib.ListN.{length};
 ghost use Rattle.base.specs.Lent.{before};
-ghost use Rattle.run_c.specs.Settings.{profileOf, settingOf, settingsIn, RunsAs};
+ghost use Rattle.run_c.specs.Settings.{profileOf, settingOf, settingsIn, EndsAs, RunsAs};
 
 // What a slot's device is started with; a preamble of 0 stands for a slot without one.
 fn setting_of(preamble: u8, polling: u8, unique: u64) -> Setting
@@ -41,7 +41,23 @@ fn settings_of(preambles: &[u8; 6], pollings: &[u8; 6], uniques: &[u64; 6]) -> [
     settings
 }
 
-// The number of each tick of a run, at the front of events, for as many ticks as the list and the events hold, and how many they are; none where a start is refused.
+// How many numbers a run gave, and in refusal the number of a refused start, or 0.
+fn end_run(ended: RunEnded, refusal: &mut u32) -> usize
+    ensures { λ r. ⌜ EndsAs ended refusal r ⌝ }
+{
+    match ended {
+        RunEnded::Ran(n) => {
+            *refusal = 0;
+            n
+        }
+        RunEnded::Refused(why) => {
+            *refusal = why.number();
+            0
+        }
+    }
+}
+
+// The number of each tick of a run on a link with a data limit, at the front of events, for as many ticks as the list and the events hold, and how many they are. Where a start is refused there are none, and refusal is its number, 2, 3, 4 or 9; else refusal is 0.
 #[no_mangle]
 pub extern "C" fn nengapiko_run(
     sto: u16,
@@ -50,6 +66,7 @@ pub extern "C" fn nengapiko_run(
     rt1p: u16,
     rt1s: u16,
     retries: u8,
+    limit: usize,
     preambles: &[u8; 6],
     pollings: &[u8; 6],
     uniques: &[u64; 6],
@@ -57,8 +74,10 @@ pub extern "C" fn nengapiko_run(
     secondary: u64,
     ticks: &[u8],
     events: &mut [u8],
+    refusal: &mut u32,
 ) -> usize
-    ensures { λ r. ⌜ RunsAs (profileOf sto hold rt2 rt1p rt1s) retries (settingsIn preambles pollings uniques) primary secondary ticks events r ⌝ }
+    ensures { λ r. ⌜ RunsAs (profileOf sto hold rt2 rt1p rt1s) retries limit
+        (settingsIn preambles pollings uniques) primary secondary ticks events refusal r ⌝ }
 {
     let profile = Profile {
         sto: sto,
@@ -72,9 +91,6 @@ pub extern "C" fn nengapiko_run(
         secondary: secondary,
     };
     let settings = settings_of(preambles, pollings, uniques);
-    let ended = late_run::run(profile, retries, settings, starts, ticks, events);
-    match ended {
-        RunEnded::Ran(n) => n,
-        RunEnded::Refused(_) => 0,
-    }
+    let ended = late_run::run(limit, profile, retries, settings, starts, ticks, events);
+    end_run(ended, refusal)
 }

@@ -17,7 +17,7 @@ use Rattle.turns.specs.declared.Sent.the-variants.{Silent, Character}
 
 -- ---- the premises
 
--- "Let a primary master, a secondary master and devices that share no address all start in the same tick with one profile and one retry limit R. For every list of ticks from there, whatever master's request, device's answer or burst content each host gives in any of them, refused ones included". That no character is damaged or lost is how the line is defined in Link, and a run has no restart. `limit` is the longest data, 255.
+-- "Let a primary master, a secondary master and devices that share no address all start in the same tick with one profile and one retry limit R. For every list of ticks from there, whatever master's request, device's answer or burst content each host gives in any of them, refused ones included". That no character is damaged or lost is how the line is defined in Link, and a run has no restart. `limit` is the link's data limit; 255 where none is given (document 02, item 12).
 pub record Premises (limit : ℕ) (p : Profile) (retries : ℕ) (l : Link) (ticks : List Calls) : Type 0 where
   -- the profile is one that the check takes
   pub made : profileMade p ≡ accepted p
@@ -58,7 +58,7 @@ pub data NoneBursts (primary : Bool) : List LinkStep → Type 0 where
   until-it-begins : (c : ℕ) {s : LinkStep} {ss : List LinkStep} → NoneBurstsIn s → masterIn primary s .sent ≡ Character c → NoneBursts primary (s ∷ ss)
   and-on : {s : LinkStep} {ss : List LinkStep} → NoneBurstsIn s → NoneBursts primary ss → NoneBursts primary (s ∷ ss)
 
--- "2×RT2 + HOLD + (R+1)×(F + RT1 secondary) + STO + F ticks", where "F is 284, the longest frame"
+-- "2×RT2 + HOLD + (R+1)×(F + RT1 secondary) + STO + F ticks", where "F is 284, the longest frame"; on a link with a data limit "F being 29 more than the data length" (document 02, item 12)
 abbrev pub longestWait : ℕ → Profile → ℕ → ℕ
 longestWait limit p retries = 2 * p .rt2 + p .hold + (retries + 1) * (longestFrame limit + p .rt1s) + p .sto + longestFrame limit
 

@@ -232,7 +232,7 @@ wishRefused d Off = hasNoWish (d .request)
 abbrev pub answersAt : Device → ℕ → Turn
 answersAt d left = if left =? d .profile .sto then AnswerWaits else Begins
 
--- "8: no request in hand, or past T+STO; 9: data outside 2 to 255; 10"
+-- "8: no request in hand, or past T+STO; 9: data outside 2 to 255; 10". `limit` is the link's data limit; 255 where none is given (document 02, item 12).
 abbrev pub answeredBy : ℕ → Device → Wish → ℕ → Turn → Called Device
 answeredBy limit d wish count Listens = refused 8
 answeredBy limit d wish count (Asked left) =
@@ -252,7 +252,7 @@ answered limit d wish count = answeredBy limit d wish count (d .turn)
 abbrev pub answerFrame : Device → Wish → List ℕ → List ℕ → List ℕ
 answerFrame d wish bytes frame = writeBuffer (d .preamble) (answerHeader (d .request) (wished (d .burst) wish)) bytes frame 0
 
--- ---- burst content: "5 for command 254; 9"
+-- ---- burst content: "5 for command 254; 9", with the same limit
 
 abbrev pub deviceWithContent : Device → Content → Device
 deviceWithContent d c = record {

@@ -312,7 +312,7 @@ hasMessage (Awaiting n) = true
 abbrev pub commandRefused : Request → Bool
 commandRefused q = if q .command =? reservedCommand then true else if q .long then false else (if q .command =? 0 then false else true)
 
--- from the address on, where polling addresses go up to `polling`: "4: polling above" it "or unique above 38 bits; 5; 6: data above 255; 7: a message is in hand". `limit` is the longest data, 255.
+-- from the address on, where polling addresses go up to `polling`: "4: polling above" it "or unique above 38 bits; 5; 6: data above 255; 7: a message is in hand". `limit` is the link's data limit; 255 where none is given (document 02, item 12).
 unfoldable pub requestedUpTo : ℕ → ℕ → Master → Request → ℕ → Called Master
 requestedUpTo polling limit m q count =
     if addressAbove polling (requestHeader m q) then refused 4 else

@@ -5,7 +5,7 @@ use Rattle.device_c.proofs.pack.Tie as tie
 
 returns : tie.Need-returns
 returns c =
-    packed-is (c .before .before .before .before .before .before .before .before .before .before .before .before .before .before .before .before .before .before .args .d) _ _ _ _ _ _ _ _ _
+    packed-is _ (c .before .before .before .before .before .before .before .before .before .before .before .before .before .before .before .before .before .before .args .d) _ _ _ _ _ _ _ _ _
     (c .before .before .before .before .before .before .before .before .before .before .before .before .before .before .before .settings-words .ensures)
     (c .before .before .before .before .before .before .before .before .before .before .before .before .before .before .receiver-words .ensures)
     (c .before .before .before .before .before .before .before .before .before .before .before .before .before .answering-words .ensures)

@@ -9,6 +9,7 @@ run-spec =
     (tie.spec
     (λ c κs. search needs)
     (λ c. search needs)
+    (λ c. search (needs, kept))
     (λ c κs. search (needs, kept))
     (λ c. search needs)
     (λ c. search needs)

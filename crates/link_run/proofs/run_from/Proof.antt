@@ -8,10 +8,10 @@ use Rattle.link_run.proofs.run_from.Statement.{statement}
 use Rattle.link_run.proofs.run_from.Tie as tie
 
 abbrev Inv-loop : tie.InvT-loop
-Inv-loop ticks events₀ frames₀ bytes₀ contents₀ sent₀ l₀ at₀ i₀ events frames bytes contents sent l at i = Going (heres (l₀ .devices)) (allNumbers l₀ (rowsOf frames₀ bytes₀ contents₀) ticks) ticks events₀ l (rowsOf frames bytes contents) events at i
+Inv-loop limit ticks events₀ frames₀ bytes₀ contents₀ sent₀ l₀ at₀ i₀ events frames bytes contents sent l at i = Going limit (heres (l₀ .devices)) (allNumbers limit l₀ (rowsOf frames₀ bytes₀ contents₀) ticks) ticks events₀ l (rowsOf frames bytes contents) events at i
 
 abbrev μ-loop : tie.MeasureT-loop
-μ-loop ticks events₀ frames₀ bytes₀ contents₀ sent₀ l₀ at₀ i₀ events frames bytes contents sent l at i = length events₀ - i
+μ-loop limit ticks events₀ frames₀ bytes₀ contents₀ sent₀ l₀ at₀ i₀ events frames bytes contents sent l at i = length events₀ - i
 
 pub run-from-spec : {M : Type 1} → statement M
 run-from-spec =

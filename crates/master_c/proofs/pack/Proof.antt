@@ -5,7 +5,7 @@ use Rattle.master_c.proofs.pack.Tie as tie
 
 returns : tie.Need-returns
 returns c =
-    packed-is (c .before .before .before .before .before .before .before .before .before .before .before .before .before .args .m) _ _ _ _ _ _ _
+    packed-is _ (c .before .before .before .before .before .before .before .before .before .before .before .before .before .args .m) _ _ _ _ _ _ _
     (c .before .before .before .before .before .before .before .before .before .before .before .front-words .ensures)
     (c .before .before .before .before .before .before .before .before .before .before .receiver-words .ensures)
     (c .before .before .before .before .before .before .before .before .before .end-words .ensures)

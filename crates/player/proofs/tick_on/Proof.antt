@@ -29,17 +29,16 @@ add-free-ticks c = search needs
 free-ticks-requires : tie.Need-free-ticks-requires
 free-ticks-requires c κs = search needs
 
+-- src/lib.rt:70:47
+add-t21 : tie.Need-add-t21
+add-t21 c =
+    let read = c .before .before .before .before in
+    let start = read .before .before .before .before .before .before in
+    omega (arith, ticks-room _ _ _ _ _ (start .pre) (read .calls-at .ensures) (c .free-ticks .ensures) (start .fits .stop .fits))
+
 -- src/lib.rt:70:41
 slice-aggregate-ticks : tie.Need-slice-aggregate-ticks
 slice-aggregate-ticks c = search needs
-
--- src/lib.rt:70:47
-add-ticks : tie.Need-add-ticks
-add-ticks c =
-    let free = c .before in
-    let read = free .before .before .before .before in
-    let start = read .before .before .before .before .before .before in
-    omega (arith, ticks-room _ _ _ _ _ (start .pre) (read .calls-at .ensures) (free .free-ticks .ensures) (start .fits .stop .fits))
 
 -- src/lib.rt:70:9
 ticks-requires : tie.Need-ticks-requires
@@ -50,9 +49,9 @@ list-ticks-requires : tie.Need-list-ticks-requires
 list-ticks-requires c κs = search needs
 
 -- src/lib.rt:77:15
-add-t20 : tie.Need-add-t20
+add-t21-2 : tie.Need-add-t21-2
 unfolding zeroBytes
-add-t20 c =
+add-t21-2 c =
     let listed = c .before .before .before .before .before .before in
     let ticked = listed .before .before .before in
     let free = ticked .before .before .before .before .before .before in
@@ -89,10 +88,10 @@ tick-on-spec =
     calls-of-requires
     add-free-ticks
     free-ticks-requires
+    add-t21
     slice-aggregate-ticks
-    add-ticks
     ticks-requires
     list-ticks-requires
-    add-t20
+    add-t21-2
     same-length
     returns)

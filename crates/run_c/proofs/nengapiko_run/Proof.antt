@@ -9,9 +9,6 @@ nengapiko-run-spec =
     (tie.spec
     (λ c κs. search needs)
     (λ c κs. search needs)
-    (λ c. search needs)
-    (λ c. search needs)
-    (λ c. search needs)
-    (λ c. search (needs, counts))
+    (λ c κs. search needs)
     (λ c. search needs)
     (λ c. search (needs, counts)))

@@ -1,0 +1,2 @@
+-- A call by what was answered.
+pub mod Calls
