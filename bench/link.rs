@@ -1,8 +1,6 @@
 //! Ticks per second of the player, with two masters and six devices, over long scripts, and of a run
 //! of the link one tick at a time, through the archive and by the oracles in plain Rust.
 
-#[path = "../tests/called.rs"]
-mod called;
 #[path = "../tests/late_oracle.rs"]
 mod late_oracle;
 #[path = "../tests/link_archive.rs"]
@@ -38,8 +36,17 @@ const FIRST_WINDOW: u16 = 33;
 const STX: u16 = 14;
 const ANSWER_LENGTH: u16 = 16;
 
+/// So many ticks in the script of the silent line, of the new form.
+const SILENT_TICKS: u32 = 1 << 24;
+
 fn silent() -> Vec<u8> {
     stop(TICKS).to_vec()
+}
+
+fn long_silent() -> Vec<u8> {
+    let mut script = SILENT_TICKS.to_be_bytes().to_vec();
+    script.extend([0, 0]);
+    script
 }
 
 /// Messages directly behind each other, of the masters by turns, each answered two ticks behind its
@@ -75,23 +82,27 @@ fn lines(listing: &[u8], with: &str) -> usize {
 }
 
 /// Sees that both give the same listing, measures the two by turns and prints one row.
-fn compare(name: &str, script: &[u8]) {
+fn compare(name: &str, record: usize, script: &[u8], ticks: usize) {
     let mut out = vec![0; room(TICKS)];
-    let length = link_archive::play(script, &mut out);
+    let length = link_archive::play_sized(record, script, &mut out);
     assert!(
-        out[..length] == link_oracle::play(script),
+        out[..length] == link_oracle::play_sized(record, script),
         "{name}: they differ"
     );
     let measured = by_turns(
         CALLS,
         || {
-            black_box(link_archive::play(black_box(script), black_box(&mut out)));
+            black_box(link_archive::play_sized(
+                record,
+                black_box(script),
+                black_box(&mut out),
+            ));
         },
         || {
-            black_box(link_oracle::play(black_box(script)));
+            black_box(link_oracle::play_sized(record, black_box(script)));
         },
     );
-    row(name, usize::from(TICKS), &measured);
+    row(name, ticks, &measured);
 }
 
 /// The ticks of a script whose calls are requests by unique address and answers.
@@ -161,9 +172,16 @@ fn compare_run(name: &str, script: &[u8]) {
 
 fn main() {
     head();
-    compare("both busy", &busy(false));
-    compare("busy, one bursts", &busy(true));
-    compare("silent", &silent());
+    let ticks = usize::from(TICKS);
+    compare("both busy", 4, &busy(false), ticks);
+    compare("busy, one bursts", 4, &busy(true), ticks);
+    compare("silent", 4, &silent(), ticks);
+    compare(
+        "silent, 2^24 ticks",
+        6,
+        &long_silent(),
+        SILENT_TICKS as usize,
+    );
     compare_run("one tick, busy", &busy(false));
     compare_run("one tick, silent", &silent());
 }

@@ -1,7 +1,7 @@
 /*
- * nengapiko.h - a HART link engine (HCF_SPEC-081 revision 9.0) for programs in C: frames written and
- * read; one call a tick, a tick reader, a master and a device; and how long a message waits. Its
- * functions are in libnengapiko.a. Those for tests and measurements stand in nengapiko_tests.h.
+ * nengapiko.h - a HART link engine (HCF_SPEC-081 revision 9.0) for programs in C: frames written
+ * and read; one call a tick, a tick reader, a master and a device; and how long a message waits.
+ * Its functions are in libnengapiko.a. Those for tests and measurements stand in nengapiko_tests.h.
  *
  * Document 01 is the scope paper, which condenses the standard; its numbers are the refusals below.
  *

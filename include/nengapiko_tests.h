@@ -98,20 +98,32 @@ size_t nengapiko_chip_device(const uint8_t *NENGAPIKO_RESTRICT recording, size_t
 size_t nengapiko_modem(const uint8_t *NENGAPIKO_RESTRICT script, size_t size,
                        uint8_t *NENGAPIKO_RESTRICT events, size_t room) NENGAPIKO_NONNULL;
 
-/* The most that the player prints for any script. */
-#define NENGAPIKO_LONGEST_LISTING 1638405
-
 /*
  * Plays a script, as the program play does.
  *
- *   script, size  records of 4 bytes
- *   out, room     what is printed, at the front of out; with less than NENGAPIKO_LONGEST_LISTING
- *                 bytes of room it may be cut
+ *   record        how many bytes a record has, 4 or 6; for another number 24 is printed
+ *   script, size  the records
+ *   out, room     what is printed, at the front of out, as much as there is room for
  *
  * Returns how many bytes were printed.
  */
-size_t nengapiko_play(const uint8_t *NENGAPIKO_RESTRICT script, size_t size,
+size_t nengapiko_play(size_t record, const uint8_t *NENGAPIKO_RESTRICT script, size_t size,
                       uint8_t *NENGAPIKO_RESTRICT out, size_t room) NENGAPIKO_NONNULL;
+
+/*
+ * Turns a script into the other form, as the program convert does.
+ *
+ *   record        how many bytes a record has, 4 or 6
+ *   script, size  the records
+ *   out, room     the script with records of 6 or 4 bytes, at the front of out
+ *   end           set to its length
+ *
+ * Returns 0, or the refusal, the first that applies of 24, 16, 25 and 15, which leaves out and end as
+ * they were.
+ */
+uint32_t nengapiko_convert(size_t record, const uint8_t *NENGAPIKO_RESTRICT script, size_t size,
+                           uint8_t *NENGAPIKO_RESTRICT out, size_t room,
+                           size_t *NENGAPIKO_RESTRICT end) NENGAPIKO_NONNULL;
 
 /*
  * Runs a link of a primary, a secondary and up to six devices over a list of ticks. The devices start

@@ -1,7 +1,6 @@
 //! Compares the archive's player with the oracle: the output's length, and the whole lent buffer.
 //! The scripts are the same in every run.
 
-mod called;
 #[allow(dead_code)]
 mod frames;
 mod link_archive;

@@ -22,19 +22,21 @@ const ZEROS: [u8; 255] = [0; 255];
 
 #[derive(Clone, Copy)]
 struct Record {
-    tick: u16,
+    tick: u32,
     party: usize,
     action: u8,
     argument: u8,
 }
 
 impl Record {
+    /// The tick is all but the last two bytes.
     fn read(bytes: &[u8]) -> Record {
+        let (tick, [call, argument]) = bytes.split_last_chunk().expect("a record");
         Record {
-            tick: u16::from_be_bytes([bytes[0], bytes[1]]),
-            party: usize::from(bytes[2] >> 4),
-            action: bytes[2] & 0x0F,
-            argument: bytes[3],
+            tick: tick.iter().fold(0, |high, &low| high << 8 | u32::from(low)),
+            party: usize::from(call >> 4),
+            action: call & 0x0F,
+            argument: *argument,
         }
     }
 
@@ -52,8 +54,8 @@ impl Record {
 }
 
 /// The calls of a script and its stop's tick, unless it is a bad script.
-fn read_script(script: &[u8]) -> Option<(Vec<Record>, u16)> {
-    let records = script.chunks_exact(4);
+fn read_script(record: usize, script: &[u8]) -> Option<(Vec<Record>, u32)> {
+    let records = script.chunks_exact(record);
     if !records.remainder().is_empty() {
         return None;
     }
@@ -158,7 +160,7 @@ impl Link {
     }
 
     /// The frames that end in this tick, alone in each of theirs, are listed.
-    fn list(&mut self, tick: u16, sent: &[Option<u8>; PARTIES], listing: &mut Vec<u8>) {
+    fn list(&mut self, tick: u32, sent: &[Option<u8>; PARTIES], listing: &mut Vec<u8>) {
         let is_lone = matches!(self.heard, Heard::Character(_));
         for (party, _) in sent.iter().enumerate().filter(|(_, by)| by.is_some()) {
             if is_lone {
@@ -177,7 +179,7 @@ impl Link {
         }
     }
 
-    fn sent_alone(&mut self, tick: u16, party: usize, listing: &mut Vec<u8>) {
+    fn sent_alone(&mut self, tick: u32, party: usize, listing: &mut Vec<u8>) {
         if self.out(party).at_first() {
             self.alone[party] = true;
         }
@@ -188,7 +190,7 @@ impl Link {
     }
 }
 
-fn list(tick: u16, party: usize, out: &Outgoing, listing: &mut Vec<u8>) {
+fn list(tick: u32, party: usize, out: &Outgoing, listing: &mut Vec<u8>) {
     let mut fields = Fields::default();
     frame_oracle::read(out.frame(), &mut fields);
     let [_, frame_type, _, primary, .., length] = fields;
@@ -204,7 +206,12 @@ fn list(tick: u16, party: usize, out: &Outgoing, listing: &mut Vec<u8>) {
 /// The player's output.
 #[inline(never)]
 pub fn play(script: &[u8]) -> Vec<u8> {
-    let Some((calls, stop)) = read_script(script) else {
+    play_sized(4, script)
+}
+
+/// The same for records of so many bytes, 4 or 6.
+pub fn play_sized(record: usize, script: &[u8]) -> Vec<u8> {
+    let Some((calls, stop)) = read_script(record, script) else {
         return BAD_SCRIPT.to_vec();
     };
     let mut listing = HEADER.to_vec();

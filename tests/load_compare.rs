@@ -1,8 +1,8 @@
 //! Compares the compiled writer of loads with the one in plain Rust: some thousand seeds and counts,
 //! the refusals, and that nothing changes behind the script or on a refusal. Then it runs the loads of
-//! tests/data/item-04, which others made: the script must be theirs, and what the player prints for it.
+//! tests/data/item-04, which others made: the script must be theirs, and what the player prints for it,
+//! in the old form and turned into the new one.
 
-mod called;
 mod link_archive;
 mod load_archive;
 mod load_oracle;
@@ -61,6 +61,13 @@ impl Compared {
         let end = link_archive::play(&given, out);
         let printed = listing.replace(';', "\n") + "\n";
         self.check(out[..end] == *printed.as_bytes(), &format!("play of {load}"));
+        let mut long = vec![0; 6 * count as usize];
+        let turned = link_archive::convert(4, &given, &mut long);
+        let end = link_archive::play_sized(6, &long, out);
+        self.check(
+            turned == Ok(long.len()) && out[..end] == *printed.as_bytes(),
+            &format!("play of {load} in the new form"),
+        );
     }
 }
 

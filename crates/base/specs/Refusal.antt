@@ -2,9 +2,9 @@
 -- Document 01, "Refusals, by where each is checked": the table, and what a call comes to.
 use Prim.Native.Nat.{ℕ}
 use Rattle.base.specs.declared.Refusal.{Refusal}
-use Rattle.base.specs.declared.Refusal.the-variants.{BadProfile, BadRetries, PreambleLength, Address, Command, DataLong, MessageInHand, NoRequest, DataLength, BurstWish, FewPreambles, NoDelimiter, EndsEarly, Unsound, BufferShort, Revision, BadLoad, Register, WaitTooShort}
+use Rattle.base.specs.declared.Refusal.the-variants.{BadProfile, BadRetries, PreambleLength, Address, Command, DataLong, MessageInHand, NoRequest, DataLength, BurstWish, FewPreambles, NoDelimiter, EndsEarly, Unsound, BufferShort, BadScript, Revision, BadLoad, Register, RecordSize, TickTooLarge, WaitTooShort}
 
--- "A refusal gives its number only." 16, "bad script", is the player's, whose answer is a text: crates/player/specs/Play.antt.
+-- "A refusal gives its number only." The player's answer to 16 is a text: crates/player/specs/Play.antt.
 abbrev pub number : Refusal → ℕ
 -- a value is 0 or above 1,000, HOLD not below RT2, RT2 or STO not below RT1 primary, or RT1 secondary not RT1 primary + RT2
 number BadProfile = 1
@@ -36,12 +36,18 @@ number EndsEarly = 13
 number Unsound = 14
 -- buffer too short
 number BufferShort = 15
+-- a bad script
+number BadScript = 16
 -- revision outside 3 to 7
 number Revision = 17
 -- document 02, item 4: seed 0, no records, or above 65,536
 number BadLoad = 18
 -- document 02, item 5: a write to one of the modem chip's bytes 0, 3 and 4 to 7, or any byte above 7
 number Register = 19
+-- document 02, item 11: a record size other than 4 or 6
+number RecordSize = 24
+-- document 02, item 11: a tick too large to turn back
+number TickTooLarge = 25
 -- document 02, item 12: 2 data bytes already wait too long
 number WaitTooShort = 26
 

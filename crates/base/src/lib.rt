@@ -21,9 +21,12 @@ pub enum Refusal {
     EndsEarly,
     Unsound,
     BufferShort,
+    BadScript,
     Revision,
     BadLoad,
     Register,
+    RecordSize,
+    TickTooLarge,
     WaitTooShort,
 }
 
@@ -48,9 +51,12 @@ impl Refusal {
             Refusal::EndsEarly => 13,
             Refusal::Unsound => 14,
             Refusal::BufferShort => 15,
+            Refusal::BadScript => 16,
             Refusal::Revision => 17,
             Refusal::BadLoad => 18,
             Refusal::Register => 19,
+            Refusal::RecordSize => 24,
+            Refusal::TickTooLarge => 25,
             Refusal::WaitTooShort => 26,
         }
     }

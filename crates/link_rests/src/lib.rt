@@ -93,16 +93,16 @@ pub fn link_rests(l: Link) -> bool
 }
 
 // So many less, down to 0.
-fn less(n: u32, by: u16) -> u32
+fn less(n: u32, by: u32) -> u32
     ensures { λ r. ⌜ r ≡ n - by ⌝ }
 {
-    if (by as u32) < n {
-        return n - (by as u32);
+    if by < n {
+        return n - by;
     }
     0
 }
 
-fn device_rested(d: Device, ticks: u16) -> Device
+fn device_rested(d: Device, ticks: u32) -> Device
     ensures { λ r. ⌜ r ≡ deviceRested ticks d ⌝ }
 {
     let idle = tick_reader::idle_reader();
@@ -120,11 +120,11 @@ fn device_rested(d: Device, ticks: u16) -> Device
 }
 
 // A timer behind so many silent ticks with BURST clear.
-fn timer_rested(p: Profile, start: Timer, ticks: u16) -> Timer
+fn timer_rested(p: Profile, start: Timer, ticks: u32) -> Timer
     ensures { λ r. ⌜ r ≡ timerRested ticks p start ⌝ }
 {
     let mut t = start;
-    let mut i: u16 = 0;
+    let mut i: u32 = 0;
     while i < ticks {
         t = master_rules::count_clear(p, t);
         i += 1;
@@ -132,7 +132,7 @@ fn timer_rested(p: Profile, start: Timer, ticks: u16) -> Timer
     t
 }
 
-fn master_rested(m: Master, ticks: u16) -> Master
+fn master_rested(m: Master, ticks: u32) -> Master
     ensures { λ r. ⌜ r ≡ masterRested ticks m ⌝ }
 {
     let idle = tick_reader::idle_reader();
@@ -144,7 +144,7 @@ fn master_rested(m: Master, ticks: u16) -> Master
     master_rules::with_parts(m, idle, m.burst, noted, timer, message)
 }
 
-fn slot_rested(s: Slot, ticks: u16) -> Slot
+fn slot_rested(s: Slot, ticks: u32) -> Slot
     ensures { λ r. ⌜ r ≡ slotRested ticks s ⌝ }
 {
     let d = s.device;
@@ -155,7 +155,7 @@ fn slot_rested(s: Slot, ticks: u16) -> Slot
     }
 }
 
-fn slots_rested(slots: [Slot; 6], ticks: u16) -> [Slot; 6]
+fn slots_rested(slots: [Slot; 6], ticks: u32) -> [Slot; 6]
     ensures { λ r. ⌜ r ≡ map (slotRested ticks) slots ⌝ }
 {
     let mut all = slots;
@@ -169,7 +169,7 @@ fn slots_rested(slots: [Slot; 6], ticks: u16) -> [Slot; 6]
     all
 }
 
-fn masters_rested(masters: [Master; 2], ticks: u16) -> [Master; 2]
+fn masters_rested(masters: [Master; 2], ticks: u32) -> [Master; 2]
     ensures { λ r. ⌜ r ≡ mastersRested ticks masters ⌝ }
 {
     let p = masters[0];
@@ -180,7 +180,7 @@ fn masters_rested(masters: [Master; 2], ticks: u16) -> [Master; 2]
 }
 
 // A link that rests, behind so many ticks.
-pub fn link_rested(l: Link, ticks: u16) -> Link
+pub fn link_rested(l: Link, ticks: u32) -> Link
     ensures { λ r. ⌜ r ≡ linkRested ticks l ⌝ }
 {
     let masters = l.masters;

@@ -1,4 +1,4 @@
--- How long the output is: a tick has at most one line, a line at most 25 bytes.
+-- How long the output is: a tick has at most one line, a line at most 40 bytes.
 use Prim.Native.Nat.{ℕ, zero, suc, _+_, _*_, _/_, _%_, _≤_}
 use native.Mathlib.Omega.{arith}
 use borrow.Author.Tests.{leb-true}
@@ -19,7 +19,7 @@ use Rattle.turns.specs.Run.{count}
 use Rattle.turns.specs.declared.Sent.{Sent}
 use Rattle.turns.specs.declared.Sent.the-variants.{Silent}
 use Rattle.listing.specs.Lines.{Line, frameEnds, endsBy, endsWith, oneMore, listens, linesOf, senders, isLone, tickLines, linesFrom}
-use Rattle.listing.specs.Text.{decimal, headLine, typeName, masterDigit, word, lineText, linesText}
+use Rattle.listing.specs.Text.{decimal, typeName, masterDigit, word, lineText, linesText}
 use Rattle.listing.specs.declared.Monitor.{Monitor}
 
 -- ---- a line
@@ -44,7 +44,7 @@ type-most frame =
 word-length : (text : List ℕ) → length (word text) ≡ length text + 1
 word-length text = length-append text (32 ∷ [])
 
-pub line-most : (l : Line) → length (lineText l) ≤ 25
+line-most : (l : Line) → length (lineText l) ≤ 40
 unfolding lineText
 line-most l =
     let tick = word (decimal (l .tick)) in
@@ -63,13 +63,13 @@ line-most l =
       word-length (decimal (l .party)),
       word-length (typeName (l .header .frame)),
       word-length (masterDigit (l .header .primary) ∷ []),
-      decimal-most 5 (l .tick),
-      decimal-most 5 (l .party),
+      decimal-most 10 (l .tick),
+      decimal-most 10 (l .party),
       type-most (l .header .frame),
-      decimal-most 5 (l .length),
+      decimal-most 10 (l .length),
     )
 
-pub lines-most : (ls : List Line) → length (linesText ls) ≤ 25 * length ls
+lines-most : (ls : List Line) → length (linesText ls) ≤ 40 * length ls
 unfolding linesText
 lines-most [] = omega arith
 lines-most (l ∷ ls) = omega (arith, length-append (lineText l) (linesText ls), line-most l, lines-most ls)
@@ -125,7 +125,7 @@ lines-shared tick party (e ∷ es) [] = omega arith
 lines-shared tick party (e ∷ es) (s ∷ ss) =
     omega (arith, length-append (listens tick party false e s .lines) (linesOf tick (party + 1) false es ss .lines), party-most tick party false e s .1, lines-shared tick (party + 1) es ss)
 
-pub tick-most : (tick : ℕ) (es : List Monitor) (ss : List Sent) → length (tickLines tick es ss .lines) ≤ 1
+tick-most : (tick : ℕ) (es : List Monitor) (ss : List Sent) → length (tickLines tick es ss .lines) ≤ 1
 unfolding tickLines
 tick-most tick es ss = go (isLone ss) refl
   where
@@ -142,6 +142,5 @@ from-most tick es (ss ∷ ticks) =
     let now = tickLines tick es ss in
     omega (arith, length-append (now .lines) (linesFrom (tick + 1) (now .monitors) ticks), tick-most tick es ss, from-most (tick + 1) (now .monitors) ticks)
 
--- the header line has 30 bytes
-pub listing-most : (tick : ℕ) (es : List Monitor) (ticks : List (List Sent)) → length (headLine ++ linesText (linesFrom tick es ticks)) ≤ 30 + 25 * length ticks
-listing-most tick es ticks = omega (arith, length-append headLine (linesText (linesFrom tick es ticks)), lines-most (linesFrom tick es ticks), from-most tick es ticks)
+pub text-most : (tick : ℕ) (es : List Monitor) (ticks : List (List Sent)) → length (linesText (linesFrom tick es ticks)) ≤ 40 * length ticks
+text-most tick es ticks = omega (arith, lines-most (linesFrom tick es ticks), from-most tick es ticks)

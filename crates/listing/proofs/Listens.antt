@@ -244,15 +244,10 @@ lines-behind tick es (ss ∷ ts) rest =
     ∙ sym (append-assoc (now .lines) (linesFrom (tick + 1) (now .monitors) ts) _)
     ∙ ap (λ (n : ℕ). (now .lines ++ linesFrom (tick + 1) (now .monitors) ts) ++ linesFrom n (monitorsFrom (tick + 1) (now .monitors) ts) rest) onward
 
-pub ticks-go-on : (tick : ℕ) (es fs : List Monitor) (ts rest : List (List Sent)) (before after : List ℕ) (at r : ℕ) → TickLinesAre (ticksLines tick es ts) before at fs r after
-    → put (outOf after r) (linesText (linesFrom (tick + length ts) fs rest)) ≡ put (outOf before at) (linesText (linesFrom tick es (ts ++ rest)))
-ticks-go-on tick es fs ts rest before after at r p =
-    let behind = linesFrom (tick + length ts) (monitorsFrom tick es ts) rest in
-    ap (λ (l : List Monitor). put (outOf after r) (linesText (linesFrom (tick + length ts) l rest))) (p .monitors-are)
-    ∙ ap (λ (o : Out). put o (linesText behind)) (p .text .out)
-    ∙ sym (put-append (linesText (linesFrom tick es ts)) (linesText behind) (outOf before at))
-    ∙ ap (put (outOf before at)) (lines-append (linesFrom tick es ts) behind)
-    ∙ ap (λ (ls : List Line). put (outOf before at) (linesText ls)) (sym (lines-behind tick es ts rest))
+pub ticks-text : (tick : ℕ) (es : List Monitor) (ts rest : List (List Sent))
+    → linesText (linesFrom tick es (ts ++ rest)) ≡ linesText (linesFrom tick es ts) ++ linesText (linesFrom (tick + length ts) (monitorsFrom tick es ts) rest)
+ticks-text tick es ts rest =
+    ap linesText (lines-behind tick es ts rest) ∙ sym (lines-append (linesFrom tick es ts) (linesFrom (tick + length ts) (monitorsFrom tick es ts) rest))
 
 -- some ticks in which nobody sends
 pub ticks-silent : (n tick : ℕ) (es : List Monitor) (before : List ℕ) (at : ℕ) → length es ≡ 8

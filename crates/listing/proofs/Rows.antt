@@ -29,8 +29,8 @@ use Rattle.listing.proofs.Listens.{Counting, counting-none, counting-mo
 
 -- ---- how many rows
 
-pub listed-of : (tick count n r : ℕ) → n ≡ lesser count 64 → r ≡ lesser n (65535 - tick) → r ≡ rowsListed tick count
-listed-of tick count n r p q = q ∙ ap (λ (m : ℕ). lesser m (65535 - tick)) p
+pub listed-of : (tick count n r : ℕ) → n ≡ lesser count 64 → r ≡ lesser n (4294967295 - tick) → r ≡ rowsListed tick count
+listed-of tick count n r p q = q ∙ ap (λ (m : ℕ). lesser m (4294967295 - tick)) p
 
 -- ---- a row
 
@@ -194,7 +194,7 @@ parties-all tick lone row ms₀ before at ms bytes place i v h e =
 pub record RowsListed (tick n : ℕ) (rows : List (List ℕ)) (ms₀ : List Monitor) (before : List ℕ) (at : ℕ) (ms : List Monitor) (bytes : List ℕ) (place k : ℕ) : Type 0 where
   pub eight : length ms ≡ 8
   pub few : n ≤ 64
-  pub numbered : n ≤ 65535 - tick
+  pub numbered : n ≤ 4294967295 - tick
   pub there : length rows ≡ 64
   pub within : k ≤ n
   pub same-length : length bytes ≡ length before
@@ -225,8 +225,8 @@ rows-none tick count n rows ms before at e l eight =
     let all : n - 0 ≡ n = omega arith in
     record {
       eight = eight;
-      few = omega (arith, e, lesser-first most (65535 - tick), lesser-second count 64);
-      numbered = omega (arith, e, lesser-second most (65535 - tick));
+      few = omega (arith, e, lesser-first most (4294967295 - tick), lesser-second count 64);
+      numbered = omega (arith, e, lesser-second most (4294967295 - tick));
       there = l;
       within = omega arith;
       same-length = refl;

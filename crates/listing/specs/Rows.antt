@@ -28,9 +28,9 @@ rowsSent rows = map rowSent rows
 abbrev pub lesser : ℕ → ℕ → ℕ
 lesser m n = if m <? n then m else n
 
--- How many of 64 rows are listed, from this tick on: so many as are asked for, of the 65,535 ticks that a play has at most.
+-- How many of 64 rows are listed, from this tick on: so many as are asked for, of the 4,294,967,295 ticks that a play has at most.
 abbrev pub rowsListed : ℕ → ℕ → ℕ
-rowsListed tick count = lesser (lesser count 64) (65535 - tick)
+rowsListed tick count = lesser (lesser count 64) (4294967295 - tick)
 
 -- A monitor that has counted no character has heard nothing of a frame, whatever its reader holds.
 unfoldable pub heardSoFar : Monitor → Monitor

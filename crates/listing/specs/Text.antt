@@ -8,9 +8,9 @@ use Rattle.texts.specs.Decimal.{decimalOf}
 use Rattle.frame.specs.Delimiter.{stx, ack}
 use Rattle.listing.specs.Lines.{Line}
 
--- a number in decimal: of 16 bits it has at most five digits
+-- a number in decimal: of 32 bits it has at most ten digits
 abbrev pub decimal : ℕ → List ℕ
-decimal n = decimalOf 5 n
+decimal n = decimalOf 10 n
 
 -- "tick party type master length", a fixed byte string
 abbrev pub headLine : List ℕ

@@ -43,10 +43,10 @@ struct MonitorHeard {
 }
 
 // A number in decimal.
-fn put_decimal(n: u16, out: &mut [u8], at: usize) -> usize
+fn put_decimal(n: u32, out: &mut [u8], at: usize) -> usize
     ensures { λ r. ⌜ PutIs (decimal n) (now (out .entry)) at r (now (out .exit)) ⌝ }
 {
-    put_digits(5, n as u64, out, at)
+    put_digits(10, n as u64, out, at)
 }
 
 // The header line.
@@ -80,7 +80,7 @@ fn master_digit(primary: bool) -> u8
 }
 
 // The words of a line, each with a space behind it.
-fn put_number_word(n: u16, out: &mut [u8], at: usize) -> usize
+fn put_number_word(n: u32, out: &mut [u8], at: usize) -> usize
     ensures { λ r. ⌜ PutIs (word (decimal n)) (now (out .entry)) at r (now (out .exit)) ⌝ }
 {
     let place = put_decimal(n, out, at);
@@ -103,16 +103,16 @@ fn put_master_word(primary: bool, out: &mut [u8], at: usize) -> usize
 }
 
 // The line of a frame: the tick of its last character, its sender, its type, its master, and its length in characters.
-fn put_line(tick: u16, party: u16, header: Header, length: u16, out: &mut [u8], at: usize) -> usize
+fn put_line(tick: u32, party: u16, header: Header, length: u16, out: &mut [u8], at: usize) -> usize
     ensures { λ r. ⌜ PutIs (lineText (lineOf tick party header length)) (now (out .entry)) at r (now (out .exit)) ⌝ }
 {
     let frame = header.frame;
     let primary = header.primary;
     let a = put_number_word(tick, out, at);
-    let b = put_number_word(party, out, a);
+    let b = put_number_word(party as u32, out, a);
     let c = put_type_word(frame, out, b);
     let d = put_master_word(primary, out, c);
-    let e = put_decimal(length, out, d);
+    let e = put_decimal(length as u32, out, d);
     put_byte(b'\n', out, e)
 }
 
@@ -148,7 +148,7 @@ fn one_more(n: u16) -> u16
 
 // A frame that its sender sent to the end.
 fn frame_ends(
-    tick: u16,
+    tick: u32,
     party: u16,
     header: Header,
     length: u16,
@@ -174,7 +174,7 @@ fn frame_ends(
 
 // A monitor behind a character, by what its reader tells.
 fn ends_with(
-    tick: u16,
+    tick: u32,
     party: u16,
     count: u16,
     alone: bool,
@@ -209,7 +209,7 @@ fn ends_with(
 
 // A party sends a character.
 fn hear(
-    tick: u16,
+    tick: u32,
     party: u16,
     lone: bool,
     monitor: Monitor,
@@ -227,7 +227,7 @@ fn hear(
 }
 
 // The smaller of two numbers.
-fn lesser_of(a: u16, b: u16) -> u16
+fn lesser_of(a: u32, b: u32) -> u32
     ensures { λ r. ⌜ r ≡ lesser a b ⌝ }
 {
     if a < b {
@@ -237,11 +237,11 @@ fn lesser_of(a: u16, b: u16) -> u16
 }
 
 // How many of 64 rows are listed from this tick on.
-fn rows_listed(tick: u16, count: u16) -> u16
+fn rows_listed(tick: u32, count: u16) -> u32
     ensures { λ r. ⌜ r ≡ rowsListed tick count ⌝ }
 {
-    let most = lesser_of(count, 64);
-    lesser_of(most, 65535 - tick)
+    let most = lesser_of(count as u32, 64);
+    lesser_of(most, 4294967295 - tick)
 }
 
 // There are eight numbers in a row, and 64 rows: what the arrays' type says, in words that the promises below need.
@@ -286,7 +286,7 @@ fn heard_so_far(m: Monitor) -> Monitor
 // Row k of sent is what each party sent in the tick k behind the first: the character, or 256 for none.
 pub fn list_ticks(
     monitors: Monitors,
-    tick: u16,
+    tick: u32,
     count: u16,
     sent: &[[u16; 8]; 64],
     out: &mut [u8],
@@ -298,7 +298,7 @@ pub fn list_ticks(
     let most = rows_listed(tick, count);
     let mut list = monitors;
     let mut place = at;
-    let mut k: u16 = 0;
+    let mut k: u32 = 0;
     while k < most {
         let lone = row_is_lone(&sent[k as usize]);
         let mut next = 0;

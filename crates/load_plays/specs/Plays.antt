@@ -3,16 +3,19 @@
 use Prim.Native.Nat.{ℕ, _≤_}
 use mathlib.Core.Path.{_≡_}
 use mathlib.Core.List.{List, _++_}
-use lib.ListN.{replicate}
+use lib.ListN.{length, replicate}
 use Rattle.frame.specs.Limits.{mostData}
 use Rattle.line.specs.Profile.{fskProfile}
 use Rattle.turns.specs.Link.{LinkStep, Calls, run}
 use Rattle.turns.specs.Run.{EachTick, NoTwoSend}
 use Rattle.turns.specs.Demand3.{Premises, WaitIn}
+use Rattle.base.specs.Refusal.{accepted}
+use Rattle.script.specs.declared.Form.the-variants.{Old, New}
 use Rattle.script.specs.Script.{stopOf, callsFrom}
 use Rattle.listing.specs.Lines.{quietMonitor, linesFrom}
 use Rattle.listing.specs.Text.{headLine, linesText}
 use Rattle.listing.specs.Sents.{sentIn}
+use Rattle.player_convert.specs.Turn.{turned, converted}
 use Rattle.player.specs.Play.{readyLink, play}
 use Rattle.load_writer.specs.Load.{load, scriptBytes}
 use Rattle.load_writer.specs.Write.{mostRecords}
@@ -30,7 +33,14 @@ playOf seed count = run mostData readyLink (callsOf seed count)
 abbrev pub PlaysIt : Type 0
 PlaysIt =
     (seed count : ℕ) → 1 ≤ count → count ≤ mostRecords
-    → play (scriptBytes (load seed count)) ≡ headLine ++ linesText (linesFrom 0 (replicate 8 quietMonitor) (sentIn (playOf seed count)))
+    → play Old (scriptBytes (load seed count)) ≡ headLine ++ linesText (linesFrom 0 (replicate 8 quietMonitor) (sentIn (playOf seed count)))
+
+-- document 02, item 11: "the generator's listings are compared on the new form". Every load turns into it, and there the player prints the same listing.
+abbrev pub PlaysNew : Type 0
+PlaysNew =
+    (seed count room : ℕ) → 1 ≤ count → count ≤ mostRecords → length (turned New (load seed count)) ≤ room
+    → (converted Old (scriptBytes (load seed count)) room ≡ accepted (turned New (load seed count)))
+    × (play New (turned New (load seed count)) ≡ play Old (scriptBytes (load seed count)))
 
 -- "within the premises on which the longest wait rests"
 abbrev pub WithinPremises : Type 0

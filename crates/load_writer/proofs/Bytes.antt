@@ -95,7 +95,7 @@ mark-fits x q h = fits 400 (4 + q) 2 (x / 2 ^ (24 - 8 * q) % 256) (omega arith) 
 pub front-fit : (x : ℕ) → Each Fits (front x)
 front-fit x = each-front Fits fitTest tested mark-fits opening-tested x
 
-load-fits : (seed n : ℕ) → n ≤ 65536 → Each Fits (load seed n)
+pub load-fits : (seed n : ℕ) → n ≤ 65536 → Each Fits (load seed n)
 load-fits seed n h =
     each-load Fits 65524 (λ k x j. lower-fits (pairTick k) x (pair-fits k j)) (λ k x j. upper-fits (pairTick k) x (pair-fits k j)) (λ e f. stop-fits (e .tick) (f .tick)) seed n (omega (arith, h))
     (front-fit (draw seed))

@@ -1,29 +1,97 @@
-// Plays the script on standard input, and writes what the player prints to standard output.
-use libc::STDIN_FILENO;
+// Plays the script on standard input, and writes what the player prints to standard output, piece by piece. Its argument is the size of a record, 4 or 6; without one it is 4.
+use base::Refusal;
 use libc::STDOUT_FILENO;
-use player::LONGEST;
-ghost use mathlib.Core.Path.{_≡_};
-ghost use lib.ListN.{length};
+use player::Playing;
+use player::Told;
+use script::Form;
+use script::SizedForm;
+use script_input::Input;
+use script_input::ROOM;
 
-// One byte more than the longest good script has: a longer one is read as bad too.
-const ROOM: usize = 2_097_157;
-
-fn script_room() -> [u8; ROOM]
-    ensures { λ r. ⌜ 2097157 ≡ length r ⌝ }
-{
-    [0; ROOM]
+// The size that the argument says.
+fn argument() -> usize {
+    let mut word = io::buffer();
+    let n = os::arg(1, &mut word);
+    script::size_in(&word[..n])
 }
 
-fn listing_room() -> [u8; LONGEST]
-    ensures { λ r. ⌜ 1638405 ≡ length r ⌝ }
-{
-    [0; LONGEST]
+// The size of a record: 4 without an argument, and none with more than one.
+fn record_size() -> usize {
+    let n = os::arg_count();
+    if n < 2 {
+        return 4;
+    }
+    if n == 2 {
+        return argument();
+    }
+    0
+}
+
+// A piece of the play, written.
+fn print_piece(
+    p: Playing,
+    told: Told,
+    script: &[u8],
+    frames: &mut [[u8; 284]; 8],
+    bytes: &mut [[u8; 255]; 8],
+    contents: &mut [[u8; 255]; 6],
+    out: &mut [u8; 65536],
+) -> Playing {
+    let next = player::play_on(p, told, script, frames, bytes, contents, out);
+    io::write_all(STDOUT_FILENO, texts::front(out, next.at));
+    next
+}
+
+// The header line, and all pieces of the play. Each piece goes on, since there is room for the lines of 64 ticks.
+fn print_play(told: Told, script: &[u8]) {
+    let mut frames = [[0u8; 284]; 8];
+    let mut bytes = [[0u8; 255]; 8];
+    let mut contents = [[0u8; 255]; 6];
+    let mut out = [0u8; 65536];
+    let mut p = player::play_begin(&mut out);
+    io::write_all(STDOUT_FILENO, texts::front(&out, p.at));
+    while p.tick < told.stop {
+        let next = print_piece(
+            p,
+            told,
+            script,
+            &mut frames,
+            &mut bytes,
+            &mut contents,
+            &mut out,
+        );
+        if next.tick <= p.tick {
+            return;
+        }
+        p = next;
+    }
+}
+
+// A script of this form.
+fn play_form(form: Form, script: &[u8]) {
+    if script::is_good(form, script) {
+        let told = player::told_of(form, script);
+        print_play(told, script);
+        return;
+    }
+    script_input::print_refusal(Refusal::BadScript);
+}
+
+// The script on standard input; one longer than the room is refused with 16 or 15.
+fn play_input(form: Form, script: &mut [u8; ROOM]) {
+    let input = script_input::read(form, script);
+    match input {
+        Input::Whole(n) => play_form(form, texts::front(script, n)),
+        Input::LongGood => script_input::print_refusal(Refusal::BufferShort),
+        Input::LongBad => script_input::print_refusal(Refusal::BadScript),
+    }
 }
 
 fn main() {
-    let mut script = script_room();
-    let mut out = listing_room();
-    let n = io::read_full(STDIN_FILENO, &mut script);
-    let m = player::play(&script[..n], &mut out);
-    io::write_all(STDOUT_FILENO, &out[..m]);
+    let mut script = [0u8; ROOM];
+    let sized = script::form_of(record_size());
+    match sized {
+        SizedForm::Is(form) => play_input(form, &mut script),
+        SizedForm::Refused(why) => script_input::print_refusal(why),
+    }
 }

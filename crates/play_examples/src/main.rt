@@ -1,12 +1,11 @@
 // Plays the scripts that its arguments name, and prints each name with its listing.
 use libc::STDOUT_FILENO;
-use player::LONGEST;
 
-// What the player prints for a script.
+// What the player prints for a script of the old form. Every listing of the examples is shorter than the buffer.
 fn print_listing(script: &[u8]) {
-    let mut out = [0u8; LONGEST];
-    let n = player::play(script, &mut out);
-    io::write_all(STDOUT_FILENO, &out[..n]);
+    let mut out = io::large_buffer();
+    let n = player::play_into(4, script, &mut out);
+    io::write_all(STDOUT_FILENO, texts::front(&out, n));
 }
 
 // Plays an open file. Every script of the examples is shorter than the buffer.

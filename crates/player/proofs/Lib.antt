@@ -5,4 +5,6 @@ pub mod PlaysOn
 pub mod Going
 pub mod Started
 pub mod Whole
+pub mod Pieces
 pub mod Listed
+pub mod Turned

@@ -4,11 +4,10 @@ use native.Mathlib.Omega.{arith}
 use mathlib.Core.Bool.{Bool, true, false}
 use mathlib.Core.Path.{_≡_, refl, sym, ap, subst, _∙_}
 use mathlib.Core.List.{List, [], _∷_, _++_}
-use lib.ListN.{length, replicate}
+use lib.ListN.{length, replicate, length-replicate}
 use borrow.Author.Tests.{ne-eqb}
 use Rattle.base.specs.Choice.{if_then_else_, _=?_}
 use Rattle.base.proofs.Choices.{if-is-true, if-is-false}
-use Rattle.texts.specs.Put.{outOf, put}
 use Rattle.line.specs.declared.Heard.{Heard}
 use Rattle.turns.specs.Link.{no-call, DeviceSide, DeviceStep, Calls, LinkStep, deviceTick, deviceTicks, linkTick, linkAfter, run}
 use Rattle.turns.specs.Link as L
@@ -17,12 +16,10 @@ use Rattle.script.specs.Script.{wantedAt, masterCall, deviceCall, deviceCallAt,
 use Rattle.script.specs.declared.Entry.{Entry}
 use Rattle.script.specs.declared.ScriptCall.the-variants.{Nothing}
 use Rattle.listing.specs.Sents.{sentOf, sentIn}
-use Rattle.listing.specs.Promises.{TickLinesAre}
-use Rattle.listing.specs.Rows.{ticksLines}
-use Rattle.listing.specs.Lines.{linesFrom}
+use Rattle.listing.specs.Lines.{linesFrom, monitorsFrom}
 use Rattle.listing.specs.Text.{linesText}
 use Rattle.listing.specs.declared.Monitor.{Monitor}
-use Rattle.listing.proofs.Listens.{ticks-go-on}
+use Rattle.listing.proofs.Listens.{ticks-text}
 use Rattle.parties.specs.Stands.{uncalled}
 use Rattle.link_ticks.specs.Ticks.{tells, upToTold, callsFirst, linkBehind}
 use Rattle.link_rests.specs.Uncalled.{uncalledTick, afterTicks}
@@ -131,25 +128,51 @@ module _ (es : List Entry) where
   sent-split [] ys = refl
   sent-split (x ∷ xs) ys = ap (λ (ts : List (List Sent)). sentOf x ∷ ts) (sent-split xs ys)
 
-  sent-count : (ss : List LinkStep) → length (sentIn ss) ≡ length ss
+  pub sent-count : (ss : List LinkStep) → length (sentIn ss) ≡ length ss
   unfolding sentIn
   sent-count [] = refl
   sent-count (s ∷ ss) = ap suc (sent-count ss)
 
-  -- behind the first k ticks, what is left prints what was left before them
-  pub left-on : (k tick stop : ℕ) (l l-after : L.Link) (ms ms-after : List Monitor) (out out-after : List ℕ) (at at-after : ℕ) → tick + k ≤ stop
-      → l-after ≡ linkBehind l (run 255 l (callsFrom tick k es))
-      → TickLinesAre (ticksLines tick ms (sentIn (run 255 l (callsFrom tick k es)))) out at ms-after at-after out-after
-      → put (outOf out-after at-after) (textFrom (tick + k) (stop - (tick + k)) ms-after l-after es) ≡ put (outOf out at) (textFrom tick (stop - tick) ms l es)
-  left-on k tick stop l l-after ms ms-after out out-after at at-after h e lines =
+  -- the text of what is left: that of the first k ticks, then that of what is left behind them
+  pub left-text : (k tick stop : ℕ) (l l-after : L.Link) (ms ms-after : List Monitor) → tick + k ≤ stop
+      → l-after ≡ linkBehind l (run 255 l (callsFrom tick k es)) → ms-after ≡ monitorsFrom tick ms (sentIn (run 255 l (callsFrom tick k es)))
+      → textFrom tick (stop - tick) ms l es
+      ≡ linesText (linesFrom tick ms (sentIn (run 255 l (callsFrom tick k es)))) ++ textFrom (tick + k) (stop - (tick + k)) ms-after l-after es
+  left-text k tick stop l l-after ms ms-after h e g =
       let ss = run 255 l (callsFrom tick k es) in
-      let rest = sentIn (run 255 (linkBehind l ss) (callsFrom (tick + k) (stop - (tick + k)) es)) in
-      let all : k + (stop - (tick + k)) ≡ stop - tick = omega arith in
-      ap (λ (z : L.Link). put (outOf out-after at-after) (textFrom (tick + k) (stop - (tick + k)) ms-after z es)) e
-      ∙ ap (λ (n : ℕ). put (outOf out-after at-after) (linesText (linesFrom (tick + n) ms-after rest))) (sym (sent-count ss ∙ run-count k tick l))
-      ∙ ticks-go-on tick ms ms-after (sentIn ss) rest out out-after at at-after lines
-      ∙ ap (λ (ts : List (List Sent)). put (outOf out at) (linesText (linesFrom tick ms ts))) (sym (sent-split ss _) ∙ ap sentIn (sym (run-split k (stop - (tick + k)) tick l)))
-      ∙ ap (λ (n : ℕ). put (outOf out at) (textFrom tick n ms l es)) all
+      let rest = run 255 (linkBehind l ss) (callsFrom (tick + k) (stop - (tick + k)) es) in
+      let first = linesText (linesFrom tick ms (sentIn ss)) in
+      let all : stop - tick ≡ k + (stop - (tick + k)) = omega arith in
+      ap (λ (n : ℕ). textFrom tick n ms l es) all
+      ∙ ap (λ (ts : List (List Sent)). linesText (linesFrom tick ms ts)) (ap sentIn (run-split k (stop - (tick + k)) tick l) ∙ sent-split ss rest)
+      ∙ ticks-text tick ms (sentIn ss) (sentIn rest)
+      ∙ ap (λ (n : ℕ). first ++ linesText (linesFrom (tick + n) (monitorsFrom tick ms (sentIn ss)) (sentIn rest))) (sent-count ss ∙ run-count k tick l)
+      ∙ (λ i. first ++ textFrom (tick + k) (stop - (tick + k)) (sym g i) (sym e i) es)
+
+-- how many ticks are taken at once
+pub told-most : (ss : List LinkStep) → length (upToTold ss) ≤ length ss
+unfolding upToTold if_then_else_
+told-most [] = omega arith
+told-most (s ∷ ss) = by (tells s) (told-most ss)
+  where
+    by : (t : Bool) → length (upToTold ss) ≤ length ss → suc (length (if t then [] else upToTold ss)) ≤ suc (length ss)
+    by true h = omega arith
+    by false h = omega (arith, h)
+
+pub told-some : (ss : List LinkStep) → 1 ≤ length ss → 1 ≤ length (upToTold ss)
+unfolding upToTold
+told-some [] h = h
+told-some (s ∷ ss) h = omega arith
+
+run-length : (l : L.Link) (cs : List Calls) → length (run 255 l cs) ≡ length cs
+unfolding run
+run-length l [] = refl
+run-length l (c ∷ cs) = ap suc (run-length (linkAfter (linkTick 255 l c)) cs)
+
+pub first-length : (n : ℕ) (l : L.Link) (c : Calls) → length (run 255 l (callsFirst n c)) ≡ n
+unfolding callsFirst
+first-length zero l c = run-length l []
+first-length (suc n) l c = run-length l (c ∷ replicate n uncalled) ∙ ap suc (length-replicate n uncalled)
 
 -- ---- the link behind ticks without a call
 

@@ -109,9 +109,9 @@ lesser-is m n h = by (m <? n) refl
 
 -- the rows that are listed are those of the ticks
 pub listed-sent : (tick n : ℕ) (hs : List Bool) (ss : List LinkStep) (sent sent-after : List (List ℕ)) → hs ≡ replicate 6 true → EachTick SixTick ss → EachTick SendBytes ss
-    → n ≡ length ss → n ≤ 64 → n ≤ 65535 - tick → sent-after ≡ codesOf hs ss ++ drop (length ss) sent → rowsSent (take (rowsListed tick n) sent-after) ≡ sentIn ss
+    → n ≡ length ss → n ≤ 64 → n ≤ 4294967295 - tick → sent-after ≡ codesOf hs ss ++ drop (length ss) sent → rowsSent (take (rowsListed tick n) sent-after) ≡ sentIn ss
 listed-sent tick n hs ss sent sent-after all six bytes count few numbered e =
-    let rows : rowsListed tick n ≡ length (codesOf hs ss) = ap (λ (m : ℕ). lesser m (65535 - tick)) (lesser-is n 64 few) ∙ lesser-is n (65535 - tick) numbered ∙ count ∙ sym (codes-count hs ss) in
+    let rows : rowsListed tick n ≡ length (codesOf hs ss) = ap (λ (m : ℕ). lesser m (4294967295 - tick)) (lesser-is n 64 few) ∙ lesser-is n (4294967295 - tick) numbered ∙ count ∙ sym (codes-count hs ss) in
     (λ i. rowsSent (take (rows i) (e i)))
     ∙ ap rowsSent (take-append-seam (codesOf hs ss) (drop (length ss) sent))
     ∙ ap (λ (bs : List Bool). rowsSent (codesOf bs ss)) all

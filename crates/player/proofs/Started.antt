@@ -12,7 +12,8 @@ use Rattle.texts.proofs.Puts.{put-then}
 use Rattle.line.specs.Profile.{fskProfile}
 use Rattle.line.specs.declared.Profile.{Profile}
 use Rattle.turns.specs.Link as L
-use Rattle.script.specs.Script.{recordsOf, goodScript, stopOf}
+use Rattle.script.specs.declared.Form.{Form}
+use Rattle.script.specs.Script.{recordsIn, goodIn, stopOf}
 use Rattle.script.proofs.Ticks.{reads-start}
 use Rattle.listing.specs.Lines.{quietMonitor}
 use Rattle.listing.specs.Rows.{allHeard}
@@ -27,7 +28,9 @@ use Rattle.link_start.specs.declared.Setting.{Setting}
 use Rattle.player.specs.Play.{readyLink, listing}
 use Rattle.player.specs.Ready.{settingOf, settings, readyStart}
 use Rattle.player.specs.Ticks.{textFrom, textLeft, Stands}
+use Rattle.player.specs.Pieces.{toldOf, firstPlay, Begun}
 use Rattle.player.specs.declared.Playing.{Playing}
+use Rattle.player.specs.declared.Told.{Told}
 use Rattle.player.proofs.PlaysOn.{quiet-heard}
 
 -- ---- the start
@@ -44,26 +47,38 @@ ready-start p s r e f is = is .link-is ∙ (λ i. linkOr (linkStarts (e i) 3 (f 
 
 -- ---- its play
 
--- a play from the ready link on
-abbrev pub first : Link → List Monitor → ℕ → Playing
-first l monitors at = record { link = l; monitors = monitors; tick = 0; next = 0; at = at }
+pub first-stands : (form : Form) (script : List ℕ) (at : ℕ) → goodIn form script ≡ true → Stands form script (firstPlay at)
+first-stands form script at g = record { reads = reads-start form script g; there = refl }
 
-pub ready-stands : (script : List ℕ) (stop : ℕ) (l : Link) (monitors : List Monitor) (at : ℕ) → l ≡ readyStart → goodScript script ≡ true → Stands script (first l monitors at) × (0 ≤ stop)
-ready-stands script stop l monitors at e g = (record { reads = reads-start script g; there = ap (λ (m : Link). heres (m .devices)) e }, omega arith)
+pub ready-stands : (form : Form) (script : List ℕ) (told : Told) (p : Playing) → told ≡ toldOf form script → p ≡ firstPlay (p .at) → goodIn form script ≡ true
+    → Stands (told .form) script p × (p .tick ≤ told .stop)
+ready-stands form script told p d e g =
+    (subst (λ (t : Told). Stands (t .form) script p) (sym d) (subst (Stands form script) (sym e) (first-stands form script (p .at) g)), omega (arith, ap (λ (q : Playing). q .tick) e))
 
 ready-is : lentFresh readyStart ≡ readyLink
 unfolding readyLink devicesFrom
 ready-is = refl
 
-pub ready-plays : (script : List ℕ) (stop : ℕ) (l : Link) (monitors : List Monitor) (before between after : List ℕ) (at r : ℕ) → l ≡ readyStart → monitors ≡ replicate 8 quietMonitor
-    → stop ≡ stopOf (recordsOf script) → PutIs headLine before 0 at between → PutIs (textLeft script stop (first l monitors at) rowsFresh) between at r after
-    → PutIs (listing (recordsOf script)) before 0 r after
-ready-plays script stop l monitors before between after at r e f s p q =
-    let all : stop - 0 ≡ stop = omega arith in
-    put-then headLine _ before between after 0 at r p
-    (subst (λ (text : List ℕ). PutIs text between at r after)
-    ((λ i. textFrom 0 (all i) (allHeard (f i)) (lentFresh (e i)) (recordsOf script))
-    ∙ (λ i. textFrom 0 (s i) (quiet-heard i) (ready-is i) (recordsOf script)))
+-- what is left of it is all of its lines
+pub first-text : (form : Form) (script : List ℕ) (at : ℕ)
+    → textLeft form script (stopOf (recordsIn form script)) (firstPlay at) rowsFresh ≡ textFrom 0 (stopOf (recordsIn form script)) (replicate 8 quietMonitor) readyLink (recordsIn form script)
+first-text form script at =
+    let all : stopOf (recordsIn form script) - 0 ≡ stopOf (recordsIn form script) = omega arith in
+    λ i. textFrom 0 (all i) (quiet-heard i) (ready-is i) (recordsIn form script)
+
+pub ready-plays : (form : Form) (script : List ℕ) (told : Told) (p : Playing) (before between after : List ℕ) (r : ℕ) → told ≡ toldOf form script → Begun before p between
+    → PutIs (textLeft (told .form) script (told .stop) p rowsFresh) between (p .at) r after → PutIs (listing (recordsIn form script)) before 0 r after
+ready-plays form script told p before between after r d b q =
+    put-then headLine _ before between after 0 (p .at) r (b .head)
+    (subst (λ (text : List ℕ). PutIs text between (p .at) r after)
+    ((λ i. textLeft (d i .form) script (d i .stop) (b .play-is i) rowsFresh) ∙ first-text form script (p .at))
     q)
 
-pub ruleset started = (settings-are, ready-start, ready-stands)
+pub told-is : (form : Form) (script : List ℕ) (stop : ℕ) → stop ≡ stopOf (recordsIn form script) → _≡_ {A = Told} (record { form = form; stop = stop }) (toldOf form script)
+told-is form script stop e = λ i. record { form = form; stop = e i }
+
+pub begins : (l : Link) (monitors : List Monitor) (before after : List ℕ) (at : ℕ) → l ≡ readyStart → monitors ≡ replicate 8 quietMonitor → PutIs headLine before 0 at after
+    → Begun before (record { link = l; monitors = monitors; tick = 0; next = 0; at = at }) after
+begins l monitors before after at e f h = record { play-is = λ i. record { link = e i; monitors = f i; tick = 0; next = 0; at = at }; head = h }
+
+pub ruleset started = (refl, settings-are, ready-start, ready-stands, ready-plays, begins)

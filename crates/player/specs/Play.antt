@@ -1,21 +1,20 @@
 -- To be believed: what the engine must do, or what is claimed of it.
 -- Document 01, "The player": the link that stands ready, and the listing.
-use Prim.Native.Nat.{ℕ, _-_, _≤_}
+use Prim.Native.Nat.{ℕ, _-_}
 use mathlib.Core.Bool.{true, false}
 use mathlib.Core.List.{List, [], _∷_, _++_}
-use mathlib.Core.Path.{_≡_}
-use lib.ListN.{length, replicate}
+use lib.ListN.{replicate}
 use Rattle.base.specs.Choice.{if_then_else_}
 use Rattle.base.specs.Refusal.{Called, accepted, refused}
-use Rattle.base.specs.Store.{stored}
 use Rattle.frame.specs.Limits.{mostData, longestFrame}
 use Rattle.line.specs.Profile.{fskProfile}
 use Rattle.line.specs.declared.Heard.the-variants.{Silence}
 use Rattle.turns.specs.Master.{freshMaster}
 use Rattle.turns.specs.Device.{freshDevice}
 use Rattle.turns.specs.Link.{DeviceSide, Link, run}
-use Rattle.script.specs.Script.{recordsOf, goodScript, stopOf, callsFrom}
+use Rattle.script.specs.Script.{formOf, recordsIn, goodIn, stopOf, callsFrom}
 use Rattle.script.specs.declared.Entry.{Entry}
+use Rattle.script.specs.declared.Form.{Form}
 use Rattle.listing.specs.Lines.{quietMonitor, linesFrom}
 use Rattle.listing.specs.Text.{decimal, headLine, linesText}
 use Rattle.listing.specs.Sents.{sentIn}
@@ -43,19 +42,21 @@ abbrev pub listing : List Entry → List ℕ
 listing es = headLine ++ linesText (linesFrom 0 (replicate 8 quietMonitor) (sentIn (run mostData readyLink (callsFrom 0 (stopOf es) es))))
 
 -- "16: bad script"
-abbrev pub scriptTaken : List ℕ → Called (List Entry)
-scriptTaken script = if goodScript script then accepted (recordsOf script) else refused 16
+abbrev pub scriptTaken : Form → List ℕ → Called (List Entry)
+scriptTaken form script = if goodIn form script then accepted (recordsIn form script) else refused 16
 
 -- the listing; or the number of the refusal, a line of its own: "the output is then that number alone"
 abbrev pub outputOf : Called (List Entry) → List ℕ
 outputOf (accepted es) = listing es
 outputOf (refused why) = decimal why ++ (10 ∷ [])
 
-unfoldable pub play : List ℕ → List ℕ
-play script = outputOf (scriptTaken script)
+unfoldable pub play : Form → List ℕ → List ℕ
+play form script = outputOf (scriptTaken form script)
 
--- what the player promises: the output at the front of the lent bytes, and its length, which is within theirs
-pub record PlayIs (script before : List ℕ) (r : ℕ) (after : List ℕ) : Type 0 where
-  pub returned : r ≡ length (play script)
-  pub output : after ≡ stored before 0 (play script)
-  pub within : r ≤ length after
+-- "The player is told the record size": for a script whose records have so many bytes. "It refuses a record size other than 4 or 6 with 24, printed as 16 is, then 16"
+abbrev pub sizedTaken : Called Form → List ℕ → Called (List Entry)
+sizedTaken (accepted form) script = scriptTaken form script
+sizedTaken (refused why) script = refused why
+
+unfoldable pub playSized : ℕ → List ℕ → List ℕ
+playSized size script = outputOf (sizedTaken (formOf size) script)

@@ -17,7 +17,9 @@ use Rattle.parties.specs.declared.Calls.{Calls}
 use Rattle.parties.specs.declared.DeviceCall.{DeviceCall}
 use Rattle.parties.specs.declared.MasterCall.{MasterCall}
 use Rattle.parties.specs.declared.Part.{Part}
-use Rattle.script.specs.Script.{entryOf, recordsOf, isOf, wantedAt, masterCall, deviceCall, deviceCallAt, callsAt, tickOf}
+use Rattle.script.specs.declared.Form.{Form}
+use Rattle.script.specs.declared.Form.the-variants.{Old, New}
+use Rattle.script.specs.Script.{entryOf, longEntryOf, recordsOf, longRecordsOf, recordsIn, isOf, wantedAt, masterCall, deviceCall, deviceCallAt, callsAt, tickOf}
 use Rattle.script.specs.declared.Entry.{Entry}
 use Rattle.script.specs.declared.ScriptCall.{ScriptCall}
 use Rattle.script.specs.declared.ScriptCall.the-variants.{Nothing, Call}
@@ -78,6 +80,23 @@ wanted-small (a ∷ b ∷ c ∷ d ∷ rest) tick party h =
     if-both Small (isOf tick party (entryOf a b c d)) (Call (entryOf a b c d .action) d) (wantedAt tick party (recordsOf rest))
     (wants-call (h 3)) (wanted-small rest tick party (λ i. h (suc (suc (suc (suc i))))))
 
+long-small : (script : List ℕ) (tick party : ℕ) → ((i : ℕ) → getD script i 0 < 256) → Small (wantedAt tick party (longRecordsOf script))
+unfolding longRecordsOf wantedAt
+long-small [] tick party h = wants-none
+long-small (a ∷ []) tick party h = wants-none
+long-small (a ∷ b ∷ []) tick party h = wants-none
+long-small (a ∷ b ∷ c ∷ []) tick party h = wants-none
+long-small (a ∷ b ∷ c ∷ d ∷ []) tick party h = wants-none
+long-small (a ∷ b ∷ c ∷ d ∷ e ∷ []) tick party h = wants-none
+long-small (a ∷ b ∷ c ∷ d ∷ e ∷ f ∷ rest) tick party h =
+    if-both Small (isOf tick party (longEntryOf a b c d e f)) (Call (longEntryOf a b c d e f .action) f) (wantedAt tick party (longRecordsOf rest))
+    (wants-call (h 5)) (long-small rest tick party (λ i. h (suc (suc (suc (suc (suc (suc i))))))))
+
+wanted-in : (form : Form) (script : List ℕ) (tick party : ℕ) → ((i : ℕ) → getD script i 0 < 256) → Small (wantedAt tick party (recordsIn form script))
+unfolding recordsIn
+wanted-in Old script tick party h = wanted-small script tick party h
+wanted-in New script tick party h = long-small script tick party h
+
 master-stands : (w : ScriptCall) → masterCallOf zeroBytes (masterCallFor w) ≡ masterCall w
 unfolding if_then_else_
 master-stands Nothing = refl
@@ -109,12 +128,12 @@ device-stands tick party es s = by (tick =? 0)
     by true = ap (L.gives-content 3) (zeros-are 2 (omega arith))
     by false = answer-stands (wantedAt tick party es) s
 
-pub calls-stand : (script : List ℕ) (tick next : ℕ) → ((i : ℕ) → getD script i 0 < 256)
-    → callsOf zeroBytes (replicate 6 true) (callsFor tick (tickOf tick (recordsOf script) next)) ≡ callsAt tick (recordsOf script)
+pub calls-stand : (form : Form) (script : List ℕ) (tick next : ℕ) → ((i : ℕ) → getD script i 0 < 256)
+    → callsOf zeroBytes (replicate 6 true) (callsFor tick (tickOf tick (recordsIn form script) next)) ≡ callsAt tick (recordsIn form script)
 unfolding deviceCallsFrom
-calls-stand script tick next h =
-    let es = recordsOf script in
-    let device : (party : ℕ) → deviceCallOf zeroBytes (deviceCallIn tick (wantedAt tick party es)) ≡ deviceCallAt tick party es = λ party. device-stands tick party es (wanted-small script tick party h) in
+calls-stand form script tick next h =
+    let es = recordsIn form script in
+    let device : (party : ℕ) → deviceCallOf zeroBytes (deviceCallIn tick (wantedAt tick party es)) ≡ deviceCallAt tick party es = λ party. device-stands tick party es (wanted-in form script tick party h) in
     λ i. record {
       for-primary = master-stands (wantedAt tick 0 es) i;
       for-secondary = master-stands (wantedAt tick 1 es) i;

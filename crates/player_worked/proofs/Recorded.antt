@@ -14,7 +14,8 @@ use Rattle.turns.specs.Device.{deviceTakes, deviceSends, answered, contentGiven
 use Rattle.turns.specs.Link.{masterTick, deviceTick, deviceTicks, sides, carried, linkTick, run}
 use Rattle.listing.specs.Lines.{frameEnds, endsWith, listens, linesOf, senders, tickLines, linesFrom}
 use Rattle.listing.specs.Text.{lineText, linesText, headLine}
-use Rattle.script.specs.Script.{recordsOf, isIn, isGood, goodScript, wantedAt, stopOf, callsFrom}
+use Rattle.script.specs.declared.Form.the-variants.{Old}
+use Rattle.script.specs.Script.{recordsOf, recordsIn, width, isIn, isGood, goodIn, wantedAt, stopOf, callsFrom}
 use Rattle.listing.specs.Sents.{devicesSent, sentIn}
 use Rattle.player.specs.Play.{readyLink, play}
 
@@ -30,7 +31,7 @@ use Rattle.player.specs.Play.{readyLink, play}
 --   259 1 STX 1 14
 --   308 5 BACK 1 16
 --   319 0 STX 0 10
-pub one-bursts : play
+pub one-bursts : play Old
     (0 ∷ 2 ∷ 53 ∷ 9 ∷ 0 ∷ 5 ∷ 3 ∷ 5 ∷ 0 ∷ 5 ∷ 50 ∷ 33 ∷ 0 ∷ 11 ∷ 53 ∷ 12 ∷ 0 ∷ 15 ∷ 19 ∷ 99 ∷ 0 ∷ 16 ∷ 69 ∷ 18
     ∷ 0 ∷ 18 ∷ 50 ∷ 229 ∷ 0 ∷ 21 ∷ 66 ∷ 13 ∷ 0 ∷ 25 ∷ 50 ∷ 5 ∷ 0 ∷ 26 ∷ 101 ∷ 28 ∷ 0 ∷ 29 ∷ 36 ∷ 173 ∷ 0 ∷ 29 ∷ 53 ∷ 3
     ∷ 0 ∷ 32 ∷ 3 ∷ 99 ∷ 0 ∷ 42 ∷ 66 ∷ 39 ∷ 0 ∷ 52 ∷ 98 ∷ 24 ∷ 0 ∷ 55 ∷ 37 ∷ 2 ∷ 0 ∷ 60 ∷ 68 ∷ 1 ∷ 0 ∷ 60 ∷ 84 ∷ 7
@@ -53,7 +54,7 @@ pub one-bursts : play
     ∷ 67 ∷ 75 ∷ 32 ∷ 48 ∷ 32 ∷ 53 ∷ 48 ∷ 10 ∷ 50 ∷ 52 ∷ 52 ∷ 32 ∷ 53 ∷ 32 ∷ 66 ∷ 65 ∷ 67 ∷ 75 ∷ 32 ∷ 48 ∷ 32 ∷ 49 ∷ 54 ∷ 10
     ∷ 50 ∷ 53 ∷ 57 ∷ 32 ∷ 49 ∷ 32 ∷ 83 ∷ 84 ∷ 88 ∷ 32 ∷ 49 ∷ 32 ∷ 49 ∷ 52 ∷ 10 ∷ 51 ∷ 48 ∷ 56 ∷ 32 ∷ 53 ∷ 32 ∷ 66 ∷ 65 ∷ 67
     ∷ 75 ∷ 32 ∷ 49 ∷ 32 ∷ 49 ∷ 54 ∷ 10 ∷ 51 ∷ 49 ∷ 57 ∷ 32 ∷ 48 ∷ 32 ∷ 83 ∷ 84 ∷ 88 ∷ 32 ∷ 48 ∷ 32 ∷ 49 ∷ 48 ∷ 10 ∷ [])
-unfolding play recordsOf isIn isGood goodScript wantedAt stopOf callsFrom readyLink devicesSent sentIn frameEnds endsWith listens linesOf senders tickLines linesFrom decimalOf lineText linesText run linkTick deviceTicks sides carried masterTick deviceTick requested requestedUpTo masterTakes masterSends deviceTakes deviceSends answered contentGiven taken takenData atIdle atPreamble atFirst atAddress atExpansion atCommand atCount atData atCheck writeBuffer writeAnswer frameBytes preambleBytes bodyBytes protectedBytes headerBytes xorFrom delimiterOf stored if_then_else_
+unfolding play recordsOf recordsIn width isIn isGood goodIn wantedAt stopOf callsFrom readyLink devicesSent sentIn frameEnds endsWith listens linesOf senders tickLines linesFrom decimalOf lineText linesText run linkTick deviceTicks sides carried masterTick deviceTick requested requestedUpTo masterTakes masterSends deviceTakes deviceSends answered contentGiven taken takenData atIdle atPreamble atFirst atAddress atExpansion atCommand atCount atData atCheck writeBuffer writeAnswer frameBytes preambleBytes bodyBytes protectedBytes headerBytes xorFrom delimiterOf stored if_then_else_
 one-bursts = refl
 
 -- two devices burst, and frames collide. The lines:
@@ -65,7 +66,7 @@ one-bursts = refl
 --   168 7 BACK 0 16
 --   183 1 STX 1 14
 --   225 4 ACK 1 41
-pub two-burst : play
+pub two-burst : play Old
     (0 ∷ 6 ∷ 98 ∷ 10 ∷ 0 ∷ 7 ∷ 34 ∷ 5 ∷ 0 ∷ 10 ∷ 19 ∷ 7 ∷ 0 ∷ 13 ∷ 114 ∷ 11 ∷ 0 ∷ 15 ∷ 50 ∷ 86 ∷ 0 ∷ 21 ∷ 3 ∷ 2
     ∷ 0 ∷ 24 ∷ 66 ∷ 27 ∷ 0 ∷ 31 ∷ 114 ∷ 115 ∷ 0 ∷ 32 ∷ 116 ∷ 20 ∷ 0 ∷ 34 ∷ 82 ∷ 19 ∷ 0 ∷ 43 ∷ 52 ∷ 39 ∷ 0 ∷ 50 ∷ 36 ∷ 23
     ∷ 0 ∷ 63 ∷ 52 ∷ 30 ∷ 0 ∷ 68 ∷ 82 ∷ 5 ∷ 0 ∷ 74 ∷ 34 ∷ 16 ∷ 0 ∷ 75 ∷ 98 ∷ 6 ∷ 0 ∷ 77 ∷ 19 ∷ 2 ∷ 0 ∷ 78 ∷ 19 ∷ 5
@@ -85,5 +86,5 @@ pub two-burst : play
     ∷ 49 ∷ 32 ∷ 83 ∷ 84 ∷ 88 ∷ 32 ∷ 49 ∷ 32 ∷ 49 ∷ 52 ∷ 10 ∷ 49 ∷ 53 ∷ 50 ∷ 32 ∷ 55 ∷ 32 ∷ 65 ∷ 67 ∷ 75 ∷ 32 ∷ 49 ∷ 32 ∷ 51
     ∷ 52 ∷ 10 ∷ 49 ∷ 54 ∷ 56 ∷ 32 ∷ 55 ∷ 32 ∷ 66 ∷ 65 ∷ 67 ∷ 75 ∷ 32 ∷ 48 ∷ 32 ∷ 49 ∷ 54 ∷ 10 ∷ 49 ∷ 56 ∷ 51 ∷ 32 ∷ 49 ∷ 32
     ∷ 83 ∷ 84 ∷ 88 ∷ 32 ∷ 49 ∷ 32 ∷ 49 ∷ 52 ∷ 10 ∷ 50 ∷ 50 ∷ 53 ∷ 32 ∷ 52 ∷ 32 ∷ 65 ∷ 67 ∷ 75 ∷ 32 ∷ 49 ∷ 32 ∷ 52 ∷ 49 ∷ 10 ∷ [])
-unfolding play recordsOf isIn isGood goodScript wantedAt stopOf callsFrom readyLink devicesSent sentIn frameEnds endsWith listens linesOf senders tickLines linesFrom decimalOf lineText linesText run linkTick deviceTicks sides carried masterTick deviceTick requested requestedUpTo masterTakes masterSends deviceTakes deviceSends answered contentGiven taken takenData atIdle atPreamble atFirst atAddress atExpansion atCommand atCount atData atCheck writeBuffer writeAnswer frameBytes preambleBytes bodyBytes protectedBytes headerBytes xorFrom delimiterOf stored if_then_else_
+unfolding play recordsOf recordsIn width isIn isGood goodIn wantedAt stopOf callsFrom readyLink devicesSent sentIn frameEnds endsWith listens linesOf senders tickLines linesFrom decimalOf lineText linesText run linkTick deviceTicks sides carried masterTick deviceTick requested requestedUpTo masterTakes masterSends deviceTakes deviceSends answered contentGiven taken takenData atIdle atPreamble atFirst atAddress atExpansion atCommand atCount atData atCheck writeBuffer writeAnswer frameBytes preambleBytes bodyBytes protectedBytes headerBytes xorFrom delimiterOf stored if_then_else_
 two-burst = refl

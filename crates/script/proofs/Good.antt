@@ -11,37 +11,42 @@ use borrow.Author.Tests.{ltb-false, le-ltb, lt-ltb, eq-eqb, ne-eqb}
 use Rattle.base.specs.Choice.{if_then_else_, _<?_, _=?_}
 use Rattle.base.proofs.Choices.{true-false, if-true, if-false, if-is-true, if-is-false, went-else}
 use Rattle.base.proofs.Tables.{chain-first, chain-second}
-use Rattle.script.specs.Script.{recordsOf, isStop, isMasters, isDevices, isCall, isIn, calledBefore, isGood, goodScript}
-use Rattle.script.specs.Walk.{entryAt}
+use Rattle.script.specs.Script.{width, recordsIn, isStop, isMasters, isDevices, isCall, isIn, calledBefore, isGood, goodIn}
+use Rattle.script.specs.Walk.{entryIn}
 use Rattle.script.specs.declared.Entry.{Entry}
-use Rattle.script.proofs.Records.{records-more, records-none, records-last}
+use Rattle.script.specs.declared.Form.{Form}
+use Rattle.script.proofs.Records.{width-some, records-more, records-none, records-last}
 
 -- ---- the last record
 
-pub end-none : (script : List ℕ) (at last : ℕ) → length script - at < 4 → false ≡ isGood last [] (recordsOf (drop at script))
+pub end-none : (f : Form) (script : List ℕ) (at last w : ℕ) → w ≡ width f → length script - at < w → false ≡ isGood last [] (recordsIn f (drop at script))
 unfolding isGood
-end-none script at last h = sym (ap (isGood last []) (records-none script at (omega arith)))
+end-none f script at last w p h = sym (ap (isGood last []) (records-none f script at (omega (arith, p, h, width-some f))))
 
-end-is : (script : List ℕ) (at last : ℕ) (called : List ℕ) → at + 4 ≤ length script → length script < at + 8
-    → isGood last called (recordsOf (drop at script)) ≡ (if entryAt script at .tick <? last then false else isStop (entryAt script at))
+end-is : (f : Form) (script : List ℕ) (at last : ℕ) (called : List ℕ) → at + width f ≤ length script → length script < at + width f + width f
+    → isGood last called (recordsIn f (drop at script)) ≡ (if entryIn f script at .tick <? last then false else isStop (entryIn f script at))
 unfolding isGood
-end-is script at last called h k = ap (isGood last called) (records-last script at h k)
+end-is f script at last called h k = ap (isGood last called) (records-last f script at h k)
 
-pub end-falls : (script : List ℕ) (at last : ℕ) (e : Entry) → e ≡ entryAt script at → 4 ≤ length script - at → length script < at + 8 → e .tick < last
-    → false ≡ isGood last [] (recordsOf (drop at script))
-end-falls script at last e p h k l =
+-- a record begins here
+pub end-within : (f : Form) (script : List ℕ) (at w : ℕ) → w ≡ width f → w ≤ length script - at → at + width f ≤ length script
+end-within f script at w p h = omega (arith, p, h, width-some f)
+
+pub end-falls : (f : Form) (script : List ℕ) (at last w : ℕ) (e : Entry) → w ≡ width f → e ≡ entryIn f script at → w ≤ length script - at → length script < at + width f + width f → e .tick < last
+    → false ≡ isGood last [] (recordsIn f (drop at script))
+end-falls f script at last w e z p h k l =
     if-true (e .tick <? last) false false (isStop e) (lt-ltb (e .tick) last l) refl
     ∙ ap (λ (x : Entry). if x .tick <? last then false else isStop x) p
-    ∙ sym (end-is script at last [] (omega arith) k)
+    ∙ sym (end-is f script at last [] (end-within f script at w z h) k)
 
-pub end-stop : (script : List ℕ) (at last : ℕ) (e : Entry) (r : Bool) → e ≡ entryAt script at → 4 ≤ length script - at → length script < at + 8 → last ≤ e .tick → r ≡ isStop e
-    → r ≡ isGood last [] (recordsOf (drop at script))
-end-stop script at last e r p h k l q =
+pub end-stop : (f : Form) (script : List ℕ) (at last w : ℕ) (e : Entry) (r : Bool) → w ≡ width f → e ≡ entryIn f script at → w ≤ length script - at → length script < at + width f + width f → last ≤ e .tick → r ≡ isStop e
+    → r ≡ isGood last [] (recordsIn f (drop at script))
+end-stop f script at last w e r z p h k l q =
     if-false (e .tick <? last) r false (isStop e) (le-ltb (e .tick) last l) q
     ∙ ap (λ (x : Entry). if x .tick <? last then false else isStop x) p
-    ∙ sym (end-is script at last [] (omega arith) k)
+    ∙ sym (end-is f script at last [] (end-within f script at w z h) k)
 
-pub ruleset ends = (end-none, end-falls, end-stop)
+pub ruleset ends = (end-none, end-within, end-falls, end-stop)
 
 -- ---- the records before it
 
@@ -50,12 +55,12 @@ step last called e rest =
     if e .tick <? last then false else
     if isCall e then (if isIn (e .party) (calledBefore last called e) then false else isGood (e .tick) (e .party ∷ calledBefore last called e) rest) else false
 
-good-step : (script : List ℕ) (at last : ℕ) (called : List ℕ) → at + 8 ≤ length script → isGood last called (recordsOf (drop at script)) ≡ step last called (entryAt script at) (recordsOf (drop (at + 4) script))
+good-step : (f : Form) (script : List ℕ) (at last : ℕ) (called : List ℕ) → at + width f + width f ≤ length script → isGood last called (recordsIn f (drop at script)) ≡ step last called (entryIn f script at) (recordsIn f (drop (at + width f) script))
 unfolding isGood
-good-step script at last called h =
-    ap (isGood last called) (records-more script at (omega arith))
-    ∙ ap (λ (es : List Entry). isGood last called (entryAt script at ∷ es)) (records-more script (at + 4) (omega arith))
-    ∙ ap (λ (es : List Entry). step last called (entryAt script at) es) (sym (records-more script (at + 4) (omega arith)))
+good-step f script at last called h =
+    ap (isGood last called) (records-more f script at (omega (arith, h)))
+    ∙ ap (λ (es : List Entry). isGood last called (entryIn f script at ∷ es)) (records-more f script (at + width f) h)
+    ∙ ap (λ (es : List Entry). step last called (entryIn f script at) es) (sym (records-more f script (at + width f) h))
 
 -- the code's mark of a party is one more than the tick of its last call: these parties are marked with the tick `last`, and none with a later one
 pub record Marked (seen : List ℕ) (last : ℕ) (called : List ℕ) : Type 0 where
@@ -113,15 +118,15 @@ call-party e r q t = go (decLe 8 (e .party))
         ∙ if-is-false (e .party <? 2) (isMasters (e .action)) (if e .party <? 8 then isDevices (e .action) else false) (le-ltb (e .party) 2 (omega arith))
         ∙ if-is-false (e .party <? 8) (isDevices (e .action)) false (le-ltb (e .party) 8 l)))
 
-pub record Checking (script seen : List ℕ) (last at : ℕ) : Type 0 where
+pub record Checking (f : Form) (script seen : List ℕ) (last at : ℕ) : Type 0 where
   pub within : at ≤ length script
   pub called : List ℕ
   pub marked : Marked seen last called
-  pub good : isGood last called (recordsOf (drop at script)) ≡ isGood 0 [] (recordsOf script)
+  pub good : isGood last called (recordsIn f (drop at script)) ≡ isGood 0 [] (recordsIn f script)
 
-pub check-start : (script : List ℕ) → Checking script (replicate 8 0) 0 0
+pub check-start : (f : Form) (script : List ℕ) → Checking f script (replicate 8 0) 0 0
 unfolding isIn
-check-start script = record {
+check-start f script = record {
   within = omega arith;
   called = [];
   marked = record {
@@ -132,60 +137,72 @@ check-start script = record {
   good = refl;
 }
 
-module _ (script seen : List ℕ) (last at : ℕ) (e : Entry) (v : Checking script seen last at) (p : e ≡ entryAt script at) (h : 8 ≤ length script - at) where
-  left-is : isGood 0 [] (recordsOf script) ≡ step last (v .called) e (recordsOf (drop (at + 4) script))
-  left-is = sym (v .good) ∙ good-step script at last (v .called) (omega arith) ∙ ap (λ (x : Entry). step last (v .called) x (recordsOf (drop (at + 4) script))) (sym p)
+module _ (f : Form) (script seen : List ℕ) (last at w : ℕ) (e : Entry) (same : w ≡ width f) (v : Checking f script seen last at) (p : e ≡ entryIn f script at) (h : w + w ≤ length script - at) where
+  two-left : at + width f + width f ≤ length script
+  two-left = omega (arith, same, h, width-some f)
 
-  pub check-falls : e .tick < last → false ≡ isGood 0 [] (recordsOf script)
+  left-is : isGood 0 [] (recordsIn f script) ≡ step last (v .called) e (recordsIn f (drop (at + width f) script))
+  left-is = sym (v .good) ∙ good-step f script at last (v .called) two-left ∙ ap (λ (x : Entry). step last (v .called) x (recordsIn f (drop (at + width f) script))) (sym p)
+
+  pub check-falls : e .tick < last → false ≡ isGood 0 [] (recordsIn f script)
   check-falls l = sym (left-is ∙ if-is-true (e .tick <? last) _ _ (lt-ltb (e .tick) last l))
 
-  rising-is : last ≤ e .tick → isGood 0 [] (recordsOf script) ≡ (if isCall e then (if isIn (e .party) (calledBefore last (v .called) e) then false else isGood (e .tick) (e .party ∷ calledBefore last (v .called) e) (recordsOf (drop (at + 4) script))) else false)
+  rising-is : last ≤ e .tick → isGood 0 [] (recordsIn f script) ≡ (if isCall e then (if isIn (e .party) (calledBefore last (v .called) e) then false else isGood (e .tick) (e .party ∷ calledBefore last (v .called) e) (recordsIn f (drop (at + width f) script))) else false)
   rising-is l = left-is ∙ if-is-false (e .tick <? last) _ _ (le-ltb (e .tick) last l)
 
-  pub check-no-call : (r : Bool) → last ≤ e .tick → r ≡ isCall e → r ≡ false → false ≡ isGood 0 [] (recordsOf script)
+  pub check-no-call : (r : Bool) → last ≤ e .tick → r ≡ isCall e → r ≡ false → false ≡ isGood 0 [] (recordsIn f script)
   check-no-call r l q f = sym (rising-is l ∙ if-is-false (isCall e) _ _ (sym q ∙ f))
 
   call-is : (r : Bool) → last ≤ e .tick → r ≡ isCall e → r ≡ true
-      → isGood 0 [] (recordsOf script) ≡ (if isIn (e .party) (calledBefore last (v .called) e) then false else isGood (e .tick) (e .party ∷ calledBefore last (v .called) e) (recordsOf (drop (at + 4) script)))
+      → isGood 0 [] (recordsIn f script) ≡ (if isIn (e .party) (calledBefore last (v .called) e) then false else isGood (e .tick) (e .party ∷ calledBefore last (v .called) e) (recordsIn f (drop (at + width f) script)))
   call-is r l q t = rising-is l ∙ if-is-true (isCall e) _ _ (sym q ∙ t)
 
-  pub check-twice : (r : Bool) → last ≤ e .tick → r ≡ isCall e → r ≡ true → getD seen (e .party) 0 ≡ e .tick + 1 → false ≡ isGood 0 [] (recordsOf script)
+  pub check-twice : (r : Bool) → last ≤ e .tick → r ≡ isCall e → r ≡ true → getD seen (e .party) 0 ≡ e .tick + 1 → false ≡ isGood 0 [] (recordsIn f script)
   check-twice r l q t s =
       sym (call-is r l q t
       ∙ if-is-true _ _ _ (sym (marked-before seen last (v .called) (v .marked) e l (e .party) (call-party e r q t)) ∙ eq-eqb _ _ s))
 
-  pub check-more : (r : Bool) → last ≤ e .tick → r ≡ isCall e → r ≡ true → (getD seen (e .party) 0 ≡ e .tick + 1 → ⊥) → Checking script (set seen (e .party) (e .tick + 1)) (e .tick) (at + 4)
+  pub check-more : (r : Bool) → last ≤ e .tick → r ≡ isCall e → r ≡ true → (getD seen (e .party) 0 ≡ e .tick + 1 → ⊥) → Checking f script (set seen (e .party) (e .tick + 1)) (e .tick) (at + w)
   check-more r l q t s = record {
-    within = omega arith;
+    within = omega (arith, h, same, width-some f);
     called = e .party ∷ calledBefore last (v .called) e;
     marked = marked-more seen last (v .called) (v .marked) e l (call-party e r q t);
-    good = sym (call-is r l q t
+    good = ap (λ (n : ℕ). isGood (e .tick) (e .party ∷ calledBefore last (v .called) e) (recordsIn f (drop (at + n) script))) same
+        ∙ sym (call-is r l q t
         ∙ if-is-false _ _ _ (sym (marked-before seen last (v .called) (v .marked) e l (e .party) (call-party e r q t)) ∙ ne-eqb _ _ s));
   }
 
 -- at the last record it does not matter which parties have calls
-end-called : (script : List ℕ) (at last : ℕ) (called : List ℕ) → length script < at + 8 → isGood last [] (recordsOf (drop at script)) ≡ isGood last called (recordsOf (drop at script))
+end-called : (f : Form) (script : List ℕ) (at last : ℕ) (called : List ℕ) → length script < at + width f + width f → isGood last [] (recordsIn f (drop at script)) ≡ isGood last called (recordsIn f (drop at script))
 unfolding isGood
-end-called script at last called h = go (decLe (at + 4) (length script))
+end-called f script at last called h = go (decLe (at + width f) (length script))
   where
-    go : Dec (at + 4 ≤ length script) → isGood last [] (recordsOf (drop at script)) ≡ isGood last called (recordsOf (drop at script))
-    go (yes l) = end-is script at last [] l h ∙ sym (end-is script at last called l h)
-    go (no l) = ap (isGood last []) (records-none script at (omega arith)) ∙ sym (ap (isGood last called) (records-none script at (omega arith)))
+    go : Dec (at + width f ≤ length script) → isGood last [] (recordsIn f (drop at script)) ≡ isGood last called (recordsIn f (drop at script))
+    go (yes l) = end-is f script at last [] l h ∙ sym (end-is f script at last called l h)
+    go (no l) = ap (isGood last []) (records-none f script at (omega (arith, l))) ∙ sym (ap (isGood last called) (records-none f script at (omega (arith, l))))
 
-pub check-end : (script seen : List ℕ) (last at : ℕ) (r : Bool) → Checking script seen last at → length script - at < 8 → r ≡ isGood last [] (recordsOf (drop at script)) → r ≡ isGood 0 [] (recordsOf script)
-check-end script seen last at r v h q = q ∙ end-called script at last (v .called) (omega arith) ∙ v .good
+pub check-end : (f : Form) (script seen : List ℕ) (last at w : ℕ) (r : Bool) → w ≡ width f → Checking f script seen last at → length script - at < w + w → r ≡ isGood last [] (recordsIn f (drop at script)) → r ≡ isGood 0 [] (recordsIn f script)
+check-end f script seen last at w r p v h q = q ∙ end-called f script at last (v .called) (omega (arith, p, h, width-some f)) ∙ v .good
 
-pub ruleset checks = (refl, call-party, check-start, check-falls, check-no-call, check-twice, check-more, check-end)
+-- what the last record needs
+pub check-left : (f : Form) (script seen : List ℕ) (last at w : ℕ) → w ≡ width f → Checking f script seen last at → length script - at < w + w → (at ≤ length script) × (length script < at + width f + width f)
+check-left f script seen last at w p v h = (v .within, omega (arith, p, h, v .within, width-some f))
+
+-- and one before it
+pub check-within : (f : Form) (script : List ℕ) (at w : ℕ) → w ≡ width f → w + w ≤ length script - at → at + width f ≤ length script
+check-within f script at w p h = omega (arith, p, h, width-some f)
+
+pub ruleset checks = (refl, call-party, check-start, check-falls, check-no-call, check-twice, check-more, check-end, check-left, check-within)
 
 -- ---- the whole script
 
-pub whole-good : (script : List ℕ) (r : Bool) → length script % 4 ≡ 0 → r ≡ isGood 0 [] (recordsOf script) → r ≡ goodScript script
-unfolding goodScript
-whole-good script r e q = if-true (length script % 4 =? 0) r (isGood 0 [] (recordsOf script)) false (eq-eqb (length script % 4) 0 e) q
+pub whole-good : (f : Form) (script : List ℕ) (w : ℕ) (r : Bool) → w ≡ width f → length script % w ≡ 0 → r ≡ isGood 0 [] (recordsIn f script) → r ≡ goodIn f script
+unfolding goodIn
+whole-good f script w r p e q = if-true (length script % width f =? 0) r (isGood 0 [] (recordsIn f script)) false (eq-eqb (length script % width f) 0 (ap (λ (n : ℕ). length script % n) (sym p) ∙ e)) q
 
-pub left-over-bad : (script : List ℕ) → (length script % 4 ≡ 0 → ⊥) → false ≡ goodScript script
-unfolding goodScript
-left-over-bad script n = if-false (length script % 4 =? 0) false (isGood 0 [] (recordsOf script)) false (ne-eqb (length script % 4) 0 n) refl
+pub left-over-bad : (f : Form) (script : List ℕ) (w : ℕ) → w ≡ width f → (length script % w ≡ 0 → ⊥) → false ≡ goodIn f script
+unfolding goodIn
+left-over-bad f script w p n = if-false (length script % width f =? 0) false (isGood 0 [] (recordsIn f script)) false (ne-eqb (length script % width f) 0 (λ k. n (ap (λ (m : ℕ). length script % m) p ∙ k))) refl
 
 pub ruleset whole = (whole-good, left-over-bad)
 

@@ -1,23 +1,25 @@
 -- Reading a good script tick by tick: what `tickAt` gives at each place is what the whole script wants in that tick.
-use Prim.Native.Nat.{ℕ, suc, _+_, _*_, _%_, _≤_, _<_}
+use Prim.Native.Nat.{ℕ, zero, suc, _+_, _%_, _≤_, _<_}
 use native.Mathlib.Decide.{decLe}
 use native.Mathlib.Omega.{arith}
 use mathlib.Core.Bool.{Bool, true, false}
 use mathlib.Core.Path.{_≡_, refl, sym, ap, subst, _∙_}
 use mathlib.Core.List.{List, [], _∷_}
 use lib.ListN.{length, drop}
-use lib.Seq.{drop-drop}
 use borrow.Author.Tests.{eqb-true, eqb-false, ne-eqb}
 use Rattle.base.specs.Choice.{if_then_else_, _=?_}
 use Rattle.base.proofs.Choices.{if-is-false}
 use Rattle.base.proofs.Tables.{chain-second}
-use Rattle.script.specs.Script.{entryOf, recordsOf, calledBefore, isGood, goodScript, isOf, wantedAt, leading, tickOf, tickAt}
+use Rattle.script.specs.Script.{width, recordsIn, calledBefore, isGood, goodIn, isOf, wantedAt, leading, tickOf, placeBehind, tickAt}
+use Rattle.script.specs.Walk.{entryIn}
 use Rattle.script.specs.Reads.{Rising, none, more, Reads}
 use Rattle.script.specs.declared.Entry.{Entry}
+use Rattle.script.specs.declared.Form.{Form}
 use Rattle.script.specs.declared.ScriptTick.{ScriptTick}
 use Rattle.script.specs.declared.ScriptCall.{ScriptCall}
 use Rattle.script.specs.declared.ScriptCall.the-variants.{Nothing, Call}
 use Rattle.script.proofs.Good.{good-end, good-call}
+use Rattle.script.proofs.Records.{width-some, records-more, records-none}
 
 -- ---- from the start
 
@@ -28,9 +30,9 @@ good-rises last called (e ∷ f ∷ es) g =
     let call = good-call last called e f es g in
     more (call .rises) (good-rises (e .tick) (e .party ∷ calledBefore last called e) (f ∷ es) (call .goes-on))
 
-pub reads-start : (script : List ℕ) → goodScript script ≡ true → Reads script 0 0
-unfolding goodScript
-reads-start script g = record { rising = good-rises 0 [] (recordsOf script) (chain-second (length script % 4 =? 0) (isGood 0 [] (recordsOf script)) g); rest = λ later party h. refl }
+pub reads-start : (f : Form) (script : List ℕ) → goodIn f script ≡ true → Reads f script 0 0
+unfolding goodIn
+reads-start f script g = record { rising = good-rises 0 [] (recordsIn f script) (chain-second (length script % width f =? 0) (isGood 0 [] (recordsIn f script)) g); rest = λ later party h. refl }
 
 -- ---- from tick to tick
 
@@ -40,20 +42,34 @@ behind tick [] = []
 behind tick (e ∷ es) = if e .tick =? tick then behind tick es else e ∷ es
 
 -- they are those behind so many bytes
-behind-is : (script : List ℕ) (tick : ℕ) → recordsOf (drop (4 * length (leading tick (recordsOf script))) script) ≡ behind tick (recordsOf script)
-unfolding recordsOf leading behind if_then_else_
-behind-is [] tick = refl
-behind-is (a ∷ []) tick = refl
-behind-is (a ∷ b ∷ []) tick = refl
-behind-is (a ∷ b ∷ c ∷ []) tick = refl
-behind-is (a ∷ b ∷ c ∷ d ∷ rest) tick = go ((a * 256 + b) =? tick) (behind-is rest tick)
+abbrev BehindIs : Form → List ℕ → ℕ → ℕ → Type 0
+BehindIs f script tick at = recordsIn f (drop (placeBehind (width f) at (leading tick (recordsIn f (drop at script)))) script) ≡ behind tick (recordsIn f (drop at script))
+
+behind-none : (f : Form) (script : List ℕ) (tick at : ℕ) → length script < at + width f → BehindIs f script tick at
+unfolding placeBehind leading behind
+behind-none f script tick at h =
+    let none-left = records-none f script at h in
+    ap (λ (es : List Entry). recordsIn f (drop (placeBehind (width f) at (leading tick es)) script)) none-left ∙ none-left ∙ ap (behind tick) (sym none-left)
+
+behind-more : (f : Form) (script : List ℕ) (tick at : ℕ) → at + width f ≤ length script → BehindIs f script tick (at + width f) → BehindIs f script tick at
+unfolding placeBehind leading behind if_then_else_
+behind-more f script tick at h rest =
+    ap (λ (es : List Entry). recordsIn f (drop (placeBehind (width f) at (leading tick es)) script)) (records-more f script at h)
+    ∙ go (entryIn f script at .tick =? tick)
+    ∙ ap (behind tick) (sym (records-more f script at h))
   where
-    go : (t : Bool) → recordsOf (drop (4 * length (leading tick (recordsOf rest))) rest) ≡ behind tick (recordsOf rest)
-        → recordsOf (drop (4 * length (if t then entryOf a b c d ∷ leading tick (recordsOf rest) else [])) (a ∷ b ∷ c ∷ d ∷ rest)) ≡ (if t then behind tick (recordsOf rest) else entryOf a b c d ∷ recordsOf rest)
-    go true q =
-        let count : 4 * suc (length (leading tick (recordsOf rest))) ≡ suc (suc (suc (suc (4 * length (leading tick (recordsOf rest)))))) = omega arith in
-        ap (λ (n : ℕ). recordsOf (drop n (a ∷ b ∷ c ∷ d ∷ rest))) count ∙ q
-    go false q = refl
+    go : (t : Bool) → recordsIn f (drop (placeBehind (width f) at (if t then entryIn f script at ∷ leading tick (recordsIn f (drop (at + width f) script)) else [])) script)
+        ≡ (if t then behind tick (recordsIn f (drop (at + width f) script)) else entryIn f script at ∷ recordsIn f (drop (at + width f) script))
+    go true = rest
+    go false = records-more f script at h
+
+behind-at : (f : Form) (script : List ℕ) (n tick at : ℕ) → length script ≤ at + n → BehindIs f script tick at
+behind-at f script zero tick at h = behind-none f script tick at (omega (arith, h, width-some f))
+behind-at f script (suc n) tick at h = by (decLe (at + width f) (length script)) (behind-at f script n tick (at + width f) (omega (arith, h, width-some f)))
+  where
+    by : Dec (at + width f ≤ length script) → BehindIs f script tick (at + width f) → BehindIs f script tick at
+    by (yes l) rest = behind-more f script tick at l rest
+    by (no l) rest = behind-none f script tick at (omega (arith, l))
 
 above : (e : Entry) (tick : ℕ) → tick ≤ e .tick → (e .tick =? tick) ≡ false → tick < e .tick
 above e tick l q = go (decLe (e .tick) tick)
@@ -104,12 +120,12 @@ behind-rises tick (e ∷ es) (more l r) = go (e .tick =? tick) refl (λ q. behin
     go true q rest = rest q
     go false q rest = let later : tick + 1 ≤ e .tick = omega (arith, above e tick l q) in more later r
 
-module _ (script : List ℕ) (at tick : ℕ) (t : ScriptTick) (v : Reads script at tick) (e : t ≡ tickAt script at tick) where
-  wanted : (party : ℕ) → wantedAt tick party (leading tick (recordsOf (drop at script))) ≡ wantedAt tick party (recordsOf script)
-  wanted party = leading-all tick party (recordsOf (drop at script)) (v .rising) ∙ v .rest tick party (omega arith)
+module _ (f : Form) (script : List ℕ) (at tick : ℕ) (t : ScriptTick) (v : Reads f script at tick) (e : t ≡ tickAt f script at tick) where
+  wanted : (party : ℕ) → wantedAt tick party (leading tick (recordsIn f (drop at script))) ≡ wantedAt tick party (recordsIn f script)
+  wanted party = leading-all tick party (recordsIn f (drop at script)) (v .rising) ∙ v .rest tick party (omega arith)
 
   -- what is read in this tick is what the whole script wants in it
-  pub reads-tick : t ≡ tickOf tick (recordsOf script) (t .next)
+  pub reads-tick : t ≡ tickOf tick (recordsIn f script) (t .next)
   unfolding tickAt
   reads-tick = λ i. record {
     primary = (ap (λ (x : ScriptTick). x .primary) e ∙ wanted 0) i;
@@ -124,17 +140,16 @@ module _ (script : List ℕ) (at tick : ℕ) (t : ScriptTick) (v : Reads script 
   }
 
   -- and reading goes on behind it with the next tick
-  next-is : recordsOf (drop (t .next) script) ≡ behind tick (recordsOf (drop at script))
+  next-is : recordsIn f (drop (t .next) script) ≡ behind tick (recordsIn f (drop at script))
   unfolding tickAt
   next-is =
-      ap (λ (x : ScriptTick). recordsOf (drop (x .next) script)) e
-      ∙ ap recordsOf (sym (drop-drop (4 * length (leading tick (recordsOf (drop at script)))) at script))
-      ∙ behind-is (drop at script) tick
+      ap (λ (x : ScriptTick). recordsIn f (drop (x .next) script)) e
+      ∙ behind-at f script (length script) tick at (omega arith)
 
-  pub reads-next : Reads script (t .next) (tick + 1)
+  pub reads-next : Reads f script (t .next) (tick + 1)
   reads-next = record {
-    rising = subst (Rising (tick + 1)) (sym next-is) (behind-rises tick (recordsOf (drop at script)) (v .rising));
-    rest = λ later party h. ap (wantedAt later party) next-is ∙ behind-all tick later party (recordsOf (drop at script)) (omega arith) ∙ v .rest later party (omega arith);
+    rising = subst (Rising (tick + 1)) (sym next-is) (behind-rises tick (recordsIn f (drop at script)) (v .rising));
+    rest = λ later party h. ap (wantedAt later party) next-is ∙ behind-all tick later party (recordsIn f (drop at script)) (omega arith) ∙ v .rest later party (omega arith);
   }
 
 pub ruleset ticks = (reads-start, reads-tick, reads-next)

@@ -3,11 +3,16 @@
 use Prim.Native.Nat.{ℕ, zero, suc, _+_, _*_, _/_, _%_}
 use mathlib.Core.Bool.{Bool, true, false}
 use mathlib.Core.List.{List, [], _∷_}
-use lib.ListN.{length, drop, replicate}
+use lib.ListN.{length, getD, drop, replicate}
 use Rattle.base.specs.Choice.{if_then_else_, _<?_, _=?_}
+use Rattle.base.specs.Refusal.{number, Called, accepted, refused}
 use Rattle.turns.specs.Link.{MasterCall, no-request, requests, DeviceCall, no-call, gives-answer, gives-content, Calls}
 use Rattle.turns.specs.declared.Wish.the-variants.{Same, On, Off}
 use Rattle.script.specs.declared.Entry.{Entry}
+use Rattle.script.specs.declared.Form.{Form}
+use Rattle.script.specs.declared.Form.the-variants.{Old, New}
+use Rattle.script.specs.declared.SizedForm.{SizedForm}
+use Rattle.script.specs.declared.SizedForm.the-variants.{Is, Refused}
 use Rattle.script.specs.declared.ScriptTick.{ScriptTick}
 use Rattle.script.specs.declared.ScriptCall.{ScriptCall}
 use Rattle.script.specs.declared.ScriptCall.the-variants.{Nothing, Call}
@@ -23,6 +28,47 @@ recordsOf (a ∷ []) = []
 recordsOf (a ∷ b ∷ []) = []
 recordsOf (a ∷ b ∷ c ∷ []) = []
 recordsOf (a ∷ b ∷ c ∷ d ∷ rest) = entryOf a b c d ∷ recordsOf rest
+
+-- ---- document 02, item 11
+
+-- "Scripts get 6-byte records with a 32-bit tick; the other fields keep their widths."
+abbrev pub longEntryOf : ℕ → ℕ → ℕ → ℕ → ℕ → ℕ → Entry
+longEntryOf a b c d e f = record { tick = (a * 256 + b) * 65536 + (c * 256 + d); party = e / 16; action = e % 16; argument = f }
+
+unfoldable pub longRecordsOf : List ℕ → List Entry
+longRecordsOf [] = []
+longRecordsOf (a ∷ []) = []
+longRecordsOf (a ∷ b ∷ []) = []
+longRecordsOf (a ∷ b ∷ c ∷ []) = []
+longRecordsOf (a ∷ b ∷ c ∷ d ∷ []) = []
+longRecordsOf (a ∷ b ∷ c ∷ d ∷ e ∷ []) = []
+longRecordsOf (a ∷ b ∷ c ∷ d ∷ e ∷ f ∷ rest) = longEntryOf a b c d e f ∷ longRecordsOf rest
+
+-- how many bytes a record has
+unfoldable pub width : Form → ℕ
+width Old = 4
+width New = 6
+
+-- the form whose records have so many bytes: "It refuses a record size other than 4 or 6 with 24"
+unfoldable pub formOf : ℕ → Called Form
+formOf size = if size =? 4 then accepted Old else if size =? 6 then accepted New else refused 24
+
+-- what the code's answer to a size says
+abbrev pub sizedAs : SizedForm → Called Form
+sizedAs (Is f) = accepted f
+sizedAs (Refused why) = refused (number why)
+
+-- the size that a program's argument says, the digit 4 or 6; any other word says none, which is 24 too
+abbrev pub digitSize : ℕ → ℕ
+digitSize c = if c =? 52 then 4 else if c =? 54 then 6 else 0
+
+abbrev pub sizeIn : List ℕ → ℕ
+sizeIn word = if length word =? 1 then digitSize (getD word 0 0) else 0
+
+-- the whole records of a script of a form
+unfoldable pub recordsIn : Form → List ℕ → List Entry
+recordsIn Old script = recordsOf script
+recordsIn New script = longRecordsOf script
 
 -- ---- a good script
 
@@ -63,6 +109,10 @@ isGood last called (e ∷ f ∷ es) =
 -- "bytes left over" are bad too
 unfoldable pub goodScript : List ℕ → Bool
 goodScript script = if length script % 4 =? 0 then isGood 0 [] (recordsOf script) else false
+
+-- a script of a form: good records, and no bytes left over
+unfoldable pub goodIn : Form → List ℕ → Bool
+goodIn f script = if length script % width f =? 0 then isGood 0 [] (recordsIn f script) else false
 
 -- ---- the calls of a tick
 
@@ -133,6 +183,11 @@ tickOf tick es next = record {
   next = next;
 }
 
+-- the place behind these records of so many bytes each, from a place on
+unfoldable pub placeBehind : ℕ → ℕ → List Entry → ℕ
+placeBehind w at [] = at
+placeBehind w at (e ∷ es) = placeBehind w (at + w) es
+
 -- from a place on, the records of this tick that stand first: what they want, and the place behind them
-unfoldable pub tickAt : List ℕ → ℕ → ℕ → ScriptTick
-tickAt script at tick = tickOf tick (leading tick (recordsOf (drop at script))) (at + 4 * length (leading tick (recordsOf (drop at script))))
+unfoldable pub tickAt : Form → List ℕ → ℕ → ℕ → ScriptTick
+tickAt f script at tick = tickOf tick (leading tick (recordsIn f (drop at script))) (placeBehind (width f) at (leading tick (recordsIn f (drop at script))))

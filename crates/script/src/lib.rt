@@ -1,11 +1,24 @@
 // The player's script: whether it is good, its stop's tick, and the calls of each tick.
+use base::Refusal;
 ghost use mathlib.Core.Path.{_≡_};
 ghost use mathlib.Core.List.{[]};
 ghost use Prim.Native.Nat.{_+_, _-_, _<_, _≤_};
 ghost use Rattle.base.specs.Choice.{if_then_else_, _<?_};
 ghost use lib.ListN.{length, drop};
-ghost use Rattle.script.specs.Script.{entryOf, recordsOf, isStop, isMasters, isDevices, isCall, isGood, goodScript, stopOf, tickAt};
-ghost use Rattle.script.specs.Walk.{entryAt, wantedBy, kept, withRecord, noCalls, freeTicks};
+ghost use Rattle.script.specs.Script.{entryOf, longEntryOf, width, recordsIn, isStop, isMasters, isDevices, isCall, isGood, goodIn, stopOf, tickAt, formOf, sizedAs, digitSize, sizeIn};
+ghost use Rattle.script.specs.Walk.{entryAt, longEntryAt, entryIn, wantedBy, kept, withRecord, noCalls, freeTicks};
+
+// A script's form: old records have 4 bytes, new ones 6, with a tick of 32 bits.
+pub enum Form {
+    Old,
+    New,
+}
+
+// The form of records of so many bytes, or a refusal.
+pub enum SizedForm {
+    Is(Form),
+    Refused(Refusal),
+}
 
 // A record of a script.
 pub struct Entry {
@@ -35,8 +48,53 @@ pub struct ScriptTick {
     pub next: usize,
 }
 
+// The form whose records have so many bytes. Another size than 4 or 6 is refused with 24.
+pub fn form_of(size: usize) -> SizedForm
+    ensures { λ r. ⌜ sizedAs r ≡ formOf size ⌝ }
+{
+    if size == 4 {
+        return SizedForm::Is(Form::Old);
+    }
+    if size == 6 {
+        return SizedForm::Is(Form::New);
+    }
+    SizedForm::Refused(Refusal::RecordSize)
+}
+
+fn digit_size(c: u8) -> usize
+    ensures { λ r. ⌜ r ≡ digitSize c ⌝ }
+{
+    if c == b'4' {
+        return 4;
+    }
+    if c == b'6' {
+        return 6;
+    }
+    0
+}
+
+// The record size that a word says, for programs that are told it; 0 for a word that says none.
+pub fn size_in(word: &[u8]) -> usize
+    ensures { λ r. ⌜ r ≡ sizeIn (now (word .entry)) ⌝ }
+{
+    if word.len() == 1 {
+        return digit_size(word[0]);
+    }
+    0
+}
+
+// How many bytes a record has.
+fn width(form: Form) -> usize
+    ensures { λ r. ⌜ (r ≡ width form) × (4 ≤ r) × (r ≤ 6) ⌝ }
+{
+    match form {
+        Form::Old => 4,
+        Form::New => 6,
+    }
+}
+
 fn entry_of(a: u8, b: u8, c: u8, d: u8) -> Entry
-    ensures { λ r. ⌜ (r ≡ entryOf a b c d) × (r .tick < 65536) × (r .party < 16) ⌝ }
+    ensures { λ r. ⌜ (r ≡ entryOf a b c d) × (r .tick < 4294967296) × (r .party < 16) ⌝ }
 {
     Entry {
         tick: (a as usize) * 256 + (b as usize),
@@ -46,12 +104,49 @@ fn entry_of(a: u8, b: u8, c: u8, d: u8) -> Entry
     }
 }
 
-// The record at a place.
-fn entry_at(script: &[u8], at: usize) -> Entry
+fn long_entry_of(a: u8, b: u8, c: u8, d: u8, e: u8, f: u8) -> Entry
+    ensures { λ r. ⌜ (r ≡ longEntryOf a b c d e f) × (r .tick < 4294967296) × (r .party < 16) ⌝ }
+{
+    let high = (a as usize) * 256 + (b as usize);
+    let low = (c as usize) * 256 + (d as usize);
+    Entry {
+        tick: high * 65536 + low,
+        party: (e as usize) / 16,
+        action: e % 16,
+        argument: f,
+    }
+}
+
+fn old_at(script: &[u8], at: usize) -> Entry
     requires { ⌜ at + 4 ≤ length (now script) ⌝ }
-    ensures { λ r. ⌜ (r ≡ entryAt (now (script .entry)) at) × (r .tick < 65536) × (r .party < 16) ⌝ }
+    ensures { λ r. ⌜ (r ≡ entryAt (now (script .entry)) at) × (r .tick < 4294967296) × (r .party < 16) ⌝ }
 {
     entry_of(script[at], script[at + 1], script[at + 2], script[at + 3])
+}
+
+fn new_at(script: &[u8], at: usize) -> Entry
+    requires { ⌜ at + 6 ≤ length (now script) ⌝ }
+    ensures { λ r. ⌜ (r ≡ longEntryAt (now (script .entry)) at) × (r .tick < 4294967296) × (r .party < 16) ⌝ }
+{
+    long_entry_of(
+        script[at],
+        script[at + 1],
+        script[at + 2],
+        script[at + 3],
+        script[at + 4],
+        script[at + 5],
+    )
+}
+
+// The record at a place.
+fn entry_at(form: Form, script: &[u8], at: usize) -> Entry
+    requires { ⌜ at + width form ≤ length (now script) ⌝ }
+    ensures { λ r. ⌜ (r ≡ entryIn form (now (script .entry)) at) × (r .tick < 4294967296) × (r .party < 16) ⌝ }
+{
+    match form {
+        Form::Old => old_at(script, at),
+        Form::New => new_at(script, at),
+    }
 }
 
 fn is_masters(action: u8) -> bool
@@ -100,14 +195,15 @@ fn is_stop(e: Entry) -> bool
 }
 
 // Whether the last record, at this place, is a stop of a tick that does not fall.
-fn ends_good(script: &[u8], at: usize, last: usize) -> bool
-    requires { ⌜ (at ≤ length (now script)) × (length (now script) < at + 8) ⌝ }
-    ensures { λ r. ⌜ r ≡ isGood last [] (recordsOf (drop at (now (script .entry)))) ⌝ }
+fn ends_good(form: Form, script: &[u8], at: usize, last: usize) -> bool
+    requires { ⌜ (at ≤ length (now script)) × (length (now script) < at + width form + width form) ⌝ }
+    ensures { λ r. ⌜ r ≡ isGood last [] (recordsIn form (drop at (now (script .entry)))) ⌝ }
 {
-    if script.len() - at < 4 {
+    let w = width(form);
+    if script.len() - at < w {
         return false;
     }
-    let e = entry_at(script, at);
+    let e = entry_at(form, script, at);
     if e.tick < last {
         return false;
     }
@@ -115,14 +211,15 @@ fn ends_good(script: &[u8], at: usize, last: usize) -> bool
 }
 
 // Whether the whole records of a script are good. Of each party, seen holds one more than the tick of its last call, and 0 before the first.
-fn records_good(script: &[u8]) -> bool
-    ensures { λ r. ⌜ r ≡ isGood 0 [] (recordsOf (now (script .entry))) ⌝ }
+fn records_good(form: Form, script: &[u8]) -> bool
+    ensures { λ r. ⌜ r ≡ isGood 0 [] (recordsIn form (now (script .entry))) ⌝ }
 {
+    let w = width(form);
     let mut seen = [0usize; 8];
     let mut last = 0;
     let mut at = 0;
-    while script.len() - at >= 8 {
-        let e = entry_at(script, at);
+    while script.len() - at >= w + w {
+        let e = entry_at(form, script, at);
         let tick = e.tick;
         let party = e.party;
         if tick < last {
@@ -134,34 +231,36 @@ fn records_good(script: &[u8]) -> bool
             }
             seen[party] = tick + 1;
             last = tick;
-            at += 4;
+            at += w;
         } else {
             return false;
         }
     }
-    ends_good(script, at, last)
+    ends_good(form, script, at, last)
 }
 
 // Whether a script is good.
-pub fn is_good(script: &[u8]) -> bool
-    ensures { λ r. ⌜ r ≡ goodScript (now (script .entry)) ⌝ }
+pub fn is_good(form: Form, script: &[u8]) -> bool
+    ensures { λ r. ⌜ r ≡ goodIn form (now (script .entry)) ⌝ }
 {
-    if script.len() % 4 == 0 {
-        return records_good(script);
+    let w = width(form);
+    if script.len() % w == 0 {
+        return records_good(form, script);
     }
     false
 }
 
 // The stop's tick: that of the last whole record, and 0 where there is none.
-pub fn stop_tick(script: &[u8]) -> usize
-    ensures { λ r. ⌜ r ≡ stopOf (recordsOf (now (script .entry))) ⌝ }
+pub fn stop_tick(form: Form, script: &[u8]) -> u32
+    ensures { λ r. ⌜ r ≡ stopOf (recordsIn form (now (script .entry))) ⌝ }
 {
-    let n = script.len() / 4;
-    if n == 0 {
+    let w = width(form);
+    let left = script.len() % w;
+    if script.len() - left == 0 {
         return 0;
     }
-    let e = entry_at(script, n * 4 - 4);
-    e.tick
+    let e = entry_at(form, script, script.len() - left - w);
+    e.tick as u32
 }
 
 fn wanted_by(e: Entry) -> ScriptCall
@@ -189,12 +288,12 @@ fn kept(before: ScriptCall, own: bool, w: ScriptCall) -> ScriptCall
 }
 
 // One record more of the tick.
-fn with_record(t: ScriptTick, e: Entry) -> ScriptTick
-    requires { ⌜ t .next + 4 < 18446744073709551616 ⌝ }
-    ensures { λ r. ⌜ r ≡ withRecord t e ⌝ }
+fn with_record(w: usize, t: ScriptTick, e: Entry) -> ScriptTick
+    requires { ⌜ t .next + w < 18446744073709551616 ⌝ }
+    ensures { λ r. ⌜ r ≡ withRecord w t e ⌝ }
 {
     let p = e.party;
-    let w = wanted_by(e);
+    let c = wanted_by(e);
     let primary = t.primary;
     let secondary = t.secondary;
     let device2 = t.device2;
@@ -204,15 +303,15 @@ fn with_record(t: ScriptTick, e: Entry) -> ScriptTick
     let device6 = t.device6;
     let device7 = t.device7;
     ScriptTick {
-        primary: kept(primary, p == 0, w),
-        secondary: kept(secondary, p == 1, w),
-        device2: kept(device2, p == 2, w),
-        device3: kept(device3, p == 3, w),
-        device4: kept(device4, p == 4, w),
-        device5: kept(device5, p == 5, w),
-        device6: kept(device6, p == 6, w),
-        device7: kept(device7, p == 7, w),
-        next: t.next + 4,
+        primary: kept(primary, p == 0, c),
+        secondary: kept(secondary, p == 1, c),
+        device2: kept(device2, p == 2, c),
+        device3: kept(device3, p == 3, c),
+        device4: kept(device4, p == 4, c),
+        device5: kept(device5, p == 5, c),
+        device6: kept(device6, p == 6, c),
+        device7: kept(device7, p == 7, c),
+        next: t.next + w,
     }
 }
 
@@ -234,17 +333,18 @@ fn no_calls(at: usize) -> ScriptTick
 }
 
 // What a script wants of each party in a tick, read from a place on, and the place behind that tick's records.
-pub fn calls_at(script: &[u8], at: usize, tick: usize) -> ScriptTick
-    ensures { λ r. ⌜ r ≡ tickAt (now (script .entry)) at tick ⌝ }
+pub fn calls_at(form: Form, script: &[u8], at: usize, tick: usize) -> ScriptTick
+    ensures { λ r. ⌜ r ≡ tickAt form (now (script .entry)) at tick ⌝ }
 {
+    let w = width(form);
     let mut t = no_calls(at);
     if script.len() < at {
         return t;
     }
-    while script.len() - t.next >= 4 {
-        let e = entry_at(script, t.next);
+    while script.len() - t.next >= w {
+        let e = entry_at(form, script, t.next);
         if e.tick == tick {
-            t = with_record(t, e);
+            t = with_record(w, t, e);
         } else {
             return t;
         }
@@ -253,17 +353,17 @@ pub fn calls_at(script: &[u8], at: usize, tick: usize) -> ScriptTick
 }
 
 // The ticks up to the next record's, or up to the stop's if that is earlier.
-fn free_before(next: usize, tick: u16, stop: u16) -> u16
-    requires { ⌜ next < 65536 ⌝ }
+fn free_before(next: usize, tick: u32, stop: u32) -> u32
+    requires { ⌜ next < 4294967296 ⌝ }
     ensures { λ r. ⌜ r ≡ (if next <? stop then next else stop) - tick ⌝ }
 {
     if next < (stop as usize) {
-        return ticks_to(next as u16, tick);
+        return ticks_to(next as u32, tick);
     }
     ticks_to(stop, tick)
 }
 
-fn ticks_to(end: u16, tick: u16) -> u16
+fn ticks_to(end: u32, tick: u32) -> u32
     ensures { λ r. ⌜ r ≡ end - tick ⌝ }
 {
     if tick < end {
@@ -273,18 +373,19 @@ fn ticks_to(end: u16, tick: u16) -> u16
 }
 
 // How many ticks from this one on have no record, before the stop. The next record stands at this place.
-pub fn free_ticks(script: &[u8], at: usize, tick: u16, stop: u16) -> u16
-    ensures { λ r. ⌜ r ≡ freeTicks (now (script .entry)) at tick stop ⌝ }
+pub fn free_ticks(form: Form, script: &[u8], at: usize, tick: u32, stop: u32) -> u32
+    ensures { λ r. ⌜ r ≡ freeTicks form (now (script .entry)) at tick stop ⌝ }
 {
+    let w = width(form);
     if tick == 0 {
         return 0;
     }
     if script.len() < at {
         return ticks_to(stop, tick);
     }
-    if script.len() - at < 4 {
+    if script.len() - at < w {
         return ticks_to(stop, tick);
     }
-    let e = entry_at(script, at);
+    let e = entry_at(form, script, at);
     free_before(e.tick, tick, stop)
 }

@@ -1,4 +1,4 @@
-use Rattle.player.proofs.PlaysOn.{rests-on, rest-room}
+use Rattle.player.proofs.PlaysOn.{rests-onward, rest-room}
 use borrow.Author.Needs.{needs}
 use Rattle.player.proofs.onward.Statement.{statement}
 use Rattle.player.proofs.onward.Tie as tie
@@ -17,7 +17,7 @@ rest-on-requires c κs = search (needs, rest-room)
 
 -- src/lib.rt:101:13
 returns : tie.Need-returns
-returns c = search (needs, rests-on)
+returns c = search (needs, rests-onward)
 
 -- src/lib.rt:103:9
 tick-on-requires : tie.Need-tick-on-requires
@@ -47,6 +47,7 @@ pub onward-spec : {M : Type 1} → statement M
 onward-spec =
     tie.close
     (tie.spec
+    (λ c κs. search needs)
     free-ticks-requires
     link-rests-requires
     rest-on-requires

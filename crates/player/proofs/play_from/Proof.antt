@@ -6,10 +6,10 @@ use Rattle.player.proofs.play_from.Statement.{statement}
 use Rattle.player.proofs.play_from.Tie as tie
 
 abbrev Inv-loop : tie.InvT-loop
-Inv-loop stop script frames₀ bytes₀ contents₀ out₀ sent₀ p₀ frames bytes contents out sent p = Going script stop p₀ (rowsOf frames₀ bytes₀ contents₀) out₀ p (rowsOf frames bytes contents) out
+Inv-loop told script frames₀ bytes₀ contents₀ out₀ sent₀ p₀ frames bytes contents out sent p = Going told script p₀ (rowsOf frames₀ bytes₀ contents₀) out₀ p (rowsOf frames bytes contents) out
 
 abbrev μ-loop : tie.MeasureT-loop
-μ-loop stop script frames₀ bytes₀ contents₀ out₀ sent₀ p₀ frames bytes contents out sent p = stop - p .tick
+μ-loop told script frames₀ bytes₀ contents₀ out₀ sent₀ p₀ frames bytes contents out sent p = told .stop - p .tick
 
 -- src/lib.rt:123:5
 loop-holds : tie.Need-loop-holds Inv-loop μ-loop

@@ -6,10 +6,10 @@ use Rattle.script.proofs.calls_at.Statement.{statement}
 use Rattle.script.proofs.calls_at.Tie as tie
 
 abbrev Inv-loop : tie.InvT-loop
-Inv-loop script at tick t₀ t = Walking script at tick t
+Inv-loop form script at tick w t₀ t = Walking form script at tick t
 
 abbrev μ-loop : tie.MeasureT-loop
-μ-loop script at tick t₀ t = length script - t .next
+μ-loop form script at tick w t₀ t = length script - t .next
 
 pub calls-at-spec : {M : Type 1} → statement M
 calls-at-spec =
@@ -17,6 +17,7 @@ calls-at-spec =
     (tie.spec
     Inv-loop
     μ-loop
+    (λ c κs. search needs)
     (λ c κs. search (needs, walks))
     (λ c. search (needs, walks))
     (λ c. search (needs, walks))

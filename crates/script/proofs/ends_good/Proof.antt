@@ -7,9 +7,10 @@ pub ends-good-spec : {M : Type 1} → statement M
 ends-good-spec =
     tie.close
     (tie.spec
+    (λ c κs. search needs)
     (λ c. search needs)
     (λ c. search (needs, ends))
-    (λ c κs. search needs)
+    (λ c κs. search (needs, ends))
     (λ c. search (needs, ends))
     (λ c κs. search needs)
     (λ c. search (needs, ends)))

@@ -7,12 +7,13 @@ pub free-ticks-spec : {M : Type 1} → statement M
 free-ticks-spec =
     tie.close
     (tie.spec
+    (λ c κs. search needs)
     (λ c. search (needs, frees))
     (λ c κs. search needs)
     (λ c. search (needs, frees))
     (λ c. search needs)
     (λ c κs. search needs)
     (λ c. search (needs, frees))
-    (λ c κs. search needs)
+    (λ c κs. search (needs, frees))
     (λ c κs. search needs)
     (λ c. search (needs, frees)))

@@ -8,5 +8,7 @@ is-good-spec =
     tie.close
     (tie.spec
     (λ c κs. search needs)
+    (λ c. search needs)
+    (λ c κs. search needs)
     (λ c. search (needs, whole))
     (λ c. search (needs, whole)))

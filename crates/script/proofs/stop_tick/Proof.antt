@@ -7,8 +7,12 @@ pub stop-tick-spec : {M : Type 1} → statement M
 stop-tick-spec =
     tie.close
     (tie.spec
-    (λ c. search (needs, stops))
-    (λ c. search needs)
-    (λ c. search needs)
     (λ c κs. search needs)
+    (λ c. search needs)
+    (λ c. search (needs, stops))
+    (λ c. search (needs, stops))
+    (λ c. search (needs, stops))
+    (λ c. search (needs, stops))
+    (λ c κs. search (needs, stops))
+    (λ c. search needs)
     (λ c. search (needs, stops)))

@@ -1,0 +1,49 @@
+// Turns the script on standard input into the other form, and writes it to standard output. Its argument is the size of the script's records, 4 or 6. A refusal is printed as its number.
+use base::Refusal;
+use libc::STDOUT_FILENO;
+use player_convert::Converted;
+use script::Form;
+use script::SizedForm;
+use script_input::Input;
+use script_input::ROOM;
+
+// The size that the argument says, and none without one or with more.
+fn record_size() -> usize {
+    let mut word = io::buffer();
+    let n = os::arg(1, &mut word);
+    if os::arg_count() == 2 {
+        return script::size_in(&word[..n]);
+    }
+    0
+}
+
+fn print_converted(size: usize, script: &[u8], out: &mut [u8]) {
+    let converted = player_convert::convert(size, script, out);
+    match converted {
+        Converted::To(end) => {
+            io::write_all(STDOUT_FILENO, texts::front(out, end));
+        }
+        Converted::Refused(why) => script_input::print_refusal(why),
+    }
+}
+
+// The script on standard input. A good one longer than the room has a tick too large to turn back.
+fn convert_input(size: usize, form: Form, script: &mut [u8; ROOM], out: &mut [u8; ROOM]) {
+    let input = script_input::read(form, script);
+    match input {
+        Input::Whole(n) => print_converted(size, texts::front(script, n), out),
+        Input::LongGood => script_input::print_refusal(Refusal::TickTooLarge),
+        Input::LongBad => script_input::print_refusal(Refusal::BadScript),
+    }
+}
+
+fn main() {
+    let mut script = [0u8; ROOM];
+    let mut out = [0u8; ROOM];
+    let size = record_size();
+    let sized = script::form_of(size);
+    match sized {
+        SizedForm::Is(form) => convert_input(size, form, &mut script, &mut out),
+        SizedForm::Refused(why) => script_input::print_refusal(why),
+    }
+}

@@ -1,0 +1,2 @@
+-- The call by what was answered.
+pub mod Calls

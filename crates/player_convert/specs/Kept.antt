@@ -1,0 +1,33 @@
+-- To be believed: what the engine must do, or what is claimed of it.
+-- Document 02, item 11: "with every value kept". What is claimed of every script that was turned; that it plays to the same listing stands in crates/player/specs/Turned.antt.
+use Prim.Native.Nat.{ℕ, _≤_, _<_}
+use mathlib.Core.Bool.{Bool, true, false}
+use mathlib.Core.List.{List}
+use mathlib.Core.Path.{_≡_}
+use lib.ListN.{length, getD}
+use Rattle.base.specs.Choice.{_<?_}
+use Rattle.base.specs.Refusal.{Called, accepted}
+use Rattle.script.specs.Script.{recordsIn, goodIn, stopOf}
+use Rattle.script.specs.declared.Form.{Form}
+use Rattle.player_convert.specs.Turn.{other, anyAbove, converted}
+
+-- the result is a good script of the other form, with the same records
+pub record KeptBy (f : Form) (script result : List ℕ) : Type 0 where
+  pub good : goodIn (other f) result ≡ true
+  pub same-records : recordsIn (other f) result ≡ recordsIn f script
+
+abbrev pub TurnKeeps : Type 0
+TurnKeeps = (f : Form) (script result : List ℕ) (room : ℕ) → converted f script room ≡ accepted result → KeptBy f script result
+
+abbrev pub Bytes : List ℕ → Type 0
+Bytes s = (i : ℕ) → getD s i 0 < 256
+
+-- turned there and back it is the very bytes
+abbrev pub ThereAndBack : Type 0
+ThereAndBack =
+    (f : Form) (script result : List ℕ) (room back : ℕ) → Bytes script → converted f script room ≡ accepted result → length script ≤ back
+    → converted (other f) result back ≡ accepted script
+
+-- a good script's ticks do not fall and its stop is last, so the stop's tick decides whether some record's tick is too large
+abbrev pub StopDecides : Type 0
+StopDecides = (f : Form) (most : ℕ) (script : List ℕ) → goodIn f script ≡ true → anyAbove most (recordsIn f script) ≡ (most <? stopOf (recordsIn f script))

@@ -1,0 +1,2 @@
+-- The script on standard input.
+pub mod Input
