@@ -1,7 +1,8 @@
 /*
  * nengapiko.h - a HART link engine (HCF_SPEC-081 revision 9.0) for programs in C: frames written
- * and read; one call a tick, a tick reader, a master and a device; and how long a message waits.
- * Its functions are in libnengapiko.a. Those for tests and measurements stand in nengapiko_tests.h.
+ * and read; one call a tick, a tick reader, a master and a device; how long a message waits; and
+ * two recordings of one pair joined. Its functions are in libnengapiko.a. Those for tests and
+ * measurements stand in nengapiko_tests.h.
  *
  * Document 01 is the scope paper, which condenses the standard; its numbers are the refusals below.
  *
@@ -20,8 +21,9 @@
  * pointer is NULL, also where its length is 0: NENGAPIKO_NO_BYTES is there for that. No argument of
  * a call overlaps another that the call writes.
  *
- * Refusals. What is refused returns its number, the lowest that applies (of a request the first in
- * its function's list), and changes nothing; a tick whose call is refused is that of no call.
+ * Refusals. What is refused returns its number, the lowest that applies (of a request, and of what
+ * is done with recordings, the first in its function's list), and changes nothing, but that 23 sets
+ * the tick that it names; a tick whose call is refused is that of no call.
  *
  * Stack. What a function takes with all that it calls, in bytes, the return address included
  * (tests/stack works it out from the archive). On top come the arguments that are passed on the stack,
@@ -37,6 +39,7 @@
  *   nengapiko_device_tick          608
  *   nengapiko_data_length           64
  *   nengapiko_longest_wait           8
+ *   nengapiko_join                  72
  */
 #ifndef NENGAPIKO_H
 #define NENGAPIKO_H
@@ -94,8 +97,11 @@ enum nengapiko_refusal {
     NENGAPIKO_REFUSAL_NO_DELIMITER = 12,  /* write: type not 2, 6 or 1; read: the byte behind the preamble is no delimiter */
     NENGAPIKO_REFUSAL_ENDS_EARLY = 13,    /* read: the bytes end before the frame does */
     NENGAPIKO_REFUSAL_UNSOUND = 14,       /* read: an ACK or BACK with count below 2, else a wrong check byte */
-    NENGAPIKO_REFUSAL_BUFFER_SHORT = 15,  /* write: the frame does not fit from the place named */
+    NENGAPIKO_REFUSAL_BUFFER_SHORT = 15,  /* write: the frame does not fit from the place named; join: the buffer is shorter than a recording */
     NENGAPIKO_REFUSAL_REVISION = 17,      /* request: revision outside 3 to 7 */
+    NENGAPIKO_REFUSAL_RECORDING = 21,     /* join: a recording of odd length, or with two bytes that no recording has */
+    NENGAPIKO_REFUSAL_UNEQUAL = 22,       /* join: two recordings of unequal lengths */
+    NENGAPIKO_REFUSAL_DIFFER = 23,        /* join: two different characters in one tick */
     NENGAPIKO_REFUSAL_WAIT_SHORT = 26     /* data length for a wait: that of 2 data bytes is already longer */
 };
 
@@ -385,6 +391,30 @@ uint32_t nengapiko_data_length(uint16_t sto, uint16_t hold, uint16_t rt2, uint16
 uint32_t nengapiko_longest_wait(uint16_t sto, uint16_t hold, uint16_t rt2, uint16_t rt1_primary,
                                 uint16_t rt1_secondary, uint8_t retries, size_t length,
                                 bool bursting, uint32_t *wait) NENGAPIKO_NONNULL;
+
+/* ------------------------------------------------------------------------ recordings */
+
+/*
+ * A recording has two bytes a tick: the kind of what was heard in bits 7 to 5 of the first (0
+ * silence, 1 a character, 2 to 4 a character with damage 1 to 3), zero in its bits 4 to 0, and the
+ * character in the second, zero for silence.
+ *
+ * Joins two recordings of one pair from one tick on. In each tick a character goes before damage
+ * and damage before silence, the lower kind before the higher, and the first tap's before the
+ * second's at equal kinds.
+ *
+ *   first, first_size    a tap's recording, and how many bytes it has
+ *   second, second_size  the other's; both may be one buffer
+ *   out, room            where the joined recording goes, as long as each tap; bytes of out behind
+ *                        it stay. It overlaps neither tap
+ *   tick                 set by 23 to the first tick with two different characters, counted from 0;
+ *                        else left as it was
+ *
+ * Returns 0, 21 for either recording, 22, 15 or 23, the first in this order that applies.
+ */
+uint32_t nengapiko_join(const uint8_t *first, size_t first_size, const uint8_t *second,
+                        size_t second_size, uint8_t *NENGAPIKO_RESTRICT out, size_t room,
+                        size_t *NENGAPIKO_RESTRICT tick) NENGAPIKO_NONNULL;
 
 #ifdef __cplusplus
 }

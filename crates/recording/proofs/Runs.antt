@@ -65,7 +65,7 @@ module _ {S : Type 0} (numbersFrom : S → List ℕ) where
 
 -- ---- over a recording, for every party that has a tick by the two bytes
 
-two-more : (recording : List ℕ) (at : ℕ) → 2 ≤ length recording - at → drop at recording ≡ getD recording at 0 ∷ getD recording (at + 1) 0 ∷ drop (at + 2) recording
+pub two-more : (recording : List ℕ) (at : ℕ) → 2 ≤ length recording - at → drop at recording ≡ getD recording at 0 ∷ getD recording (at + 1) 0 ∷ drop (at + 2) recording
 two-more recording at h = simp (add-one, add-two) (drop-cons recording at 0 (omega arith) ∙ ap (λ (l : List ℕ). getD recording at 0 ∷ l) (drop-cons recording (suc at) 0 (omega arith)))
 
 module _ {S : Type 0} (tick : S → ℕ → ℕ → Ticked S) where

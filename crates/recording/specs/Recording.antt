@@ -1,24 +1,23 @@
 -- How the code stands for what is to be believed.
--- A recording of the line has two bytes for each tick: 32 times the kind of what was heard, and the character.
-use Prim.Native.Nat.{ℕ}
+-- A tick of a recording as one number, and what a run over a recording promises.
+use Prim.Native.Nat.{ℕ, _+_, _*_, _/_, _%_, _≤_, _<_}
 use mathlib.Core.Path.{_≡_}
 use mathlib.Core.List.{List, [], _∷_}
-use lib.ListN.{length, take}
+use lib.ListN.{length, take, getD}
 use Rattle.base.specs.Refusal.{Called, accepted, refused}
-use Rattle.base.specs.Choice.{if_then_else_, _=?_}
 use Rattle.base.specs.Store.{stored}
-use Rattle.line.specs.declared.Damage.the-variants.{Parity, Overrun, Framing}
-use Rattle.line.specs.declared.Heard.{Heard}
-use Rattle.line.specs.declared.Heard.the-variants.{Silence, Character, Damaged}
+pub use Rattle.recording.specs.Form.{heardOf}
 
--- 1 is a character, 2 to 4 a damaged one of kind 1 to 3; any other kind is silence
-abbrev pub heardOf : ℕ → ℕ → Heard
-heardOf kind c =
-    if kind =? 1 then Character c else
-    if kind =? 2 then Damaged c Parity else
-    if kind =? 3 then Damaged c Overrun else
-    if kind =? 4 then Damaged c Framing else
-    Silence
+-- v is the two bytes of tick t as one number, the character the high byte
+pub record TickIs (recording : List ℕ) (t v : ℕ) : Type 0 where
+  pub first : v % 256 ≡ getD recording (2 * t) 0
+  pub character : v / 256 ≡ getD recording (2 * t + 1) 0
+  pub small : v < 65536
+
+-- such a number, or 0 where the recording has no tick t
+pub record TickAt (recording : List ℕ) (t v : ℕ) : Type 0 where
+  pub there : t < length recording / 2 → TickIs recording t v
+  pub beyond : length recording / 2 ≤ t → v ≡ 0
 
 -- a tick of any party, by the two bytes: the number for what it did, and the party behind it
 pub record Ticked (S : Type 0) : Type 0 where
