@@ -1,7 +1,7 @@
 /*
  * nengapiko.h - a HART link engine (HCF_SPEC-081 revision 9.0) for programs in C: frames written
  * and read; one call a tick, a tick reader, a master and a device; how long a message waits; and
- * two recordings of one pair joined. Its functions are in libnengapiko.a. Those for tests and
+ * recordings listed and joined. Its functions are in libnengapiko.a. Those for tests and
  * measurements stand in nengapiko_tests.h.
  *
  * Document 01 is the scope paper, which condenses the standard; its numbers are the refusals below.
@@ -39,6 +39,7 @@
  *   nengapiko_device_tick          608
  *   nengapiko_data_length           64
  *   nengapiko_longest_wait           8
+ *   nengapiko_list                 280
  *   nengapiko_join                  72
  */
 #ifndef NENGAPIKO_H
@@ -97,9 +98,9 @@ enum nengapiko_refusal {
     NENGAPIKO_REFUSAL_NO_DELIMITER = 12,  /* write: type not 2, 6 or 1; read: the byte behind the preamble is no delimiter */
     NENGAPIKO_REFUSAL_ENDS_EARLY = 13,    /* read: the bytes end before the frame does */
     NENGAPIKO_REFUSAL_UNSOUND = 14,       /* read: an ACK or BACK with count below 2, else a wrong check byte */
-    NENGAPIKO_REFUSAL_BUFFER_SHORT = 15,  /* write: the frame does not fit from the place named; join: the buffer is shorter than a recording */
+    NENGAPIKO_REFUSAL_BUFFER_SHORT = 15,  /* write: the frame does not fit from the place named; list: the entries do not fit; join: the buffer is shorter than a recording */
     NENGAPIKO_REFUSAL_REVISION = 17,      /* request: revision outside 3 to 7 */
-    NENGAPIKO_REFUSAL_RECORDING = 21,     /* join: a recording of odd length, or with two bytes that no recording has */
+    NENGAPIKO_REFUSAL_RECORDING = 21,     /* list, join: a recording of odd length, or with two bytes that no recording has */
     NENGAPIKO_REFUSAL_UNEQUAL = 22,       /* join: two recordings of unequal lengths */
     NENGAPIKO_REFUSAL_DIFFER = 23,        /* join: two different characters in one tick */
     NENGAPIKO_REFUSAL_WAIT_SHORT = 26     /* data length for a wait: that of 2 data bytes is already longer */
@@ -392,13 +393,40 @@ uint32_t nengapiko_longest_wait(uint16_t sto, uint16_t hold, uint16_t rt2, uint1
                                 uint16_t rt1_secondary, uint8_t retries, size_t length,
                                 bool bursting, uint32_t *wait) NENGAPIKO_NONNULL;
 
-/* ------------------------------------------------------------------------ recordings */
+/* ------------------------------------------------------------------------ recordings
+ *
+ * A recording has two bytes a tick, numbered from 0: the kind of what was heard in bits 7 to 5 of the
+ * first (0 silence, 1 a character, 2 to 4 a character with damage 1 to 3), zero in its bits 4 to 0, and
+ * the character in the second, zero for silence. It may have any length: a program may map a file and
+ * lend the mapping.
+ */
+
+/* An entry of a list, so many bytes: the tick, 8 bytes, most significant first, and an enum nengapiko_entry. */
+#define NENGAPIKO_SIZE_ENTRY 9
+
+enum nengapiko_entry {
+    NENGAPIKO_ENTRY_BROKEN = 0,
+    NENGAPIKO_ENTRY_WHOLE = 1,
+    NENGAPIKO_ENTRY_DAMAGED = 2
+};
 
 /*
- * A recording has two bytes a tick: the kind of what was heard in bits 7 to 5 of the first (0
- * silence, 1 a character, 2 to 4 a character with damage 1 to 3), zero in its bits 4 to 0, and the
- * character in the second, zero for silence.
+ * Lists the frames and breaks that a tick reader finds in a recording from its start on, in the order of
+ * their ticks: the tick that ends or breaks each. A character in tick 0 is a break; characters passed over
+ * behind a break add none.
  *
+ *   recording, size   the recording
+ *   out, room         the list is put at the front; the bytes behind it are left as they were
+ *   entries           set to their number; left as it was by a refusal
+ *
+ * Returns 0, 21 or 15. With room for an entry for every two ticks, (size / 4 + 1) * NENGAPIKO_SIZE_ENTRY
+ * bytes, the recording is gone through once, with less room twice.
+ */
+uint32_t nengapiko_list(const uint8_t *NENGAPIKO_RESTRICT recording, size_t size,
+                        uint8_t *NENGAPIKO_RESTRICT out, size_t room,
+                        size_t *NENGAPIKO_RESTRICT entries) NENGAPIKO_NONNULL;
+
+/*
  * Joins two recordings of one pair from one tick on. In each tick a character goes before damage
  * and damage before silence, the lower kind before the higher, and the first tap's before the
  * second's at equal kinds.

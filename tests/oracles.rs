@@ -6,6 +6,7 @@
 pub mod device_oracle;
 pub mod frame_oracle;
 pub mod link_oracle;
+pub mod list_oracle;
 pub mod master_oracle;
 pub mod party_oracle;
 pub mod tick_oracle;

@@ -33,7 +33,7 @@ pub stored-same : (xs ys us vs : List ℕ) (i : ℕ) → us ≡ vs → ys ≡ st
 stored-same xs ys us vs i e p = p ∙ ap (λ (l : List ℕ). stored xs i l) e
 
 -- two runs, one behind the other, are one
-join : (us vs xs : List ℕ) (i : ℕ) → stored (stored xs i us) (i + length us) vs ≡ stored xs i (us ++ vs)
+pub join : (us vs xs : List ℕ) (i : ℕ) → stored (stored xs i us) (i + length us) vs ≡ stored xs i (us ++ vs)
 unfolding stored
 join [] vs xs i = ap (λ (k : ℕ). stored xs k vs) (add-zero i)
 join (u ∷ us) vs xs i = ap (λ (k : ℕ). stored (stored (set xs i u) (suc i) us) k vs) (add-suc i (length us) ∙ sym (suc-add i (length us))) ∙ join us vs (set xs i u) (suc i)

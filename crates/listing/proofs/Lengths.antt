@@ -24,12 +24,12 @@ use Rattle.listing.specs.declared.Monitor.{Monitor}
 
 -- ---- a line
 
-if-most : (t : Bool) (a b : List ℕ) (n : ℕ) → length a ≤ n → length b ≤ n → length (if t then a else b) ≤ n
+pub if-most : (t : Bool) (a b : List ℕ) (n : ℕ) → length a ≤ n → length b ≤ n → length (if t then a else b) ≤ n
 unfolding if_then_else_
 if-most true a b n h k = h
 if-most false a b n h k = k
 
-decimal-most : (digits n : ℕ) → length (decimalOf digits n) ≤ digits
+pub decimal-most : (digits n : ℕ) → length (decimalOf digits n) ≤ digits
 unfolding decimalOf
 decimal-most zero n = omega arith
 decimal-most (suc digits) n =
@@ -37,11 +37,11 @@ decimal-most (suc digits) n =
     (omega arith)
     (omega (arith, length-append (decimalOf digits (n / 10)) ((48 + n % 10) ∷ []), decimal-most digits (n / 10)))
 
-type-most : (frame : ℕ) → length (typeName frame) ≤ 4
+pub type-most : (frame : ℕ) → length (typeName frame) ≤ 4
 type-most frame =
     if-most (frame =? stx) _ _ 4 (omega arith) (if-most (frame =? ack) _ _ 4 (omega arith) (omega arith))
 
-word-length : (text : List ℕ) → length (word text) ≡ length text + 1
+pub word-length : (text : List ℕ) → length (word text) ≡ length text + 1
 word-length text = length-append text (32 ∷ [])
 
 line-most : (l : Line) → length (lineText l) ≤ 40

@@ -87,14 +87,14 @@ fn put_number_word(n: u32, out: &mut [u8], at: usize) -> usize
     put_byte(b' ', out, place)
 }
 
-fn put_type_word(frame: u8, out: &mut [u8], at: usize) -> usize
+pub fn put_type_word(frame: u8, out: &mut [u8], at: usize) -> usize
     ensures { λ r. ⌜ PutIs (word (typeName frame)) (now (out .entry)) at r (now (out .exit)) ⌝ }
 {
     let place = put_type(frame, out, at);
     put_byte(b' ', out, place)
 }
 
-fn put_master_word(primary: bool, out: &mut [u8], at: usize) -> usize
+pub fn put_master_word(primary: bool, out: &mut [u8], at: usize) -> usize
     ensures { λ r. ⌜ PutIs (word (masterDigit primary ∷ [])) (now (out .entry)) at r (now (out .exit)) ⌝ }
 {
     let digit = master_digit(primary);

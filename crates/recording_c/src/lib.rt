@@ -1,6 +1,22 @@
-// Two taps joined, for programs in C and Rust.
+// Recordings for programs in C and Rust: the list of one, and two taps joined.
 use recording_join::JoinAnswer;
-ghost use Rattle.recording_c.specs.Numbers.{JoinCall};
+use recording_list::Listed;
+ghost use Rattle.recording_c.specs.Numbers.{ListCall, JoinCall};
+
+// Lists the frames and breaks of a recording at the front of out, and sets entries to their number; or gives the refusal's number and changes nothing.
+#[no_mangle]
+pub extern "C" fn nengapiko_list(recording: &[u8], out: &mut [u8], entries: &mut usize) -> u32
+    ensures { λ r. ⌜ ListCall recording out entries r ⌝ }
+{
+    let listed = recording_list::list(recording, out);
+    match listed {
+        Listed::Entries(n) => {
+            *entries = n;
+            0
+        }
+        Listed::Refused(why) => why.number(),
+    }
+}
 
 // Joins two recordings at the front of out; or gives the refusal's number, and for 23 sets tick to the first tick with two different characters, and changes nothing else.
 #[no_mangle]

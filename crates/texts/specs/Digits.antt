@@ -1,4 +1,4 @@
--- Inner contracts: nothing that is to be believed rests on them.
+-- How the code stands for what is to be believed.
 -- Numbers as text, for programs that print what they run.
 use Prim.Native.Nat.{ℕ, _+_, _*_, _/_, _%_}
 use mathlib.Core.Bool.{Bool, false}

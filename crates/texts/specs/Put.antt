@@ -1,4 +1,4 @@
--- Inner contracts: nothing that is to be believed rests on them.
+-- How the code stands for what is to be believed.
 -- Text that is put into a lent output buffer, one byte behind the other. What does not fit is left out.
 use Prim.Native.Nat.{ℕ, _+_}
 use mathlib.Core.List.{List, [], _∷_}
