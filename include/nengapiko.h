@@ -1,8 +1,8 @@
 /*
  * nengapiko.h - a HART link engine (HCF_SPEC-081 revision 9.0) for programs in C: frames written
- * and read; one call a tick, a tick reader, a master and a device; how long a message waits; and
- * recordings listed and joined. Its functions are in libnengapiko.a. Those for tests and
- * measurements stand in nengapiko_tests.h.
+ * and read; one call a tick, a tick reader, a master and a device; how long a message waits;
+ * recordings listed and joined; and a table of the newest data of each device and command. Its
+ * functions are in libnengapiko.a. Those for tests and measurements stand in nengapiko_tests.h.
  *
  * Document 01 is the scope paper, which condenses the standard; its numbers are the refusals below.
  *
@@ -41,6 +41,9 @@
  *   nengapiko_longest_wait           8
  *   nengapiko_list                 280
  *   nengapiko_join                  72
+ *   nengapiko_readings_clear         8
+ *   nengapiko_readings_enter        88
+ *   nengapiko_readings_find         16
  */
 #ifndef NENGAPIKO_H
 #define NENGAPIKO_H
@@ -98,8 +101,9 @@ enum nengapiko_refusal {
     NENGAPIKO_REFUSAL_NO_DELIMITER = 12,  /* write: type not 2, 6 or 1; read: the byte behind the preamble is no delimiter */
     NENGAPIKO_REFUSAL_ENDS_EARLY = 13,    /* read: the bytes end before the frame does */
     NENGAPIKO_REFUSAL_UNSOUND = 14,       /* read: an ACK or BACK with count below 2, else a wrong check byte */
-    NENGAPIKO_REFUSAL_BUFFER_SHORT = 15,  /* write: the frame does not fit from the place named; list: the entries do not fit; join: the buffer is shorter than a recording */
+    NENGAPIKO_REFUSAL_BUFFER_SHORT = 15,  /* write: the frame does not fit from the place named; list: the entries do not fit; join: the buffer is shorter than a recording; table of readings: an area below 255 bytes a row */
     NENGAPIKO_REFUSAL_REVISION = 17,      /* request: revision outside 3 to 7 */
+    NENGAPIKO_REFUSAL_TABLE_FULL = 20,    /* table of readings: no row of the frame's address and command, and none empty */
     NENGAPIKO_REFUSAL_RECORDING = 21,     /* list, join: a recording of odd length, or with two bytes that no recording has */
     NENGAPIKO_REFUSAL_UNEQUAL = 22,       /* join: two recordings of unequal lengths */
     NENGAPIKO_REFUSAL_DIFFER = 23,        /* join: two different characters in one tick */
@@ -443,6 +447,77 @@ uint32_t nengapiko_list(const uint8_t *NENGAPIKO_RESTRICT recording, size_t size
 uint32_t nengapiko_join(const uint8_t *first, size_t first_size, const uint8_t *second,
                         size_t second_size, uint8_t *NENGAPIKO_RESTRICT out, size_t room,
                         size_t *NENGAPIKO_RESTRICT tick) NENGAPIKO_NONNULL;
+
+/* ------------------------------------------------------------------------ latest readings
+ *
+ * A table of the newest data of each device and command, in memory that the program lends: rows, and a
+ * byte area with NENGAPIKO_SIZE_DATA bytes for each row, in the rows' order. The rows are cleared before
+ * their first use; what the area holds then does not matter. A row's fields are integers and leave no
+ * byte of it over, so that every content of rows and area is some table, and every call takes it.
+ *
+ * A table is what its calls, in their order, leave; ticks are not compared. So a frame is entered in the
+ * tick that told it. Entered again it changes nothing; entered later, after a newer one of its address
+ * and command, it puts the older back.
+ */
+
+/* A row. An empty one has address 0. */
+struct nengapiko_reading {
+    uint64_t address; /* the device's unique address */
+    uint64_t tick;    /* the tick of the frame's last character */
+    size_t place;     /* where its data begin in the byte area: 255 bytes for each row in front of it */
+    uint8_t command;
+    uint8_t count;    /* how many data bytes there are; the row's bytes behind them are older */
+    uint16_t unused;  /* this and spare: 0 of a row that was cleared or entered */
+    uint32_t spare;
+};
+
+/* Its layout is the archive's: where a compiler lays it out otherwise, this type is refused. */
+typedef char nengapiko_reading_layout[sizeof(struct nengapiko_reading) == 32 &&
+                                      offsetof(struct nengapiko_reading, address) == 0 &&
+                                      offsetof(struct nengapiko_reading, tick) == 8 &&
+                                      offsetof(struct nengapiko_reading, place) == 16 &&
+                                      offsetof(struct nengapiko_reading, command) == 24 &&
+                                      offsetof(struct nengapiko_reading, count) == 25 &&
+                                      offsetof(struct nengapiko_reading, unused) == 26 &&
+                                      offsetof(struct nengapiko_reading, spare) == 28 ? 1 : -1];
+
+/* Empties every row: all its fields are 0. The byte area is left as it is. */
+void nengapiko_readings_clear(struct nengapiko_reading *rows, size_t count) NENGAPIKO_NONNULL;
+
+/*
+ * Enters a frame if it is a reading: whole and undamaged, an ACK or a BACK, with a unique address other
+ * than 0 and bit 7 of its first data byte not set. It supersedes the first row of its address and
+ * command, else takes the first empty row: that row is set, and of its 255 bytes the first ones to the
+ * frame's data. Every other row and byte stays. Anything else that is told changes nothing, and is no
+ * refusal.
+ *
+ *   rows, count   the table
+ *   area, size    its byte area
+ *   tick          the tick in which the line carried the frame's last character, in one count of ticks
+ *                 for the table. What a master or a device tells, the line carried in the tick before;
+ *                 so it did for a tick reader that runs beside them, while one that runs over a recording
+ *                 tells of the tick that it is given. Of a frame of nengapiko_read, its last byte's tick
+ *   results       NENGAPIKO_SIZE_RESULTS words, as a tick of a tick reader, a master or a device has left
+ *                 them. Looked at are EVENT, TYPE, LONG, ADDRESS, COMMAND and COUNT, so that for a frame
+ *                 of nengapiko_read these may be set: the first to NENGAPIKO_EVENT_WHOLE, the others to
+ *                 the fields of the same names. What no tick and no read gives, fewer than 2 data bytes
+ *                 or an address above 38 bits, is no reading
+ *   bytes         NENGAPIKO_SIZE_DATA bytes, the frame's data at the front: the buffer of that same tick
+ *
+ * Returns 0; 15 for an area below 255 bytes a row, whatever the frame is; or 20 for a reading when no row
+ * is of its address and command and none is empty.
+ */
+uint32_t nengapiko_readings_enter(struct nengapiko_reading *NENGAPIKO_RESTRICT rows, size_t count,
+                                  uint8_t *NENGAPIKO_RESTRICT area, size_t size, uint64_t tick,
+                                  const uint64_t *NENGAPIKO_RESTRICT results,
+                                  const uint8_t *NENGAPIKO_RESTRICT bytes) NENGAPIKO_NONNULL;
+
+/*
+ * Returns the number of the first row of an address and a command, or count where there is none; of
+ * address 0 there is none.
+ */
+size_t nengapiko_readings_find(const struct nengapiko_reading *rows, size_t count, uint64_t address,
+                               uint8_t command) NENGAPIKO_NONNULL;
 
 #ifdef __cplusplus
 }

@@ -164,6 +164,21 @@ size_t nengapiko_run(uint16_t sto, uint16_t hold, uint16_t rt2, uint16_t rt1_pri
  */
 uint32_t nengapiko_load(uint32_t seed, uint32_t count, uint8_t *buffer, size_t room) NENGAPIKO_NONNULL;
 
+/*
+ * nengapiko_readings_enter over flat numbers, five to a row: address, command, tick, byte count and place
+ * of the data. Of a command and of a byte count the lowest eight bits count. Numbers that are left over
+ * behind the last row are in none.
+ *
+ *   numbers, count   the table, and how many numbers there are
+ *   area .. bytes    as for nengapiko_readings_enter
+ *
+ * Returns 0, 15 or 20.
+ */
+uint32_t nengapiko_readings_flat(uint64_t *NENGAPIKO_RESTRICT numbers, size_t count,
+                                 uint8_t *NENGAPIKO_RESTRICT area, size_t size, uint64_t tick,
+                                 const uint64_t *NENGAPIKO_RESTRICT results,
+                                 const uint8_t *NENGAPIKO_RESTRICT bytes) NENGAPIKO_NONNULL;
+
 #ifdef __cplusplus
 }
 #endif

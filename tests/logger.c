@@ -2,7 +2,8 @@
  * logger.c - a small logger over nengapiko.h. A primary polls three transmitters, a handheld is the
  * secondary, and a monitor lists the frames on the pair; all of them run here, through an array of
  * characters that is the pair. Masters start out of step and begin together once, an answer is
- * shorted, a transmitter is unplugged and plugged in again, and one is told to burst and to stop.
+ * shorted, a transmitter is unplugged and plugged in again, and one is told to burst and to stop. The
+ * primary's host keeps a table of the newest readings, which is taken and cleared twice.
  * What is printed is held against tests/data/logger/log.txt, whose README says where that is from.
  */
 #include "nengapiko.h"
@@ -96,6 +97,21 @@ static void log_frame(const uint64_t r[NENGAPIKO_SIZE_RESULTS], const uint8_t *d
            r[NENGAPIKO_RESULT_BURST] ? " burst" : "", r[NENGAPIKO_RESULT_LONG] ? "unique" : "polling",
            r[NENGAPIKO_RESULT_ADDRESS], r[NENGAPIKO_RESULT_COMMAND]);
     log_bytes(data, r[NENGAPIKO_RESULT_COUNT]);
+}
+
+/* ------------------------------------------------------------------------ the table */
+
+/* The newest readings, by transmitter and command. */
+enum { ROWS = 4 };
+static struct nengapiko_reading rows[ROWS];
+static uint8_t area[ROWS * NENGAPIKO_SIZE_DATA];
+
+/* What a tick told is entered in that tick; the pair carried its last character in the one before. */
+static void enter(unsigned tick, const uint64_t r[NENGAPIKO_SIZE_RESULTS], const uint8_t *data)
+{
+    if (r[NENGAPIKO_RESULT_EVENT] == NENGAPIKO_EVENT_WHOLE &&
+        nengapiko_readings_enter(rows, ROWS, area, sizeof area, tick - 1, r, data) != NENGAPIKO_REFUSAL_NONE)
+        abort();
 }
 
 /* ------------------------------------------------------------------------ masters */
@@ -244,6 +260,8 @@ static uint64_t master_tick(struct master *m, unsigned tick)
                               REVISION, q.long_address, q.address, q.command, q.data, q.count, results);
     told(m, tick, results);
     hears(m, tick, results);
+    if (m->primary)
+        enter(tick, results, m->data);
     if (asks)
         requested(m, tick, &q, refusal);
     return results[NENGAPIKO_RESULT_SENT];
@@ -386,8 +404,33 @@ static void monitor_tick(unsigned tick)
     log_frame(results, data);
 }
 
+/* ------------------------------------------------------------------------ the analyst */
+
+/* The table is taken in these ticks: the reading of each transmitter that is known, and all is cleared. */
+static bool takes(unsigned tick)
+{
+    return tick == 1300 || tick == TICKS - 1;
+}
+
+static void take(unsigned tick)
+{
+    for (size_t t = 0; t < TRANSMITTERS; t++) {
+        const size_t i = nengapiko_readings_find(rows, ROWS, known[t], READING);
+        log_head(tick, "table");
+        if (i == ROWS) {
+            printf("no reading of unique %" PRIx64 "\n", known[t]);
+            continue;
+        }
+        printf("row %zu, unique %" PRIx64 " command %u in tick %" PRIu64 ":", i, rows[i].address,
+               rows[i].command, rows[i].tick);
+        log_bytes(&area[rows[i].place], rows[i].count);
+    }
+    nengapiko_readings_clear(rows, ROWS);
+}
+
 int main(void)
 {
+    nengapiko_readings_clear(rows, ROWS);
     for (unsigned tick = 0; tick < TICKS; tick++) {
         uint64_t sent[PARTIES];
         monitor_tick(tick);
@@ -396,6 +439,8 @@ int main(void)
         for (size_t i = 0; i < TRANSMITTERS; i++)
             sent[2 + i] = transmitter_tick(&transmitters[i], tick);
         pair[tick] = joined(sent, tick);
+        if (takes(tick))
+            take(tick);
     }
     return EXIT_SUCCESS;
 }

@@ -6,11 +6,13 @@ mod calls;
 mod oracle_ticks;
 #[path = "oracles.rs"]
 mod oracles;
+mod readings_oracle;
 
 use calls::{Given, Request};
 use oracle_ticks::{heard_of, numbers, Device, Master, Ticked, RESULTS};
 use oracles::party_oracle::Profile;
 use oracles::tick_oracle::Reader;
+use readings_oracle::{Reading, Row, Table};
 use std::slice;
 
 const DATA: usize = 255;
@@ -147,4 +149,48 @@ pub unsafe extern "C" fn nengapiko_device_tick(
     let ticked = device.tick(heard_of(heard, character), given);
     tell(ticked.results, device.data(), results, bytes);
     ticked.returned
+}
+
+#[no_mangle]
+pub unsafe extern "C" fn nengapiko_readings_clear(rows: *mut Row, count: usize) {
+    slice::from_raw_parts_mut(rows, count).fill(Row::default());
+}
+
+#[no_mangle]
+pub unsafe extern "C" fn nengapiko_readings_enter(
+    rows: *mut Row,
+    count: usize,
+    area: *mut u8,
+    size: usize,
+    tick: u64,
+    results: *const u64,
+    bytes: *const u8,
+) -> u32 {
+    let rows = slice::from_raw_parts_mut(rows, count);
+    let area = slice::from_raw_parts_mut(area, size);
+    let mut table = Table {
+        rows: rows.to_vec(),
+        area: area.to_vec(),
+    };
+    let (results, bytes) = (
+        &*(results as *const [u64; RESULTS]),
+        &*(bytes as *const [u8; DATA]),
+    );
+    let returned = table.enter(Reading::told(tick, results, bytes));
+    rows.copy_from_slice(&table.rows);
+    area.copy_from_slice(&table.area);
+    returned
+}
+
+#[no_mangle]
+pub unsafe extern "C" fn nengapiko_readings_find(
+    rows: *const Row,
+    count: usize,
+    address: u64,
+    command: u8,
+) -> usize {
+    let rows = slice::from_raw_parts(rows, count).to_vec();
+    let area = Vec::new();
+    let found = Table { rows, area }.find(address, command);
+    found.unwrap_or(count)
 }

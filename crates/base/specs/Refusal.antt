@@ -2,7 +2,7 @@
 -- Document 01, "Refusals, by where each is checked": the table, and what a call comes to.
 use Prim.Native.Nat.{ℕ}
 use Rattle.base.specs.declared.Refusal.{Refusal}
-use Rattle.base.specs.declared.Refusal.the-variants.{BadProfile, BadRetries, PreambleLength, Address, Command, DataLong, MessageInHand, NoRequest, DataLength, BurstWish, FewPreambles, NoDelimiter, EndsEarly, Unsound, BufferShort, BadScript, Revision, BadLoad, Register, BadRecording, UnequalTaps, TapsDiffer, RecordSize, TickTooLarge, WaitTooShort}
+use Rattle.base.specs.declared.Refusal.the-variants.{BadProfile, BadRetries, PreambleLength, Address, Command, DataLong, MessageInHand, NoRequest, DataLength, BurstWish, FewPreambles, NoDelimiter, EndsEarly, Unsound, BufferShort, BadScript, Revision, BadLoad, Register, TableFull, BadRecording, UnequalTaps, TapsDiffer, RecordSize, TickTooLarge, WaitTooShort}
 
 -- "A refusal gives its number only." The player's answer to 16 is a text: crates/player/specs/Play.antt.
 abbrev pub number : Refusal → ℕ
@@ -44,6 +44,8 @@ number Revision = 17
 number BadLoad = 18
 -- document 02, item 5: a write to one of the modem chip's bytes 0, 3 and 4 to 7, or any byte above 7
 number Register = 19
+-- document 02, item 7: a frame to be entered in a table of readings in which no row matches and all are filled
+number TableFull = 20
 -- document 02, items 9 and 10: a recording of odd length, or with another value in a tick
 number BadRecording = 21
 -- document 02, item 10: two recordings of unequal lengths

@@ -89,7 +89,7 @@ pub fn delimiter_of(byte: u8) -> Delimiter
 }
 
 // Whether a number is the type of a frame that a device sends.
-fn from_device(n: u8) -> bool
+pub fn from_device(n: u8) -> bool
     ensures { λ r. ⌜ r ≡ fromDevice n ⌝ }
 {
     if n == ACK {

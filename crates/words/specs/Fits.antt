@@ -2,10 +2,13 @@
 -- Values of their types: what the code's structs hold, whose numbers have 8, 16 or 32 bits. proofs/Kept.antt says that such a value is what its words are unpacked to.
 use Prim.Native.Nat.{ℕ, _<_, _^_}
 use Rattle.frame.specs.declared.Header.{Header}
+use Rattle.line.specs.declared.Event.{Event}
+use Rattle.line.specs.declared.Event.the-variants.{Nothing, PassedOver, Broken, Frame, Damaged}
 use Rattle.line.specs.declared.Place.{Place}
 use Rattle.line.specs.declared.Place.the-variants.{Passing, Idle, Preamble, First, Address, Expansion, Command, Count, Data, Check}
 use Rattle.line.specs.declared.Profile.{Profile}
 use Rattle.line.specs.declared.Receiver.{Receiver}
+use Rattle.line.specs.declared.Whole.{Whole}
 
 pub record HeaderFits (h : Header) : Type 0 where
   pub frame : h .frame < 2 ^ 8
@@ -36,3 +39,15 @@ pub record ReceiverFits (r : Receiver) : Type 0 where
   pub expansion : r .expansion < 2 ^ 8
   pub count : r .count < 2 ^ 8
   pub sum : r .sum < 2 ^ 8
+
+pub record WholeFits (w : Whole) : Type 0 where
+  pub header : HeaderFits (w .header)
+  pub expansion : w .expansion < 2 ^ 8
+  pub count : w .count < 2 ^ 8
+
+abbrev pub EventFits : Event → Type 0
+EventFits Nothing = Unit {0}
+EventFits PassedOver = Unit {0}
+EventFits Broken = Unit {0}
+EventFits (Frame w) = WholeFits w
+EventFits (Damaged w m) = WholeFits w

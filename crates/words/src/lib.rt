@@ -16,7 +16,7 @@ ghost use Rattle.base.specs.Store.{stored};
 ghost use Rattle.party.specs.Calls.{resultOf};
 ghost use Rattle.words.specs.Fields.{wordAt, numberAt, flagAt};
 ghost use Rattle.words.specs.Reader.{headerAt, profileAt, placeWord, placeBy, placeOf, damageAt, receiverWords, receiverAt};
-ghost use Rattle.words.specs.Numbers.{noFrame, tickNumbers, sentNumber, callNumber};
+ghost use Rattle.words.specs.Numbers.{noFrame, tickNumbers, wholeAt, eventBy, eventAt, sentNumber, callNumber};
 ghost use Rattle.words.specs.Fits.{HeaderFits, ProfileFits, PlaceFits, ReceiverFits};
 
 // The word at a place, or 0 behind the last.
@@ -336,6 +336,51 @@ pub fn tick_numbers(sent: u64, told: u64, attempts: u64, event: Event) -> [u64; 
         Event::Frame(w) => whole_frame(sent, told, attempts, w),
         Event::Damaged(w, m) => damaged_frame(sent, told, attempts, w, m),
     }
+}
+
+fn whole_at(numbers: &[u64]) -> Whole
+    ensures { λ r. ⌜ r ≡ wholeAt (now (numbers .entry)) ⌝ }
+{
+    let h = Header {
+        frame: u8_at(numbers, 4),
+        long: flag_at(numbers, 5),
+        primary: flag_at(numbers, 6),
+        burst: flag_at(numbers, 7),
+        address: word_at(numbers, 8),
+        command: u8_at(numbers, 10),
+    };
+    Whole {
+        header: h,
+        expansion: u8_at(numbers, 9),
+        count: u8_at(numbers, 11),
+    }
+}
+
+fn event_by(event: u64, w: Whole, m: FrameDamage) -> Event
+    ensures { λ r. ⌜ r ≡ eventBy event w m ⌝ }
+{
+    if event == 1 {
+        return Event::PassedOver;
+    }
+    if event == 2 {
+        return Event::Broken;
+    }
+    if event == 3 {
+        return Event::Frame(w);
+    }
+    if event == 4 {
+        return Event::Damaged(w, m);
+    }
+    Event::Nothing
+}
+
+// What a tick's numbers tell.
+pub fn event_at(numbers: &[u64; 17]) -> Event
+    ensures { λ r. ⌜ r ≡ eventAt (now (numbers .entry)) ⌝ }
+{
+    let w = whole_at(numbers);
+    let m = damage_at(numbers, 12);
+    event_by(word_at(numbers, 3), w, m)
 }
 
 // The character that is sent, with 256 added, or 0 for none.

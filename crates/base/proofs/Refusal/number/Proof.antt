@@ -32,6 +32,8 @@ number-spec =
     (λ c. search needs)
     (λ c. search needs)
     (λ c. search needs)
+    (λ c. search needs)
+    (λ c. search (needs, numbers))
     (λ c. search (needs, numbers))
     (λ c. search (needs, numbers))
     (λ c. search (needs, numbers))

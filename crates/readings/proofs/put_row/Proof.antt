@@ -1,0 +1,17 @@
+use Rattle.readings.proofs.Puts.{puts}
+use borrow.Author.Needs.{needs}
+use Rattle.readings.proofs.put_row.Statement.{statement}
+use Rattle.readings.proofs.put_row.Tie as tie
+
+pub put-row-spec : {M : Type 1} → statement M
+put-row-spec =
+    tie.close
+    (tie.spec
+    (λ c. search needs)
+    (λ c. search needs)
+    (λ c. search needs)
+    (λ c. search needs)
+    (λ c κs. search needs)
+    (λ c κs. search needs)
+    (λ c. search needs)
+    (λ c. search (needs, puts)))

@@ -1,0 +1,2 @@
+-- The laws of the table over flat numbers.
+mod Puts

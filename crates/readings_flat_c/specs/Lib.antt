@@ -1,0 +1,2 @@
+-- The latest readings table over flat numbers.
+pub mod Flat
