@@ -42,8 +42,9 @@
  *   nengapiko_list                 280
  *   nengapiko_join                  72
  *   nengapiko_readings_clear         8
- *   nengapiko_readings_enter        88
- *   nengapiko_readings_find         16
+ *   nengapiko_readings_enter       232
+ *   nengapiko_readings_find        152
+ *   nengapiko_readings_status        8
  */
 #ifndef NENGAPIKO_H
 #define NENGAPIKO_H
@@ -458,17 +459,28 @@ uint32_t nengapiko_join(const uint8_t *first, size_t first_size, const uint8_t *
  * A table is what its calls, in their order, leave; ticks are not compared. So a frame is entered in the
  * tick that told it. Entered again it changes nothing; entered later, after a newer one of its address
  * and command, it puts the older back.
+ *
+ * The primary's and the secondary's host may share a table, one call at a time. Both hear every frame, and
+ * both may enter it. Tick, count and data of a row are those of the newest frame, to whichever master; two
+ * bits of its second data byte are meant for one master only, and are kept once for each.
  */
+
+/* The bits of the second data byte that are meant for one master only. */
+enum nengapiko_own_bit {
+    NENGAPIKO_OWN_BIT_MORE_STATUS = 0x10,          /* more status available */
+    NENGAPIKO_OWN_BIT_CONFIGURATION_CHANGED = 0x40 /* configuration changed */
+};
 
 /* A row. An empty one has address 0. */
 struct nengapiko_reading {
-    uint64_t address; /* the device's unique address */
-    uint64_t tick;    /* the tick of the frame's last character */
-    size_t place;     /* where its data begin in the byte area: 255 bytes for each row in front of it */
+    uint64_t address;  /* the device's unique address */
+    uint64_t tick;     /* the tick of the frame's last character */
+    size_t place;      /* where its data begin in the byte area: 255 bytes for each row in front of it */
     uint8_t command;
-    uint8_t count;    /* how many data bytes there are; the row's bytes behind them are older */
-    uint16_t unused;  /* this and spare: 0 of a row that was cleared or entered */
-    uint32_t spare;
+    uint8_t count;     /* how many data bytes there are; the row's bytes behind them are older */
+    uint8_t primary;   /* the bits of enum nengapiko_own_bit as the last frame to the primary had them */
+    uint8_t secondary; /* and as the last frame to the secondary had them */
+    uint32_t spare;    /* 0 of a row that was cleared or entered */
 };
 
 /* Its layout is the archive's: where a compiler lays it out otherwise, this type is refused. */
@@ -478,7 +490,8 @@ typedef char nengapiko_reading_layout[sizeof(struct nengapiko_reading) == 32 &&
                                       offsetof(struct nengapiko_reading, place) == 16 &&
                                       offsetof(struct nengapiko_reading, command) == 24 &&
                                       offsetof(struct nengapiko_reading, count) == 25 &&
-                                      offsetof(struct nengapiko_reading, unused) == 26 &&
+                                      offsetof(struct nengapiko_reading, primary) == 26 &&
+                                      offsetof(struct nengapiko_reading, secondary) == 27 &&
                                       offsetof(struct nengapiko_reading, spare) == 28 ? 1 : -1];
 
 /* Empties every row: all its fields are 0. The byte area is left as it is. */
@@ -488,8 +501,10 @@ void nengapiko_readings_clear(struct nengapiko_reading *rows, size_t count) NENG
  * Enters a frame if it is a reading: whole and undamaged, an ACK or a BACK, with a unique address other
  * than 0 and bit 7 of its first data byte not set. It supersedes the first row of its address and
  * command, else takes the first empty row: that row is set, and of its 255 bytes the first ones to the
- * frame's data. Every other row and byte stays. Anything else that is told changes nothing, and is no
- * refusal.
+ * frame's data, with both bits of enum nengapiko_own_bit as 0. These go to the field of the master that
+ * the frame is to by its master bit, whichever host enters it; the other master's field stays as it was,
+ * and is 0 where the row was empty. Every other row and byte stays. Anything else that is told changes
+ * nothing, and is no refusal.
  *
  *   rows, count   the table
  *   area, size    its byte area
@@ -498,10 +513,10 @@ void nengapiko_readings_clear(struct nengapiko_reading *rows, size_t count) NENG
  *                 so it did for a tick reader that runs beside them, while one that runs over a recording
  *                 tells of the tick that it is given. Of a frame of nengapiko_read, its last byte's tick
  *   results       NENGAPIKO_SIZE_RESULTS words, as a tick of a tick reader, a master or a device has left
- *                 them. Looked at are EVENT, TYPE, LONG, ADDRESS, COMMAND and COUNT, so that for a frame
- *                 of nengapiko_read these may be set: the first to NENGAPIKO_EVENT_WHOLE, the others to
- *                 the fields of the same names. What no tick and no read gives, fewer than 2 data bytes
- *                 or an address above 38 bits, is no reading
+ *                 them. Looked at are EVENT, TYPE, LONG, PRIMARY, ADDRESS, COMMAND and COUNT, so that for
+ *                 a frame of nengapiko_read these may be set: the first to NENGAPIKO_EVENT_WHOLE, the
+ *                 others to the fields of the same names. What no tick and no read gives, fewer than 2
+ *                 data bytes or an address above 38 bits, is no reading
  *   bytes         NENGAPIKO_SIZE_DATA bytes, the frame's data at the front: the buffer of that same tick
  *
  * Returns 0; 15 for an area below 255 bytes a row, whatever the frame is; or 20 for a reading when no row
@@ -518,6 +533,15 @@ uint32_t nengapiko_readings_enter(struct nengapiko_reading *NENGAPIKO_RESTRICT r
  */
 size_t nengapiko_readings_find(const struct nengapiko_reading *rows, size_t count, uint64_t address,
                                uint8_t command) NENGAPIKO_NONNULL;
+
+/*
+ * Returns the second data byte as one master's host is shown it: the stored one, with the two bits of
+ * enum nengapiko_own_bit as that master's field has them.
+ *
+ *   stored   area[row.place + 1]
+ *   bits     row.primary for the primary's host, row.secondary for the secondary's
+ */
+uint8_t nengapiko_readings_status(uint8_t stored, uint8_t bits);
 
 #ifdef __cplusplus
 }

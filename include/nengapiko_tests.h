@@ -165,9 +165,9 @@ size_t nengapiko_run(uint16_t sto, uint16_t hold, uint16_t rt2, uint16_t rt1_pri
 uint32_t nengapiko_load(uint32_t seed, uint32_t count, uint8_t *buffer, size_t room) NENGAPIKO_NONNULL;
 
 /*
- * nengapiko_readings_enter over flat numbers, five to a row: address, command, tick, byte count and place
- * of the data. Of a command and of a byte count the lowest eight bits count. Numbers that are left over
- * behind the last row are in none.
+ * nengapiko_readings_enter over flat numbers, seven to a row: address, command, tick, byte count, place of
+ * the data, and the bits of the primary and of the secondary. Of a command, a byte count and bits the
+ * lowest eight bits count. Numbers that are left over behind the last row are in none.
  *
  *   numbers, count   the table, and how many numbers there are
  *   area .. bytes    as for nengapiko_readings_enter

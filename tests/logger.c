@@ -3,7 +3,8 @@
  * secondary, and a monitor lists the frames on the pair; all of them run here, through an array of
  * characters that is the pair. Masters start out of step and begin together once, an answer is
  * shorted, a transmitter is unplugged and plugged in again, and one is told to burst and to stop. The
- * primary's host keeps a table of the newest readings, which is taken and cleared twice.
+ * primary's host and the handheld's share a table of the newest readings, which is taken and cleared
+ * twice.
  * What is printed is held against tests/data/logger/log.txt, whose README says where that is from.
  */
 #include "nengapiko.h"
@@ -13,7 +14,7 @@
 #include <stdlib.h>
 #include <string.h>
 
-enum { TICKS = 2100, TRANSMITTERS = 3, PARTIES = 2 + TRANSMITTERS };
+enum { TICKS = 2150, TRANSMITTERS = 3, PARTIES = 2 + TRANSMITTERS };
 
 /* The FSK profile. */
 enum { STO = 28, HOLD = 2, RT2 = 8, RT1_PRIMARY = 33, RT1_SECONDARY = 41 };
@@ -101,12 +102,12 @@ static void log_frame(const uint64_t r[NENGAPIKO_SIZE_RESULTS], const uint8_t *d
 
 /* ------------------------------------------------------------------------ the table */
 
-/* The newest readings, by transmitter and command. */
+/* The newest readings, by transmitter and command; the hosts of both masters share them. */
 enum { ROWS = 4 };
 static struct nengapiko_reading rows[ROWS];
 static uint8_t area[ROWS * NENGAPIKO_SIZE_DATA];
 
-/* What a tick told is entered in that tick; the pair carried its last character in the one before. */
+/* What a master's tick told, its host enters in that tick; the pair carried its end in the one before. */
 static void enter(unsigned tick, const uint64_t r[NENGAPIKO_SIZE_RESULTS], const uint8_t *data)
 {
     if (r[NENGAPIKO_RESULT_EVENT] == NENGAPIKO_EVENT_WHOLE &&
@@ -260,8 +261,7 @@ static uint64_t master_tick(struct master *m, unsigned tick)
                               REVISION, q.long_address, q.address, q.command, q.data, q.count, results);
     told(m, tick, results);
     hears(m, tick, results);
-    if (m->primary)
-        enter(tick, results, m->data);
+    enter(tick, results, m->data);
     if (asks)
         requested(m, tick, &q, refusal);
     return results[NENGAPIKO_RESULT_SENT];
@@ -275,7 +275,9 @@ struct transmitter {
     unsigned answers_after; /* how many ticks its host takes */
     unsigned answers_at;    /* the tick of its answer, or 0 */
     uint8_t command;        /* of the request in hand */
+    bool to_primary;        /* whether that is the primary's */
     bool burst_on;          /* that it wishes, of burst control */
+    bool changed;           /* the handheld has changed it, which the primary does not know */
     uint64_t state[NENGAPIKO_SIZE_DEVICE];
     uint8_t frame[NENGAPIKO_SIZE_FRAME];
     uint8_t data[NENGAPIKO_SIZE_DATA];
@@ -302,6 +304,14 @@ static unsigned travel(const struct transmitter *t, unsigned tick)
     return 1000 * (t->polling_address + 1u) + tick / 100;
 }
 
+/* The status of an answer: a fixed loop current, which is for all, and what is for the one that asked. */
+enum { LOOP_FIXED = 0x08 };
+
+static uint8_t status(const struct transmitter *t)
+{
+    return t->changed && t->to_primary ? LOOP_FIXED | NENGAPIKO_OWN_BIT_CONFIGURATION_CHANGED : LOOP_FIXED;
+}
+
 static void put_travel(struct call *c, const struct transmitter *t, unsigned tick)
 {
     c->data[STATUS_BYTES] = (uint8_t)(travel(t, tick) >> 8);
@@ -312,7 +322,7 @@ static void put_travel(struct call *c, const struct transmitter *t, unsigned tic
 /* The answer to the request in hand. */
 static struct call answer(const struct transmitter *t, unsigned tick)
 {
-    struct call c = {.kind = NENGAPIKO_DEVICE_CALL_ANSWER, .count = STATUS_BYTES};
+    struct call c = {.kind = NENGAPIKO_DEVICE_CALL_ANSWER, .data = {0, status(t)}, .count = STATUS_BYTES};
     if (t->command == IDENTITY) {
         for (size_t i = 0; i < ADDRESS_BYTES; i++)
             c.data[STATUS_BYTES + i] = (uint8_t)(t->unique_address >> 8 * (ADDRESS_BYTES - 1 - i));
@@ -326,16 +336,20 @@ static struct call answer(const struct transmitter *t, unsigned tick)
     return c;
 }
 
-/* Its answer when that is due; else its reading as burst content, every hundred ticks. */
+/* Its answer when that is due; else its reading as burst content, every hundred ticks, by turns with more
+ * status available. */
 static struct call host_call(struct transmitter *t, unsigned tick)
 {
     struct call c = {.kind = NENGAPIKO_DEVICE_CALL_NOTHING, .command = READING};
     if (t->answers_at != 0 && tick == t->answers_at) {
         t->answers_at = 0;
-        return answer(t, tick);
+        c = answer(t, tick);
+        t->changed = t->changed || t->command == BURST_CONTROL;
+        return c;
     }
     if (tick % 100 == 0) {
         c.kind = NENGAPIKO_DEVICE_CALL_BURST_CONTENT;
+        c.data[1] = tick % 200 == 0 ? LOOP_FIXED | NENGAPIKO_OWN_BIT_MORE_STATUS : LOOP_FIXED;
         put_travel(&c, t, tick);
     }
     return c;
@@ -353,6 +367,7 @@ static void start_transmitter(struct transmitter *t)
 static void asked(struct transmitter *t, unsigned tick, const uint64_t r[NENGAPIKO_SIZE_RESULTS])
 {
     t->command = (uint8_t)r[NENGAPIKO_RESULT_COMMAND];
+    t->to_primary = r[NENGAPIKO_RESULT_PRIMARY] == 1;
     t->burst_on = r[NENGAPIKO_RESULT_COUNT] > 0 && t->data[0] == 1;
     t->answers_at = tick + 1 + t->answers_after;
 }
@@ -424,6 +439,10 @@ static void take(unsigned tick)
         printf("row %zu, unique %" PRIx64 " command %u in tick %" PRIu64 ":", i, rows[i].address,
                rows[i].command, rows[i].tick);
         log_bytes(&area[rows[i].place], rows[i].count);
+        log_head(tick, "table");
+        printf("row %zu, status for the primary %02x, for the handheld %02x\n", i,
+               nengapiko_readings_status(area[rows[i].place + 1], rows[i].primary),
+               nengapiko_readings_status(area[rows[i].place + 1], rows[i].secondary));
     }
     nengapiko_readings_clear(rows, ROWS);
 }

@@ -12,7 +12,7 @@ use calls::{Given, Request};
 use oracle_ticks::{heard_of, numbers, Device, Master, Ticked, RESULTS};
 use oracles::party_oracle::Profile;
 use oracles::tick_oracle::Reader;
-use readings_oracle::{Reading, Row, Table};
+use readings_oracle::{shown, Reading, Row, Table};
 use std::slice;
 
 const DATA: usize = 255;
@@ -180,6 +180,11 @@ pub unsafe extern "C" fn nengapiko_readings_enter(
     rows.copy_from_slice(&table.rows);
     area.copy_from_slice(&table.area);
     returned
+}
+
+#[no_mangle]
+pub extern "C" fn nengapiko_readings_status(stored: u8, bits: u8) -> u8 {
+    shown(stored, bits)
 }
 
 #[no_mangle]

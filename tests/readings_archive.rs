@@ -10,12 +10,14 @@ pub type Results = [u64; 17];
 /// The buffer whose first bytes are a frame's data.
 pub type Bytes = [u8; 255];
 
-/// How many numbers a row has in the flat form: address, command, tick, byte count and place.
-pub const NUMBERS: usize = 5;
+/// How many numbers a row has in the flat form: address, command, tick, byte count, place, and the bits of
+/// the primary and of the secondary.
+pub const NUMBERS: usize = 7;
 
 #[link(name = "nengapiko", kind = "static")]
 extern "C" {
     fn nengapiko_readings_clear(rows: *mut Row, count: usize);
+    fn nengapiko_readings_status(stored: u8, bits: u8) -> u8;
     fn nengapiko_readings_find(rows: *const Row, count: usize, address: u64, command: u8) -> usize;
     fn nengapiko_readings_enter(
         rows: *mut Row,
@@ -44,6 +46,11 @@ extern "C" {
 pub fn clear(rows: &mut [Row]) {
     // SAFETY: the pointer comes from a mutable borrow that outlives the call, with its own length.
     unsafe { nengapiko_readings_clear(rows.as_mut_ptr(), rows.len()) }
+}
+
+pub fn status(stored: u8, bits: u8) -> u8 {
+    // SAFETY: two numbers, of which any is taken.
+    unsafe { nengapiko_readings_status(stored, bits) }
 }
 
 pub fn find(rows: &[Row], address: u64, command: u8) -> usize {

@@ -1,7 +1,8 @@
 /*
  * readings_c.c - the latest readings table as a C program feeds it: one and the same frame told by a tick
  * reader, a master and a device and read by nengapiko_read, each into a table of its own, which must be
- * equal; and what is refused, not entered or entered in the wrong order.
+ * equal; what is refused, not entered or entered in the wrong order; and what each host is shown as its
+ * bits of the second data byte.
  */
 #include "nengapiko.h"
 
@@ -134,6 +135,7 @@ static struct told read_from(const struct frame *f)
 {
     static const int of[][2] = {{NENGAPIKO_RESULT_TYPE, NENGAPIKO_FIELD_TYPE},
                                 {NENGAPIKO_RESULT_LONG, NENGAPIKO_FIELD_LONG},
+                                {NENGAPIKO_RESULT_PRIMARY, NENGAPIKO_FIELD_PRIMARY},
                                 {NENGAPIKO_RESULT_ADDRESS, NENGAPIKO_FIELD_ADDRESS},
                                 {NENGAPIKO_RESULT_COMMAND, NENGAPIKO_FIELD_COMMAND},
                                 {NENGAPIKO_RESULT_COUNT, NENGAPIKO_FIELD_COUNT}};
@@ -151,7 +153,8 @@ static struct told read_from(const struct frame *f)
 
 /* ------------------------------------------------------------------------ the table */
 
-static const uint8_t reading[] = {0x00, 0x08, 0x11, 0x22, 0x33};
+static const uint8_t reading[] = {0x00, 0x48, 0x11, 0x22, 0x33};
+static const uint8_t stored[] = {0x00, 0x08, 0x11, 0x22, 0x33};
 static const uint8_t shorter[] = {0x00, 0x08, 0x44};
 
 /* Whoever told the frame, the table is the same. */
@@ -162,8 +165,12 @@ static void told_by_each(void)
     struct table expected;
     memset(&expected, FILL, sizeof expected);
     memset(expected.rows, 0, sizeof expected.rows);
-    expected.rows[0] = (struct nengapiko_reading){.address = 0x2A, .tick = 99, .command = 3, .count = sizeof reading};
-    memcpy(expected.area, reading, sizeof reading);
+    expected.rows[0] = (struct nengapiko_reading){.address = 0x2A,
+                                                  .tick = 99,
+                                                  .command = 3,
+                                                  .count = sizeof reading,
+                                                  .primary = NENGAPIKO_OWN_BIT_CONFIGURATION_CHANGED};
+    memcpy(expected.area, stored, sizeof stored);
     for (size_t i = 0; i < sizeof by / sizeof *by; i++) {
         struct table t;
         lend(&t);
@@ -221,11 +228,40 @@ static void left_alone(void)
     CHECK(enter(&t, 60, &told) == NENGAPIKO_REFUSAL_NONE && t.rows[0].command == ROWS && t.rows[1].address == 0);
 }
 
+/* Whether the hosts of primary and secondary are shown these second data bytes in the first row. */
+static bool shows(const struct table *t, uint8_t primary, uint8_t secondary)
+{
+    const uint8_t byte = t->area[t->rows[0].place + 1];
+    return nengapiko_readings_status(byte, t->rows[0].primary) == primary &&
+           nengapiko_readings_status(byte, t->rows[0].secondary) == secondary;
+}
+
+static uint32_t enter_bits(struct table *t, bool primary, uint8_t second)
+{
+    const uint8_t data[] = {0x00, second};
+    const struct frame f = written(NENGAPIKO_TYPE_BACK, primary, 2, 3, data, sizeof data);
+    const struct told told = heard_by_master(&f);
+    return enter(t, 1, &told);
+}
+
+/* A frame to one master sets both its bits, to 1 or to 0, and none of the other's. */
+static void each_its_own(void)
+{
+    struct table t;
+    lend(&t);
+    CHECK(enter_bits(&t, true, 0x50) == NENGAPIKO_REFUSAL_NONE && shows(&t, 0x50, 0x00));
+    CHECK(enter_bits(&t, false, 0x4F) == NENGAPIKO_REFUSAL_NONE && shows(&t, 0x5F, 0x4F));
+    CHECK(enter_bits(&t, true, 0x00) == NENGAPIKO_REFUSAL_NONE && shows(&t, 0x00, 0x40));
+    nengapiko_readings_clear(t.rows, ROWS);
+    CHECK(enter_bits(&t, false, 0x10) == NENGAPIKO_REFUSAL_NONE && shows(&t, 0x00, 0x10));
+}
+
 int main(void)
 {
     told_by_each();
     in_their_order();
     left_alone();
+    each_its_own();
     printf("readings_c: %lu checks passed", passed);
     if (failed > 0)
         printf(", %lu failed", failed);

@@ -1,8 +1,8 @@
 //! Compares the latest readings table of the archives, over rows and over flat numbers, with the one in
-//! plain Rust: the cases of tests/data/item-07, which others worked out; random operations on tables that
-//! were lent with any content; and from cleared tables on with a plain history. Compared are after every
-//! operation what it returns, every field of every row, every byte of the area, and what is found for a
-//! key.
+//! plain Rust: the cases of tests/data/item-07 and item-08, which others worked out; random operations on
+//! tables that were lent with any content; and from cleared tables on with a plain history. Compared are
+//! after every operation what it returns, every field of every row, every byte of the area, and what is
+//! found for a key; and for every byte and bits what a host is shown.
 
 #[allow(dead_code)]
 mod frames;
@@ -13,7 +13,7 @@ mod readings_oracle;
 
 use frames::Xorshift;
 use readings_archive::{Bytes, Results, NUMBERS};
-use readings_oracle::{History, Reading, Row, Table};
+use readings_oracle::{shown, History, Reading, Row, Table, OWN_BITS};
 use std::process::ExitCode;
 
 const ROUNDS: usize = 4_000;
@@ -49,8 +49,18 @@ const LEFT_OVER: [u64; NUMBERS - 1] = [7; NUMBERS - 1];
 impl Tables {
     fn of(table: &Table, left_over: usize) -> Tables {
         let numbers = table.rows.iter().flat_map(|row| {
-            let (command, count) = (row.command.into(), row.count.into());
-            [row.address, command, row.tick, count, row.place as u64]
+            let [command, count, primary, secondary] =
+                [row.command, row.count, row.primary, row.secondary].map(u64::from);
+            let place = row.place as u64;
+            [
+                row.address,
+                command,
+                row.tick,
+                count,
+                place,
+                primary,
+                secondary,
+            ]
         });
         Tables {
             rows: table.rows.clone(),
@@ -89,13 +99,11 @@ impl Tables {
             tick: row[2],
             count: row[3] as u8,
             place: row[4] as usize,
-            ..Row::default()
-        });
-        let flat_wanted = wanted.rows.iter().map(|row| Row {
-            unused: 0,
+            primary: row[5] as u8,
+            secondary: row[6] as u8,
             spare: 0,
-            ..*row
         });
+        let flat_wanted = wanted.rows.iter().map(|row| Row { spare: 0, ..*row });
         let left_over = self.numbers.chunks_exact(NUMBERS).remainder();
         let finds = |&address: &u64| {
             COMMANDS.iter().all(|&command| {
@@ -223,7 +231,9 @@ impl Case {
             tick: fields[3],
             count: fields[4] as u8,
             place: fields[5] as usize,
-            ..Row::default()
+            primary: fields.get(6).map_or(0, |&bits| bits as u8),
+            secondary: fields.get(7).map_or(0, |&bits| bits as u8),
+            spare: 0,
         };
     }
 
@@ -251,8 +261,10 @@ impl Case {
             ["row", ..] => Case::read_row(&mut self.lent, &fields[1..]),
             ["is", ..] => Case::read_row(&mut self.last, &fields[1..]),
             ["data", place, digits] => {
-                let (place, data): (usize, _) = (place.parse().expect("a place"), unhexed(digits));
-                self.last.area[place..][..data.len()].copy_from_slice(&data);
+                let place: usize = place.parse().expect("a place");
+                for (place, byte) in (place..).zip(unhexed(digits)) {
+                    self.last.area[place] = as_stored(place, byte);
+                }
             }
             ["clear"] => self.operations.push((Operation::Clear, 0)),
             ["frame", .., refusal] => {
@@ -263,6 +275,15 @@ impl Case {
             }
             _ => panic!("no line of a case: {line}"),
         }
+    }
+}
+
+/// A second data byte is stored without the bits that are meant for one master only; the cases of item 7
+/// have it with them.
+fn as_stored(place: usize, byte: u8) -> u8 {
+    match place % 255 {
+        1 => byte & !OWN_BITS,
+        _ => byte,
     }
 }
 
@@ -301,9 +322,7 @@ fn reading_of(operation: &Operation) -> Option<Reading> {
 }
 
 /// Each form, and the table in plain Rust, must end as the case says.
-fn recorded(compared: &mut Compared) {
-    let cases = cases(include_str!("data/item-07/cases.txt"));
-    assert_eq!(cases.len(), 96);
+fn run_cases(compared: &mut Compared, cases: &[Case], says_bits: bool) {
     for (number, case) in cases.iter().enumerate() {
         let mut tables = Tables::of(&case.lent, 0);
         let mut table = case.lent.clone();
@@ -316,10 +335,46 @@ fn recorded(compared: &mut Compared) {
                 format!("case {number}: {returned:?} and {by_oracle}, wanted {refusal}")
             });
         }
-        let difference = tables.difference(&case.last);
-        compared.check(difference.is_none() && table == case.last, || {
+        let last = match says_bits {
+            true => case.last.clone(),
+            false => with_bits(&case.last, &table),
+        };
+        let difference = tables.difference(&last);
+        compared.check(difference.is_none() && table == last, || {
             format!("case {number}: {difference:?} differs")
         });
+    }
+}
+
+/// The end of a case of item 7, whose rows say nothing of the bits that item 8 keeps apart: they are those
+/// of this table.
+fn with_bits(last: &Table, table: &Table) -> Table {
+    let mut last = last.clone();
+    for (row, bits) in last.rows.iter_mut().zip(&table.rows) {
+        (row.primary, row.secondary) = (bits.primary, bits.secondary);
+    }
+    last
+}
+
+fn recorded(compared: &mut Compared) {
+    let (item_7, item_8) = (
+        cases(include_str!("data/item-07/cases.txt")),
+        cases(include_str!("data/item-08/cases.txt")),
+    );
+    assert_eq!((item_7.len(), item_8.len()), (96, 102));
+    run_cases(compared, &item_7, false);
+    run_cases(compared, &item_8, true);
+}
+
+/// What a host is shown.
+fn every_byte(compared: &mut Compared) {
+    for stored in 0..=255 {
+        for bits in 0..=255 {
+            let (given, wanted) = (readings_archive::status(stored, bits), shown(stored, bits));
+            compared.check(given == wanted, || {
+                format!("{stored:02X} with {bits:02X} is shown as {given:02X}, wanted {wanted:02X}")
+            });
+        }
     }
 }
 
@@ -390,7 +445,8 @@ fn random_table(random: &mut Xorshift) -> Table {
         tick: random.next(),
         count: random.byte(),
         place: random.next() as usize,
-        unused: random.next() as u16,
+        primary: random.byte(),
+        secondary: random.byte(),
         spare: random.next() as u32,
     };
     let rows = random.below(10);
@@ -464,6 +520,13 @@ fn main() -> ExitCode {
         compared.print(name);
         good &= compared.is_good();
     }
+    let mut compared = Compared::default();
+    every_byte(&mut compared);
+    println!(
+        "readings_compare: every_byte, {} differences",
+        compared.differences
+    );
+    good &= compared.differences == 0;
     match good {
         true => ExitCode::SUCCESS,
         false => ExitCode::FAILURE,

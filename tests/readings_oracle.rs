@@ -1,6 +1,6 @@
-//! The latest readings table of document 02, item 7, in plain Rust, written from its sentences: a table
-//! that may have been lent with any content, and a history, which has no table at all. It shares nothing
-//! with the archive.
+//! The latest readings table of document 02, items 7 and 8, in plain Rust, written from their sentences: a
+//! table that may have been lent with any content, and a history, which has no table at all. It shares
+//! nothing with the archive.
 
 #![allow(dead_code)]
 
@@ -12,12 +12,22 @@ const WHOLE: u64 = 3;
 const ACK: u8 = 6;
 const BACK: u8 = 1;
 
+/// The bits of the second data byte that are meant for one master only.
+pub const OWN_BITS: u8 = 0x40 | 0x10;
+
+/// The second data byte as one master's host is shown it.
+pub fn shown(stored: u8, bits: u8) -> u8 {
+    stored & !OWN_BITS | bits & OWN_BITS
+}
+
 /// A frame that is to be entered.
 #[derive(Clone, Debug, PartialEq)]
 pub struct Reading {
     pub tick: u64,
     pub address: u64,
     pub command: u8,
+    /// Whether it is to the primary.
+    pub primary: bool,
     pub data: Vec<u8>,
 }
 
@@ -25,7 +35,7 @@ impl Reading {
     /// That of 17 results with their data, if these tell one: an undamaged long ACK or BACK of an address
     /// that a frame can carry and that is not 0, with 2 data bytes at least and bit 7 of the first clear.
     pub fn told(tick: u64, results: &[u64; 17], bytes: &[u8; 255]) -> Option<Reading> {
-        let [_, _, _, event, kind, long, _, _, address, _, command, count, ..] = *results;
+        let [_, _, _, event, kind, long, primary, _, address, _, command, count, ..] = *results;
         let from_device = matches!(kind as u8, ACK | BACK);
         let has_address = (1..1 << 38).contains(&address);
         let data = &bytes[..usize::from(count as u8)];
@@ -34,12 +44,25 @@ impl Reading {
             tick,
             address,
             command: command as u8,
+            primary: primary == 1,
             data: data.to_vec(),
         })
     }
 
     fn key(&self) -> (u64, u8) {
         (self.address, self.command)
+    }
+
+    /// The bits of the master that it is to.
+    fn own_bits(&self) -> u8 {
+        self.data[1] & OWN_BITS
+    }
+
+    /// Its data as they are stored.
+    fn stored(&self) -> Vec<u8> {
+        let mut data = self.data.clone();
+        data[1] &= !OWN_BITS;
+        data
     }
 }
 
@@ -52,20 +75,23 @@ pub struct Row {
     pub place: usize,
     pub command: u8,
     pub count: u8,
-    pub unused: u16,
+    pub primary: u8,
+    pub secondary: u8,
     pub spare: u32,
 }
 
 const _: () = assert!(std::mem::size_of::<Row>() == 32);
 
-fn row_of(reading: &Reading, at: usize) -> Row {
+fn row_of(reading: &Reading, at: usize, [primary, secondary]: [u8; 2]) -> Row {
     Row {
         address: reading.address,
         tick: reading.tick,
         place: ROW_BYTES * at,
         command: reading.command,
         count: reading.data.len() as u8,
-        ..Row::default()
+        primary,
+        secondary,
+        spare: 0,
     }
 }
 
@@ -98,8 +124,13 @@ impl Table {
         let Some(at) = found.or_else(empty) else {
             return TABLE_FULL;
         };
-        self.rows[at] = row_of(&reading, at);
-        self.area[ROW_BYTES * at..][..reading.data.len()].copy_from_slice(&reading.data);
+        let mut bits = match found {
+            Some(at) => [self.rows[at].primary, self.rows[at].secondary],
+            None => [0, 0],
+        };
+        bits[usize::from(!reading.primary)] = reading.own_bits();
+        self.rows[at] = row_of(&reading, at, bits);
+        self.area[ROW_BYTES * at..][..reading.data.len()].copy_from_slice(&reading.stored());
         0
     }
 }
@@ -165,12 +196,25 @@ impl History {
         0
     }
 
-    /// What each row must hold: the newest reading since the last clear.
+    /// The bits of a master in a row: those of the newest reading to it since the last clear.
+    fn bits(&self, at: usize, primary: bool) -> u8 {
+        let to_it = |entered: &&Entered| entered.row == at && entered.reading.primary == primary;
+        let newest = self.current().rev().find(to_it);
+        newest.map_or(0, |entered| entered.reading.own_bits())
+    }
+
+    /// What each row must hold: the newest reading since the last clear, and each master's bits.
     pub fn rows(&self) -> Vec<Row> {
         let newest = |at| self.current().rev().find(|entered| entered.row == at);
-        (0..self.rows)
-            .map(|at| newest(at).map_or(Row::default(), |entered| row_of(&entered.reading, at)))
-            .collect()
+        let row = |at| match newest(at) {
+            Some(entered) => row_of(
+                &entered.reading,
+                at,
+                [true, false].map(|to| self.bits(at, to)),
+            ),
+            None => Row::default(),
+        };
+        (0..self.rows).map(row).collect()
     }
 
     /// What the area must hold, by what it was lent with: a byte of a row is that of the newest reading,
@@ -181,7 +225,7 @@ impl History {
             let reaches =
                 |entered: &&Entered| entered.row == row && entered.reading.data.len() > at;
             let newest = self.entered.iter().rev().find(reaches);
-            newest.map_or(lent, |entered| entered.reading.data[at])
+            newest.map_or(lent, |entered| entered.reading.stored()[at])
         };
         lent.iter()
             .enumerate()

@@ -4,21 +4,37 @@ use native.Mathlib.Nat.{le-refl}
 use mathlib.Core.Path.{_≡_, refl, sym, ap, subst, _∙_}
 use mathlib.Core.Bool.{Bool, true, false}
 use mathlib.Core.List.{List}
-use lib.ListN.{length, set}
+use lib.ListN.{length, getD, set}
 use lib.Seq.{set-out}
-use borrow.Author.Tests.{lt-ltb}
+use borrow.Author.Tests.{lt-ltb, ltb-true}
 use Rattle.base.specs.Choice.{if_then_else_, _<?_}
 use Rattle.line.specs.declared.Event.{Event}
 use Rattle.line.specs.declared.Event.the-variants.{Nothing, PassedOver, Broken, Frame, Damaged}
 use Rattle.line.specs.declared.Whole.{Whole}
-use Rattle.readings.specs.Table.{rowBytes, isReading, keyOf, sought, emptyRow, Entered, unchanged, superseded, enteredBy, enteredOf, entered}
+use Rattle.readings.specs.Table.{rowBytes, isReading, keyOf, hasKey, isEmpty, firstOf, rowOf, sought, rowFor, emptyRow, Entered, unchanged, superseded, enteredBy, enteredOf, entered}
 use Rattle.readings.specs.Search.{toldKey}
 use Rattle.readings.specs.Stores.{nothingPut, rowPut, putAt, putBy, putFrame, putOf, putFor, areaRow, areaAt, areaBy, areaFrame, areaOf, areaFor, StoreIs, EnterIs}
+use Rattle.readings.specs.declared.Key.{Key}
 use Rattle.readings.specs.declared.Row.{Row}
 use Rattle.readings.specs.declared.Put.{Put}
 use Rattle.readings.specs.declared.Sought.{Sought}
 use Rattle.readings.specs.declared.Sought.the-variants.{Match, Empty, Full}
-use Rattle.readings.proofs.Searches.{Within, sought-within}
+
+-- a place that was found is a row's, and comes with what that row holds
+abbrev Carries : List Row → Sought → Type 0
+Carries rows (Match i was) = (i < length rows) × (was ≡ rowOf rows i)
+Carries rows (Empty i was) = (i < length rows) × (was ≡ rowOf rows i)
+Carries rows Full = Unit {0}
+
+sought-carries : (rows : List Row) (key : Key) → Carries rows (sought rows key)
+unfolding sought if_then_else_
+sought-carries rows key = by (firstOf (hasKey key) rows <? length rows) (firstOf isEmpty rows <? length rows) refl refl
+  where
+    by : (t u : Bool) → (firstOf (hasKey key) rows <? length rows) ≡ t → (firstOf isEmpty rows <? length rows) ≡ u
+        → Carries rows (if t then Match (firstOf (hasKey key) rows) (rowOf rows (firstOf (hasKey key) rows)) else if u then Empty (firstOf isEmpty rows) (rowOf rows (firstOf isEmpty rows)) else Full)
+    by true u e f = (ltb-true (firstOf (hasKey key) rows) (length rows) e, refl)
+    by false true e f = (ltb-true (firstOf isEmpty rows) (length rows) f, refl)
+    by false false e f = tt
 
 module _ (rows : List Row) (area : List ℕ) (tick : ℕ) (bytes : List ℕ) where
   abbrev n : ℕ
@@ -31,20 +47,21 @@ module _ (rows : List Row) (area : List ℕ) (tick : ℕ) (bytes : List ℕ) whe
   nothing-made : (refusal : ℕ) → made (nothingPut n refusal) area ≡ unchanged rows area refusal
   nothing-made refusal = λ i. record { rows = set-out rows n emptyRow (le-refl n) i; area = area; refusal = refusal }
 
-  chosen : (t : Bool) (w : Whole) (i : ℕ) → t ≡ true → made (if t then rowPut i tick w else nothingPut n 0) (if t then areaRow area w bytes i else area) ≡ superseded rows area tick w bytes i
+  chosen : (t : Bool) (w : Whole) (i : ℕ) (was : Row) → t ≡ true → was ≡ rowOf rows i
+      → made (if t then rowPut i tick w bytes was else nothingPut n 0) (if t then areaRow area w bytes i else area) ≡ superseded rows area tick w bytes i
   unfolding if_then_else_
-  chosen t w i e = rw e refl
+  chosen t w i was e c = rw e (λ j. record { rows = set rows i (rowFor i tick w (getD bytes 1 0) (c j)); area = areaRow area w bytes i; refusal = 0 })
 
-  at-row : (w : Whole) (i : ℕ) → i < n → made (putAt n tick w i) (areaAt n area w bytes i) ≡ superseded rows area tick w bytes i
-  at-row w i l = chosen (i <? n) w i (lt-ltb i n l)
+  at-row : (w : Whole) (i : ℕ) (was : Row) → i < n → was ≡ rowOf rows i → made (putAt n tick w bytes i was) (areaAt n area w bytes i) ≡ superseded rows area tick w bytes i
+  at-row w i was l c = chosen (i <? n) w i was (lt-ltb i n l) c
 
-  by-place : (w : Whole) (s : Sought) → Within n s → made (putBy n tick w s) (areaBy n area w bytes s) ≡ enteredBy rows area tick w bytes s
-  by-place w (Match i) l = at-row w i l
-  by-place w (Empty i) l = at-row w i l
-  by-place w Full l = nothing-made 20
+  by-place : (w : Whole) (s : Sought) → Carries rows s → made (putBy n tick w bytes s) (areaBy n area w bytes s) ≡ enteredBy rows area tick w bytes s
+  by-place w (Match i was) c = at-row w i was (c .0) (c .1)
+  by-place w (Empty i was) c = at-row w i was (c .0) (c .1)
+  by-place w Full c = nothing-made 20
 
-  by-reading : (t : Bool) (w : Whole) (s : Sought) → Within n s
-      → made (if t then putBy n tick w s else nothingPut n 0) (if t then areaBy n area w bytes s else area)
+  by-reading : (t : Bool) (w : Whole) (s : Sought) → Carries rows s
+      → made (if t then putBy n tick w bytes s else nothingPut n 0) (if t then areaBy n area w bytes s else area)
       ≡ (if t then enteredBy rows area tick w bytes s else unchanged rows area 0)
   unfolding if_then_else_
   by-reading true w s v = by-place w s v
@@ -55,7 +72,7 @@ module _ (rows : List Row) (area : List ℕ) (tick : ℕ) (bytes : List ℕ) whe
   by-event PassedOver s e = nothing-made 0
   by-event Broken s e = nothing-made 0
   by-event (Frame w) s e =
-      by-reading (isReading w bytes) w s (subst (Within n) (sym e) (sought-within rows (keyOf w)))
+      by-reading (isReading w bytes) w s (subst (Carries rows) (sym e) (sought-carries rows (keyOf w)))
       ∙ ap (λ (k : Sought). if isReading w bytes then enteredBy rows area tick w bytes k else unchanged rows area 0) e
   by-event (Damaged w m) s e = nothing-made 0
 

@@ -8,4 +8,6 @@ mod Bytes
 pub mod Newest
 pub mod Sentences
 pub mod Flats
+mod Bits
+pub mod Shown
 mod Example

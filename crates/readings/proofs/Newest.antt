@@ -16,8 +16,8 @@ use Rattle.base.proofs.Tables.{chain-first, chain-second}
 use Rattle.line.specs.declared.Event.{Event}
 use Rattle.line.specs.declared.Event.the-variants.{Nothing, PassedOver, Broken, Frame, Damaged}
 use Rattle.line.specs.declared.Whole.{Whole}
-use Rattle.readings.specs.Table.{rowBytes, isReading, keyOf, hasKey, isEmpty, emptyRow, storedData, newRow, Entered, superseded, entered, cleared}
-use Rattle.readings.specs.History.{rowOf, keyIn, Reading, Op, told, clears, isEntered, Kept, logged, afterOp, afterAll, fresh, OpFits, OpsFit, FromCleared, isOf, newestOf, RowHolds, Newest}
+use Rattle.readings.specs.Table.{rowBytes, isReading, keyOf, hasKey, isEmpty, rowOf, emptyRow, storedBytes, storedData, newRow, Entered, superseded, entered, cleared}
+use Rattle.readings.specs.History.{keyIn, Reading, Op, told, clears, isEntered, Kept, logged, afterOp, afterAll, fresh, OpFits, OpsFit, FromCleared, isOf, newestOf, RowHolds, Newest}
 use Rattle.readings.specs.declared.Key.{Key}
 use Rattle.readings.specs.declared.Row.{Row}
 use Rattle.readings.proofs.Bytes.{stored-front-stays, stored-behind-stays, stored-here, length-take-most}
@@ -96,7 +96,7 @@ module _ (rows : List Row) (area : List ℕ) (r : Reading) (i : ℕ) (l : i < le
   bytes-stay fits j k ne lk = by (decLt j i)
     where
       short : length d ≤ rowBytes
-      short = let m = length-take-most (r .frame .count) (r .bytes) in omega (arith, m, fits)
+      short = let m = length-take-most (r .frame .count) (storedBytes (r .bytes)) in omega (arith, m, fits)
 
       by : Dec (j < i) → getD area′ (rowBytes * j + k) 0 ≡ getD area (rowBytes * j + k) 0
       by (yes b) = stored-front-stays area d (rowBytes * i) (rowBytes * j + k) (omega (arith, b, lk))
@@ -104,7 +104,7 @@ module _ (rows : List Row) (area : List ℕ) (r : Reading) (i : ℕ) (l : i < le
 
   -- the bytes of the new row are the frame's
   pub bytes-new : r .frame .count ≤ rowBytes → rowBytes * length rows ≤ length area → (k : ℕ) → k < length d → getD area′ (rowBytes * i + k) 0 ≡ getD d k 0
-  bytes-new fits room k lk = stored-here area d (rowBytes * i) k lk (let m = length-take-most (r .frame .count) (r .bytes) in omega (arith, m, fits, room, l))
+  bytes-new fits room k lk = stored-here area d (rowBytes * i) k lk (let m = length-take-most (r .frame .count) (storedBytes (r .bytes)) in omega (arith, m, fits, room, l))
 
 module _ (rows : List Row) (area : List ℕ) (log : List Reading) (v : Newest (record { rows = rows; area = area; log = log })) (r : Reading) (fits : r .frame .count ≤ rowBytes) (i : ℕ) (l : i < length rows)
     (room : rowBytes * length rows ≤ length area) (reads : isReading (r .frame) (r .bytes) ≡ true) (to : Goes rows (keyOf (r .frame)) i) where
@@ -164,7 +164,7 @@ module _ (rows : List Row) (area : List ℕ) (log : List Reading) (v : Newest (r
     count = w .count;
     place = w .place;
     in-row = w .in-row;
-    bytes = λ k lk. bytes-stay rows area r i l reads fits j k ne (let m = length-take-most (s .frame .count) (s .bytes) in let f = w .in-row in omega (arith, m, f, lk)) ∙ w .bytes k lk;
+    bytes = λ k lk. bytes-stay rows area r i l reads fits j k ne (let m = length-take-most (s .frame .count) (storedBytes (s .bytes)) in let f = w .in-row in omega (arith, m, f, lk)) ∙ w .bytes k lk;
   }
 
   abbrev Held : ℕ → Row → Type 0
@@ -255,7 +255,7 @@ module _ (rows : List Row) (area : List ℕ) (log : List Reading) (v : Newest (r
   newest-entered = record { held = held′; has-row = has-row′; keys-differ = differ′; filled-first = first′ }
 
 -- ---- a cleared table
-empty-row-in : (n i : ℕ) → i < length (replicate n emptyRow) → rowOf (replicate n emptyRow) i ≡ emptyRow
+pub empty-row-in : (n i : ℕ) → i < length (replicate n emptyRow) → rowOf (replicate n emptyRow) i ≡ emptyRow
 empty-row-in n i l = getD-replicate n i emptyRow emptyRow (let k = length-replicate n emptyRow in omega (arith, k, l))
 
 pub none-some : (r : Reading) → none ≡ some r → ⊥
@@ -275,7 +275,7 @@ newest-fresh n area = record {
 }
 
 -- ---- one operation, then any list
-kept-same : (k : Kept) (e f : Entered) (log log′ : List Reading) → e ≡ f → log ≡ log′
+pub kept-same : (k : Kept) (e f : Entered) (log log′ : List Reading) → e ≡ f → log ≡ log′
     → _≡_ {A = Kept} (record { rows = f .rows; area = f .area; log = log′ }) (record { rows = e .rows; area = e .area; log = log })
 kept-same k e f log log′ q g = sym (λ j. record { rows = q j .rows; area = q j .area; log = g j })
 
@@ -302,7 +302,7 @@ no-frame-kept k tick event bytes g f = by (tells-view (k .rows) (k .area) tick e
 pub newest-after : (op : Op) (k : Kept) → OpFits op → Newest k → Newest (afterOp op k)
 unfolding afterOp
 newest-after clears k fits v = newest-fresh (length (k .rows)) (k .area)
-newest-after (told tick (Frame w) bytes) k fits v = frame-entered k (record { tick = tick; frame = w; bytes = bytes }) fits v
+newest-after (told tick (Frame w) bytes) k fits v = frame-entered k (record { tick = tick; frame = w; bytes = bytes }) (fits .0) v
 newest-after (told tick Nothing bytes) k fits v = subst Newest (sym (no-frame-kept k tick Nothing bytes refl (λ w e. not-frame Nothing w refl e))) v
 newest-after (told tick PassedOver bytes) k fits v = subst Newest (sym (no-frame-kept k tick PassedOver bytes refl (λ w e. not-frame PassedOver w refl e))) v
 newest-after (told tick Broken bytes) k fits v = subst Newest (sym (no-frame-kept k tick Broken bytes refl (λ w e. not-frame Broken w refl e))) v

@@ -17,8 +17,8 @@ use Rattle.base.proofs.Stores.{length-stored}
 use Rattle.line.specs.declared.Event.{Event}
 use Rattle.line.specs.declared.Event.the-variants.{Nothing, PassedOver, Broken, Frame, Damaged}
 use Rattle.line.specs.declared.Whole.{Whole}
-use Rattle.readings.specs.Table.{rowBytes, isReading, keyOf, hasKey, isEmpty, firstOf, sought, lookedUp, emptyRow, storedData, newRow, Entered, unchanged, superseded, enteredBy, enteredOf, entered}
-use Rattle.readings.specs.History.{rowOf, keyIn, NoRow, SoughtIs, is-match, is-empty, is-full, OneRow, IsFull, Refuses, Reading, Op, told, clears, isEntered, Kept, afterOp, afterAll, fresh, OpFits, OpsFit, FromCleared, isOf, newestOf, RowHolds, Newest, Found, OtherKey, OtherKeys, enteredThen, Again}
+use Rattle.readings.specs.Table.{rowBytes, isReading, keyOf, hasKey, isEmpty, firstOf, rowOf, sought, lookedUp, emptyRow, ownBits, keptBits, storedBytes, storedData, newRow, Entered, unchanged, superseded, enteredBy, enteredOf, entered}
+use Rattle.readings.specs.History.{keyIn, NoRow, SoughtIs, is-match, is-empty, is-full, OneRow, IsFull, Refuses, Reading, Op, told, clears, isEntered, Kept, afterOp, afterAll, fresh, OpFits, OpsFit, FromCleared, isOf, newestOf, RowHolds, Newest, Found, OtherKey, OtherKeys, enteredThen, Again}
 use Rattle.readings.specs.declared.Key.{Key}
 use Rattle.readings.specs.declared.Row.{Row}
 use Rattle.readings.specs.declared.Sought.{Sought}
@@ -52,7 +52,7 @@ one-of rows area r = by (entered rows area (r .tick) (Frame (r .frame)) (r .byte
       where
         past : (k : ℕ) → rowBytes * i + rowOf (set rows i (newRow rows i (r .tick) (r .frame) (r .bytes))) i .count ≤ k → rowBytes * i + length (storedData (r .frame) (r .bytes)) ≤ k
         past k h =
-            let m = length-take-most (r .frame .count) (r .bytes) in
+            let m = length-take-most (r .frame .count) (storedBytes (r .bytes)) in
             let c : rowOf (set rows i (newRow rows i (r .tick) (r .frame) (r .bytes))) i .count ≡ r .frame .count = ap (λ (x : Row). x .count) (here rows area r i l reads) in
             omega (arith, m, h, c)
 
@@ -170,7 +170,7 @@ module _ (r : Reading) (fits : r .frame .count ≤ rowBytes) (reads : isReading 
     data-is : (k : ℕ) → k < length d → getD area (rowBytes * i + k) 0 ≡ getD d k 0
 
   short : length d ≤ rowBytes
-  short = let m = length-take-most (r .frame .count) (r .bytes) in omega (arith, m, fits)
+  short = let m = length-take-most (r .frame .count) (storedBytes (r .bytes)) in omega (arith, m, fits)
 
   -- a frame of another key goes to another row
   elsewhere : (rows : List Row) (area : List ℕ) → Holding rows area → (s : Reading) (j : ℕ) → isOf key (s .frame) ≡ false → Goes rows (keyOf (s .frame)) j → j ≡ i → ⊥
@@ -226,7 +226,7 @@ module _ (r : Reading) (fits : r .frame .count ≤ rowBytes) (reads : isReading 
   holds-after : (op : Op) (k : Kept) → OpFits op → OtherKey key op → Holds k → Holds (afterOp op k)
   unfolding afterOp
   holds-after clears k fits′ other v = absurd other
-  holds-after (told tick (Frame w) bytes) k fits′ other v = frame-holding k (readingOf tick w bytes) fits′ other v
+  holds-after (told tick (Frame w) bytes) k fits′ other v = frame-holding k (readingOf tick w bytes) (fits′ .0) other v
   holds-after (told tick Nothing bytes) k fits′ other v = subst Holds (sym (no-frame-kept k tick Nothing bytes refl (λ w e. not-frame Nothing w refl e))) v
   holds-after (told tick PassedOver bytes) k fits′ other v = subst Holds (sym (no-frame-kept k tick PassedOver bytes refl (λ w e. not-frame PassedOver w refl e))) v
   holds-after (told tick Broken bytes) k fits′ other v = subst Holds (sym (no-frame-kept k tick Broken bytes refl (λ w e. not-frame Broken w refl e))) v
@@ -238,19 +238,19 @@ module _ (r : Reading) (fits : r .frame .count ≤ rowBytes) (reads : isReading 
   holds-all (op ∷ ops) k fits′ other v = holds-all ops (afterOp op k) (fits′ .1) (other .1) (holds-after op k (fits′ .0) (other .0) v)
 
   -- it is found again
-  found-again : (rows : List Row) (area : List ℕ) → Holding rows area → sought rows key ≡ Match i
+  found-again : (rows : List Row) (area : List ℕ) → Holding rows area → sought rows key ≡ Match i (rowOf rows i)
   found-again rows area v = by (first-match rows key)
     where
       at-i : hasKey key (rowOf rows i) ≡ true
       at-i = ap (hasKey key) (v .row-is) ∙ v .has-key
 
-      by : SoughtIs rows key (sought rows key) → sought rows key ≡ Match i
+      by : SoughtIs rows key (sought rows key) → sought rows key ≡ Match i (rowOf rows i)
       by (is-match k s lk e first) = at (decLt k i) (decLt i k)
         where
-          at : Dec (k < i) → Dec (i < k) → sought rows key ≡ Match i
+          at : Dec (k < i) → Dec (i < k) → sought rows key ≡ Match i (rowOf rows i)
           at (yes b) c = absurd (true-false (sym e ∙ v .first k b))
           at (no b) (yes c) = absurd (true-false (sym at-i ∙ first i c))
-          at (no b) (no c) = s ∙ ap Match (let m : k ≡ i = omega (arith, b, c) in m)
+          at (no b) (no c) = s ∙ ap (λ (n : ℕ). Match n (rowOf rows n)) (let m : k ≡ i = omega (arith, b, c) in m)
       by (is-empty k s lk e first no-key) = absurd (true-false (sym at-i ∙ no-key i (v .in-rows)))
       by (is-full s no-key filled) = absurd (true-false (sym at-i ∙ no-key i (v .in-rows)))
 
@@ -283,6 +283,44 @@ start-holding rows area r fits reads i l room to = record {
     none-before j lj (Goes.to-match k first) = first j lj
     none-before j lj (Goes.to-empty k first no-key) = no-key j (omega (arith, lj, l))
 
+-- a frame that a row holds leaves the row as it was
+bits-again : (p e : Bool) (own kept z : ℕ) → e ≡ false → (if p then own else if e then 0 else if true then (if p then own else kept) else z) ≡ (if p then own else kept)
+unfolding if_then_else_
+bits-again true e own kept z f = refl
+bits-again false true own kept z f = absurd (true-false f)
+bits-again false false own kept z f = refl
+
+bits-too : (p e : Bool) (own kept z : ℕ) → e ≡ false → (if p then (if e then 0 else if false then z else (if p then kept else own)) else own) ≡ (if p then kept else own)
+unfolding if_then_else_
+bits-too true true own kept z f = absurd (true-false f)
+bits-too true false own kept z f = refl
+bits-too false e own kept z f = refl
+
+same-row : (rows now : List Row) (r : Reading) (i : ℕ) → isReading (r .frame) (r .bytes) ≡ true → rowOf now i ≡ newRow rows i (r .tick) (r .frame) (r .bytes)
+    → newRow now i (r .tick) (r .frame) (r .bytes) ≡ newRow rows i (r .tick) (r .frame) (r .bytes)
+same-row rows now r i reads e = λ j. record {
+  address = r .frame .header .address;
+  tick = r .tick;
+  place = rowBytes * i;
+  command = r .frame .header .command;
+  count = r .frame .count;
+  primary = (ap (λ (row : Row). if to then own else keptBits true row) e ∙ bits-again to (isEmpty new) own (keptBits true (rowOf rows i)) (new .secondary) filled) j;
+  secondary = (ap (λ (row : Row). if to then keptBits false row else own) e ∙ bits-too to (isEmpty new) own (keptBits false (rowOf rows i)) (new .primary) filled) j;
+  spare = 0;
+}
+  where
+    to : Bool
+    to = r .frame .header .primary
+
+    own : ℕ
+    own = ownBits (getD (r .bytes) 1 0)
+
+    new : Row
+    new = newRow rows i (r .tick) (r .frame) (r .bytes)
+
+    filled : isEmpty new ≡ false
+    filled = ne-eqb (r .frame .header .address) 0 (reading-address (r .frame) (r .bytes) reads)
+
 pub again : (k : Kept) (r : Reading) (ops : List Op) → Again k r ops
 unfolding afterOp
 again k r ops = record {
@@ -298,7 +336,7 @@ again k r ops = record {
         let new = newRow (k .rows) i (r .tick) (r .frame) (r .bytes) in
         let start = subst (λ (x : Entered). Holding r fits reads i new (x .rows) (x .area)) (sym (p ∙ q)) (start-holding (k .rows) (k .area) r fits reads i l room to) in
         let v = holds-all r fits reads i new ops (afterOp (told (r .tick) (Frame (r .frame)) (r .bytes)) k) fits′ other start in
-        same-again r fits reads i new (enteredThen k r ops .rows) (enteredThen k r ops .area) v refl
+        same-again r fits reads i new (enteredThen k r ops .rows) (enteredThen k r ops .area) v (same-row (k .rows) (enteredThen k r ops .rows) r i reads (v .row-is))
 
 -- ---- the row that is looked up holds the newest frame of its key
 key-in : (key : Key) (row : Row) → hasKey key row ≡ true → keyIn row ≡ key

@@ -11,8 +11,8 @@ use Rattle.base.proofs.Choices.{true-false, if-is-true, if-is-false}
 use Rattle.line.specs.declared.Event.{Event}
 use Rattle.line.specs.declared.Event.the-variants.{Nothing, PassedOver, Broken, Frame, Damaged}
 use Rattle.line.specs.declared.Whole.{Whole}
-use Rattle.readings.specs.Table.{rowBytes, isReading, keyOf, hasKey, isEmpty, firstOf, sought, emptyRow, Entered, unchanged, superseded, enteredBy, entered}
-use Rattle.readings.specs.History.{rowOf, NoRow, SoughtIs, is-match, is-empty, is-full, Reading, isPlace, isEntered}
+use Rattle.readings.specs.Table.{rowBytes, isReading, keyOf, hasKey, isEmpty, firstOf, rowOf, sought, emptyRow, Entered, unchanged, superseded, enteredBy, entered}
+use Rattle.readings.specs.History.{NoRow, SoughtIs, is-match, is-empty, is-full, Reading, isPlace, isEntered}
 use Rattle.readings.specs.declared.Key.{Key}
 use Rattle.readings.specs.declared.Row.{Row}
 use Rattle.readings.specs.declared.Sought.{Sought}
@@ -63,7 +63,7 @@ first-match rows key = by (firstOf (hasKey key) rows <? length rows) (firstOf is
     no-row test e j l = first-before test rows j (let k = ltb-false (firstOf test rows) (length rows) e in omega (arith, k, l))
 
     by : (t u : Bool) → (firstOf (hasKey key) rows <? length rows) ≡ t → (firstOf isEmpty rows <? length rows) ≡ u
-        → SoughtIs rows key (if t then Match (firstOf (hasKey key) rows) else if u then Empty (firstOf isEmpty rows) else Full)
+        → SoughtIs rows key (if t then Match (firstOf (hasKey key) rows) (rowOf rows (firstOf (hasKey key) rows)) else if u then Empty (firstOf isEmpty rows) (rowOf rows (firstOf isEmpty rows)) else Full)
     by true u e f =
         let l = ltb-true (firstOf (hasKey key) rows) (length rows) e in
         is-match (firstOf (hasKey key) rows) refl l (first-holds (hasKey key) rows l) (λ j k. first-before (hasKey key) rows j k)

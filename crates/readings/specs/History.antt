@@ -10,15 +10,11 @@ use Rattle.base.specs.Choice.{if_then_else_, _<?_, _=?_}
 use Rattle.line.specs.declared.Event.{Event}
 use Rattle.line.specs.declared.Event.the-variants.{Nothing, PassedOver, Broken, Frame, Damaged}
 use Rattle.line.specs.declared.Whole.{Whole}
-use Rattle.readings.specs.Table.{rowBytes, isReading, keyOf, hasKey, isEmpty, sought, lookedUp, storedData, emptyRow, Entered, unchanged, entered, cleared}
+use Rattle.readings.specs.Table.{rowBytes, isReading, keyOf, hasKey, isEmpty, rowOf, sought, lookedUp, storedData, emptyRow, Entered, unchanged, entered, cleared}
 use Rattle.readings.specs.declared.Key.{Key}
 use Rattle.readings.specs.declared.Row.{Row}
 use Rattle.readings.specs.declared.Sought.{Sought}
 use Rattle.readings.specs.declared.Sought.the-variants.{Match, Empty, Full}
-
--- row i of a table
-abbrev pub rowOf : List Row → ℕ → Row
-rowOf rows i = getD rows i emptyRow
 
 -- a test holds of no row
 abbrev pub NoRow : (Row → Bool) → List Row → Type 0
@@ -28,9 +24,9 @@ NoRow test rows = (j : ℕ) → j < length rows → test (rowOf rows j) ≡ fals
 
 -- "supersedes the first row of its address and command, else takes the first empty row (address 0)": which row is sought, by facts on the rows
 pub data SoughtIs (rows : List Row) (key : Key) (s : Sought) : Type 0 where
-  is-match : (i : ℕ) → s ≡ Match i → i < length rows → hasKey key (rowOf rows i) ≡ true → ((j : ℕ) → j < i → hasKey key (rowOf rows j) ≡ false)
+  is-match : (i : ℕ) → s ≡ Match i (rowOf rows i) → i < length rows → hasKey key (rowOf rows i) ≡ true → ((j : ℕ) → j < i → hasKey key (rowOf rows j) ≡ false)
       → SoughtIs rows key s
-  is-empty : (i : ℕ) → s ≡ Empty i → i < length rows → isEmpty (rowOf rows i) ≡ true → ((j : ℕ) → j < i → isEmpty (rowOf rows j) ≡ false)
+  is-empty : (i : ℕ) → s ≡ Empty i (rowOf rows i) → i < length rows → isEmpty (rowOf rows i) ≡ true → ((j : ℕ) → j < i → isEmpty (rowOf rows j) ≡ false)
       → NoRow (hasKey key) rows → SoughtIs rows key s
   is-full : s ≡ Full → NoRow (hasKey key) rows → NoRow isEmpty rows → SoughtIs rows key s
 
@@ -69,8 +65,8 @@ pub record Reading : Type 0 where
   pub bytes : List ℕ
 
 abbrev pub isPlace : Sought → Bool
-isPlace (Match i) = true
-isPlace (Empty i) = true
+isPlace (Match i was) = true
+isPlace (Empty i was) = true
 isPlace Full = false
 
 -- whether a frame is entered
@@ -109,9 +105,9 @@ afterAll (op ∷ ops) k = afterAll ops (afterOp op k)
 abbrev pub fresh : ℕ → List ℕ → Kept
 fresh n area = record { rows = replicate n emptyRow; area = area; log = [] }
 
--- a byte count is a byte, as the code's type says
+-- a byte count is a byte, and the lent buffer has 255 bytes, as the code's types say
 abbrev pub OpFits : Op → Type 0
-OpFits (told tick (Frame w) bytes) = w .count ≤ rowBytes
+OpFits (told tick (Frame w) bytes) = (w .count ≤ rowBytes) × (length bytes ≡ rowBytes)
 OpFits (told tick Nothing bytes) = Unit {0}
 OpFits (told tick PassedOver bytes) = Unit {0}
 OpFits (told tick Broken bytes) = Unit {0}

@@ -1,5 +1,5 @@
 -- How the code stands for what is to be believed.
--- The search, row by row: what is sought once one row more was looked at; and a table as flat numbers, five to a row in document 02's order.
+-- The search, row by row: what is sought once one row more was looked at; and a table as flat numbers, seven to a row in document 02's order.
 use Prim.Native.Nat.{ℕ, zero, suc, _+_, _*_, _/_, _%_}
 use mathlib.Core.List.{List, [], _∷_}
 use lib.ListN.{getD, length}
@@ -27,9 +27,9 @@ toldKey (Damaged w m) = noKey
 
 -- a match stays; an empty row stays until a match; where neither was found, either is taken
 abbrev pub next : Sought → ℕ → Row → Key → Sought
-next (Match i) at row key = Match i
-next (Empty i) at row key = if hasKey key row then Match at else Empty i
-next Full at row key = if hasKey key row then Match at else if isEmpty row then Empty at else Full
+next (Match i was) at row key = Match i was
+next (Empty i was) at row key = if hasKey key row then Match at row else Empty i was
+next Full at row key = if hasKey key row then Match at row else if isEmpty row then Empty at row else Full
 
 -- what is sought, where the rows from a number on are still to be looked at
 unfoldable pub soughtFrom : ℕ → Sought → List Row → Key → Sought
@@ -38,8 +38,8 @@ soughtFrom at s (row ∷ rows) key = soughtFrom (suc at) (next s at row key) row
 
 -- the row that was found of so many; an empty one is not looked up
 abbrev pub matchOf : ℕ → Sought → ℕ
-matchOf rows (Match i) = i
-matchOf rows (Empty i) = rows
+matchOf rows (Match i was) = i
+matchOf rows (Empty i was) = rows
 matchOf rows Full = rows
 
 abbrev pub lookedUpBy : ℕ → Sought → Key → ℕ
@@ -47,7 +47,7 @@ lookedUpBy rows s key = if key .address =? 0 then rows else matchOf rows s
 
 -- ---- flat numbers
 
--- a row: address, command, tick, byte count, place of the data
+-- a row: address, command, tick, byte count, place of the data, the primary's bits, the secondary's
 abbrev pub rowAt : List ℕ → ℕ → Row
 rowAt numbers i = record {
   address = getD numbers i 0;
@@ -55,23 +55,24 @@ rowAt numbers i = record {
   tick = getD numbers (i + 2) 0;
   count = getD numbers (i + 3) 0 % 256;
   place = getD numbers (i + 4) 0;
-  unused = 0;
+  primary = getD numbers (i + 5) 0 % 256;
+  secondary = getD numbers (i + 6) 0 % 256;
   spare = 0;
 }
 
 -- so many rows, from a row's number on
 unfoldable pub rowsFrom : List ℕ → ℕ → ℕ → List Row
 rowsFrom numbers i zero = []
-rowsFrom numbers i (suc n) = rowAt numbers (5 * i) ∷ rowsFrom numbers (suc i) n
+rowsFrom numbers i (suc n) = rowAt numbers (7 * i) ∷ rowsFrom numbers (suc i) n
 
 -- the rows; numbers that are left over belong to none
 abbrev pub rowsOf : List ℕ → List Row
-rowsOf numbers = rowsFrom numbers 0 (length numbers / 5)
+rowsOf numbers = rowsFrom numbers 0 (length numbers / 7)
 
 -- a row's numbers
 abbrev pub rowNumbers : Row → List ℕ
-rowNumbers row = row .address ∷ row .command ∷ row .tick ∷ row .count ∷ row .place ∷ []
+rowNumbers row = row .address ∷ row .command ∷ row .tick ∷ row .count ∷ row .place ∷ row .primary ∷ row .secondary ∷ []
 
 -- the numbers with a row put at a place, or as they were where the place is no row's
 abbrev pub numbersPut : List ℕ → ℕ → Row → List ℕ
-numbersPut numbers at row = if length numbers / 5 ≤? at then numbers else stored numbers (5 * at) (rowNumbers row)
+numbersPut numbers at row = if length numbers / 7 ≤? at then numbers else stored numbers (7 * at) (rowNumbers row)

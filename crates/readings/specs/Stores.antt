@@ -3,38 +3,43 @@
 use Prim.Native.Nat.{ℕ, _*_}
 use mathlib.Core.List.{List}
 use mathlib.Core.Path.{_≡_}
-use lib.ListN.{length}
-use Rattle.base.specs.Choice.{if_then_else_, _<?_}
+use lib.ListN.{length, getD}
+use Rattle.base.specs.Choice.{if_then_else_, _<?_, _=?_}
 use Rattle.base.specs.Refusal.{number}
 use Rattle.base.specs.Store.{stored}
 use Rattle.base.specs.declared.Refusal.the-variants.{BufferShort, TableFull}
 use Rattle.line.specs.declared.Event.{Event}
 use Rattle.line.specs.declared.Event.the-variants.{Nothing, PassedOver, Broken, Frame, Damaged}
 use Rattle.line.specs.declared.Whole.{Whole}
-use Rattle.readings.specs.Table.{rowBytes, isReading, rowFor, storedData, emptyRow, entered}
+use Rattle.readings.specs.Table.{rowBytes, isReading, rowFor, commonByte, storedData, emptyRow, entered}
 use Rattle.readings.specs.declared.Put.{Put}
 use Rattle.readings.specs.declared.Row.{Row}
 use Rattle.readings.specs.declared.Sought.{Sought}
 use Rattle.readings.specs.declared.Sought.the-variants.{Match, Empty, Full}
 
+-- what is stored of data byte i, one by one
+abbrev pub storedByte : ℕ → ℕ → ℕ
+storedByte i b = if i =? 1 then commonByte b else b
+
 -- no row is put: the place is behind the last
 abbrev pub nothingPut : ℕ → ℕ → Put
 nothingPut rows refusal = record { at = rows; row = emptyRow; refusal = refusal }
 
-abbrev pub rowPut : ℕ → ℕ → Whole → Put
-rowPut i tick w = record { at = i; row = rowFor i tick w; refusal = 0 }
+-- a frame's row at place i, which holds a row already
+abbrev pub rowPut : ℕ → ℕ → Whole → List ℕ → Row → Put
+rowPut i tick w bytes was = record { at = i; row = rowFor i tick w (getD bytes 1 0) was; refusal = 0 }
 
 -- a place that is no row's is none
-abbrev pub putAt : ℕ → ℕ → Whole → ℕ → Put
-putAt rows tick w i = if i <? rows then rowPut i tick w else nothingPut rows 0
+abbrev pub putAt : ℕ → ℕ → Whole → List ℕ → ℕ → Row → Put
+putAt rows tick w bytes i was = if i <? rows then rowPut i tick w bytes was else nothingPut rows 0
 
-abbrev pub putBy : ℕ → ℕ → Whole → Sought → Put
-putBy rows tick w (Match i) = putAt rows tick w i
-putBy rows tick w (Empty i) = putAt rows tick w i
-putBy rows tick w Full = nothingPut rows (number TableFull)
+abbrev pub putBy : ℕ → ℕ → Whole → List ℕ → Sought → Put
+putBy rows tick w bytes (Match i was) = putAt rows tick w bytes i was
+putBy rows tick w bytes (Empty i was) = putAt rows tick w bytes i was
+putBy rows tick w bytes Full = nothingPut rows (number TableFull)
 
 abbrev pub putFrame : ℕ → Sought → ℕ → Whole → List ℕ → Put
-putFrame rows s tick w bytes = if isReading w bytes then putBy rows tick w s else nothingPut rows 0
+putFrame rows s tick w bytes = if isReading w bytes then putBy rows tick w bytes s else nothingPut rows 0
 
 abbrev pub putOf : ℕ → Sought → ℕ → Event → List ℕ → Put
 putOf rows s tick Nothing bytes = nothingPut rows 0
@@ -56,8 +61,8 @@ abbrev pub areaAt : ℕ → List ℕ → Whole → List ℕ → ℕ → List ℕ
 areaAt rows area w bytes i = if i <? rows then areaRow area w bytes i else area
 
 abbrev pub areaBy : ℕ → List ℕ → Whole → List ℕ → Sought → List ℕ
-areaBy rows area w bytes (Match i) = areaAt rows area w bytes i
-areaBy rows area w bytes (Empty i) = areaAt rows area w bytes i
+areaBy rows area w bytes (Match i was) = areaAt rows area w bytes i
+areaBy rows area w bytes (Empty i was) = areaAt rows area w bytes i
 areaBy rows area w bytes Full = area
 
 abbrev pub areaFrame : ℕ → Sought → List ℕ → Whole → List ℕ → List ℕ
@@ -74,16 +79,16 @@ abbrev pub areaFor : ℕ → Sought → List ℕ → Event → List ℕ → List
 areaFor rows s area event bytes = if length area <? rowBytes * rows then area else areaOf rows s area event bytes
 
 -- what a frame that goes to row i leaves: the area before and after
-pub record RowIs (area area′ : List ℕ) (i tick : ℕ) (w : Whole) (bytes : List ℕ) (r : Put) : Type 0 where
-  pub put-is : r ≡ rowPut i tick w
+pub record RowIs (area area′ : List ℕ) (i tick : ℕ) (w : Whole) (bytes : List ℕ) (was : Row) (r : Put) : Type 0 where
+  pub put-is : r ≡ rowPut i tick w bytes was
   pub area-is : area′ ≡ areaRow area w bytes i
 
-pub record PutIs (area area′ : List ℕ) (rows i tick : ℕ) (w : Whole) (bytes : List ℕ) (r : Put) : Type 0 where
-  pub put-is : r ≡ putAt rows tick w i
+pub record PutIs (area area′ : List ℕ) (rows i tick : ℕ) (w : Whole) (bytes : List ℕ) (was : Row) (r : Put) : Type 0 where
+  pub put-is : r ≡ putAt rows tick w bytes i was
   pub area-is : area′ ≡ areaAt rows area w bytes i
 
 pub record PutByIs (area area′ : List ℕ) (rows : ℕ) (s : Sought) (tick : ℕ) (w : Whole) (bytes : List ℕ) (r : Put) : Type 0 where
-  pub put-is : r ≡ putBy rows tick w s
+  pub put-is : r ≡ putBy rows tick w bytes s
   pub area-is : area′ ≡ areaBy rows area w bytes s
 
 pub record FrameIs (area area′ : List ℕ) (rows : ℕ) (s : Sought) (tick : ℕ) (w : Whole) (bytes : List ℕ) (r : Put) : Type 0 where

@@ -1,15 +1,21 @@
-// The latest readings table (document 02, item 7): its rows, and the code that needs no table in hand, over numbers, rows by value and the lent byte area.
+// The latest readings table (document 02, items 7 and 8): its rows, and the code that needs no table in hand, over numbers, rows by value and the lent byte area.
 use base::Refusal;
 use line::Event;
 use line::Whole;
 ghost use Prim.Native.Nat.{_+_, _*_, _≤_};
 ghost use mathlib.Core.Path.{_≡_};
 ghost use lib.ListN.{length, take};
+ghost use Rattle.base.specs.Choice.{if_then_else_};
 ghost use Rattle.base.specs.Store.{stored};
 ghost use Rattle.base.specs.Lent.{before, after};
-ghost use Rattle.readings.specs.Table.{rowBytes, emptyRow, hasKey, isReading, rowFor, sought};
+ghost use Rattle.readings.specs.Table.{rowBytes, emptyRow, hasKey, isReading, rowFor, sought, ownBits, commonByte, storedBytes, keptBits, shownByte};
 ghost use Rattle.readings.specs.Search.{toldKey, next, lookedUpBy, rowAt, rowsOf, rowNumbers};
-ghost use Rattle.readings.specs.Stores.{nothingPut, RowIs, PutIs, PutByIs, FrameIs, StoreIs};
+ghost use Rattle.readings.specs.Stores.{storedByte, nothingPut, RowIs, PutIs, PutByIs, FrameIs, StoreIs};
+
+// The bits of a second data byte that are meant for one master only.
+const CONFIGURATION_CHANGED: u8 = 0x40;
+
+const MORE_STATUS: u8 = 0x10;
 
 // A row: the newest reading of a device and a command. Address 0 is an empty row.
 #[repr(C)]
@@ -21,8 +27,10 @@ pub struct Row {
     pub place: usize,
     pub command: u8,
     pub count: u8,
-    // always 0: with these two every byte of a row is a field's
-    pub unused: u16,
+    // the two bits of the second data byte that are meant for one master only, as the last frame to each had them
+    pub primary: u8,
+    pub secondary: u8,
+    // always 0: with it every byte of a row is a field's
     pub spare: u32,
 }
 
@@ -34,10 +42,10 @@ pub struct Key {
 
 // Where a frame goes in a table.
 pub enum Sought {
-    // the first row of its address and command
-    Match(usize),
-    // the first empty row
-    Empty(usize),
+    // the first row of its address and command, and what it holds
+    Match(usize, Row),
+    // the first empty row, and what it holds
+    Empty(usize, Row),
     Full,
 }
 
@@ -58,7 +66,8 @@ pub fn empty_row() -> Row
         place: 0,
         command: 0,
         count: 0,
-        unused: 0,
+        primary: 0,
+        secondary: 0,
         spare: 0,
     }
 }
@@ -100,19 +109,19 @@ pub fn sought_next(s: Sought, at: usize, row: Row, k: Key) -> Sought
     ensures { λ r. ⌜ r ≡ next s at row k ⌝ }
 {
     match s {
-        Sought::Match(i) => Sought::Match(i),
-        Sought::Empty(i) => {
+        Sought::Match(i, was) => Sought::Match(i, was),
+        Sought::Empty(i, was) => {
             if has_key(row, k) {
-                return Sought::Match(at);
+                return Sought::Match(at, row);
             }
-            Sought::Empty(i)
+            Sought::Empty(i, was)
         }
         Sought::Full => {
             if has_key(row, k) {
-                return Sought::Match(at);
+                return Sought::Match(at, row);
             }
             if row.address == 0 {
-                return Sought::Empty(at);
+                return Sought::Empty(at, row);
             }
             Sought::Full
         }
@@ -127,8 +136,8 @@ pub fn looked_up(rows: usize, s: Sought, k: Key) -> usize
         return rows;
     }
     match s {
-        Sought::Match(i) => i,
-        Sought::Empty(i) => rows,
+        Sought::Match(i, was) => i,
+        Sought::Empty(i, was) => rows,
         Sought::Full => rows,
     }
 }
@@ -156,45 +165,103 @@ fn is_reading(w: Whole, bytes: &[u8; 255]) -> bool
     false
 }
 
-// The first count bytes, at the front of a part of the area.
+// The bits of a second data byte that are meant for one master only.
+fn own_bits(b: u8) -> u8
+    ensures { λ r. ⌜ r ≡ ownBits b ⌝ }
+{
+    CONFIGURATION_CHANGED * (b / CONFIGURATION_CHANGED % 2) + MORE_STATUS * (b / MORE_STATUS % 2)
+}
+
+// The byte with both as 0.
+fn common_byte(b: u8) -> u8
+    ensures { λ r. ⌜ r ≡ commonByte b ⌝ }
+{
+    b - own_bits(b)
+}
+
+// What is stored of data byte i.
+fn stored_byte(i: usize, b: u8) -> u8
+    ensures { λ r. ⌜ r ≡ storedByte i b ⌝ }
+{
+    if i == 1 {
+        return common_byte(b);
+    }
+    b
+}
+
+// A master's bits of a row; an empty row has none.
+fn kept_bits(primary: bool, row: Row) -> u8
+    ensures { λ r. ⌜ r ≡ keptBits primary row ⌝ }
+{
+    if row.address == 0 {
+        return 0;
+    }
+    if primary {
+        return row.primary;
+    }
+    row.secondary
+}
+
+fn chosen(first: bool, a: u8, b: u8) -> u8
+    ensures { λ r. ⌜ r ≡ (if first then a else b) ⌝ }
+{
+    if first {
+        return a;
+    }
+    b
+}
+
+// The second data byte as a master's host is shown it: as it is stored, with that master's bits.
+pub fn shown_byte(stored: u8, bits: u8) -> u8
+    ensures { λ r. ⌜ r ≡ shownByte stored bits ⌝ }
+{
+    common_byte(stored) + own_bits(bits)
+}
+
+// The first count bytes, at the front of a part of the area, as they are stored.
 fn copy(to: &mut [u8], bytes: &[u8], count: u8)
     requires { ⌜ (count ≤ length (now to)) × (count ≤ length (now bytes)) ⌝ }
-    ensures { λ _. ⌜ after to ≡ stored (before to) 0 (take count (before bytes)) ⌝ }
+    ensures { λ _. ⌜ after to ≡ stored (before to) 0 (take count (storedBytes (before bytes))) ⌝ }
 {
     let n = count as usize;
     let mut i = 0;
     while i < n {
-        to[i] = bytes[i];
+        to[i] = stored_byte(i, bytes[i]);
         i += 1;
     }
 }
 
 // The row of a frame that goes to row i.
-fn row_for(i: usize, tick: u64, w: Whole) -> Row
+fn row_for(i: usize, tick: u64, w: Whole, second: u8, was: Row) -> Row
     requires { ⌜ rowBytes * i ≤ 9223372036854775807 ⌝ }
-    ensures { λ r. ⌜ r ≡ rowFor i tick w ⌝ }
+    ensures { λ r. ⌜ r ≡ rowFor i tick w second was ⌝ }
 {
     let h = w.header;
+    let own = own_bits(second);
+    let first = kept_bits(true, was);
+    let other = kept_bits(false, was);
     Row {
         address: h.address,
         tick: tick,
         place: 255 * i,
         command: h.command,
         count: w.count,
-        unused: 0,
+        primary: chosen(h.primary, own, first),
+        secondary: chosen(h.primary, other, own),
         spare: 0,
     }
 }
 
 // The data of a frame that goes to row i are stored.
-fn put_row(area: &mut [u8], i: usize, tick: u64, w: Whole, bytes: &[u8; 255]) -> Put
+fn put_row(area: &mut [u8], i: usize, tick: u64, w: Whole, bytes: &[u8; 255], was: Row) -> Put
     requires { ⌜ rowBytes * i + rowBytes ≤ length (now area) ⌝ }
-    ensures { λ r. ⌜ RowIs (before area) (after area) i tick w (before bytes) r ⌝ }
+    ensures { λ r. ⌜ RowIs (before area) (after area) i tick w (before bytes) was r ⌝ }
 {
     let start = 255 * i;
     let count = w.count;
     copy(&mut area[start..], bytes, count);
-    let row = row_for(i, tick, w);
+    let second = bytes[1];
+    let row = row_for(i, tick, w, second, was);
     Put {
         at: i,
         row: row,
@@ -214,12 +281,20 @@ fn nothing_put(rows: usize, refusal: u32) -> Put
 }
 
 // The same where row i is one of so many; else nothing is put.
-fn put_at(area: &mut [u8], rows: usize, i: usize, tick: u64, w: Whole, bytes: &[u8; 255]) -> Put
+fn put_at(
+    area: &mut [u8],
+    rows: usize,
+    i: usize,
+    tick: u64,
+    w: Whole,
+    bytes: &[u8; 255],
+    was: Row,
+) -> Put
     requires { ⌜ rowBytes * rows ≤ length (now area) ⌝ }
-    ensures { λ r. ⌜ PutIs (before area) (after area) rows i tick w (before bytes) r ⌝ }
+    ensures { λ r. ⌜ PutIs (before area) (after area) rows i tick w (before bytes) was r ⌝ }
 {
     if i < rows {
-        return put_row(area, i, tick, w, bytes);
+        return put_row(area, i, tick, w, bytes, was);
     }
     nothing_put(rows, 0)
 }
@@ -230,8 +305,8 @@ fn put_by(area: &mut [u8], rows: usize, s: Sought, tick: u64, w: Whole, bytes: &
     ensures { λ r. ⌜ PutByIs (before area) (after area) rows s tick w (before bytes) r ⌝ }
 {
     match s {
-        Sought::Match(i) => put_at(area, rows, i, tick, w, bytes),
-        Sought::Empty(i) => put_at(area, rows, i, tick, w, bytes),
+        Sought::Match(i, was) => put_at(area, rows, i, tick, w, bytes, was),
+        Sought::Empty(i, was) => put_at(area, rows, i, tick, w, bytes, was),
         Sought::Full => nothing_put(rows, Refusal::TableFull.number()),
     }
 }
@@ -271,7 +346,7 @@ pub fn store(
 
 // The row that begins at a place of flat numbers.
 fn row_at(numbers: &[u64], i: usize) -> Row
-    requires { ⌜ i + 5 ≤ length (now numbers) ⌝ }
+    requires { ⌜ i + 7 ≤ length (now numbers) ⌝ }
     ensures { λ r. ⌜ r ≡ rowAt (before numbers) i ⌝ }
 {
     Row {
@@ -280,20 +355,21 @@ fn row_at(numbers: &[u64], i: usize) -> Row
         place: numbers[i + 4] as usize,
         command: (numbers[i + 1] % 256) as u8,
         count: (numbers[i + 3] % 256) as u8,
-        unused: 0,
+        primary: (numbers[i + 5] % 256) as u8,
+        secondary: (numbers[i + 6] % 256) as u8,
         spare: 0,
     }
 }
 
-// The search over flat numbers, five to a row.
+// The search over flat numbers, seven to a row.
 pub fn search(numbers: &[u64], k: Key) -> Sought
     ensures { λ r. ⌜ r ≡ sought (rowsOf (before numbers)) k ⌝ }
 {
-    let rows = numbers.len() / 5;
+    let rows = numbers.len() / 7;
     let mut s = Sought::Full;
     let mut i = 0;
     while i < rows {
-        let row = row_at(numbers, 5 * i);
+        let row = row_at(numbers, 7 * i);
         s = sought_next(s, i, row, k);
         i += 1;
     }

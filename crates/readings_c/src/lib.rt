@@ -2,7 +2,7 @@
 use readings::Row;
 ghost use mathlib.Core.Path.{_≡_};
 ghost use Rattle.base.specs.Lent.{before, after};
-ghost use Rattle.readings.specs.Table.{cleared, lookedUp};
+ghost use Rattle.readings.specs.Table.{cleared, lookedUp, shownByte};
 ghost use Rattle.readings.specs.Stores.{EnterIs};
 ghost use Rattle.words.specs.Numbers.{eventAt};
 
@@ -46,4 +46,12 @@ pub extern "C" fn nengapiko_readings_find(rows: &[Row], address: u64, command: u
     let k = readings::key_of(address, command);
     let s = readings_rows::search(rows, k);
     readings::looked_up(rows.len(), s, k)
+}
+
+// The second data byte of a reading as a master's host is shown it, from the stored byte and that master's bits of the row.
+#[no_mangle]
+pub extern "C" fn nengapiko_readings_status(stored: u8, bits: u8) -> u8
+    ensures { λ r. ⌜ r ≡ shownByte stored bits ⌝ }
+{
+    readings::shown_byte(stored, bits)
 }

@@ -12,13 +12,15 @@ use Rattle.readings.specs.declared.Put.{Put}
 use Rattle.readings.specs.declared.Row.{Row}
 
 abbrev pub flatPut : List ℕ → List ℕ → ℕ → Event → List ℕ → Put
-flatPut numbers area tick event bytes = putFor (length area) (length numbers / 5) (sought (rowsOf numbers) (toldKey event)) tick event bytes
+flatPut numbers area tick event bytes = putFor (length area) (length numbers / 7) (sought (rowsOf numbers) (toldKey event)) tick event bytes
 
--- a row that is put; its command and byte count are bytes, as their types say
+-- a row that is put; its command, its byte count and the masters' bits are bytes, as their types say
 pub record RowIsPut (numbers numbers′ : List ℕ) (at : ℕ) (row : Row) : Type 0 where
   pub numbers-are : numbers′ ≡ numbersPut numbers at row
   pub command : row .command < 2 ^ 8
   pub count : row .count < 2 ^ 8
+  pub primary : row .primary < 2 ^ 8
+  pub secondary : row .secondary < 2 ^ 8
 
 -- its rows are entered as those of any table, and every other number stays
 pub record FlatIs (numbers numbers′ area area′ : List ℕ) (tick : ℕ) (event : Event) (bytes : List ℕ) (r : ℕ) : Type 0 where

@@ -6,7 +6,7 @@ ghost use Rattle.readings.specs.Search.{rowNumbers};
 ghost use Rattle.words.specs.Numbers.{eventAt};
 ghost use Rattle.readings_flat_c.specs.Flat.{RowIsPut, FlatIs};
 
-fn row_numbers(row: Row) -> [u64; 5]
+fn row_numbers(row: Row) -> [u64; 7]
     ensures { λ r. ⌜ r ≡ rowNumbers row ⌝ }
 {
     [
@@ -15,6 +15,8 @@ fn row_numbers(row: Row) -> [u64; 5]
         row.tick,
         row.count as u64,
         row.place as u64,
+        row.primary as u64,
+        row.secondary as u64,
     ]
 }
 
@@ -22,10 +24,10 @@ fn row_numbers(row: Row) -> [u64; 5]
 fn put(numbers: &mut [u64], at: usize, row: Row)
     ensures { λ _. ⌜ RowIsPut (before numbers) (after numbers) at row ⌝ }
 {
-    if numbers.len() / 5 <= at {
+    if numbers.len() / 7 <= at {
         return;
     }
-    let i = 5 * at;
+    let i = 7 * at;
     let part = row_numbers(row);
     words::put(&mut numbers[i..], 0, &part);
 }
@@ -44,7 +46,7 @@ pub extern "C" fn nengapiko_readings_flat(
     let event = words::event_at(results);
     let k = readings::told_key(event);
     let s = readings::search(numbers, k);
-    let p = readings::store(area, numbers.len() / 5, s, tick, event, bytes);
+    let p = readings::store(area, numbers.len() / 7, s, tick, event, bytes);
     put(numbers, p.at, p.row);
     p.refusal
 }

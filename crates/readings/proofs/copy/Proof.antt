@@ -18,6 +18,7 @@ copy-spec =
     μ-loop
     (λ c. search (needs, copying))
     (λ c. search (needs, copying))
+    (λ c κs. search (needs, copying))
     (λ c. search (needs, copying))
     (λ c. search (needs, copying))
     (λ c. search (needs, copying))
