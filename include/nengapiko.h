@@ -1,8 +1,9 @@
 /*
  * nengapiko.h - a HART link engine (HCF_SPEC-081 revision 9.0) for programs in C: frames written
- * and read; one call a tick, a tick reader, a master and a device; how long a message waits;
- * recordings listed and joined; and a table of the newest data of each device and command. Its
- * functions are in libnengapiko.a. Those for tests and measurements stand in nengapiko_tests.h.
+ * and read; one call a tick, a tick reader, a master and a device, of the pair and of the infrared
+ * port; how long a message waits; recordings listed and joined; and a table of the newest data of
+ * each device and command. Its functions are in libnengapiko.a. Those for tests and measurements
+ * stand in nengapiko_tests.h.
  *
  * Document 01 is the scope paper, which condenses the standard; its numbers are the refusals below.
  *
@@ -27,7 +28,7 @@
  *
  * Stack. What a function takes with all that it calls, in bytes, the return address included
  * (tests/stack works it out from the archive). On top come the arguments that are passed on the stack,
- * 64 bytes at most, and the two functions of the C library.
+ * 72 bytes at most, and the two functions of the C library.
  *
  *   nengapiko_write                 80
  *   nengapiko_read                  56
@@ -41,6 +42,10 @@
  *   nengapiko_longest_wait           8
  *   nengapiko_list                 280
  *   nengapiko_join                  72
+ *   nengapiko_port_master_start    336
+ *   nengapiko_port_master_tick    1056
+ *   nengapiko_port_device_start    328
+ *   nengapiko_port_device_tick     960
  *   nengapiko_readings_clear         8
  *   nengapiko_readings_enter       232
  *   nengapiko_readings_find        152
@@ -76,13 +81,15 @@ extern "C" {
 
 /* How many elements the buffers have. */
 enum nengapiko_size {
-    NENGAPIKO_SIZE_FRAME = 284,  /* bytes of the longest frame: 20 preambles, a long address, 255 data bytes */
-    NENGAPIKO_SIZE_DATA = 255,   /* bytes of the most data that a frame has */
-    NENGAPIKO_SIZE_FIELDS = 11,  /* words of enum nengapiko_field */
-    NENGAPIKO_SIZE_RESULTS = 17, /* words of enum nengapiko_result */
-    NENGAPIKO_SIZE_READER = 16,  /* words of a tick reader's state */
-    NENGAPIKO_SIZE_MASTER = 40,  /* words of a master's */
-    NENGAPIKO_SIZE_DEVICE = 41   /* words of a device's */
+    NENGAPIKO_SIZE_FRAME = 284,     /* bytes of the longest frame: 20 preambles, a long address, 255 data bytes */
+    NENGAPIKO_SIZE_DATA = 255,      /* bytes of the most data that a frame has */
+    NENGAPIKO_SIZE_FIELDS = 11,     /* words of enum nengapiko_field */
+    NENGAPIKO_SIZE_RESULTS = 17,    /* words of enum nengapiko_result */
+    NENGAPIKO_SIZE_READER = 16,     /* words of a tick reader's state */
+    NENGAPIKO_SIZE_MASTER = 40,     /* words of a master's */
+    NENGAPIKO_SIZE_DEVICE = 41,     /* words of a device's */
+    NENGAPIKO_SIZE_PORT_MASTER = 2, /* words of the infrared port beside a master's */
+    NENGAPIKO_SIZE_PORT_DEVICE = 6  /* and beside a device's */
 };
 
 /* What a write, a read, a start, a tick and the two functions of the wait return. */
@@ -90,14 +97,14 @@ enum nengapiko_refusal {
     NENGAPIKO_REFUSAL_NONE = 0,           /* written, read, started, told; or the tick's call was taken, or there was none */
     NENGAPIKO_REFUSAL_PROFILE = 1,        /* start, wait: a profile that document 01 does not allow */
     NENGAPIKO_REFUSAL_RETRIES = 2,        /* master start, wait: retries outside 3 to 15 */
-    NENGAPIKO_REFUSAL_PREAMBLE = 3,       /* write, request, device start: preamble outside 5 to 20 */
+    NENGAPIKO_REFUSAL_PREAMBLE = 3,       /* write, request, device start: preamble outside 5 to 20; on the infrared port any but 5 */
     NENGAPIKO_REFUSAL_ADDRESS = 4,        /* write, request, device start: polling address above 63, of a request to revision 5 or lower above 15; unique address above 38 bits, or of a device 0 */
     NENGAPIKO_REFUSAL_COMMAND = 5,        /* request: command 254, or a short address with a command but 0; burst content: command 254 */
     NENGAPIKO_REFUSAL_DATA_LONG = 6,      /* write: more than 255 data bytes; request: more than the master's limit */
     NENGAPIKO_REFUSAL_IN_HAND = 7,        /* request: a message is in hand */
     NENGAPIKO_REFUSAL_NO_REQUEST = 8,     /* answer: no request is in hand, or its time is over */
     NENGAPIKO_REFUSAL_DATA_LENGTH = 9,    /* write: an ACK or BACK with fewer than 2 data bytes; answer, burst content: data outside 2 to the device's limit; start: a limit outside 2 to 255; wait: a length outside 2 to 255 */
-    NENGAPIKO_REFUSAL_WISH = 10,          /* answer: burst on without burst content; on or off in answer to command 0, or to command 11 by broadcast */
+    NENGAPIKO_REFUSAL_WISH = 10,          /* answer: burst on without burst content, on the infrared port always; on or off in answer to command 0, or to command 11 by broadcast */
     NENGAPIKO_REFUSAL_FEW_PREAMBLES = 11, /* read: fewer than two 0xFF in front */
     NENGAPIKO_REFUSAL_NO_DELIMITER = 12,  /* write: type not 2, 6 or 1; read: the byte behind the preamble is no delimiter */
     NENGAPIKO_REFUSAL_ENDS_EARLY = 13,    /* read: the bytes end before the frame does */
@@ -448,6 +455,83 @@ uint32_t nengapiko_list(const uint8_t *NENGAPIKO_RESTRICT recording, size_t size
 uint32_t nengapiko_join(const uint8_t *first, size_t first_size, const uint8_t *second,
                         size_t second_size, uint8_t *NENGAPIKO_RESTRICT out, size_t room,
                         size_t *NENGAPIKO_RESTRICT tick) NENGAPIKO_NONNULL;
+
+/* ------------------------------------------------------------------------ the infrared port
+ *
+ * A master and a device of the infrared port (HCF_SPEC-081 revision 9.0, section 8.4), called once a
+ * tick as those of the pair; a tick is a character of 11 bits at 19,200 bit/s. The profile is the
+ * port's own: STO 87, but 52 for commands 0 and 11, HOLD 5, RT2 13, RT1 456. There is one master, burst
+ * is never on, and a BACK counts as a damaged frame. Beside the words of a party's state stand those
+ * of the port, in an array of their own; both are kept together.
+ *
+ * A device dozes after 20,946 quiet ticks. Its tick then tells nothing until a wake-up was heard. A
+ * master that heard no answer's last character in the 20,946 ticks before sends 358 characters of
+ * 0x00, 0xFF in turn before its STX: a request then begins with them, and attempts count the STX
+ * frames alone.
+ */
+
+/*
+ * Starts the port's master.
+ *
+ *   primary   true for the primary master
+ *   retries   R, 3 to 15
+ *   limit     the most data of a request, 2 to 255
+ *   state     NENGAPIKO_SIZE_MASTER words; left as they were by a refusal
+ *   port      NENGAPIKO_SIZE_PORT_MASTER words; the same
+ *
+ * Returns 0, 2 or 9.
+ */
+uint32_t nengapiko_port_master_start(bool primary, uint8_t retries, size_t limit,
+                                     uint64_t *NENGAPIKO_RESTRICT state,
+                                     uint64_t *NENGAPIKO_RESTRICT port) NENGAPIKO_NONNULL;
+
+/*
+ * A tick of the port's master: as nengapiko_master_tick, with the port's words behind the state's. A
+ * preamble other than 5 is refused with 3.
+ *
+ * Returns 0, or the request's refusal, the first that applies of 3, 17, 4, 5, 6 and 7.
+ */
+uint32_t nengapiko_port_master_tick(uint64_t *NENGAPIKO_RESTRICT state,
+                                    uint64_t *NENGAPIKO_RESTRICT port,
+                                    uint8_t *NENGAPIKO_RESTRICT frame,
+                                    uint8_t *NENGAPIKO_RESTRICT bytes, uint8_t heard,
+                                    uint8_t character, bool requests, size_t preamble,
+                                    uint8_t revision, bool long_address, uint64_t address,
+                                    uint8_t command, const uint8_t *NENGAPIKO_RESTRICT put,
+                                    size_t count,
+                                    uint64_t *NENGAPIKO_RESTRICT results) NENGAPIKO_NONNULL;
+
+/*
+ * Starts a device of the port, awake.
+ *
+ *   preamble          how many 0xFF go in front of its frames: 5
+ *   polling_address   0 to 63
+ *   unique_address    1 to 2^38 - 1
+ *   limit             the most data of an answer, 2 to 255
+ *   state             NENGAPIKO_SIZE_DEVICE words; left as they were by a refusal
+ *   port              NENGAPIKO_SIZE_PORT_DEVICE words; the same
+ *
+ * Returns 0, 3, 4 or 9.
+ */
+uint32_t nengapiko_port_device_start(size_t preamble, uint8_t polling_address,
+                                     uint64_t unique_address, size_t limit,
+                                     uint64_t *NENGAPIKO_RESTRICT state,
+                                     uint64_t *NENGAPIKO_RESTRICT port) NENGAPIKO_NONNULL;
+
+/*
+ * A tick of a device of the port: as nengapiko_device_tick, with the port's words behind the state's
+ * and without burst content, so that an answer which wishes burst on is refused with 10. A burst
+ * content is no call here: its number is nothing, as any other.
+ *
+ * Returns 0, or the answer's refusal: 8, 9 or 10.
+ */
+uint32_t nengapiko_port_device_tick(uint64_t *NENGAPIKO_RESTRICT state,
+                                    uint64_t *NENGAPIKO_RESTRICT port,
+                                    uint8_t *NENGAPIKO_RESTRICT frame,
+                                    uint8_t *NENGAPIKO_RESTRICT bytes, uint8_t heard,
+                                    uint8_t character, uint8_t call,
+                                    const uint8_t *NENGAPIKO_RESTRICT put, size_t count,
+                                    uint64_t *NENGAPIKO_RESTRICT results) NENGAPIKO_NONNULL;
 
 /* ------------------------------------------------------------------------ latest readings
  *

@@ -145,11 +145,45 @@ impl Device {
         &self.reader
     }
 
+    /// Whether it hears nothing in this tick.
+    pub fn is_deaf(&self) -> bool {
+        self.deaf
+    }
+
     pub fn take(&mut self, heard: Heard) -> Told {
         if self.deaf {
             return Told::Nothing;
         }
-        let event = self.reader.take(heard);
+        let event = self.read(heard);
+        self.take_found(heard, event)
+    }
+
+    /// What its reader finds.
+    pub fn read(&mut self, heard: Heard) -> Event {
+        self.reader.take(heard)
+    }
+
+    /// Whether its reader is between frames.
+    pub fn is_between_frames(&self) -> bool {
+        self.reader.is_between_frames()
+    }
+
+    /// Its reader has heard two characters of a preamble.
+    pub fn hears_preamble(&mut self) {
+        self.reader.hears_preamble();
+    }
+
+    /// Its request is dropped.
+    pub fn drops_request(&mut self) {
+        self.turn = Turn::Listening;
+    }
+
+    /// The request that it was told last.
+    pub fn request(&self) -> &Frame {
+        &self.request
+    }
+
+    pub fn take_found(&mut self, heard: Heard, event: Event) -> Told {
         if !matches!(heard, Heard::Silence) {
             self.turn = Turn::Listening;
             self.back_in = 0;

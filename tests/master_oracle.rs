@@ -127,11 +127,25 @@ impl Master {
         self.attempts
     }
 
+    /// Whether it hears nothing in this tick.
+    pub fn is_deaf(&self) -> bool {
+        self.deaf
+    }
+
     pub fn take(&mut self, heard: Heard) -> Told {
         if self.deaf {
             return Told::Nothing;
         }
-        let event = self.reader.take(heard);
+        let event = self.read(heard);
+        self.take_found(heard, event)
+    }
+
+    /// What its reader finds.
+    pub fn read(&mut self, heard: Heard) -> Event {
+        self.reader.take(heard)
+    }
+
+    pub fn take_found(&mut self, heard: Heard, event: Event) -> Told {
         let silent_ticks = self.reader.silent_ticks(heard, &event);
         if !matches!(heard, Heard::Silence) {
             self.timer(0, 0);
@@ -297,6 +311,16 @@ impl Master {
         self.attempts = 0;
         self.stage = Stage::Waiting;
         TAKEN
+    }
+
+    /// Whether an STX begins in this tick.
+    pub fn begins(&self) -> bool {
+        self.stage == Stage::Waiting && self.window > 0
+    }
+
+    /// It sends a character that is none of a frame.
+    pub fn sends_other(&mut self) {
+        self.deaf = true;
     }
 
     pub fn send(&mut self) -> Option<u8> {

@@ -55,6 +55,7 @@ pub struct Harm {
     pub address: bool,
 }
 
+#[derive(Clone, Copy)]
 pub enum Event {
     Nothing,
     PassedOver,
@@ -111,6 +112,16 @@ impl Reader {
     /// As after its own sending.
     pub fn pass_over(&mut self) {
         self.next = Next::PassedOver;
+        self.gap = false;
+    }
+
+    pub fn is_between_frames(&self) -> bool {
+        matches!(self.next, Next::Preamble { heard: 0 })
+    }
+
+    /// As after two characters of a preamble.
+    pub fn hears_preamble(&mut self) {
+        self.next = Next::Preamble { heard: 2 };
         self.gap = false;
     }
 

@@ -10,7 +10,7 @@ abbrev pub number : Refusal → ℕ
 number BadProfile = 1
 -- R outside 3 to 15
 number BadRetries = 2
--- preamble outside 5 to 20
+-- preamble outside 5 to 20; on the infrared port any other than 5
 number PreambleLength = 3
 -- polling above 63 or unique above 38 bits
 number Address = 4
@@ -20,11 +20,11 @@ number Command = 5
 number DataLong = 6
 -- a message is in hand
 number MessageInHand = 7
--- no request in hand, or past T+STO
+-- no request in hand, or past T+STO, on the infrared port the STO of the request's command
 number NoRequest = 8
 -- data outside 2 to 255
 number DataLength = 9
--- burst on without burst content, or on or off wished in answer to command 0, or to command 11 by broadcast
+-- burst on without burst content, so any burst on on the infrared port, or on or off wished in answer to command 0, or to command 11 by broadcast
 number BurstWish = 10
 -- fewer than two preambles
 number FewPreambles = 11

@@ -8,6 +8,7 @@ use line::FrameDamage;
 use line::Heard;
 use line::Profile;
 use line::Whole;
+pub use sends::sends_by;
 use turns::Content;
 use turns::Device;
 use turns::DeviceSent;

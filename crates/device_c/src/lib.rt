@@ -188,7 +188,7 @@ fn join(s: Settings, r: Receiver, a: Answering, b: Bursting) -> Device
 }
 
 // The device that some words are.
-fn unpack(words: &[u64; 41]) -> Device
+pub fn unpack(words: &[u64; 41]) -> Device
     ensures { λ d. ⌜ d ≡ unpacked (before words) ⌝ }
 {
     let settings = settings_at(words);
@@ -265,7 +265,7 @@ pub fn pack(words: &mut [u64; 41], limit: u8, d: Device)
 }
 
 // The data limit that some words hold.
-fn limit_at(words: &[u64; 41]) -> u8
+pub fn limit_at(words: &[u64; 41]) -> u8
     ensures { λ r. ⌜ r ≡ limitAt (before words) ⌝ }
 {
     words::u8_at(words, 40)
@@ -276,7 +276,7 @@ fn u16_fits(n: u16)
     ensures { λ _. ⌜ n < 2 ^ 16 ⌝ }
 {}
 
-fn limit_fits(limit: u8)
+pub fn limit_fits(limit: u8)
     ensures { λ _. ⌜ limit < 2 ^ 8 ⌝ }
 {}
 
@@ -318,7 +318,7 @@ pub fn device_fits(d: Device)
     numbers_fit(d.preamble, d.polling, d.length, d.due);
 }
 
-fn told_number(told: DeviceTold) -> u64
+pub fn told_number(told: DeviceTold) -> u64
     ensures { λ r. ⌜ r ≡ deviceTells told .number ⌝ }
 {
     match told {

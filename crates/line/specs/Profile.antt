@@ -16,6 +16,10 @@ fskProfile = record { sto = 28; hold = 2; rt2 = 8; rt1p = 33; rt1s = 41 }
 abbrev pub c8pskProfile : Profile
 c8pskProfile = record { sto = 32; hold = 3; rt2 = 14; rt1p = 42; rt1s = 56 }
 
+-- document 02, item 13, the infrared port: "STO is 87, but 52 for commands 0 and 11, HOLD 5, RT2 13, RT1 456. There is one master": so RT1 is that of either master bit
+abbrev pub infraredProfile : Profile
+infraredProfile = record { sto = 87; hold = 5; rt2 = 13; rt1p = 456; rt1s = 456 }
+
 -- "a value is 0 or above 1,000"
 abbrev pub valueRefused : Profile → Bool
 valueRefused p =

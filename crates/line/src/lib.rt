@@ -3,7 +3,7 @@ use base::Refusal;
 use frame::Header;
 ghost use mathlib.Core.Path.{_≡_};
 ghost use Rattle.line.specs.Heard.{damageNumber};
-ghost use Rattle.line.specs.Profile.{fskProfile, c8pskProfile, valueRefused, orderRefused, profileMade, madeAs};
+ghost use Rattle.line.specs.Profile.{fskProfile, c8pskProfile, infraredProfile, valueRefused, orderRefused, profileMade, madeAs};
 
 // How a character was damaged.
 pub enum Damage {
@@ -142,6 +142,19 @@ impl Profile {
             rt2: 14,
             rt1p: 42,
             rt1s: 56,
+        }
+    }
+
+    // The infrared port's. It has one master, and is no profile of the pair.
+    pub fn infrared() -> Self
+        ensures { λ r. ⌜ r ≡ infraredProfile ⌝ }
+    {
+        Self {
+            sto: 87,
+            hold: 5,
+            rt2: 13,
+            rt1p: 456,
+            rt1s: 456,
         }
     }
 }

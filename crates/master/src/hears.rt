@@ -39,7 +39,7 @@ fn after_frame(m: Master, r: Receiver, w: Whole, bytes: &[u8; 255]) -> MasterTak
 }
 
 // Behind a broken or damaged frame, or a character that is passed over.
-fn after_break(m: Master, r: Receiver, event: Event) -> MasterTaken
+pub fn after_break(m: Master, r: Receiver, event: Event) -> MasterTaken
     ensures { λ t. ⌜ t ≡ afterBreak m r event ⌝ }
 {
     let g = m.message;

@@ -4,6 +4,8 @@ mod hears;
 use base::Refusal;
 use frame::Header;
 use frame::Written;
+pub use hears::after_break;
+pub use hears::take;
 use line::Event;
 use line::Heard;
 use line::Profile;
@@ -297,7 +299,7 @@ fn sends_waiting(m: Master, frame: &[u8; 284]) -> MasterSent
 }
 
 // Sends a character of the STX that stands in the lent frame buffer, or none.
-fn send(m: Master, frame: &[u8; 284]) -> MasterSent
+pub fn send(m: Master, frame: &[u8; 284]) -> MasterSent
     ensures { λ x. ⌜ x ≡ masterSends m (now (frame .entry)) ⌝ }
 {
     let g = m.message;

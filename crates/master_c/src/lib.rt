@@ -85,7 +85,7 @@ fn noted_at(words: &[u64], place: u16) -> Noted
 }
 
 // The master that some words are.
-fn unpack(words: &[u64; 40]) -> Master
+pub fn unpack(words: &[u64; 40]) -> Master
     ensures { λ m. ⌜ m ≡ unpacked (before words) ⌝ }
 {
     let profile = words::profile_at(words, 1);
@@ -164,7 +164,7 @@ pub fn pack(words: &mut [u64; 40], limit: u8, m: Master)
 }
 
 // The data limit that some words hold.
-fn limit_at(words: &[u64; 40]) -> u8
+pub fn limit_at(words: &[u64; 40]) -> u8
     ensures { λ r. ⌜ r ≡ limitAt (before words) ⌝ }
 {
     words::u8_at(words, 39)
@@ -175,7 +175,7 @@ fn u16_fits(n: u16)
     ensures { λ _. ⌜ n < 2 ^ 16 ⌝ }
 {}
 
-fn limit_fits(limit: u8)
+pub fn limit_fits(limit: u8)
     ensures { λ _. ⌜ limit < 2 ^ 8 ⌝ }
 {}
 
@@ -216,7 +216,7 @@ pub fn master_fits(m: Master)
     message_fits(message);
 }
 
-fn told_number(told: MasterTold) -> u64
+pub fn told_number(told: MasterTold) -> u64
     ensures { λ r. ⌜ r ≡ masterTells told .number ⌝ }
 {
     match told {
@@ -227,7 +227,7 @@ fn told_number(told: MasterTold) -> u64
     }
 }
 
-fn told_attempts(told: MasterTold) -> u64
+pub fn told_attempts(told: MasterTold) -> u64
     ensures { λ r. ⌜ r ≡ toldAttempts told ⌝ }
 {
     match told {
@@ -270,7 +270,7 @@ fn tick(
     words::call_number(result)
 }
 
-fn request_of(
+pub fn request_of(
     requests: bool,
     preamble: usize,
     revision: u8,

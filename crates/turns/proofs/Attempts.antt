@@ -71,7 +71,7 @@ waiting-free e = let z : _≡_ {A = ℕ} 0 1 = cc in omega arith
 sending-free : (n : ℕ) → Sending n ≡ Free → ⊥
 sending-free n e = let z : _≡_ {A = ℕ} 0 1 = cc in omega arith
 
-none-in-hand : {retries : ℕ} {frame : List ℕ} {g : Message} {log : MessageLog} → Phase retries frame g log → g .stage ≡ Free → log ≡ no-message
+pub none-in-hand : {retries : ℕ} {frame : List ℕ} {g : Message} {log : MessageLog} → Phase retries frame g log → g .stage ≡ Free → log ≡ no-message
 none-in-hand (is-free f) e = refl
 none-in-hand (waits f h n) e = absurd (waiting-free (sym f ∙ e))
 none-in-hand (awaits k f h some most) e = absurd (free-awaiting k (sym e ∙ f))
@@ -85,14 +85,14 @@ most-sent retries false = omega arith
 
 module _ (retries : ℕ) (frame : List ℕ) where
   -- the message goes on, or it is reported
-  data Outcome (log : MessageLog) : MasterTold → Message → Type 0 where
+  pub data Outcome (log : MessageLog) : MasterTold → Message → Type 0 where
     continues : {g : Message} → Phase retries frame g log → Outcome log MasterTold.Nothing g
     is-over : {told : MasterTold} {g : Message} → Reports retries log told → behindReport told log ≡ no-message → g .stage ≡ Free → Outcome log told g
 
-  record Took (log : MessageLog) (m : Master) (t : MasterTaken) : Type 0 where
-    same-primary : t .master .primary ≡ m .primary
-    same-retries : t .master .retries ≡ m .retries
-    outcome : Outcome log (t .told) (t .master .message)
+  pub record Took (log : MessageLog) (m : Master) (t : MasterTaken) : Type 0 where
+    pub same-primary : t .master .primary ≡ m .primary
+    pub same-retries : t .master .retries ≡ m .retries
+    pub outcome : Outcome log (t .told) (t .master .message)
 
   both : {log : MessageLog} {m : Master} {t u : MasterTaken} → Took log m t → Took log (t .master) u → Took log m u
   both a b = record { same-primary = b .same-primary ∙ a .same-primary; same-retries = b .same-retries ∙ a .same-retries; outcome = b .outcome }
@@ -119,17 +119,17 @@ module _ (retries : ℕ) (frame : List ℕ) where
     answers w (sending n f below h a b) = absurd (sending-awaiting n k (sym f ∙ e))
     answers w (awaits n f h some most) = is-over (is-answered w some) refl refl
 
-    framed : {log : MessageLog} (w : Whole) (bytes : List ℕ) → Phase retries frame (m .message) log → Outcome log (atFrame m w bytes .told) (atFrame m w bytes .message)
+    pub framed : {log : MessageLog} (w : Whole) (bytes : List ℕ) → Phase retries frame (m .message) log → Outcome log (atFrame m w bytes .told) (atFrame m w bytes .message)
     framed {log} w bytes p =
         if-both (λ (z : Ending). Outcome log (z .told) (z .message)) (answersMessage m (w .header)) _ _ (if-both (λ (z : Ending). Outcome log (z .told) (z .message)) _ _ _ (broken p) (answers w p)) (broken p)
 
-  if-awaiting : {log : MessageLog} (g : Message) (z : Ending) (s : Stage) → Phase retries frame g log → ((k : ℕ) → s ≡ Awaiting k → Outcome log (z .told) (z .message)) → Outcome log (ifAwaiting s g z .told) (ifAwaiting s g z .message)
+  pub if-awaiting : {log : MessageLog} (g : Message) (z : Ending) (s : Stage) → Phase retries frame g log → ((k : ℕ) → s ≡ Awaiting k → Outcome log (z .told) (z .message)) → Outcome log (ifAwaiting s g z .told) (ifAwaiting s g z .message)
   if-awaiting g z Free p f = continues p
   if-awaiting g z Waiting p f = continues p
   if-awaiting g z (Sending n) p f = continues p
   if-awaiting g z (Awaiting n) p f = f n refl
 
-  after-break : {log : MessageLog} (m : Master) (r : Receiver) (event : Event) → m .retries ≡ retries → Phase retries frame (m .message) log → Took log m (afterBreak m r event)
+  pub after-break : {log : MessageLog} (m : Master) (r : Receiver) (event : Event) → m .retries ≡ retries → Phase retries frame (m .message) log → Took log m (afterBreak m r event)
   after-break m r event same p = record { same-primary = refl; same-retries = refl; outcome = if-awaiting (m .message) (atBreak m) (m .message .stage) p (λ k e. broken m same k e p) }
 
   ending : (s : Stage) → rt1Ends s ≡ true → (n : ℕ) × (s ≡ Awaiting n)
@@ -171,7 +171,7 @@ module _ (retries : ℕ) (frame : List ℕ) where
   character m r (Frame w) bytes same p = record { same-primary = refl; same-retries = refl; outcome = if-awaiting (m .message) (atFrame m w bytes) (m .message .stage) p (λ k e. framed m same k e w bytes p) }
   character m r (Damaged w h) bytes same p = after-break m r (Damaged w h) same p
 
-  takes-any : {log : MessageLog} (m : Master) (heard : Heard) (bytes : List ℕ) → m .retries ≡ retries → Phase retries frame (m .message) log → Took log m (masterTakes m heard bytes)
+  pub takes-any : {log : MessageLog} (m : Master) (heard : Heard) (bytes : List ℕ) → m .retries ≡ retries → Phase retries frame (m .message) log → Took log m (masterTakes m heard bytes)
   unfolding masterTakes
   takes-any {log} m heard bytes same p = if-both (Took log m) (m .deaf) _ _ (record { same-primary = refl; same-retries = refl; outcome = continues p }) (hears heard)
     where
@@ -181,19 +181,19 @@ module _ (retries : ℕ) (frame : List ℕ) where
       hears (Heard.Damaged c kind) = character m _ (taken (m .receiver) (Heard.Damaged c kind) .event) bytes same p
 
   -- the log behind the report
-  reported : {log : MessageLog} {told : MasterTold} {g : Message} → Outcome log told g → Reports retries log told × Phase retries frame g (behindReport told log)
+  pub reported : {log : MessageLog} {told : MasterTold} {g : Message} → Outcome log told g → Reports retries log told × Phase retries frame g (behindReport told log)
   reported {log} {told} {g} (continues p) = (no-report, p)
   reported {log} {told} {g} (is-over r o e) = (r, subst (Phase retries frame g) (sym o) (is-free e))
 
 -- ---- what is sent
 
 module _ (retries : ℕ) (frame : List ℕ) where
-  record SentIs (m : Master) (log : MessageLog) (s : MasterSent) : Type 0 where
-    after : MessageLog
-    sends : Sends retries log (s .sent) after
-    phase : Phase retries frame (s .master .message) after
-    same-primary : s .master .primary ≡ m .primary
-    same-retries : s .master .retries ≡ m .retries
+  pub record SentIs (m : Master) (log : MessageLog) (s : MasterSent) : Type 0 where
+    pub after : MessageLog
+    pub sends : Sends retries log (s .sent) after
+    pub phase : Phase retries frame (s .master .message) after
+    pub same-primary : s .master .primary ≡ m .primary
+    pub same-retries : s .master .retries ≡ m .retries
 
   first-sent : (w : List ℕ) (b : Bool) (n : ℕ) → 0 < length w → IsFrame w → n < mostSent retries b → Sends retries (in-hand w b [] n) (Sent.Character (getD w 0 0)) (in-hand w b (drop 1 w) n)
   first-sent w b n some f most =
@@ -253,7 +253,7 @@ module _ (retries : ℕ) (frame : List ℕ) where
           same-retries = refl;
         })
 
-    sends-any : {log : MessageLog} → Phase retries frame (m .message) log → SentIs m log (masterSends m frame)
+    pub sends-any : {log : MessageLog} → Phase retries frame (m .message) log → SentIs m log (masterSends m frame)
     unfolding masterSends
     sends-any (is-free e) = subst (λ (z : Stage). SentIs m no-message (sendsBy m frame z)) (sym e) (record { after = no-message; sends = has-none; phase = is-free e; same-primary = refl; same-retries = refl })
     sends-any (waits {w} {b} e h n) =

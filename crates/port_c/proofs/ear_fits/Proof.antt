@@ -1,0 +1,16 @@
+use Rattle.port_c.proofs.Kept.{cases}
+use borrow.Author.Needs.{needs}
+use Rattle.port_c.proofs.ear_fits.Statement.{statement}
+use Rattle.port_c.proofs.ear_fits.Tie as tie
+
+pub ear-fits-spec : {M : Type 1} → statement M
+ear-fits-spec =
+    tie.close
+    (tie.spec
+    (λ c. search needs)
+    (λ c. search needs)
+    (λ c. search needs)
+    (λ c κs. search needs)
+    (λ c. search (needs, cases))
+    (λ c. search (needs, cases))
+    (λ c. search (needs, cases)))
