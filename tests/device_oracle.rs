@@ -184,6 +184,12 @@ impl Device {
     }
 
     pub fn take_found(&mut self, heard: Heard, event: Event) -> Told {
+        let silent_ticks = self.reader.silent_ticks(heard, &event);
+        self.take_counted(heard, event, silent_ticks)
+    }
+
+    /// With so many silent ticks counted in its timers.
+    pub fn take_counted(&mut self, heard: Heard, event: Event, silent_ticks: u32) -> Told {
         if !matches!(heard, Heard::Silence) {
             self.turn = Turn::Listening;
             self.back_in = 0;
@@ -191,7 +197,7 @@ impl Device {
         if self.bursting {
             self.time_back(&event);
         }
-        for _ in 0..self.reader.silent_ticks(heard, &event) {
+        for _ in 0..silent_ticks {
             self.count();
         }
         match event {

@@ -147,6 +147,11 @@ impl Master {
 
     pub fn take_found(&mut self, heard: Heard, event: Event) -> Told {
         let silent_ticks = self.reader.silent_ticks(heard, &event);
+        self.take_counted(heard, event, silent_ticks)
+    }
+
+    /// With so many silent ticks counted in its timers.
+    pub fn take_counted(&mut self, heard: Heard, event: Event, silent_ticks: u32) -> Told {
         if !matches!(heard, Heard::Silence) {
             self.timer(0, 0);
         }

@@ -19,7 +19,7 @@ use calls::{GIVEN, REFUSED_REQUESTS, TAKEN_REQUESTS};
 use frames::{random_frame, sealed, Xorshift};
 use oracle_ticks::heard_of;
 use oracles::frame_oracle::{ACK, LONG, PREAMBLE};
-use oracles::party_oracle::{Profile, FSK, NO_LIMIT};
+use oracles::party_oracle::{Profile, C8PSK, FSK, NO_LIMIT};
 use oracles::tick_oracle::{silences, Silences};
 use oracles::{device_oracle, master_oracle};
 use std::collections::VecDeque;
@@ -50,13 +50,6 @@ const DEVICE_2: DeviceSettings = DeviceSettings {
     limit: NO_LIMIT,
 };
 
-const C8PSK: Profile = Profile {
-    sto: 32,
-    hold: 3,
-    rt2: 14,
-    rt1_primary: 42,
-    rt1_secondary: 56,
-};
 /// The shortest that the check takes.
 const SHORTEST: Profile = Profile {
     sto: 1,

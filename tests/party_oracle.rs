@@ -21,6 +21,14 @@ pub const FSK: Profile = Profile {
     rt1_secondary: 41,
 };
 
+pub const C8PSK: Profile = Profile {
+    sto: 32,
+    hold: 3,
+    rt2: 14,
+    rt1_primary: 42,
+    rt1_secondary: 56,
+};
+
 impl Profile {
     /// In the order of `profileWords` in crates/words/specs/Reader.antt.
     pub fn words(&self) -> [u64; 5] {
