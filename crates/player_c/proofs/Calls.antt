@@ -1,4 +1,4 @@
--- The call by what was answered.
+-- The call of a conversion by what was answered.
 use Prim.Native.Nat.{ℕ}
 use mathlib.Core.Path.{_≡_, refl, sym, ap, _∙_}
 use mathlib.Core.List.{List}

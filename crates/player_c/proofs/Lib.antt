@@ -1,2 +1,3 @@
--- The call by what was answered.
+-- The calls by what was answered.
 pub mod Calls
+pub mod Loads

@@ -1,2 +1,2 @@
--- The player and conversion of scripts for programs in C and Rust.
+-- The player, the conversion of scripts and the writer of loads for programs in C and Rust.
 pub mod Call

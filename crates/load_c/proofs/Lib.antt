@@ -1,2 +1,0 @@
--- The law of the writer's answer in C.
-pub mod Calls

@@ -1,2 +1,0 @@
--- The writer of loads for C.
-pub mod Numbers
