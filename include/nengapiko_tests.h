@@ -20,17 +20,6 @@ uint8_t nengapiko_check_words(uint8_t x, const uint8_t *bytes, size_t size, size
 uint8_t nengapiko_check_bytes(uint8_t x, const uint8_t *bytes, size_t size, size_t start,
                               size_t count) NENGAPIKO_NONNULL;
 
-/*
- * What a master answers to a request: 0, or the number of its refusal.
- *
- *   preamble .. command  as for nengapiko_master_tick
- *   bytes, count         its data bytes, 0 to 255: it has no limit of its own
- *   message_in_hand      whether the master has a message already
- */
-uint32_t nengapiko_request(size_t preamble, uint8_t revision, bool long_address, uint64_t address,
-                           uint8_t command, const uint8_t *bytes, size_t count,
-                           bool message_in_hand) NENGAPIKO_NONNULL;
-
 /* ------------------------------------------------------------------------ recordings
  *
  * Each of these runs over a recording, two bytes for each tick: 32 times an enum nengapiko_heard and

@@ -3,6 +3,7 @@
 
 #![allow(dead_code)]
 
+#[derive(Clone, Copy, Debug)]
 pub struct Request<'a> {
     pub preamble: usize,
     pub revision: u8,
