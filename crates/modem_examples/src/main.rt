@@ -1,4 +1,9 @@
-// A primary behind a modem chip asks command 0 of polling address 0 in tick 0; the ACK comes with a wrong ninth bit in one data byte and a framing mark on the other. In tick 59 the host asks again, and is refused, since a damaged ACK is no answer and the message waits for its next attempt, whose ACK is the answer. Control bit 6 is set throughout. Printed are, for each tick in which the line carried something, the chip sends or the host calls: the registers behind the tick's beginning, the status behind the driver's reads and behind its writes, what goes out with its ninth bit, what is told and what the call came to.
+// Two parties behind modem chips, each on a line of its own.
+// A primary asks command 0 of polling address 0 in tick 0; the ACK comes with a wrong ninth bit in one data byte and a framing mark on the other. In tick 59 the host asks again, and is refused, since a damaged ACK is no answer and the message waits for its next attempt, whose ACK is the answer.
+// A device of polling address 0 hears that request: the line carries it in ticks 1 to 10, so the host is told in tick 11. Its answer in tick 0 is refused, since no request is in hand; its answer in tick 12, T+2, is taken, and the ACK begins in that tick and ends in tick 23.
+// Control bit 6 is set throughout. Printed are, for each tick in which the line carried something, the chip sends or the host calls: the registers after the tick's beginning, the status after the driver's reads and after its writes, what goes out with its ninth bit, what is told and what the call came to. The stored lines were worked out before the program ran: ticks and characters by document 01, the ninth bit, 1 where a character's ones are even, and the registers by document 02.
+use device::DeviceStarted;
+use device_tick::DeviceHostCall;
 use libc::STDOUT_FILENO;
 use line::Profile;
 use master::MasterHostCall;
@@ -13,11 +18,45 @@ use texts::put_bytes;
 use texts::put_decimal;
 use texts::put_field;
 use texts::put_hexadecimal;
+use turns::Device;
+use turns::DeviceTold;
 use turns::Master;
 use turns::MasterTold;
+use turns::Wish;
+
+// What a host is told, by either party.
+enum Told {
+    Nothing,
+    Answered,
+    GivenUp,
+    BroadcastSent,
+    Request,
+    Broadcast,
+}
 
 fn sound(c: u8) -> Carried {
     Carried::Nine(c, modem::ninth_bit(c), Mark::Sound)
+}
+
+// The STX of a primary.
+fn stx_at(place: u8) -> Carried {
+    match place {
+        0..=4 => sound(0xFF),
+        5 => sound(0x02),
+        6 => sound(0x80),
+        7 => sound(0x00),
+        8 => sound(0x00),
+        9 => sound(0x82),
+        _ => Carried::Silence,
+    }
+}
+
+// It is sent in ticks 1 to 10.
+fn request_at(tick: u8) -> Carried {
+    if tick < 1 {
+        return Carried::Silence;
+    }
+    stx_at(tick - 1)
 }
 
 // The ACK that a device sends.
@@ -70,6 +109,14 @@ fn call_at(tick: u8) -> MasterHostCall {
     }
 }
 
+fn answers_at(tick: u8) -> DeviceHostCall {
+    match tick {
+        0 => DeviceHostCall::Answers(Wish::Same),
+        12 => DeviceHostCall::Answers(Wish::Same),
+        _ => DeviceHostCall::Nothing,
+    }
+}
+
 fn is_silence(carried: Carried) -> bool {
     match carried {
         Carried::Silence => true,
@@ -114,12 +161,31 @@ fn put_sent(sent: Carried, out: &mut [u8], at: usize) -> usize {
     }
 }
 
-fn put_told(told: MasterTold, out: &mut [u8], at: usize) -> usize {
+fn told_by_master(told: MasterTold) -> Told {
     match told {
-        MasterTold::Nothing => at,
-        MasterTold::Answered(_) => put_bytes(b" answered", out, at),
-        MasterTold::GivenUp(_) => put_bytes(b" given up", out, at),
-        MasterTold::BroadcastSent => put_bytes(b" broadcast sent", out, at),
+        MasterTold::Nothing => Told::Nothing,
+        MasterTold::Answered(_) => Told::Answered,
+        MasterTold::GivenUp(_) => Told::GivenUp,
+        MasterTold::BroadcastSent => Told::BroadcastSent,
+    }
+}
+
+fn told_by_device(told: DeviceTold) -> Told {
+    match told {
+        DeviceTold::Nothing => Told::Nothing,
+        DeviceTold::Request(_) => Told::Request,
+        DeviceTold::Broadcast(_) => Told::Broadcast,
+    }
+}
+
+fn put_told(told: Told, out: &mut [u8], at: usize) -> usize {
+    match told {
+        Told::Nothing => at,
+        Told::Answered => put_bytes(b" answered", out, at),
+        Told::GivenUp => put_bytes(b" given up", out, at),
+        Told::BroadcastSent => put_bytes(b" broadcast sent", out, at),
+        Told::Request => put_bytes(b" request", out, at),
+        Told::Broadcast => put_bytes(b" broadcast", out, at),
     }
 }
 
@@ -134,7 +200,7 @@ fn put_answer(result: CallStatus, out: &mut [u8], at: usize) -> usize {
     }
 }
 
-// A register, behind some spaces.
+// A register, after some spaces.
 fn put_register(spaces: &[u8], x: Chip, n: usize, out: &mut [u8], at: usize) -> usize {
     let place = put_bytes(spaces, out, at);
     let looked = modem::look(x, n);
@@ -164,7 +230,7 @@ fn put_count(x: Chip, out: &mut [u8], at: usize) -> usize {
     put_register(b" ", x, 7, out, place)
 }
 
-// The chip behind the driver's writes for what is sent.
+// The chip after the driver's writes for what is sent.
 fn written(x: Chip, sent: Carried) -> Chip {
     match sent {
         Carried::Silence => modem::stay_silent(x),
@@ -172,33 +238,26 @@ fn written(x: Chip, sent: Carried) -> Chip {
     }
 }
 
-// The status behind the driver's reads, and behind its writes.
-fn put_behind(x: Chip, sent: Carried, out: &mut [u8], at: usize) -> usize {
+// The status after the driver's reads, and after its writes.
+fn put_status(x: Chip, sent: Carried, out: &mut [u8], at: usize) -> usize {
     let h = modem::hear(x);
     let chip = h.chip;
     let place = put_register(b"  ", chip, 0, out, at);
     put_register(b"   ", written(chip, sent), 0, out, place)
 }
 
-fn print_tick(
-    tick: u8,
-    x: Chip,
-    sent: Carried,
-    told: MasterTold,
-    result: CallStatus,
-    out: &mut [u8],
-) {
+fn print_tick(tick: u8, x: Chip, sent: Carried, told: Told, result: CallStatus, out: &mut [u8]) {
     let mut place = put_tick(tick, out);
     place = put_first(x, out, place);
     place = put_count(x, out, place);
-    place = put_behind(x, sent, out, place);
+    place = put_status(x, sent, out, place);
     place = put_sent(sent, out, place);
     place = put_told(told, out, place);
     place = put_answer(result, out, place);
     io::write_all(STDOUT_FILENO, texts::front(out, place));
 }
 
-fn show(tick: u8, x: Chip, carried: Carried, sent: Carried, told: MasterTold, result: CallStatus) {
+fn show(tick: u8, x: Chip, carried: Carried, sent: Carried, told: Told, result: CallStatus) {
     if is_shown(carried, sent, result) {
         let mut out = io::buffer();
         print_tick(
@@ -212,15 +271,15 @@ fn show(tick: u8, x: Chip, carried: Carried, sent: Carried, told: MasterTold, re
     }
 }
 
-// What the line carries: what the chip sends, or else the ACK.
-fn line_at(tick: u8, sent: Carried) -> Carried {
+// What the line carries: what the chip sends, or else the other party's character.
+fn joined(sent: Carried, others: Carried) -> Carried {
     match sent {
-        Carried::Silence => answer_at(tick),
+        Carried::Silence => others,
         Carried::Nine(c, ninth, mark) => Carried::Nine(c, ninth, mark),
     }
 }
 
-fn run(start: Master, frame: &mut [u8; 284], bytes: &mut [u8; 255]) {
+fn run_master(start: Master, frame: &mut [u8; 284], bytes: &mut [u8; 255]) {
     let mut x = modem::put(modem::fresh(), 1, 64);
     let mut m = start;
     let mut carried = Carried::Silence;
@@ -239,22 +298,74 @@ fn run(start: Master, frame: &mut [u8; 284], bytes: &mut [u8; 255]) {
         let sent = ended.carried;
         let told = ticked.told;
         let result = ticked.result;
-        show(tick, x, carried, sent, told, result);
-        carried = line_at(tick, sent);
+        show(tick, x, carried, sent, told_by_master(told), result);
+        carried = joined(sent, answer_at(tick));
         x = ended.chip;
         m = ticked.master;
     }
 }
 
-fn main() {
+fn run_device(
+    start: Device,
+    contents: &mut [u8; 255],
+    frame: &mut [u8; 284],
+    bytes: &mut [u8; 255],
+) {
+    let mut x = modem::put(modem::fresh(), 1, 64);
+    let mut d = start;
+    let mut carried = Carried::Silence;
+    let mut next = 0;
+    while next < 26 {
+        let tick = next;
+        next += 1;
+        let call = answers_at(tick);
+        let arrival = Arrival {
+            chip: x,
+            carried: carried,
+        };
+        let b = modem_party::device_tick(255, arrival, d, call, &[0, 0], contents, frame, bytes);
+        let ticked = b.ticked;
+        let ended = b.ended;
+        let sent = ended.carried;
+        let told = ticked.told;
+        let result = ticked.result;
+        show(tick, x, carried, sent, told_by_device(told), result);
+        carried = joined(sent, request_at(tick));
+        x = ended.chip;
+        d = ticked.device;
+    }
+}
+
+fn print_head(party: &[u8]) {
+    io::write_all(STDOUT_FILENO, party);
+    io::write_all(
+        STDOUT_FILENO,
+        b"tick   status control data kind count        read written sent\n",
+    );
+}
+
+fn show_primary() {
     let mut frame = [0u8; 284];
     let mut bytes = [0u8; 255];
     let MasterStarted::Started(m) = master::start(Profile::fsk(), true, 3) else {
         return;
     };
-    io::write_all(
-        STDOUT_FILENO,
-        b"tick   status control data kind count        read written sent\n",
-    );
-    run(m, &mut frame, &mut bytes);
+    print_head(b"primary\n");
+    run_master(m, &mut frame, &mut bytes);
+}
+
+fn show_device() {
+    let mut contents = [0u8; 255];
+    let mut frame = [0u8; 284];
+    let mut bytes = [0u8; 255];
+    let DeviceStarted::Started(d) = device::start(Profile::fsk(), 5, 0, 2) else {
+        return;
+    };
+    print_head(b"device\n");
+    run_device(d, &mut contents, &mut frame, &mut bytes);
+}
+
+fn main() {
+    show_primary();
+    show_device();
 }
