@@ -67,17 +67,6 @@ enum nengapiko_device_step {
 size_t nengapiko_device(const uint8_t *NENGAPIKO_RESTRICT recording, size_t size,
                         uint8_t *NENGAPIKO_RESTRICT events, size_t room) NENGAPIKO_NONNULL;
 
-/*
- * Such a primary and such a device behind a modem chip. The first byte of a tick is 32 times an enum
- * nengapiko_heard, 4 times the call, 0 to 7, and which number is wanted, as
- * crates/chip_recording/specs/Wanted.antt says. The calls of the primary are those of
- * crates/chip_master_c/specs/Master.antt, those of the device as above.
- */
-size_t nengapiko_chip_master(const uint8_t *NENGAPIKO_RESTRICT recording, size_t size,
-                             uint8_t *NENGAPIKO_RESTRICT events, size_t room) NENGAPIKO_NONNULL;
-size_t nengapiko_chip_device(const uint8_t *NENGAPIKO_RESTRICT recording, size_t size,
-                             uint8_t *NENGAPIKO_RESTRICT events, size_t room) NENGAPIKO_NONNULL;
-
 /* ------------------------------------------------------------------------ the rest */
 
 /*

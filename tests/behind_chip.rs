@@ -1,26 +1,18 @@
-//! Runs a primary and a device behind modem chips through recordings and compares what each sends,
-//! tells and answers with what it does without a chip, as independent simulations of the item gave
-//! it: by the functions that run over a recording, and by those of libnengapiko.a behind a driver,
-//! which also tell the values of what is told. tests/data/item-05/parties.txt says in its first lines
-//! what a line means.
+//! Runs a primary and a device of libnengapiko.a behind modem chips, by a driver, through recordings
+//! and compares what each sends, tells and answers with what it does without a chip, as independent
+//! simulations of the item gave it. tests/data/item-05/parties.txt says in its first lines what a
+//! line means.
 
 mod called;
 mod calls;
-mod chip_archive;
 mod chip_driver;
 mod engine_archive;
 mod modem_archive;
 
-use chip_driver::{ninth, Chip};
 use calls::{Given, Request};
+use chip_driver::{ninth, Chip};
 use engine_archive::{device_2, primary, Results};
 use std::process::ExitCode;
-
-/// Which number of a tick is wanted, in the lowest bits of its first byte.
-const OUT: u8 = 0;
-const CHARACTER: u8 = 1;
-const TOLD: u8 = 2;
-const WANTED: u8 = 4;
 
 const TAKEN: u8 = 255;
 /// The call that gives a device its burst content.
@@ -47,17 +39,6 @@ struct Done {
     told: u8,
     value: u64,
     answer: u8,
-}
-
-impl Done {
-    fn number(&self, which: u8) -> u8 {
-        match which {
-            OUT => self.sent.map_or(0, |c| 1 + ninth(c)),
-            CHARACTER => self.sent.unwrap_or(0),
-            TOLD => self.told,
-            _ => self.answer,
-        }
-    }
 }
 
 /// A party's ticks, and what must come of each.
@@ -220,21 +201,8 @@ impl Run {
         });
     }
 
-    /// By the function that runs over a recording.
-    fn passes_recorded(&self, which: u8) -> bool {
-        let run = match self.party {
-            Party::Primary => chip_archive::master,
-            Party::Device => chip_archive::device,
-        };
-        let bytes = |tick: &Tick| [tick.heard.0 << 5 | tick.call << 2 | which, tick.heard.1];
-        let recording: Vec<u8> = self.ticks.iter().flat_map(bytes).collect();
-        let expected: Vec<u8> = self.done.iter().map(|done| done.number(which)).collect();
-        let mut numbers = vec![0xA5; self.ticks.len()];
-        run(&recording, &mut numbers) == numbers.len() && numbers == expected
-    }
-
-    /// By the party of libnengapiko.a behind the driver.
-    fn passes_driven(&self) -> bool {
+    /// Whether each tick behind the driver comes to what it must.
+    fn passes(&self) -> bool {
         let mut chip = Chip::default();
         let mut party = engine(self.party);
         self.ticks.iter().zip(&self.done).all(|(tick, expected)| {
@@ -243,10 +211,6 @@ impl Run {
             chip.send(done.sent);
             chip.end() == expected.sent.map(|c| (c, ninth(c))) && done == *expected
         })
-    }
-
-    fn passes(&self) -> bool {
-        (0..WANTED).all(|which| self.passes_recorded(which)) && self.passes_driven()
     }
 }
 

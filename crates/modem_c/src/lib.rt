@@ -90,7 +90,7 @@ fn ninth_number(ninth: bool) -> u8
     1
 }
 
-pub fn out_number(carried: Carried) -> u8
+fn out_number(carried: Carried) -> u8
     ensures { λ r. ⌜ r ≡ outNumber carried ⌝ }
 {
     match carried {
@@ -99,7 +99,7 @@ pub fn out_number(carried: Carried) -> u8
     }
 }
 
-pub fn out_character(carried: Carried) -> u8
+fn out_character(carried: Carried) -> u8
     ensures { λ r. ⌜ r ≡ outCharacter carried ⌝ }
 {
     match carried {

@@ -1,2 +1,0 @@
--- The laws by which a master's run behind a chip is proved.
-pub mod Master
