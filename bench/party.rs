@@ -1,6 +1,6 @@
-//! Ticks per second of a master and of a device over long recordings, through the archives, by the
-//! oracles in plain Rust and, one call a tick, by a master in plain C, and by the same in plain C whose
-//! state stands in words.
+//! Ticks per second of a master and of a device of libnengapiko.a over long recordings, one call a tick,
+//! against the oracles in plain Rust, a master in plain C, and the same in plain C whose state stands in
+//! words.
 
 #[path = "../tests/called.rs"]
 mod called;
@@ -10,8 +10,6 @@ mod calls;
 mod oracles;
 #[path = "../tests/engine_archive.rs"]
 mod engine_archive;
-#[path = "../tests/party_archive.rs"]
-mod party_archive;
 #[path = "../tests/ticked.rs"]
 mod ticked;
 mod recordings;
@@ -103,18 +101,13 @@ fn devices(name: &str, archive: Run, other: Run) {
 
 fn main() {
     head();
-    masters("master", party_archive::master, master_oracle::ticks);
-    devices("device", party_archive::device, device_oracle::ticks);
-    println!("one call a tick, against the oracles");
+    println!("against the oracles");
     masters("master", ticked::master, master_oracle::ticks);
     devices("device", ticked::device, device_oracle::ticks);
-    println!("one call a tick, against the functions by value");
-    masters("master", ticked::master, party_archive::master);
-    devices("device", ticked::device, party_archive::device);
-    println!("one call a tick, against plain C");
+    println!("against plain C");
     masters("master", ticked::master, plain_c);
-    println!("one call a tick, against plain C over words");
+    println!("against plain C over words");
     masters("master", ticked::master, plain_c_words);
-    println!("one call a tick in plain C: over words, against a struct");
+    println!("plain C over words, against a struct");
     masters("master", plain_c_words, plain_c);
 }

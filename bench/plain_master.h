@@ -57,7 +57,7 @@ struct plain_request {
     size_t count;
 };
 
-/* The host's calls in a recording, as nengapiko_master of nengapiko_tests.h has them. */
+/* The host's calls in a recording, as tests/ticked.rs has them. */
 const struct plain_request *plain_called(uint8_t first);
 
 /* A master with FSK. */
@@ -67,7 +67,7 @@ void plain_start(struct plain_master *m, bool primary, uint32_t retries, uint8_t
 unsigned plain_tick(struct plain_master *m, unsigned heard, uint8_t character,
                     const struct plain_request *request, struct plain_results *results);
 
-/* A primary with 3 retries over a recording, as nengapiko_master of nengapiko_tests.h. */
+/* A primary with 3 retries over a recording, with the numbers of tests/ticked.rs. */
 size_t plain_master_ticks(const uint8_t *recording, size_t size, uint8_t *events, size_t room);
 
 /* The same with its state in words between the ticks (plain_words.c). */

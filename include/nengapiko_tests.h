@@ -20,54 +20,16 @@ uint8_t nengapiko_check_words(uint8_t x, const uint8_t *bytes, size_t size, size
 uint8_t nengapiko_check_bytes(uint8_t x, const uint8_t *bytes, size_t size, size_t start,
                               size_t count) NENGAPIKO_NONNULL;
 
-/* ------------------------------------------------------------------------ recordings
- *
- * Each of these runs over a recording, two bytes for each tick: 32 times an enum nengapiko_heard and
- * the host's call, 0 to 31, in the first, the character in the second. The kinds 5 to 7 are heard as
- * silence; the character of a silent tick and a last odd byte are not looked at. A number is set for
- * each tick, from events[0] on, for as many ticks as both the recording and the room hold; the events
- * behind them are left as they were. Returned is how many ticks these are: size / 2 or room, whichever
- * is less.
+/*
+ * The tick reader from its start on, over a recording of two bytes for each tick: 32 times an enum
+ * nengapiko_heard in the first, the character in the second. The kinds 5 to 7 are heard as silence; the
+ * five low bits of the first byte, the character of a silent tick and a last odd byte are not looked
+ * at. An enum nengapiko_event is set for each tick, from events[0] on, for as many ticks as both the
+ * recording and the room hold; the events behind them are left as they were. Returned is how many ticks
+ * these are: size / 2 or room, whichever is less.
  */
-
-/* The tick reader from its start on, with an enum nengapiko_event for each tick. There are no calls. */
 size_t nengapiko_ticks(const uint8_t *NENGAPIKO_RESTRICT recording, size_t size,
                        uint8_t *NENGAPIKO_RESTRICT events, size_t room) NENGAPIKO_NONNULL;
-
-/* What a master does in a tick: it sends, whatever it tells, or tells what enum nengapiko_master_told says. */
-enum nengapiko_master_step {
-    NENGAPIKO_MASTER_STEP_NOTHING = 0,
-    NENGAPIKO_MASTER_STEP_ANSWERED = 1,
-    NENGAPIKO_MASTER_STEP_GIVEN_UP = 2,
-    NENGAPIKO_MASTER_STEP_BROADCAST_SENT = 3,
-    NENGAPIKO_MASTER_STEP_SENDS = 4
-};
-
-/*
- * A primary of the FSK profile with 3 retries, with an enum nengapiko_master_step for each tick. The calls
- * are 1 command 3 of unique address 2, and 2 command 11 by broadcast with a tag of six zero bytes; any
- * other is none.
- */
-size_t nengapiko_master(const uint8_t *NENGAPIKO_RESTRICT recording, size_t size,
-                        uint8_t *NENGAPIKO_RESTRICT events, size_t room) NENGAPIKO_NONNULL;
-
-/* What a device does in a tick: it sends, whatever it tells, or tells what enum nengapiko_device_told says. */
-enum nengapiko_device_step {
-    NENGAPIKO_DEVICE_STEP_NOTHING = 0,
-    NENGAPIKO_DEVICE_STEP_REQUEST = 1,
-    NENGAPIKO_DEVICE_STEP_BROADCAST = 2,
-    NENGAPIKO_DEVICE_STEP_SENDS = 4
-};
-
-/*
- * A device of the FSK profile with 5 preamble characters, polling address 0 and unique address 2, with
- * an enum nengapiko_device_step for each tick. The calls are those of enum nengapiko_device_call, with
- * two zero bytes, a burst content being of command 3; any other is none.
- */
-size_t nengapiko_device(const uint8_t *NENGAPIKO_RESTRICT recording, size_t size,
-                        uint8_t *NENGAPIKO_RESTRICT events, size_t room) NENGAPIKO_NONNULL;
-
-/* ------------------------------------------------------------------------ the rest */
 
 /*
  * The modem chip over a script of accesses of two bytes each, encoded as

@@ -8,7 +8,7 @@ use crate::calls::{given, request};
 use crate::engine_archive;
 use crate::oracle_ticks::{self, heard_of, numbers, Ticked};
 use crate::oracles::party_oracle::Profile;
-use crate::oracles::tick_oracle::Reader;
+use crate::oracles::tick_oracle::{silences, Reader, Silences};
 
 /// How many ticks were compared, and what occurred in them, by its number.
 #[derive(Default)]
@@ -20,9 +20,20 @@ pub struct Seen {
     pub returned: [u64; 18],
     /// A master whose BURST is set, or a device that bursts.
     pub burst: u64,
+    /// In the frames of the recordings.
+    pub inside: Silences,
 }
 
 impl Seen {
+    fn recording(&mut self, recording: &[u8]) {
+        let Silences {
+            passed_over,
+            breaks,
+        } = silences(recording);
+        self.inside.passed_over += passed_over;
+        self.inside.breaks += breaks;
+    }
+
     fn tick(&mut self, ticked: &Ticked, burst: bool) {
         let [sent, told, _, event, ..] = ticked.results;
         self.ticks += 1;
@@ -33,14 +44,16 @@ impl Seen {
         self.burst += u64::from(burst);
     }
 
-    /// Whether each thing of so many was told, and each of these refusals, every event, sending and
-    /// BURST occurred.
+    /// Whether each thing of so many was told, and each of these refusals, every event, sending, BURST
+    /// and both silent ticks inside frames occurred.
     pub fn has_all(&self, told: usize, refusals: &[usize]) -> bool {
         self.told[..told].iter().all(|&ticks| ticks > 0)
             && refusals.iter().all(|&number| self.returned[number] > 0)
             && self.events.iter().all(|&ticks| ticks > 0)
             && self.sent > 0
             && self.burst > 0
+            && self.inside.passed_over > 0
+            && self.inside.breaks > 0
     }
 }
 
@@ -87,6 +100,7 @@ impl MasterSettings {
 
     pub fn difference(&self, recording: &[u8], seen: &mut Seen) -> Option<Difference> {
         let (mut engine, mut oracle) = (self.engine(), self.oracle());
+        seen.recording(recording);
         first_difference(recording, |bytes| {
             let (kind, character, call) = (bytes[0] / 32, bytes[1], bytes[0] % 32);
             let returned = engine.tick((kind, character), request(call));
@@ -133,6 +147,7 @@ impl DeviceSettings {
 
     pub fn difference(&self, recording: &[u8], seen: &mut Seen) -> Option<Difference> {
         let (mut engine, mut oracle) = (self.engine(), self.oracle());
+        seen.recording(recording);
         first_difference(recording, |bytes| {
             let (kind, character, call) = (bytes[0] / 32, bytes[1], bytes[0] % 32);
             let returned = engine.tick((kind, character), given(call));

@@ -1,5 +1,5 @@
 //! The calls of a master's and of a device's host, and some of them by the number that a recording has
-//! for them: those of nengapiko_master and nengapiko_device first.
+//! for them: those of ticked.rs first.
 
 #![allow(dead_code)]
 

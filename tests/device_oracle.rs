@@ -1,6 +1,6 @@
 //! A device of document 01 in plain Rust, with document 02's items 1, 6 and 12, and one with FSK over
-//! recordings of what it hears. It shares nothing with the archive; over a recording it takes the
-//! same arguments and gives the same answers.
+//! recordings of what it hears. It shares nothing with the archive; over a recording it gives the
+//! numbers of ticked.rs.
 
 use super::frame_oracle::{ACK, BACK, REFUSED_DATA_LENGTH, STX, TAKEN};
 use super::party_oracle::{

@@ -1,6 +1,6 @@
 //! A master of document 01 in plain Rust, with document 02's items 1, 2, 6 and 12, and a primary with
 //! FSK and three retries over recordings of what it hears. It shares nothing with the archive; over a
-//! recording it takes the same arguments and gives the same answers.
+//! recording it gives the numbers of ticked.rs.
 
 use super::frame_oracle::{
     refusal, ACK, BACK, REFUSED_ADDRESS, REFUSED_DATA_LONG, REFUSED_PREAMBLE, STX, TAKEN,

@@ -1,10 +1,9 @@
-//! Compares the archives' masters and devices with the oracles: over recordings the number of ticks,
-//! and the whole buffer of events; and of a master and a device that are called once a tick, with
-//! several settings and all calls of calls.rs, what both_ticks.rs says. The recordings are the same in
-//! every run.
+//! Compares the masters and devices of libnengapiko.a with the oracles, called once a tick, over
+//! recordings: what both_ticks.rs says, of a primary and a device with the settings and the calls of
+//! ticked.rs, and of masters and devices with several settings and all calls of calls.rs. The
+//! recordings are the same in every run.
 
 mod both_ticks;
-mod called;
 mod calls;
 mod engine_archive;
 #[allow(dead_code)]
@@ -12,7 +11,6 @@ mod frames;
 mod oracle_ticks;
 #[path = "oracles.rs"]
 mod oracles;
-mod party_archive;
 
 use both_ticks::{DeviceSettings, Difference, MasterSettings, Seen};
 use calls::{GIVEN, REFUSED_REQUESTS, TAKEN_REQUESTS};
@@ -20,8 +18,6 @@ use frames::{random_frame, sealed, Xorshift};
 use oracle_ticks::heard_of;
 use oracles::frame_oracle::{ACK, LONG, PREAMBLE};
 use oracles::party_oracle::{Profile, C8PSK, FSK, NO_LIMIT};
-use oracles::tick_oracle::{silences, Silences};
-use oracles::{device_oracle, master_oracle};
 use std::collections::VecDeque;
 use std::process::ExitCode;
 
@@ -30,12 +26,11 @@ const TICKS: usize = 1_000;
 
 const KIND: u8 = 0x20;
 
-/// The hosts' calls in recordings for both archives: a request; an answer, with burst on, with burst
-/// off, and burst content.
+/// Calls of ticked.rs: a request; an answer, with burst on, with burst off, and burst content.
 const REQUESTS: [u8; 1] = [1];
 const ANSWERS: [u8; 4] = [1, 2, 3, 4];
 
-/// The settings of the master and of the device that recordings are for.
+/// The settings of ticked.rs.
 const PRIMARY: MasterSettings = MasterSettings {
     profile: FSK,
     primary: true,
@@ -71,44 +66,8 @@ const EVENTS: [&str; 5] = [
     "frame damaged",
 ];
 
-type Run = fn(&[u8], &mut [u8]) -> usize;
 /// The two bytes of a tick.
 type Tick = [u8; 2];
-
-struct Party {
-    name: &'static str,
-    archive: Run,
-    oracle: Run,
-    recording: fn(&mut Xorshift) -> Vec<u8>,
-    /// What its events' numbers say; each must occur.
-    numbers: &'static [(u8, &'static str)],
-}
-
-const MASTER: Party = Party {
-    name: "master",
-    archive: party_archive::master,
-    oracle: master_oracle::ticks,
-    recording: master_recording,
-    numbers: &[
-        (0, "silent"),
-        (1, "answered"),
-        (2, "given up"),
-        (4, "sends"),
-    ],
-};
-
-const DEVICE: Party = Party {
-    name: "device",
-    archive: party_archive::device,
-    oracle: device_oracle::ticks,
-    recording: device_recording,
-    numbers: &[
-        (0, "silent"),
-        (1, "request"),
-        (2, "broadcast"),
-        (4, "sends"),
-    ],
-};
 
 /// The answer that a master waits for behind its STX; now and then with the burst flag, with bit 7 of
 /// the first data byte, or long.
@@ -267,53 +226,16 @@ fn recording_for(random: &mut Xorshift, settings: &MasterSettings, calls: &[u8])
     }
 }
 
-fn master_recording(random: &mut Xorshift) -> Vec<u8> {
-    recording_for(random, &PRIMARY, &REQUESTS)
+/// A recording for the primary of ticked.rs, and the first difference in it.
+fn primaries_differ(random: &mut Xorshift, seen: &mut Seen) -> Option<Difference> {
+    let recording = recording_for(random, &PRIMARY, &REQUESTS);
+    PRIMARY.difference(&recording, seen)
 }
 
-fn device_recording(random: &mut Xorshift) -> Vec<u8> {
-    frames(random, |random| request(random, &DEVICE_2), &ANSWERS)
-}
-
-/// Whether both give the same in every recording, and each number and both silences occur.
-fn agrees(party: &Party) -> bool {
-    let mut random = Xorshift(0x2545_F491_4F6C_DD1D);
-    let mut counts = [0; 5];
-    let mut inside = Silences::default();
-    let mut differences = 0;
-    for _ in 0..RECORDINGS {
-        let recording = (party.recording)(&mut random);
-        let Silences {
-            passed_over,
-            breaks,
-        } = silences(&recording);
-        inside.passed_over += passed_over;
-        inside.breaks += breaks;
-        let room = recording.len() / 2 - random.below(3) + 1;
-        let mut by_archive = vec![0xA5; room];
-        let mut by_oracle = by_archive.clone();
-        let archive_ticks = (party.archive)(&recording, &mut by_archive);
-        let oracle_ticks = (party.oracle)(&recording, &mut by_oracle);
-        for &event in &by_oracle[..oracle_ticks] {
-            counts[usize::from(event)] += 1;
-        }
-        if (archive_ticks, &by_archive) != (oracle_ticks, &by_oracle) {
-            differences += 1;
-            let at = (0..room).find(|&at| by_archive[at] != by_oracle[at]);
-            println!("{}: difference at tick {at:?}", party.name);
-        }
-    }
-    print!("party_compare: {}, {RECORDINGS} recordings", party.name);
-    for &(number, name) in party.numbers {
-        print!(", {} {name}", counts[usize::from(number)]);
-    }
-    println!(
-        ", in frames {} silent ticks to pass over and {} that break, {differences} differences",
-        inside.passed_over, inside.breaks
-    );
-    let occurs = |&(number, _): &(u8, &str)| counts[usize::from(number)] > 0;
-    let all_occur = inside.passed_over > 0 && inside.breaks > 0;
-    differences == 0 && all_occur && party.numbers.iter().all(occurs)
+/// The same for its device.
+fn devices_2_differ(random: &mut Xorshift, seen: &mut Seen) -> Option<Difference> {
+    let recording = frames(random, |random| request(random, &DEVICE_2), &ANSWERS);
+    DEVICE_2.difference(&recording, seen)
 }
 
 /// A recording for a master of some settings, and the first difference in it. The calls are most often
@@ -347,7 +269,8 @@ fn devices_differ(random: &mut Xorshift, seen: &mut Seen) -> Option<Difference> 
     settings.difference(&recording, seen)
 }
 
-/// Whether no tick differs, and each thing told, each refusal, every event and BURST occur.
+/// Whether no tick differs, and each thing told, each refusal, every event, BURST and both silent ticks
+/// inside frames occur.
 fn ticks_agree(
     name: &str,
     differ: fn(&mut Xorshift, &mut Seen) -> Option<Difference>,
@@ -374,28 +297,41 @@ fn ticks_agree(
     for &number in refusals {
         print!(", {} refused with {number}", seen.returned[number]);
     }
-    println!(", {differences} differences");
+    println!(
+        ", in frames {} silent ticks to pass over and {} that break, {differences} differences",
+        seen.inside.passed_over, seen.inside.breaks
+    );
     differences == 0 && seen.has_all(told.len(), refusals)
 }
 
 fn main() -> ExitCode {
-    let parties = [MASTER, DEVICE];
-    let agree = parties.iter().filter(|party| agrees(party)).count();
-    let same_ticks = [
+    let agree = [
         ticks_agree(
-            "a master called once a tick",
+            "the primary of recordings",
+            primaries_differ,
+            &["tell nothing", "answered", "given up"],
+            &[7],
+        ),
+        ticks_agree(
+            "the device of recordings",
+            devices_2_differ,
+            &["tell nothing", "request", "broadcast"],
+            &[8, 10],
+        ),
+        ticks_agree(
+            "masters",
             masters_differ,
             &["tell nothing", "answered", "given up", "broadcast sent"],
             &[3, 4, 5, 6, 7, 17],
         ),
         ticks_agree(
-            "a device called once a tick",
+            "devices",
             devices_differ,
             &["tell nothing", "request", "broadcast"],
             &[5, 8, 9, 10],
         ),
     ];
-    match agree == parties.len() && same_ticks == [true, true] {
+    match agree == [true; 4] {
         true => ExitCode::SUCCESS,
         false => ExitCode::FAILURE,
     }

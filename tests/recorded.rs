@@ -1,5 +1,6 @@
-//! Runs recordings whose events were worked out beforehand through the archives, a recording a call and
-//! a tick a call, and the oracles: the number of ticks and every event must be as recorded.
+//! Runs recordings whose events were worked out beforehand through libnengapiko.a, a tick a call, through
+//! the oracles and, those for a reader, through nengapiko_ticks: the number of ticks and every event
+//! must be as recorded.
 //!
 //! A line of a file is a recording in hexadecimal, two bytes for each tick, and a digit for each
 //! tick, with '|' between them. Another field may stand in front, '-' is an empty field, and a line
@@ -11,7 +12,6 @@ mod engine_archive;
 mod line_archive;
 #[path = "oracles.rs"]
 mod oracles;
-mod party_archive;
 mod ticked;
 
 use oracles::{device_oracle, master_oracle, tick_oracle};
@@ -93,17 +93,14 @@ fn main() -> ExitCode {
     let master = of_file(include_str!("data/item-01/master.txt"));
     let device = of_file(include_str!("data/item-01/device.txt"));
     let burst = of_file(include_str!("data/item-01/bursting.txt"));
-    let runs: [(&str, &[Recorded], Run); 12] = [
-        ("reader, archive", &reader, line_archive::ticks),
+    let runs: [(&str, &[Recorded], Run); 9] = [
+        ("reader, a recording a call", &reader, line_archive::ticks),
         ("reader, a call a tick", &reader, ticked::reader),
         ("reader, oracle", &reader, tick_oracle::ticks),
-        ("master, archive", &master, party_archive::master),
         ("master, a call a tick", &master, ticked::master),
         ("master, oracle", &master, master_oracle::ticks),
-        ("device, archive", &device, party_archive::device),
         ("device, a call a tick", &device, ticked::device),
         ("device, oracle", &device, device_oracle::ticks),
-        ("bursting device, archive", &burst, party_archive::device),
         ("bursting device, a call a tick", &burst, ticked::device),
         ("bursting device, oracle", &burst, device_oracle::ticks),
     ];

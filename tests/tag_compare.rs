@@ -1,10 +1,8 @@
-//! Compares the archives' masters and devices with the oracles where command 11 goes by broadcast: over
-//! recordings the number of ticks, and the whole buffer of events; and of a master and a device that
-//! are called once a tick, over some of them, what both_ticks.rs says. The recordings are the same in
-//! every run.
+//! Compares the master and the device of libnengapiko.a with the oracles where command 11 goes by
+//! broadcast, called once a tick, over recordings: what both_ticks.rs says. The recordings are the same
+//! in every run.
 
 mod both_ticks;
-mod called;
 mod calls;
 mod engine_archive;
 #[allow(dead_code)]
@@ -12,79 +10,59 @@ mod frames;
 mod oracle_ticks;
 #[path = "oracles.rs"]
 mod oracles;
-mod party_archive;
 
 use both_ticks::{DeviceSettings, Difference, MasterSettings, Seen};
 use frames::{sealed, Xorshift};
-use oracles::master_oracle::{self, Master};
+use oracles::master_oracle::Master;
 use oracles::party_oracle::{FSK, NO_LIMIT, SENDS};
-use oracles::{device_oracle, tick_oracle::Recorded};
+use oracles::tick_oracle::Recorded;
 use std::collections::VecDeque;
 use std::process::ExitCode;
 
 const RECORDINGS: usize = 5_000;
 const TICKS: usize = 1_000;
 
-/// Of so many recordings one is for those that are called once a tick.
-const TICKED: usize = 4;
-
 const KIND: u8 = 0x20;
 
-type Run = fn(&[u8], &mut [u8]) -> usize;
 /// The two bytes of a tick.
 type Tick = [u8; 2];
 
 struct Party {
     name: &'static str,
-    archive: Run,
-    oracle: Run,
     recording: fn(&mut Xorshift) -> Vec<u8>,
     differ: fn(&[u8], &mut Seen) -> Option<Difference>,
-    /// What its events' numbers say; each must occur.
-    numbers: &'static [(u8, &'static str)],
+    /// What it tells, by its number; each must occur.
+    told: &'static [(usize, &'static str)],
 }
 
 const PARTIES: [Party; 4] = [
     Party {
         name: "master with command 11 alone",
-        archive: party_archive::master,
-        oracle: master_oracle::ticks,
         recording: |random| master_recording(random, &[2]),
         differ: masters_differ,
-        numbers: &[(1, "answered"), (3, "broadcast sent"), (4, "sends")],
+        told: &[(1, "answered"), (3, "broadcast sent")],
     },
     Party {
         name: "master",
-        archive: party_archive::master,
-        oracle: master_oracle::ticks,
         recording: |random| master_recording(random, &[1, 2]),
         differ: masters_differ,
-        numbers: &[
-            (1, "answered"),
-            (2, "given up"),
-            (3, "broadcast sent"),
-            (4, "sends"),
-        ],
+        told: &[(1, "answered"), (2, "given up"), (3, "broadcast sent")],
     },
     Party {
         name: "device that hears broadcasts alone",
-        archive: party_archive::device,
-        oracle: device_oracle::ticks,
         recording: |random| device_recording(random, &[0]),
         differ: devices_differ,
-        numbers: &[(1, "request"), (2, "broadcast"), (4, "sends")],
+        told: &[(1, "request"), (2, "broadcast")],
     },
     Party {
         name: "device",
-        archive: party_archive::device,
-        oracle: device_oracle::ticks,
         recording: |random| device_recording(random, &[0, 2, 2, 3]),
         differ: devices_differ,
-        numbers: &[(1, "request"), (2, "broadcast"), (4, "sends")],
+        told: &[(1, "request"), (2, "broadcast")],
     },
 ];
 
-/// The master and the device that recordings are for, called once a tick.
+/// The master and the device that recordings are for.
 fn masters_differ(recording: &[u8], seen: &mut Seen) -> Option<Difference> {
     let primary = MasterSettings {
         profile: FSK,
@@ -205,43 +183,28 @@ fn device_recording(random: &mut Xorshift, addresses: &[u8]) -> Vec<u8> {
     ticks.concat()
 }
 
-/// Whether both give the same in every recording, and each number occurs.
+/// Whether both do the same in every recording, send, and tell each thing.
 fn agrees(party: &Party) -> bool {
     let mut random = Xorshift(0x2545_F491_4F6C_DD1D);
-    let mut counts = [0; 5];
     let mut seen = Seen::default();
     let mut differences = 0;
-    for run in 0..RECORDINGS {
+    for _ in 0..RECORDINGS {
         let recording = (party.recording)(&mut random);
-        let room = recording.len() / 2 - random.below(3) + 1;
-        let mut by_archive = vec![0xA5; room];
-        let mut by_oracle = by_archive.clone();
-        let archive_ticks = (party.archive)(&recording, &mut by_archive);
-        let oracle_ticks = (party.oracle)(&recording, &mut by_oracle);
-        for &event in &by_oracle[..oracle_ticks] {
-            counts[usize::from(event)] += 1;
-        }
-        if (archive_ticks, &by_archive) != (oracle_ticks, &by_oracle) {
-            differences += 1;
-            let at = (0..room).find(|&at| by_archive[at] != by_oracle[at]);
-            println!("{}: difference at tick {at:?}", party.name);
-        }
-        let ticked = (run % TICKED == 0).then(|| (party.differ)(&recording, &mut seen));
-        if let Some((tick, what)) = ticked.flatten() {
+        if let Some((tick, what)) = (party.differ)(&recording, &mut seen) {
             differences += 1;
             println!("{}: difference at tick {tick} in {what}", party.name);
         }
     }
     print!("tag_compare: {}, {RECORDINGS} recordings", party.name);
-    for &(number, name) in party.numbers {
-        print!(", {} {name}", counts[usize::from(number)]);
+    for &(number, name) in party.told {
+        print!(", {} {name}", seen.told[number]);
     }
     println!(
-        ", {} ticks called one by one, {differences} differences",
-        seen.ticks
+        ", {} sending of {} ticks, {differences} differences",
+        seen.sent, seen.ticks
     );
-    let occurs = |&(number, _): &(u8, &str)| counts[usize::from(number)] > 0;
-    differences == 0 && seen.sent > 0 && party.numbers.iter().all(occurs)
+    let occurs = |&(number, _): &(usize, &str)| seen.told[number] > 0;
+    differences == 0 && seen.sent > 0 && party.told.iter().all(occurs)
 }
 
 fn main() -> ExitCode {

@@ -1,6 +1,12 @@
-//! The tick reader, the master and the device of libnengapiko.a, one call a tick, over the recordings
-//! that nengapiko_ticks, nengapiko_master and nengapiko_device take, with the same numbers for each
-//! tick.
+//! The tick reader, a primary of the FSK profile with 3 retries and a device of that profile with 5
+//! preamble characters, polling address 0 and unique address 2, of libnengapiko.a, one call a tick, over
+//! recordings, with a number for each tick.
+//!
+//! A recording has two bytes for each tick: 32 times an enum nengapiko_heard and the host's call, 0 to
+//! 31, in the first, the character in the second. A master's calls are 1 command 3 of unique address 2,
+//! and 2 command 11 by broadcast with a tag of six zero bytes; a device's are those of enum
+//! nengapiko_device_call, with two zero bytes, a burst content being of command 3; any other is none. A
+//! reader's number is its enum nengapiko_event; a party's is 4 where it sends, else what it tells.
 
 #![allow(dead_code)]
 

@@ -1,2 +1,0 @@
--- The laws by which a device's run over a recording is proved.
-pub mod Device
