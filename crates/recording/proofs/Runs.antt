@@ -2,13 +2,12 @@
 use Prim.Native.Nat.{ℕ, suc, _+_, _-_, _≤_, _<_}
 use native.Mathlib.Numerals.{add-one, add-two}
 use native.Mathlib.Omega.{arith}
-use mathlib.Core.Path.{_≡_, refl, sym, ap, subst, _∙_}
+use mathlib.Core.Path.{_≡_, refl, sym, ap, _∙_}
 use mathlib.Core.List.{List, [], _∷_}
 use lib.ListN.{length, take, drop, getD, set, length-set, length-drop}
 use lib.Seq.{drop-cons, take-nil}
-use Rattle.base.specs.Refusal.{Called, accepted, refused}
 use Rattle.base.specs.Store.{stored}
-use Rattle.recording.specs.Recording.{Ticked, tickedBy, trace, traceFrom, RunIs}
+use Rattle.recording.specs.Recording.{Ticked, trace, RunIs}
 
 -- ---- a loop that puts numbers at the front of a lent buffer: what is left to put gives what the whole gives
 
@@ -104,31 +103,3 @@ module _ {S : Type 0} (tick : S → ℕ → ℕ → Ticked S) where
 
   pub run-full : (numbers recording before : List ℕ) (s : S) (events : List ℕ) (at i : ℕ) → Running numbers recording before s events at i → length events ≤ i → RunIs numbers before i events
   run-full numbers recording before s events at i v h = filling-full left numbers before (s, drop at recording) events i (v .filling) h
-
--- where there are no numbers, nothing changes
-pub run-none : (before : List ℕ) → RunIs [] before 0 before
-unfolding stored
-run-none before = record {
-  events = sym (ap (λ (l : List ℕ). stored before 0 l) (take-nil (length before)));
-  returned = sym (ap length (take-nil (length before)));
-}
-
--- ---- a party's step, and its start
-
-module _ {S U : Type 0} (step : S → ℕ → ℕ → U) (number : ℕ → U → ℕ) (behind : U → S) where
-  -- one more tick: the step left `u`, and `n` is its number
-  pub steps-on : (numbers recording before : List ℕ) (s : S) (events : List ℕ) (at i : ℕ) (u : U) (n : ℕ)
-      → Running (tickedBy step number behind) numbers recording before s events at i → i < length events → 2 ≤ length recording - at
-      → u ≡ step s (getD recording at 0) (getD recording (at + 1) 0) → n ≡ number (getD recording at 0) u
-      → Running (tickedBy step number behind) numbers recording before (behind u) (set events i n) (at + 2) (i + 1)
-  steps-on numbers recording before s events at i u n v h k e f =
-      goes-on (tickedBy step number behind) numbers recording before s events at i (record { number = n; behind = behind u }) v h k
-      (ap (λ (m : ℕ). record { number = m; behind = behind u }) f
-      ∙ ap (λ (w : U). record { number = number (getD recording at 0) w; behind = behind w }) e)
-
-module _ {P S : Type 0} (tick : S → ℕ → ℕ → Ticked S) (placed : P → S) (x : Called P) (recording before : List ℕ) where
-  pub run-accepted : (p : P) (n : ℕ) (after : List ℕ) → x ≡ accepted p → RunIs (trace tick (placed p) recording) before n after → RunIs (traceFrom tick placed x recording) before n after
-  run-accepted p n after e v = subst (λ (y : Called P). RunIs (traceFrom tick placed y recording) before n after) (sym e) v
-
-  pub run-refused : (why : ℕ) → x ≡ refused why → RunIs (traceFrom tick placed x recording) before 0 before
-  run-refused why e = subst (λ (y : Called P). RunIs (traceFrom tick placed y recording) before 0 before) (sym e) (run-none before)

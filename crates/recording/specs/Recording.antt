@@ -4,7 +4,6 @@ use Prim.Native.Nat.{ℕ, _+_, _*_, _/_, _%_, _≤_, _<_}
 use mathlib.Core.Path.{_≡_}
 use mathlib.Core.List.{List, [], _∷_}
 use lib.ListN.{length, take, getD}
-use Rattle.base.specs.Refusal.{Called, accepted, refused}
 use Rattle.base.specs.Store.{stored}
 pub use Rattle.recording.specs.Form.{heardOf}
 
@@ -24,20 +23,11 @@ pub record Ticked (S : Type 0) : Type 0 where
   pub number : ℕ
   pub behind : S
 
--- such a tick by what the party's step left: its number, by the first byte too, and the party behind it
-abbrev pub tickedBy : {S U : Type 0} → (S → ℕ → ℕ → U) → (ℕ → U → ℕ) → (U → S) → S → ℕ → ℕ → Ticked S
-tickedBy step number behind s first c = record { number = number first (step s first c); behind = behind (step s first c) }
-
 -- the number of each tick of a recording; a last odd byte is no tick
 unfoldable pub trace : {S : Type 0} → (S → ℕ → ℕ → Ticked S) → S → List ℕ → List ℕ
 trace tick s [] = []
 trace tick s (first ∷ []) = []
 trace tick s (first ∷ c ∷ recording) = tick s first c .number ∷ trace tick (tick s first c .behind) recording
-
--- from a start on: `placed` is the party with what it is lent; a refused start has no tick
-abbrev pub traceFrom : {P S : Type 0} → (S → ℕ → ℕ → Ticked S) → (P → S) → Called P → List ℕ → List ℕ
-traceFrom tick placed (accepted p) recording = trace tick (placed p) recording
-traceFrom tick placed (refused why) recording = []
 
 -- what a run promises: as many of the numbers as there is room for, at the front of the lent events, and how many they are
 pub record RunIs (numbers before : List ℕ) (r : ℕ) (after : List ℕ) : Type 0 where
