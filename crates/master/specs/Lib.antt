@@ -1,5 +1,5 @@
 -- What a master's functions promise, and names for parts of its definitions.
-pub mod Takes
 pub mod Answers
-pub mod Parts
 pub mod Tick
+pub mod Takes
+pub mod Parts

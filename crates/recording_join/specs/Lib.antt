@@ -1,5 +1,5 @@
 -- Two taps of one pair, joined: document 02, item 10.
 pub mod Joining
-pub mod Choosing
 pub mod Kept
 pub mod Pieces
+pub mod Choosing

@@ -1,5 +1,5 @@
 -- A list of ticks as bytes.
 pub mod Ticks
+pub mod Read
 pub mod Encode
 pub mod Nearest
-pub mod Read

@@ -2,12 +2,12 @@
 pub mod Party
 pub mod Master
 pub mod Device
-pub mod Told
 pub mod Link
 pub mod Run
 pub mod Ledgers
-pub mod Bursts
 pub mod Demand3
+pub mod Bursts
 pub mod Settled
+pub mod Told
 pub mod Gaps
 pub mod Attempts
