@@ -1,5 +1,5 @@
 -- How the code stands for what is to be believed.
--- A lent parameter in a contract: what it holds at the call's entry and at its exit. X is List ℕ for a slice or an array, List (List ℕ) for rows.
+-- A lent parameter in a contract: what it holds before the call and after it. X is List ℕ for a slice or an array, List (List ℕ) for rows.
 use denote.Triple.Both.{Both}
 use denote.Ref.{RefT, now}
 

@@ -1,5 +1,5 @@
 -- To be believed: what the engine must do, or what is claimed of it.
--- Document 01, "Refusals, by where each is checked": the table, and what a call comes to.
+-- Document 01, "Refusals, by where each is checked": the table, and what a call may answer.
 use Prim.Native.Nat.{ℕ}
 use Rattle.base.specs.declared.Refusal.{Refusal}
 use Rattle.base.specs.declared.Refusal.the-variants.{BadProfile, BadRetries, PreambleLength, Address, Command, DataLong, MessageInHand, NoRequest, DataLength, BurstWish, FewPreambles, NoDelimiter, EndsEarly, Unsound, BufferShort, BadScript, Revision, BadLoad, Register, TableFull, BadRecording, UnequalTaps, TapsDiffer, RecordSize, TickTooLarge, WaitTooShort}
@@ -20,11 +20,11 @@ number Command = 5
 number DataLong = 6
 -- a message is in hand
 number MessageInHand = 7
--- no request in hand, or past T+STO, on the infrared port the STO of the request's command
+-- no request in hand, or past T+STO; on the infrared port STO is that of the request's command
 number NoRequest = 8
 -- data outside 2 to 255
 number DataLength = 9
--- burst on without burst content, so any burst on on the infrared port, or on or off wished in answer to command 0, or to command 11 by broadcast
+-- burst on without burst content (so every wish for burst on at the infrared port), or on or off wished in answer to command 0, or to command 11 by broadcast
 number BurstWish = 10
 -- fewer than two preambles
 number FewPreambles = 11
@@ -59,7 +59,7 @@ number TickTooLarge = 25
 -- document 02, item 12: 2 data bytes already wait too long
 number WaitTooShort = 26
 
--- what a call comes to: accepted, with what it gives, or refused with a number of the table
+-- what a call answers: it is accepted, with what it gives, or refused with a number of the table
 pub data Called (A : Type 0) : Type 0 where
   accepted : A → Called A
   refused : ℕ → Called A

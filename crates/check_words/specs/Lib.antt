@@ -1,2 +1,2 @@
--- What the functions that work the exclusive-or out by words promise.
+-- What the functions that work out the exclusive-or by words promise.
 pub mod Words

@@ -1,5 +1,5 @@
 -- Inner contracts: nothing that is to be believed rests on them.
--- The exclusive-or a 64-bit word at a time (document 02, item 3): what the functions that work it out so promise. Its definition is in Check, byte by byte.
+-- The exclusive-or a 64-bit word at a time (document 02, item 3): what the functions that work it out so promise. Its definition, byte by byte, is in crates/frame/specs/Check.antt.
 use Prim.Native.Nat.{ℕ, _+_, _*_, _/_, _%_, _^_, _<_}
 use mathlib.Core.Path.{_≡_}
 use mathlib.Core.List.{List, [], _∷_}
@@ -11,23 +11,23 @@ use Rattle.frame.specs.Check.{xorFrom, exclusiveOr}
 abbrev pub xorAt : List ℕ → ℕ → ℕ → ℕ
 xorAt bytes i count = exclusiveOr (take count (drop i bytes))
 
--- of every other of the eight words from a place on
+-- the exclusive-or of every second word of the eight from a place on
 abbrev pub everyOther : List ℕ → ℕ → ℕ
 everyOther bytes i = bitXor (bitXor (xorAt bytes i 8) (xorAt bytes (i + 16) 8)) (bitXor (xorAt bytes (i + 32) 8) (xorAt bytes (i + 48) 8))
 
--- of every other of the sixteen words from a place on
+-- the exclusive-or of every second word of the sixteen from a place on
 abbrev pub everyOtherOf16 : List ℕ → ℕ → ℕ
 everyOtherOf16 bytes i = bitXor (everyOther bytes i) (everyOther bytes (i + 64))
 
--- of a number's low k bits and the bits above them
+-- the exclusive-or of a number's low k bits and the bits above them
 unfoldable pub halves : ℕ → ℕ → ℕ
 halves k n = bitXor (n % 2 ^ k) (n / 2 ^ k)
 
--- of a word's eight bytes
+-- the exclusive-or of a word's eight bytes
 abbrev pub folded : ℕ → ℕ
 folded word = halves 8 (halves 16 (halves 32 word))
 
--- of a word's bytes and so many bytes from a place on
+-- the exclusive-or of a word's bytes and so many bytes from a place on
 abbrev pub xorOnto : ℕ → List ℕ → ℕ → ℕ → ℕ
 xorOnto word bytes i count = xorFrom (folded word) (take count (drop i bytes))
 
@@ -35,11 +35,11 @@ xorOnto word bytes i count = xorFrom (folded word) (take count (drop i bytes))
 abbrev pub inBlocks : List ℕ → ℕ
 inBlocks bytes = length bytes / 128 * 128
 
--- how many are in whole words
+-- how many bytes are in whole words
 abbrev pub inWords : List ℕ → ℕ
 inWords bytes = length bytes / 8 * 8
 
--- bytes as one number, the first the least significant
+-- bytes as one number, the first byte the least significant
 unfoldable pub number : List ℕ → ℕ
 number [] = 0
 number (b ∷ bytes) = number bytes * 256 + b

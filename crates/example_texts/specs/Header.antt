@@ -1,5 +1,5 @@
 -- Inner contracts: nothing that is to be believed rests on them.
--- A frame's header as text: the name of each field but the command, and its number.
+-- A frame's header as text: the name and the number of each field but the command.
 use Prim.Native.Nat.{ℕ}
 use mathlib.Core.List.{List, [], _∷_, _++_}
 use Rattle.texts.specs.Digits.{decimal, bitOf}

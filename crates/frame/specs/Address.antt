@@ -8,18 +8,18 @@ use Rattle.base.specs.Choice.{if_then_else_, _<?_, _=?_}
 use Rattle.frame.specs.Limits.{largestPolling}
 use Rattle.frame.specs.declared.Header.{Header}
 
--- how many bytes it has
+-- how many bytes an address has
 abbrev pub addressLength : Bool → ℕ
 addressLength long = if long then 5 else 1
 
--- the largest, where polling addresses go up to `polling`: that, or 38 bits
+-- the largest address, where polling addresses go up to `polling`; a unique address has 38 bits
 abbrev pub largestWith : ℕ → Bool → ℕ
 largestWith polling long = if long then 2 ^ 38 - 1 else polling
 
 abbrev pub addressAbove : ℕ → Header → Bool
 addressAbove polling h = largestWith polling (h .long) <? h .address
 
--- of a frame, which says no revision: 6 bits, or 38 bits
+-- the largest address of a frame, which says no revision: 6 bits, or 38 bits
 abbrev pub largestAddress : Bool → ℕ
 largestAddress long = largestWith largestPolling long
 
@@ -27,7 +27,7 @@ largestAddress long = largestWith largestPolling long
 abbrev pub addressTooLarge : Header → Bool
 addressTooLarge h = addressAbove largestPolling h
 
--- its first byte: master bit, burst flag and the six bits that the address begins with
+-- an address's first byte: master bit, burst flag and the six bits that the address begins with
 abbrev pub firstByte : Header → ℕ → ℕ
 firstByte h bits = (if h .primary then 128 else 0) + (if h .burst then 64 else 0) + bits
 
@@ -43,11 +43,11 @@ longAddress h =
     (h .address % 256) ∷
     []
 
--- its bytes
+-- an address's bytes
 abbrev pub addressBytes : Header → List ℕ
 addressBytes h = if h .long then longAddress h else shortAddress h
 
--- the byte at a place, or 0 behind the last
+-- the byte at a place, or 0 past the last
 abbrev pub byteAt : List ℕ → ℕ → ℕ
 byteAt bytes place = getD bytes place 0
 

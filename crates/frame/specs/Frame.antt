@@ -34,7 +34,7 @@ preambleBytes n = replicate n 0xFF
 unfoldable pub frameBytes : ℕ → Header → List ℕ → List ℕ
 frameBytes preamble h bytes = preambleBytes preamble ++ bodyBytes h bytes
 
--- how many bytes these are
+-- how many bytes each of these has
 abbrev pub headerLength : Header → ℕ
 headerLength h = addressLength (h .long) + 3
 

@@ -1,5 +1,5 @@
 -- To be believed: what the engine must do, or what is claimed of it.
--- For one who reads from a buffer that grows (include/nengapiko.h): which of the reader's answers ask for more bytes, and that every other is final.
+-- For a caller who reads from a buffer that grows (include/nengapiko.h): which of the reader's answers ask for more bytes, and that every other answer is final.
 use Prim.Native.Nat.{ℕ, _+_, _≤_, _<_}
 use mathlib.Core.Path.{_≡_}
 use mathlib.Core.Bool.{Bool, true, false}

@@ -25,6 +25,6 @@ mostData = 255
 abbrev pub reservedCommand : ℕ
 reservedCommand = 254
 
--- "the longest frame", of those with at most so many data bytes: around the data stand all preambles, delimiter, unique address, command, byte count and check byte
+-- "the longest frame" of those with at most so many data bytes: beside the data it has the longest preamble, a delimiter, a unique address, a command, a byte count and a check byte
 abbrev pub longestFrame : ℕ → ℕ
 longestFrame limit = limit + (mostPreambles + 1 + 5 + 1 + 1 + 1)

@@ -17,12 +17,12 @@ use Rattle.frame.specs.declared.Found.{Found}
 use Rattle.frame.specs.declared.Read.{Read}
 use Rattle.frame.specs.declared.Read.the-variants.{Frame, Refused}
 
--- how many 0xFF stand in front
+-- how many 0xFF the bytes begin with
 unfoldable pub preambles : List ℕ → ℕ
 preambles [] = 0
 preambles (b ∷ bytes) = if b =? 0xFF then preambles bytes + 1 else 0
 
--- Below, `body` is what stands from the delimiter on, behind so many preambles. The command stands behind address and expansion bytes, the byte count behind the command.
+-- Below, `body` is what stands from the delimiter on, after so many preamble characters. The command follows address and expansion bytes, and the byte count follows the command.
 abbrev pub commandPlace : Bool → ℕ → ℕ
 commandPlace long expansion = addressLength long + expansion + 1
 
@@ -47,7 +47,7 @@ foundAt preamble body frame long expansion place count = record {
   end = preamble + (place + 3 + count);
 }
 
--- behind the byte count: "13: bytes end early; 14: ACK or BACK with count below 2, else wrong check byte"
+-- once the byte count is read: "13: bytes end early; 14: ACK or BACK with count below 2, else wrong check byte"
 abbrev pub withCount : ℕ → List ℕ → ℕ → Bool → ℕ → ℕ → ℕ → Called Found
 withCount preamble body frame long expansion place count =
     if length body ≤? place + 2 + count then refused 13 else
@@ -55,7 +55,7 @@ withCount preamble body frame long expansion place count =
     if exclusiveOr (take (place + 3 + count) body) =? 0 then accepted (foundAt preamble body frame long expansion place count) else
     refused 14
 
--- behind the delimiter
+-- once the delimiter is read
 abbrev pub withCommand : ℕ → List ℕ → ℕ → Bool → ℕ → ℕ → Called Found
 withCommand preamble body frame long expansion place =
     if length body ≤? place + 1 then refused 13 else

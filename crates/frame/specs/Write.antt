@@ -15,7 +15,7 @@ use Rattle.frame.specs.declared.Header.{Header}
 use Rattle.frame.specs.declared.Written.{Written}
 use Rattle.frame.specs.declared.Written.the-variants.{To, Refused}
 
--- what the fields alone are refused for, else `fits`; of several refusals the lowest. ("6: data above 255" comes before "9: data outside 2 to 255", so 9 is left with fewer than 2.)
+-- the refusal for the fields alone, the lowest where several apply; else `fits`. ("6: data above 255" comes before "9: data outside 2 to 255", so 9 is left for fewer than 2.)
 abbrev pub byFields : ℕ → Header → ℕ → Called ℕ → Called ℕ
 byFields preamble h count fits =
     if preamble outside fewestPreambles to mostPreambles then refused 3 else
@@ -33,7 +33,7 @@ byRoom end room = if end ≤? room then accepted end else refused 15
 unfoldable pub writeAnswer : ℕ → Header → ℕ → ℕ → ℕ → Called ℕ
 writeAnswer preamble h count room place = byFields preamble h count (byRoom (place + frameLength preamble h count) room)
 
--- the buffer: with the frame from the place named on where it is written; as it was where it is refused
+-- the buffer after the call: with the frame from the named place on where it is written; as it was where it is refused
 abbrev pub bufferBy : Called ℕ → List ℕ → ℕ → List ℕ → List ℕ
 bufferBy (accepted end) buffer place frame = stored buffer place frame
 bufferBy (refused why) buffer place frame = buffer

@@ -1,2 +1,2 @@
--- What the functions that put a frame's parts promise.
+-- What the functions that write a frame's parts promise.
 pub mod Puts

@@ -1,5 +1,5 @@
 -- Inner contracts: nothing that is to be believed rests on them.
--- The writer's parts: what a function that is lent one promises, and the limits that the fields are within when it is called.
+-- What a function promises that is lent a part of the writer's buffer, and the limits that the fields are within when it is called.
 use Prim.Native.Nat.{ℕ, _≤_}
 use mathlib.Core.Path.{_≡_}
 use mathlib.Core.List.{List}
@@ -13,7 +13,7 @@ pub record PartIs (x : ℕ) (bytes part : List ℕ) (sum : ℕ) : Type 0 where
   pub holds : part ≡ bytes
   pub check : sum ≡ xorFrom x bytes
 
--- a header and so many data bytes, as each frame that is written has
+-- a header and so many data bytes, within the limits that every written frame is within
 pub record WithinLimits (h : Header) (count : ℕ) : Type 0 where
   pub type-small : h .frame ≤ 6
   pub address-small : h .address ≤ largestAddress (h .long)

@@ -1,5 +1,5 @@
 -- To be believed: what the engine must do, or what is claimed of it.
--- Document 02, item 1: "One silent tick inside a frame is now passed over. The second in a row breaks the frame". What the reader of Reader tells, tick by tick, of a frame with silent ticks inside: the claims SilentTicks, GapsPassedOver and FrameWithGaps, proved in proofs/Gaps.
+-- Document 02, item 1: "One silent tick inside a frame is now passed over. The second in a row breaks the frame". What the tick reader tells, tick by tick, of a frame with silent ticks inside: the claims SilentTicks, GapsPassedOver and FrameWithGaps, proved in proofs/Gaps.
 use Prim.Native.Nat.{ℕ, _≤_}
 use mathlib.Core.Path.{_≡_}
 use mathlib.Core.List.{List, [], _∷_}
@@ -24,16 +24,16 @@ pub data IsCharacter : Heard → Type 0 where
 
 -- ---- "The second in a row breaks the frame"
 
--- the first silent tick tells nothing; the second tells that the frame broke, "and the next character may start another"
+-- in the first silent tick the reader tells nothing; in the second it tells that the frame broke, "and the next character may start another"
 pub record SecondBreaks (r : Receiver) : Type 0 where
   pub first : taken r Silence .event ≡ Nothing
   pub second : taken (taken r Silence .receiver) Silence ≡ tells idle Broken
 
--- a silent tick outside a frame tells nothing, and the reader is then before a frame
+-- in a silent tick outside a frame the reader tells nothing, and it is then before a frame
 abbrev pub NothingBroken : Receiver → Type 0
 NothingBroken r = taken r Silence ≡ tells idle Nothing
 
--- Behind a character that tells nothing the reader is inside a frame; any other was passed over, broke a frame or ended one. The claim is of every character, whatever the reader held before it.
+-- After a character of which the reader tells nothing, it is inside a frame; any other character was passed over, broke a frame or ended one. The claim is made of every character, whatever the reader held before it.
 pub record SilenceBehind (t : Taken) : Type 0 where
   pub inside : t .event ≡ Nothing → SecondBreaks (t .receiver)
   pub outside : (t .event ≡ Nothing → ⊥) → NothingBroken (t .receiver)
@@ -53,12 +53,12 @@ pub data GapsBefore : List Heard → List Heard → Type 0 where
 pub data Gapped : List Heard → List Heard → Type 0 where
   from-first : {h : Heard} {cs hs : List Heard} → IsCharacter h → GapsBefore cs hs → Gapped (h ∷ cs) (h ∷ hs)
 
--- from the reader r and the lent buffer b, what is heard tells nothing before its last tick; t is the reader behind that tick and what it tells there, d the buffer behind it
+-- With the reader r and the lent buffer b, nothing is told of what is heard before its last tick. After that tick, t is the reader with what it tells there, and d is the buffer.
 pub data Ends : Receiver → List ℕ → List Heard → Taken → List ℕ → Type 0 where
   last : {r : Receiver} {b d : List ℕ} {h : Heard} {t : Taken} → taken r h ≡ t → takenData r h b ≡ d → Ends r b (h ∷ []) t d
   before : {r : Receiver} {b d : List ℕ} {h : Heard} {hs : List Heard} {t : Taken} → taken r h .event ≡ Nothing → Ends (taken r h .receiver) (takenData r h b) hs t d → Ends r b (h ∷ hs) t d
 
--- Single silent ticks inside a frame, put in or taken out, change neither what is told of it, nor its data, nor the reader behind it. The characters are any, so expansion bytes and damaged characters are among them, and what is told may be a whole frame, a damaged one or a break.
+-- Single silent ticks inside a frame, put in or taken out, change neither what is told of it, nor its data, nor the reader after it. The characters are arbitrary: expansion bytes and damaged characters may be among them, and what is told may be a whole frame, a damaged one or a break.
 pub record SameEnd (r : Receiver) (b : List ℕ) (cs hs : List Heard) (t : Taken) (d : List ℕ) : Type 0 where
   pub put-in : Ends r b cs t d → Ends r b hs t d
   pub taken-out : Ends r b hs t d → Ends r b cs t d
@@ -72,7 +72,7 @@ abbrev pub characters : List ℕ → List Heard
 characters [] = []
 characters (c ∷ cs) = Character c ∷ characters cs
 
--- A frame that the writer writes, with two or more 0xFF of its preamble and single silent ticks inside, tells nothing before its last character, and there the message that was written, with its data at the front of the lent buffer.
+-- Of a frame that the writer writes, with two or more 0xFF of its preamble and single silent ticks inside, nothing is told before its last character. There the frame that was written is told, with its data at the front of the lent buffer.
 abbrev pub FrameWithGaps : Type 0
 FrameWithGaps =
     (written heard room place end : ℕ) (h : Header) (bytes b : List ℕ) (hs : List Heard) → writeAnswer written h (length bytes) room place ≡ accepted end → 2 ≤ heard

@@ -16,7 +16,7 @@ fskProfile = record { sto = 28; hold = 2; rt2 = 8; rt1p = 33; rt1s = 41 }
 abbrev pub c8pskProfile : Profile
 c8pskProfile = record { sto = 32; hold = 3; rt2 = 14; rt1p = 42; rt1s = 56 }
 
--- document 02, item 13, the infrared port: "STO is 87, but 52 for commands 0 and 11, HOLD 5, RT2 13, RT1 456. There is one master": so RT1 is that of either master bit
+-- document 02, item 13, the infrared port: "STO is 87, but 52 for commands 0 and 11, HOLD 5, RT2 13, RT1 456. There is one master": so both RT1 are 456
 abbrev pub infraredProfile : Profile
 infraredProfile = record { sto = 87; hold = 5; rt2 = 13; rt1p = 456; rt1s = 456 }
 
@@ -37,7 +37,7 @@ orderRefused p =
     if p .rt1p ≤? p .sto then true else
     if p .rt1s =? p .rt1p + p .rt2 then false else true
 
--- "1"
+-- "1": a profile is made, or refused
 abbrev pub profileMade : Profile → Called Profile
 profileMade p = if valueRefused p then refused 1 else if orderRefused p then refused 1 else accepted p
 

@@ -1,5 +1,5 @@
 -- To be believed: what the engine must do, or what is claimed of it.
--- The tick reader: document 01, "Frames", the paragraph on the line, with document 02, item 1, for a silent tick inside a frame. It takes what is heard in a tick, and tells what became of a frame.
+-- The tick reader: document 01, "Frames", the paragraph on the line, with document 02, item 1, for a silent tick inside a frame. In each tick it takes what is heard and tells what became of a frame.
 use Prim.Native.Nat.{ℕ, _+_, _-_, _*_, _/_, _%_, _^_}
 use mathlib.Core.Bool.{Bool, true, false}
 use mathlib.Core.Path.{_≡_}
@@ -26,7 +26,7 @@ use Rattle.line.specs.declared.Event.{Event}
 use Rattle.line.specs.declared.Event.the-variants.{Nothing, PassedOver, Broken, Frame}
 use Rattle.line.specs.declared.Taken.{Taken}
 
--- a reader that has heard nothing of a frame, at a place
+-- a reader at a place, which holds nothing of a frame
 abbrev pub noHeader : Header
 noHeader = record { frame = 0; long = false; primary = false; burst = false; address = 0; command = 0 }
 
@@ -51,7 +51,7 @@ tells r e = record { receiver = r; event = e }
 abbrev pub breaks : Taken
 breaks = tells passing Broken
 
--- the reader behind a silent tick that is passed over
+-- the reader after a silent tick that is passed over
 abbrev pub gapped : Receiver → Receiver
 gapped r = record { place = r .place; header = r .header; expansion = r .expansion; count = r .count; sum = r .sum; damage = r .damage; gap = true }
 
@@ -59,7 +59,7 @@ gapped r = record { place = r .place; header = r .header; expansion = r .expansi
 unfoldable pub silentInside : Receiver → Taken
 silentInside r = if r .gap then tells idle Broken else tells (gapped r) Nothing
 
--- inside a frame: behind its first 0xFF, up to its check byte
+-- inside a frame: from its first 0xFF on, up to its check byte
 abbrev pub insideFrame : Place → Bool
 insideFrame Passing = false
 insideFrame Idle = false
@@ -72,15 +72,15 @@ insideFrame Count = true
 insideFrame (Data n) = true
 insideFrame Check = true
 
--- a silent tick; outside a frame the reader is then before one
+-- a silent tick; after one outside a frame the reader is before a frame
 abbrev pub silence : Receiver → Taken
 silence r = if insideFrame (r .place) then silentInside r else tells idle Nothing
 
--- the exclusive-or from the delimiter on, with one character more
+-- the exclusive-or from the delimiter on, with one more character
 abbrev pub summed : Receiver → ℕ → ℕ
 summed r c = bitXor (r .sum) c
 
--- the reader with one character more of the frame, at its next place
+-- the reader with one more character of the frame, at its next place
 abbrev pub next : Receiver → Header → Place → ℕ → Taken
 next r h place c = tells (record { place = place; header = h; expansion = r .expansion; count = r .count; sum = summed r c; damage = r .damage; gap = false }) Nothing
 
@@ -117,7 +117,7 @@ firstHeader h c = record { frame = h .frame; long = h .long; primary = (c / 128 
 unfoldable pub atFirst : Receiver → ℕ → Taken
 atFirst r c = if r .header .long then next r (firstHeader (r .header) c) (Address 4) c else next r (firstHeader (r .header) c) (behindAddress r) c
 
--- another address byte: the address so far, and eight bits more
+-- another address byte: the address so far, and eight more bits
 abbrev pub addressHeader : Header → ℕ → Header
 addressHeader h c = record { frame = h .frame; long = h .long; primary = h .primary; burst = h .burst; address = h .address % 2 ^ 32 * 256 + c; command = h .command }
 
@@ -204,7 +204,7 @@ taken r Silence = silence r
 taken r (Character c) = character (r .place) r c
 taken r (Damaged c kind) = damaged (r .place) r c kind
 
--- the lent buffer has 255 bytes: a data byte is stored at its number
+-- a data byte is stored at the place of its number; the lent buffer has 255 bytes
 abbrev pub keptByte : ℕ → ℕ → List ℕ → List ℕ
 keptByte n c bytes = if n <? mostData then stored bytes n (c ∷ []) else bytes
 

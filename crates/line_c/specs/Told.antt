@@ -17,7 +17,7 @@ eventNumber Broken = 2
 eventNumber (Frame w) = 3
 eventNumber (Damaged w m) = 4
 
--- a tick of the reader, by the two bytes
+-- a tick of the reader, made from the two bytes
 abbrev pub step : Receiver → ℕ → ℕ → Taken
 step r first c = taken r (heardOf (first / 32) c)
 

@@ -32,7 +32,7 @@ abbrev pub writtenAs : RegisterWritten → Called Chip
 writtenAs (RegisterWritten.Accepted x) = accepted x
 writtenAs (RegisterWritten.Refused why) = refused (number why)
 
--- the value and the chip behind a read: a refused one shows 0 and changes nothing
+-- the value and the chip after a read: a refused one shows 0 and changes nothing
 abbrev pub lookedBy : Chip → Called Looked → Looked
 lookedBy x (accepted looked) = looked
 lookedBy x (refused why) = record { value = 0; chip = x }
@@ -40,7 +40,7 @@ lookedBy x (refused why) = record { value = 0; chip = x }
 unfoldable pub looks : Chip → ℕ → Looked
 looks x n = lookedBy x (registerRead x n)
 
--- the chip behind a write: a refused one changes nothing
+-- the chip after a write: a refused one changes nothing
 abbrev pub putBy : Chip → Called Chip → Chip
 putBy x (accepted y) = y
 putBy x (refused why) = x

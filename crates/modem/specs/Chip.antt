@@ -16,7 +16,7 @@ freshChip = record { count = 0; control = 0; latest = 0; kind = 0; carrier = fal
 
 -- ---- a tick begins
 
--- the chip with these values of what it receives
+-- the chip with these values for what it receives
 abbrev pub receives : Chip → Bool → ℕ → ℕ → Bool → Chip
 receives x carrier latest kind received = record {
   count = x .count;

@@ -1,5 +1,5 @@
 -- To be believed: what the engine must do, or what is claimed of it.
--- Document 02, item 5: "Bytes 4 to 7 are a free-running tick count, most significant first, going from the largest value back to 0." The claims, over whatever happens to a chip.
+-- Document 02, item 5: "Bytes 4 to 7 are a free-running tick count, most significant first, going from the largest value back to 0." The claims hold whatever happens to a chip.
 use Prim.Native.Nat.{ℕ, _+_, _*_, _%_, _^_, _<_}
 use mathlib.Core.List.{List, [], _∷_}
 use mathlib.Core.Path.{_≡_}
@@ -21,7 +21,7 @@ operated x (reads n) = looks x n .chip
 operated x (writes n v) = puts x n v
 operated x ends = chipAfter x
 
--- the chip behind any operations, and how many ticks end in them
+-- the chip after any operations, and how many ticks end in them
 unfoldable pub chipBehind : Chip → List Operation → Chip
 chipBehind x [] = x
 chipBehind x (o ∷ os) = chipBehind (operated x o) os
@@ -33,7 +33,7 @@ ticksIn (begins w ∷ os) = ticksIn os
 ticksIn (reads n ∷ os) = ticksIn os
 ticksIn (writes n v ∷ os) = ticksIn os
 
--- "going from the largest value back to 0": behind n ticks the count is n more, modulo 2^32
+-- "going from the largest value back to 0": after n ticks the count is n more, modulo 2^32
 abbrev pub CountBehind : Type 0
 CountBehind = (x : Chip) (os : List Operation) → x .count < 2 ^ 32 → chipBehind x os .count ≡ (x .count + ticksIn os) % 2 ^ 32
 
@@ -41,6 +41,6 @@ CountBehind = (x : Chip) (os : List Operation) → x .count < 2 ^ 32 → chipBeh
 abbrev pub reading : Chip → ℕ
 reading x = registerAt x 4 * 16777216 + registerAt x 5 * 65536 + registerAt x 6 * 256 + registerAt x 7
 
--- the ticks from one reading to a later one, as long as they are less than 2^32
+-- the ticks from one reading to a later one, as long as there are fewer than 2^32
 abbrev pub ElapsedBehind : Type 0
 ElapsedBehind = (x : Chip) (os : List Operation) → x .count < 2 ^ 32 → ticksIn os < 2 ^ 32 → elapsed (reading x) (reading (chipBehind x os)) ≡ ticksIn os

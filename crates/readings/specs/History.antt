@@ -22,7 +22,7 @@ NoRow test rows = (j : ℕ) → j < length rows → test (rowOf rows j) ≡ fals
 
 -- ---- one operation, on any table
 
--- "supersedes the first row of its address and command, else takes the first empty row (address 0)": which row is sought, by facts on the rows
+-- "supersedes the first row of its address and command, else takes the first empty row (address 0)": which row is sought, said by facts on the rows
 pub data SoughtIs (rows : List Row) (key : Key) (s : Sought) : Type 0 where
   is-match : (i : ℕ) → s ≡ Match i (rowOf rows i) → i < length rows → hasKey key (rowOf rows i) ≡ true → ((j : ℕ) → j < i → hasKey key (rowOf rows j) ≡ false)
       → SoughtIs rows key s
@@ -30,7 +30,7 @@ pub data SoughtIs (rows : List Row) (key : Key) (s : Sought) : Type 0 where
       → NoRow (hasKey key) rows → SoughtIs rows key s
   is-full : s ≡ Full → NoRow (hasKey key) rows → NoRow isEmpty rows → SoughtIs rows key s
 
--- "Every other row and data bytes past the new count stay": there is a row such that every other stays, and every byte in front of its data and past its new count
+-- "Every other row and data bytes past the new count stay": there is one row such that every other row stays, and so does every byte before its data or past its new count
 pub record OneRow (rows : List Row) (area : List ℕ) (e : Entered) : Type 0 where
   pub row : ℕ
   pub others-stay : (j : ℕ) → (j ≡ row → ⊥) → rowOf (e .rows) j ≡ rowOf rows j
@@ -43,7 +43,7 @@ pub record OneRow (rows : List Row) (area : List ℕ) (e : Entered) : Type 0 whe
 abbrev pub IsFull : List Row → Whole → Type 0
 IsFull rows w = NoRow (hasKey (keyOf w)) rows × NoRow isEmpty rows
 
--- the refusals: 15 just where the area is short; else 20 just for a frame to be entered for which the table is full; and what is refused changes nothing
+-- the refusals: 15 exactly where the area is short; else 20 exactly for a frame to be entered for which the table is full; and a refused call changes nothing
 pub record Refuses (rows : List Row) (area : List ℕ) (event : Event) (bytes : List ℕ) (e : Entered) : Type 0 where
   pub short : length area < rowBytes * length rows → e .refusal ≡ 15
   pub is-short : e .refusal ≡ 15 → length area < rowBytes * length rows
@@ -53,7 +53,7 @@ pub record Refuses (rows : List Row) (area : List ℕ) (event : Event) (bytes : 
 
 -- ---- any list of operations
 
--- what the hosts do with a table, whichever host it is: what a tick tells, with the tick of a frame's last character and the lent buffer whose first bytes are its data; or clearing it
+-- what the hosts do with a table, whichever host it is: they enter what a tick tells, with the tick of the frame's last character and the lent buffer whose first bytes are its data; or they clear the table
 pub data Op : Type 0 where
   told : ℕ → Event → List ℕ → Op
   clears : Op
@@ -144,7 +144,7 @@ pub record RowHolds (area : List ℕ) (i : ℕ) (row : Row) (r : Reading) : Type
 abbrev pub keyIn : Row → Key
 keyIn row = record { address = row .address; command = row .command }
 
--- proved from a cleared table on: every filled row holds the newest frame of its address and command; every frame that was entered since has a row; no two rows have one key; filled rows come first
+-- from a cleared table on: every filled row holds the newest frame of its address and command; every frame that was entered since has a row; no two rows have the same address and command; filled rows come first
 pub record Newest (k : Kept) : Type 0 where
   pub held : (i : ℕ) → i < length (k .rows) → isEmpty (rowOf (k .rows) i) ≡ false
       → (r : Reading) × ((newestOf (keyIn (rowOf (k .rows) i)) (k .log) ≡ some r) × RowHolds (k .area) i (rowOf (k .rows) i) r)
@@ -172,7 +172,7 @@ abbrev pub OtherKeys : Key → List Op → Type 0
 OtherKeys key [] = Unit {0}
 OtherKeys key (op ∷ ops) = OtherKey key op × OtherKeys key ops
 
--- a frame was entered, then came other frames
+-- a frame was entered, and then other operations came
 abbrev pub enteredThen : Kept → Reading → List Op → Kept
 enteredThen k r ops = afterAll ops (afterOp (told (r .tick) (Frame (r .frame)) (r .bytes)) k)
 

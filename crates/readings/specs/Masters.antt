@@ -47,13 +47,13 @@ lastBits key (m ∷ frames) =
 
 -- ---- claims
 
--- proved from a cleared table on, in every filled row: the stored byte has neither bit; what a host is shown as its bits is what the last entered frame to its master of that address and command says
+-- from a cleared table on, in every filled row: the stored byte has neither bit, and what a host is shown as its bits is what the last entered frame of that address and command to its master says
 pub record Shown (k : Kept) : Type 0 where
   pub stored : (i : ℕ) → i < length (k .rows) → isEmpty (rowOf (k .rows) i) ≡ false → ownBits (getD (k .area) (rowBytes * i + 1) 0) ≡ 0
   pub shows : (primary : Bool) (i : ℕ) → i < length (k .rows) → isEmpty (rowOf (k .rows) i) ≡ false
       → shownBits primary k i ≡ lastBits (keyIn (rowOf (k .rows) i)) (mineOf primary (k .log))
 
--- of two tables: every row that both have, at whatever numbers, shows this master's host the same bits
+-- of two tables: every address and command that both have a row for, at whatever numbers, shows this master's host the same bits
 pub record SameBits (primary : Bool) (k l : Kept) : Type 0 where
   pub same : (i j : ℕ) → i < length (k .rows) → j < length (l .rows) → isEmpty (rowOf (k .rows) i) ≡ false
       → hasKey (keyIn (rowOf (k .rows) i)) (rowOf (l .rows) j) ≡ true → shownBits primary k i ≡ shownBits primary l j

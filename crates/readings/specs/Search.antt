@@ -1,5 +1,5 @@
 -- How the code stands for what is to be believed.
--- The search, row by row: what is sought once one row more was looked at; and a table as flat numbers, seven to a row in document 02's order.
+-- The search, row by row: what it has found after each row; and a table as flat numbers, seven for a row in document 02's order.
 use Prim.Native.Nat.{ℕ, zero, suc, _+_, _*_, _/_, _%_}
 use mathlib.Core.List.{List, [], _∷_}
 use lib.ListN.{getD, length}
@@ -25,18 +25,18 @@ toldKey Broken = noKey
 toldKey (Frame w) = keyOf w
 toldKey (Damaged w m) = noKey
 
--- a match stays; an empty row stays until a match; where neither was found, either is taken
+-- one more row is looked at: a match stays; an empty row stays until there is a match; where neither was found yet, this row is taken if it is one of them
 abbrev pub next : Sought → ℕ → Row → Key → Sought
 next (Match i was) at row key = Match i was
 next (Empty i was) at row key = if hasKey key row then Match at row else Empty i was
 next Full at row key = if hasKey key row then Match at row else if isEmpty row then Empty at row else Full
 
--- what is sought, where the rows from a number on are still to be looked at
+-- what the search finds, where the rows from a number on are still to be looked at
 unfoldable pub soughtFrom : ℕ → Sought → List Row → Key → Sought
 soughtFrom at s [] key = s
 soughtFrom at s (row ∷ rows) key = soughtFrom (suc at) (next s at row key) rows key
 
--- the row that was found of so many; an empty one is not looked up
+-- the number of the matching row, or the number of rows where none matches
 abbrev pub matchOf : ℕ → Sought → ℕ
 matchOf rows (Match i was) = i
 matchOf rows (Empty i was) = rows
@@ -47,7 +47,7 @@ lookedUpBy rows s key = if key .address =? 0 then rows else matchOf rows s
 
 -- ---- flat numbers
 
--- a row: address, command, tick, byte count, place of the data, the primary's bits, the secondary's
+-- the numbers of a row: address, command, tick, byte count, place of the data, the primary's bits, the secondary's
 abbrev pub rowAt : List ℕ → ℕ → Row
 rowAt numbers i = record {
   address = getD numbers i 0;
@@ -60,7 +60,7 @@ rowAt numbers i = record {
   spare = 0;
 }
 
--- so many rows, from a row's number on
+-- so many rows, from the row with this number on
 unfoldable pub rowsFrom : List ℕ → ℕ → ℕ → List Row
 rowsFrom numbers i zero = []
 rowsFrom numbers i (suc n) = rowAt numbers (7 * i) ∷ rowsFrom numbers (suc i) n
@@ -73,6 +73,6 @@ rowsOf numbers = rowsFrom numbers 0 (length numbers / 7)
 abbrev pub rowNumbers : Row → List ℕ
 rowNumbers row = row .address ∷ row .command ∷ row .tick ∷ row .count ∷ row .place ∷ row .primary ∷ row .secondary ∷ []
 
--- the numbers with a row put at a place, or as they were where the place is no row's
+-- the numbers with a row put at a place, or as they were where no row has that place
 abbrev pub numbersPut : List ℕ → ℕ → Row → List ℕ
 numbersPut numbers at row = if length numbers / 7 ≤? at then numbers else stored numbers (7 * at) (rowNumbers row)

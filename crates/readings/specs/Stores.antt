@@ -17,19 +17,19 @@ use Rattle.readings.specs.declared.Row.{Row}
 use Rattle.readings.specs.declared.Sought.{Sought}
 use Rattle.readings.specs.declared.Sought.the-variants.{Match, Empty, Full}
 
--- what is stored of data byte i, one by one
+-- what is stored for data byte i
 abbrev pub storedByte : ℕ → ℕ → ℕ
 storedByte i b = if i =? 1 then commonByte b else b
 
--- no row is put: the place is behind the last
+-- no row is put: its place is past the last row
 abbrev pub nothingPut : ℕ → ℕ → Put
 nothingPut rows refusal = record { at = rows; row = emptyRow; refusal = refusal }
 
--- a frame's row at place i, which holds a row already
+-- a frame's row at place i, where the row `was` stands
 abbrev pub rowPut : ℕ → ℕ → Whole → List ℕ → Row → Put
 rowPut i tick w bytes was = record { at = i; row = rowFor i tick w (getD bytes 1 0) was; refusal = 0 }
 
--- a place that is no row's is none
+-- at a place that is no row's, nothing is put
 abbrev pub putAt : ℕ → ℕ → Whole → List ℕ → ℕ → Row → Put
 putAt rows tick w bytes i was = if i <? rows then rowPut i tick w bytes was else nothingPut rows 0
 
@@ -53,7 +53,7 @@ putFor size rows s tick event bytes =
     if size <? rowBytes * rows then nothingPut rows (number BufferShort) else
     putOf rows s tick event bytes
 
--- the byte area then
+-- the byte area with the frame's data in row i
 abbrev pub areaRow : List ℕ → Whole → List ℕ → ℕ → List ℕ
 areaRow area w bytes i = stored area (rowBytes * i) (storedData w bytes)
 
@@ -78,7 +78,7 @@ areaOf rows s area (Damaged w m) bytes = area
 abbrev pub areaFor : ℕ → Sought → List ℕ → Event → List ℕ → List ℕ
 areaFor rows s area event bytes = if length area <? rowBytes * rows then area else areaOf rows s area event bytes
 
--- what a frame that goes to row i leaves: the area before and after
+-- what a frame that is entered in row i leaves: the area before and after, and the row that is put
 pub record RowIs (area area′ : List ℕ) (i tick : ℕ) (w : Whole) (bytes : List ℕ) (was : Row) (r : Put) : Type 0 where
   pub put-is : r ≡ rowPut i tick w bytes was
   pub area-is : area′ ≡ areaRow area w bytes i
@@ -99,7 +99,7 @@ pub record StoreIs (area area′ : List ℕ) (rows : ℕ) (s : Sought) (tick : �
   pub put-is : r ≡ putFor (length area) rows s tick event bytes
   pub area-is : area′ ≡ areaFor rows s area event bytes
 
--- a table of rows and a byte area in which what a tick tells was entered: before and after
+-- a table of rows and a byte area, before and after what a tick tells is entered
 pub record EnterIs (rows rows′ : List Row) (area area′ : List ℕ) (tick : ℕ) (event : Event) (bytes : List ℕ) (r : ℕ) : Type 0 where
   pub rows-are : rows′ ≡ entered rows area tick event bytes .rows
   pub area-is : area′ ≡ entered rows area tick event bytes .area

@@ -30,7 +30,7 @@ cleared rows = replicate (length rows) emptyRow
 
 -- ---- which frames
 
--- "One with bit 7 of its first data byte set, or of address 0, is not entered": of "long BACK or ACK" the others are. A tick tells no unique address above 38 bits, and no ACK or BACK with fewer than 2 data bytes; a frame that no tick told may have them, and is not entered.
+-- "One with bit 7 of its first data byte set, or of address 0, is not entered"; every other "long BACK or ACK" is. A tick tells no unique address above 38 bits, and no ACK or BACK with fewer than 2 data bytes; a frame that no tick told may have them, and is not entered.
 abbrev pub isReading : Whole → List ℕ → Bool
 isReading w bytes =
     if 128 ≤? getD bytes 0 0 then false else
@@ -69,7 +69,7 @@ sought rows key =
     if firstOf isEmpty rows <? length rows then Empty (firstOf isEmpty rows) (rowOf rows (firstOf isEmpty rows)) else
     Full
 
--- the row that a host looks up: the first of an address and command, or the number of rows where there is none; address 0 is no device's
+-- the row that a host looks up: the first of an address and command, or the number of rows where there is none; no device has address 0
 abbrev pub lookedUp : List Row → Key → ℕ
 lookedUp rows key = if key .address =? 0 then length rows else firstOf (hasKey key) rows
 
@@ -123,7 +123,7 @@ storedData w bytes = take (w .count) (storedBytes bytes)
 abbrev pub newRow : List Row → ℕ → ℕ → Whole → List ℕ → Row
 newRow rows i tick w bytes = rowFor i tick w (getD bytes 1 0) (rowOf rows i)
 
--- the table's rows and its byte area, and 0 or the refusal's number
+-- after entering: the table's rows, its byte area, and 0 or the refusal's number
 pub record Entered : Type 0 where
   pub rows : List Row
   pub area : List ℕ
@@ -145,7 +145,7 @@ enteredBy rows area tick w bytes (Match i was) = superseded rows area tick w byt
 enteredBy rows area tick w bytes (Empty i was) = superseded rows area tick w bytes i
 enteredBy rows area tick w bytes Full = unchanged rows area (number TableFull)
 
--- "An undamaged" frame is entered, and nothing else that a tick tells
+-- "An undamaged" frame is entered; nothing else that a tick tells is
 abbrev pub enteredOf : List Row → List ℕ → ℕ → Event → List ℕ → Entered
 enteredOf rows area tick Nothing bytes = unchanged rows area 0
 enteredOf rows area tick PassedOver bytes = unchanged rows area 0

@@ -18,12 +18,12 @@ pub record TickAt (recording : List ℕ) (t v : ℕ) : Type 0 where
   pub there : t < length recording / 2 → TickIs recording t v
   pub beyond : length recording / 2 ≤ t → v ≡ 0
 
--- a tick of any party, by the two bytes: the number for what it did, and the party behind it
+-- a tick of any party, made from the two bytes: the number for what it did, and the party after it
 pub record Ticked (S : Type 0) : Type 0 where
   pub number : ℕ
   pub behind : S
 
--- the number of each tick of a recording; a last odd byte is no tick
+-- the number of each tick of a recording; an odd last byte is no tick
 unfoldable pub trace : {S : Type 0} → (S → ℕ → ℕ → Ticked S) → S → List ℕ → List ℕ
 trace tick s [] = []
 trace tick s (first ∷ []) = []

@@ -1,5 +1,5 @@
 -- How the code stands for what is to be believed.
--- The list of a recording by the numbers that nengapiko_ticks gives for its ticks.
+-- The list of a recording, made from the numbers that nengapiko_ticks gives for its ticks.
 use Prim.Native.Nat.{ℕ, _+_}
 use mathlib.Core.Path.{_≡_}
 use mathlib.Core.List.{List, [], _∷_, _++_}
@@ -20,6 +20,6 @@ unfoldable pub entriesBy : ℕ → List ℕ → List ℕ
 entriesBy t [] = []
 entriesBy t (n ∷ ns) = entryBy t n ++ entriesBy (t + 1) ns
 
--- The list has an entry just where nengapiko_ticks gives 2, 3 or 4, or 1 in tick 0.
+-- The list has an entry exactly where nengapiko_ticks gives 2, 3 or 4, or 1 in tick 0.
 abbrev pub ListedAsTold : Type 0
 ListedAsTold = (recording : List ℕ) → listingOf recording ≡ entriesBy 0 (told recording)

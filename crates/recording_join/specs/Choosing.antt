@@ -1,5 +1,5 @@
 -- Inner contracts: nothing that is to be believed rests on them.
--- How two ticks are joined, by their bytes: first bytes are in the order of the rule, a character's the lowest, and silence, 0, comes last. proofs/Rule says that this is Joining's rule.
+-- How two ticks are joined, by their bytes. First bytes are in the order of the rule: a character's is the lowest but for silence, which is 0 and comes last. proofs/Rule says that this is Joining's rule.
 use Prim.Native.Nat.{ℕ, _%_}
 use mathlib.Core.Path.{_≡_}
 use mathlib.Core.Bool.{Bool, true, false}
@@ -16,7 +16,7 @@ takesSecond x y = if y =? 0 then false else if x =? 0 then true else y <? x
 unfoldable pub differs : ℕ → ℕ → Bool
 differs v w = if v % 256 =? 32 then (if w % 256 =? 32 then (if v =? w then false else true) else false) else false
 
--- joining, where nothing is refused but a difference
+-- joining, where nothing but a difference is refused
 pub record DifferenceJoinIs (first second buffer : List ℕ) (r : JoinAnswer) (after : List ℕ) : Type 0 where
   pub answer : r ≡ byDifference (differenceOf first second)
   pub joined : after ≡ bufferAfter r first second buffer

@@ -50,7 +50,7 @@ bytesOf Silence = 0 ∷ 0 ∷ []
 bytesOf (Character c) = 32 ∷ c ∷ []
 bytesOf (Damaged c kind) = 32 * (1 + damageNumber kind) ∷ c ∷ []
 
--- of a tick of both taps; one with two different characters has none, since nothing is joined then
+-- the bytes of a tick of both taps; a tick with two different characters has none, since nothing is joined then
 abbrev pub bytesTogether : Together → List ℕ
 bytesTogether (both h) = bytesOf h
 bytesTogether differ = []

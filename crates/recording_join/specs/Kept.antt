@@ -12,7 +12,7 @@ use Rattle.recording.specs.Form.{ticksOf, badRecording}
 use Rattle.recording_join.specs.Joining.{joinedOf, joinAnswer}
 use Rattle.recording_join.specs.declared.JoinAnswer.the-variants.{Joined, Differ}
 
--- what a recording has in a tick; behind its end silence
+-- what a recording has in a tick; past its end that is silence
 abbrev pub heardIn : ℕ → List ℕ → Heard
 heardIn t recording = getD (ticksOf recording) t Silence
 
@@ -37,7 +37,7 @@ NoneLost =
     (first second : List ℕ) (room : ℕ) → IsJoined first second room → (t c : ℕ)
     → Either (heardIn t first ≡ Character c) (heardIn t second ≡ Character c) → heardIn t (joinedOf first second) ≡ Character c
 
--- a tick is silent just where it is so in both: no damage is lost to silence
+-- a tick is silent exactly where it is silent in both taps: no damage is lost
 pub record SilentJustWhere (t : ℕ) (first second : List ℕ) : Type 0 where
   pub only-there : heardIn t (joinedOf first second) ≡ Silence → (heardIn t first ≡ Silence) × (heardIn t second ≡ Silence)
   pub there : heardIn t first ≡ Silence → heardIn t second ≡ Silence → heardIn t (joinedOf first second) ≡ Silence
@@ -45,7 +45,7 @@ pub record SilentJustWhere (t : ℕ) (first second : List ℕ) : Type 0 where
 abbrev pub SilentWhereBoth : Type 0
 SilentWhereBoth = (first second : List ℕ) (room : ℕ) → IsJoined first second room → (t : ℕ) → SilentJustWhere t first second
 
--- the joined recording is one, as long as the taps: it may be read and joined again
+-- what is joined is a recording again, as long as the taps: it may be read and joined again
 pub record GoodIs (first joined : List ℕ) : Type 0 where
   pub good : badRecording joined ≡ false
   pub as-long : length joined ≡ length first
@@ -98,7 +98,7 @@ WithSilence =
     (n : ℕ) (recording : List ℕ) (room : ℕ) → badRecording recording ≡ false → length recording ≡ 2 * n → length recording ≤ room
     → SilenceAdds n recording room
 
--- damage of equal kind in a tick: that of the tap that is named first is taken
+-- damage of equal kind in a tick: the first-named tap's is taken
 pub record EqualKinds (t : ℕ) (first second : List ℕ) : Type 0 where
   pub kind : Damage
   pub c : ℕ
@@ -108,7 +108,7 @@ pub record EqualKinds (t : ℕ) (first second : List ℕ) : Type 0 where
   pub joined : heardIn t (joinedOf first second) ≡ Damaged c kind
   pub other-order : heardIn t (joinedOf second first) ≡ Damaged d kind
 
--- the answer is the same, also a refusal and its tick, and so is each tick but for damage of equal kind
+-- the answer is the same, a refusal and its tick included, and so is each tick but for damage of equal kind
 pub record SameInOtherOrder (first second : List ℕ) (room : ℕ) : Type 0 where
   pub answer : joinAnswer second first room ≡ joinAnswer first second room
   pub ticks : IsJoined first second room → (t : ℕ)

@@ -1,5 +1,5 @@
 -- To be believed: what the engine must do, or what is claimed of it.
--- Document 02, item 10, for taps that are read in pieces, a piece of each at a time: the answer and the joined recording of all of it, by those of the pieces.
+-- Document 02, item 10, for taps that are read in pieces, a piece of each at a time: the answer and the joined recording for the whole, made from those of the pieces.
 use Prim.Native.Nat.{ℕ, _+_, _*_, _<_}
 use mathlib.Core.Path.{_≡_}
 use mathlib.Core.List.{List, [], _∷_, _++_}
@@ -12,22 +12,22 @@ use Rattle.recording_join.specs.Joining.{joinAnswer, joinedOf}
 use Rattle.recording_join.specs.declared.JoinAnswer.{JoinAnswer}
 use Rattle.recording_join.specs.declared.JoinAnswer.the-variants.{Joined, Refused, Differ}
 
--- "After 21 for either recording, it refuses unequal lengths with 22": 21 goes first, whichever piece has it
+-- "After 21 for either recording, it refuses unequal lengths with 22": 21 comes first, whichever piece has it
 abbrev pub refusedBy : Refusal → Refusal → Refusal
 refusedBy earlier later = if number earlier =? number BadRecording then earlier else later
 
--- the answer of n ticks, and that of what follows them
+-- the answer for n ticks and what follows them, made from the answers for each
 unfoldable pub pieced : ℕ → JoinAnswer → JoinAnswer → JoinAnswer
 pieced n (Refused why) (Refused later) = Refused (refusedBy why later)
 pieced n (Refused why) (Differ t) = Refused why
 pieced n (Refused why) Joined = Refused why
--- 21 and 22 of what follows go before 23
+-- 21 and 22 for what follows come before 23
 pieced n (Differ s) (Refused later) = Refused later
 -- "names the first such tick"
 pieced n (Differ s) (Differ t) = Differ s
 pieced n (Differ s) Joined = Differ s
 pieced n Joined (Refused later) = Refused later
--- ticks count on
+-- the tick is counted from the start of the n ticks on
 pieced n Joined (Differ t) = Differ (n + t)
 pieced n Joined Joined = Joined
 
@@ -35,7 +35,7 @@ pieced n Joined Joined = Joined
 abbrev pub largestTick : ℕ
 largestTick = 18446744073709551615
 
--- an answer in these: a tick above them, which no file has, is the last that they hold
+-- an answer in 64 bits: a tick above the largest, which no file has, is given as the largest
 unfoldable pub within64 : JoinAnswer → JoinAnswer
 within64 Joined = Joined
 within64 (Refused why) = Refused why
@@ -46,16 +46,16 @@ pub record Piece : Type 0 where
   pub first : List ℕ
   pub second : List ℕ
 
--- the answer of a piece, with room enough
+-- the answer for a piece, with room enough
 abbrev pub pieceAnswer : Piece → JoinAnswer
 pieceAnswer p = joinAnswer (p .first) (p .second) (length (p .first))
 
--- the answer of pieces of so many ticks, one after the other, from n ticks with this answer on
+-- the answer for pieces of `size` ticks each, one after the other, where n ticks came before and had this answer
 unfoldable pub answerFrom : ℕ → ℕ → JoinAnswer → List Piece → JoinAnswer
 answerFrom size n answer [] = answer
 answerFrom size n answer (p ∷ ps) = answerFrom size (n + size) (pieced n answer (pieceAnswer p)) ps
 
--- the joined pieces, and the taps, one piece behind the other
+-- the joined pieces, and the taps, one piece after the other
 unfoldable pub joinedPieces : List Piece → List ℕ
 joinedPieces [] = []
 joinedPieces (p ∷ ps) = joinedOf (p .first) (p .second) ++ joinedPieces ps

@@ -28,12 +28,12 @@ ListingShort = (recording : List ℕ) → length (listingOf recording) ≤ 9 * (
 
 -- ---- in pieces
 
--- the reader behind some ticks
+-- the reader after some ticks
 unfoldable pub behind : Receiver → List Heard → Receiver
 behind r [] = r
 behind r (h ∷ hs) = behind (taken r h .receiver) hs
 
--- What is found in two pieces, one behind the other, is what is found in the first, and then what the reader that it left finds in the second, its ticks counted on.
+-- What is found in two pieces, one after the other, is what is found in the first, and then what the reader that it left finds in the second, its ticks counted on.
 pub record TwoPieces (t : ℕ) (r : Receiver) (first second : List ℕ) : Type 0 where
   pub found-both : found t r (ticksOf (first ++ second)) ≡ found t r (ticksOf first) ++ found (t + length first / 2) (behind r (ticksOf first)) (ticksOf second)
   pub behind-both : behind r (ticksOf (first ++ second)) ≡ behind (behind r (ticksOf first)) (ticksOf second)
@@ -44,7 +44,7 @@ InPieces = (t n : ℕ) (r : Receiver) (first second : List ℕ) → length first
 
 -- ---- "finding each start"
 
--- what the tick reader tells in a tick, behind some others
+-- what the tick reader tells in a tick that follows some others
 abbrev pub tellsBehind : List Heard → Heard → Event
 tellsBehind past h = taken (behind passing past) h .event
 
@@ -55,7 +55,7 @@ endsFrame Broken = false
 endsFrame (Frame w) = true
 endsFrame (Event.Damaged w m) = true
 
--- A frame may start in the tick that follows these. The last of them ended a frame; or it is silent, and is not the single silent tick that is passed over inside a frame: it is the recording's first, or the second in a row, or behind a character in which something is told.
+-- A frame may start in the tick that follows these. The last of them ended a frame; or it is silent, and is not the single silent tick that is passed over inside a frame: it is the recording's first, or the second in a row, or it follows a character of which something is told.
 pub data MayStart : List Heard → Type 0 where
   frame-ended : (past : List Heard) (h : Heard) → endsFrame (tellsBehind past h) ≡ true → MayStart (past ++ (h ∷ []))
   first-silent : MayStart (Silence ∷ [])
@@ -72,7 +72,7 @@ preamble (suc n) = Character 0xFF ∷ preamble n
 abbrev pub frameOf : ℕ → ℕ → List Heard → ℕ → List Heard → List Heard
 frameOf preambles d head c tail = preamble preambles ++ (Character d ∷ (head ++ (Character c ∷ tail)))
 
--- as many of each as the delimiter and the byte count say, and an ACK or a BACK with 2 or more. Damaged characters may be among head and tail.
+-- as many of each as the delimiter and the byte count say; an ACK or a BACK has a byte count of 2 or more. Damaged characters may be among head and tail.
 pub record Complete (preambles d : ℕ) (head : List Heard) (c : ℕ) (tail : List Heard) : Type 0 where
   pub frame : ℕ
   pub long : Bool
@@ -90,7 +90,7 @@ silences (Silence ∷ hs) = 1 + silences hs
 silences (Character c ∷ hs) = silences hs
 silences (Damaged c kind ∷ hs) = silences hs
 
--- the exclusive-or of characters, and whether one of them is damaged, from what was before on
+-- the exclusive-or of characters, and whether one of them is damaged, going on from what came before
 abbrev pub summedBy : ℕ → Heard → ℕ
 summedBy s Silence = s
 summedBy s (Character c) = bitXor s c
@@ -116,13 +116,13 @@ frameVerdict d head c tail =
     if sumFrom (bitXor (sumFrom d head) c) tail =? 0 then 1 else
     2
 
--- the list up to tick e is the list of what stands before the start, and the entry of e; and the recording's list begins so
+-- the list up to tick e is the list of what stands before the frame's start, then the entry of e; and the recording's list begins with it
 pub record JumpsTo (recording : List ℕ) (past hs : List Heard) (e verdict : ℕ) : Type 0 where
   pub next-entry : listOf (past ++ hs) ≡ listOf past ++ entry e verdict
   pub later : List ℕ
   pub listed : listingOf recording ≡ listOf (past ++ hs) ++ later
 
--- A frame starts in the tick that follows `past`, with single silent ticks before any of its characters but the first. It ends in its check byte's tick: so many ticks further as it has characters before that, with the c data bytes that its byte count says, and silent ticks.
+-- A frame starts in the tick that follows `past`, with single silent ticks before any of its characters but the first. It ends in the tick of its check byte: as many ticks later as it has silent ticks and characters before the check byte, among these the c data bytes that its byte count says.
 abbrev pub JumpEnd : Type 0
 JumpEnd =
     (recording : List ℕ) (past hs rest : List Heard) (preambles d : ℕ) (head : List Heard) (c : ℕ) (tail : List Heard)

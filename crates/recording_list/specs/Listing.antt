@@ -54,7 +54,7 @@ listAnswer recording room =
     if room <? length (listingOf recording) then Refused BufferShort else
     Entries (length (listingOf recording) / 9)
 
--- the buffer behind the call: the list at its front, or as it was
+-- the buffer after the call: the list at its front, or as it was
 abbrev pub bufferAfter : Listed → List ℕ → List ℕ → List ℕ
 bufferAfter (Entries n) recording buffer = stored buffer 0 (listingOf recording)
 bufferAfter (Refused why) recording buffer = buffer

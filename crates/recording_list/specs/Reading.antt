@@ -46,7 +46,7 @@ pub record SoundTick (recording : List ℕ) (t : ℕ) : Type 0 where
   pub sounds : number ≡ 0 → ⊥
   pub within : 2 * t + 2 ≤ length recording
 
--- tick u is t, or the one behind it, t being silent
+-- tick u is t, or the next tick where t is silent
 pub data Reaches (recording : List ℕ) (t : ℕ) : ℕ → Type 0 where
   at-once : Reaches recording t t
   behind-silence : SilentTick recording t → Reaches recording t (t + 1)
@@ -75,11 +75,11 @@ NextIs recording t Over = NoMore recording t
 
 -- ---- so many characters
 
--- whether a character was damaged, behind one more tick
+-- whether a character was damaged, after one more tick
 abbrev pub harmedBy : Bool → ℕ → Bool
 harmedBy harm v = if v % 256 =? 32 then harm else true
 
--- from tick t to before tick u there are n characters, with at most one silent tick before each; sum and harm are brought up to date from s and b on
+-- from tick t up to but not including tick u there are n characters, with at most one silent tick before each; sum and harm are brought up to date, starting from s and b
 pub data Walk (recording : List ℕ) (t s : ℕ) (b : Bool) : ℕ → ℕ → ℕ → Bool → Type 0 where
   no-character : Walk recording t s b t 0 s b
   one-more : {u w n sum : ℕ} {harm : Bool} → Walk recording t s b u n sum harm → Reaches recording u w → (k : SoundTick recording w)
@@ -112,13 +112,13 @@ RunIs recording t need s b RunOver = WalkOver recording t s b need
 pub record StillSound (other v after : ℕ) : Type 0 where
   pub sound : after ≡ 0 → (other ≡ 0) × (v % 256 ≡ 32)
 
--- where so many ticks are undamaged characters, they are such a walk
+-- where so many ticks are undamaged characters, Walk holds of them
 pub record PlainIs (recording : List ℕ) (t need s : ℕ) (p : Plain) : Type 0 where
   pub run : p .plain ≡ true → (b : Bool) → Walk recording t s b (t + need) need (p .sum) b
 
 -- ---- the reader inside a frame
 
--- n characters more lead to the byte count
+-- n more characters lead to the byte count
 pub data HeadPlace (r : Receiver) (n : ℕ) : Type 0 where
   at-first : r .place ≡ First → n ≡ (if r .header .long then 6 else 2) + r .expansion → HeadPlace r n
   at-address : (k : ℕ) → r .place ≡ Address k → 1 ≤ k → n ≡ k + r .expansion + 1 → HeadPlace r n
@@ -126,7 +126,7 @@ pub data HeadPlace (r : Receiver) (n : ℕ) : Type 0 where
   at-command : r .place ≡ Command → n ≡ 1 → HeadPlace r n
   at-count : r .place ≡ Count → n ≡ 0 → HeadPlace r n
 
--- n characters more lead to the check byte
+-- n more characters lead to the check byte
 pub data TailPlace (r : Receiver) (n : ℕ) : Type 0 where
   at-data : (k : ℕ) → r .place ≡ Data k → k < r .count → n ≡ r .count - k → TailPlace r n
   at-check : r .place ≡ Check → n ≡ 0 → TailPlace r n
@@ -152,7 +152,7 @@ verdictOf sum harm = if harm then 2 else if sum =? 0 then 1 else 2
 
 -- ---- what became of a frame
 
--- l is what is found from tick t on: an entry, and what the reader before a frame, or one that passes over characters, finds behind it; or nothing
+-- l is what is found from tick t on: an entry, and then what a reader before a frame, or one that passes over characters, finds after it; or nothing
 pub record EndsAt (recording : List ℕ) (t : ℕ) (l : List ℕ) (u verdict : ℕ) (r : Receiver) : Type 0 where
   pub from : t ≤ u
   pub within : 2 * u + 2 ≤ length recording
@@ -176,11 +176,11 @@ pub record HeadIs (recording : List ℕ) (t frame n s : ℕ) (o : Outcome) : Typ
 pub record FrameIs (recording : List ℕ) (t : ℕ) (r : Receiver) (o : Outcome) : Type 0 where
   pub this : OutcomeIs recording t (foundFrom recording t r) o
 
--- in the preamble, behind one 0xFF or behind two
+-- in the preamble, after one 0xFF or after two
 abbrev pub inPreamble : Bool → Receiver
 inPreamble two = if two then blank (Preamble 2) else blank (Preamble 1)
 
--- a character of the preamble: another 0xFF, and the tick behind it, or what became of the frame
+-- a character of the preamble: another 0xFF, and the tick after it, or what became of the frame
 pub record MorePreamble (recording : List ℕ) (t : ℕ) (two : Bool) (u : ℕ) : Type 0 where
   pub onward : t < u
   pub within : 2 * u ≤ length recording
@@ -201,7 +201,7 @@ abbrev pub ItemIs : List ℕ → ℕ → Item → Type 0
 ItemIs recording t (Told u verdict next) = ToldAt recording t u verdict next
 ItemIs recording t Done = foundFrom recording t idle ≡ []
 
--- the ticks from t to before u may be left out by the reader r, which s is behind them
+-- the reader r may leave out the ticks from t up to but not including u, and after them it is s
 pub record LeftOut (recording : List ℕ) (t : ℕ) (r : Receiver) (u : ℕ) (s : Receiver) : Type 0 where
   pub from : t ≤ u
   pub within : 2 * u ≤ length recording
@@ -216,12 +216,12 @@ pub record SoundFrom (recording : List ℕ) (t u : ℕ) : Type 0 where
 pub record HasRoom (put : Bool) (need : ℕ) (out : List ℕ) : Type 0 where
   pub room : put ≡ true → need ≤ length out
 
--- entries behind n others: put, or counted alone; r is how many there are then
+-- entries after n others, put into the buffer or only counted; r is how many there are then
 pub record EntriesAre (put : Bool) (entries : List ℕ) (n : ℕ) (before : List ℕ) (r : ℕ) (after : List ℕ) : Type 0 where
   pub number : 9 * r ≡ 9 * n + length entries
   pub buffer : after ≡ (if put then stored before (9 * n) entries else before)
 
--- whether the buffer holds the list; it stays
+-- whether the buffer has room for the list; the buffer stays as it was
 pub record RoomIs (recording before : List ℕ) (r : Bool) (after : List ℕ) : Type 0 where
   pub answer : r ≡ (length (listingOf recording) ≤? length before)
   pub stays : after ≡ before

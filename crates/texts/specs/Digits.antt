@@ -1,12 +1,12 @@
 -- How the code stands for what is to be believed.
--- Numbers as text, for programs that print what they run.
+-- Numbers as text, for the programs that print.
 use Prim.Native.Nat.{ℕ, _+_, _*_, _/_, _%_}
 use mathlib.Core.Bool.{Bool, false}
 use mathlib.Core.List.{List, [], _∷_, _++_}
 use Rattle.base.specs.Choice.{if_then_else_, _<?_}
 use Rattle.texts.specs.Decimal.{decimalOf}
 
--- a number in decimal: of 64 bits it has at most 20 digits
+-- a number in decimal; one of 64 bits has at most 20 digits
 abbrev pub decimal : ℕ → List ℕ
 decimal n = decimalOf 20 n
 

@@ -1,5 +1,5 @@
 -- How the code stands for what is to be believed.
--- Text that is put into a lent output buffer, one byte behind the other. What does not fit is left out.
+-- Text that is put into a lent output buffer, byte after byte. What does not fit is left out.
 use Prim.Native.Nat.{ℕ, _+_}
 use mathlib.Core.List.{List, [], _∷_}
 use mathlib.Core.Path.{_≡_}
@@ -22,6 +22,6 @@ unfoldable pub put : Out → List ℕ → Out
 put o [] = o
 put o (b ∷ text) = put (putByte o b) text
 
--- what a function that puts text promises: the buffer behind it, and the place that it returns
+-- what a function that puts text promises: the buffer after it, and the place that it returns
 pub record PutIs (text before : List ℕ) (at r : ℕ) (after : List ℕ) : Type 0 where
   pub out : outOf after r ≡ put (outOf before at) text
