@@ -32,6 +32,6 @@ pub record SendIs (d : Device) (contents frame : List ℕ) (s : DeviceSent) (fra
   pub sent : s ≡ deviceSends d frame-after
   pub frame-is : frame-after ≡ begunFrame d (d .turn) contents frame
 
--- the device behind what it sends, with this reader
+-- the device after what it sends, with this reader
 abbrev pub deviceBehind : Device → Bool → Turn → ℕ → Bool → Bool → ℕ → Receiver → Device
 deviceBehind d deaf turn length burst primary due r = sends d deaf turn length burst primary due r Silent .device

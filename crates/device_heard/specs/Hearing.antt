@@ -1,5 +1,5 @@
 -- Inner contracts: nothing that is to be believed rests on them.
--- What a device makes of what it hears, by the definitions of turns, and what taking promises.
+-- What a device does on what it hears, by the definitions of turns, and what taking promises.
 use Prim.Native.Nat.{ℕ}
 use mathlib.Core.Bool.{Bool, false}
 use mathlib.Core.Path.{_≡_}
@@ -11,7 +11,7 @@ use Rattle.turns.specs.Link.{DeviceSide, deviceData}
 use Rattle.turns.specs.declared.Device.{Device}
 use Rattle.turns.specs.declared.DeviceTaken.{DeviceTaken}
 
--- how many characters a frame has: of its header only the form of its address counts
+-- how many characters a frame has; of its header only the form of the address matters
 abbrev pub lengthBy : ℕ → Bool → ℕ → ℕ
 lengthBy preamble long count = frameLength preamble (record { frame = 0; long = long; primary = false; burst = false; address = 0; command = 0 }) count
 

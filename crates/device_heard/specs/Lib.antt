@@ -1,2 +1,2 @@
--- What a device does behind what it heard, by the definitions of turns.
+-- What a device does after what it heard, by the definitions of turns.
 pub mod Hearing

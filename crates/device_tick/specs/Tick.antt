@@ -43,19 +43,19 @@ stepOf r frame bytes contents = record { side = sideOf (r .device) frame bytes c
 abbrev pub uncalled : Device → DeviceCallTaken
 uncalled d = record { device = d; result = CallStatus.Nothing }
 
--- behind an answer or a burst content, by what it answered
+-- after an answer or a burst content, by what the call answered
 abbrev pub calledBy : Device → DeviceCalled → DeviceCallTaken
 calledBy d (DeviceCalled.Accepted e) = record { device = e; result = CallStatus.Taken }
 calledBy d (DeviceCalled.Refused why) = record { device = d; result = CallStatus.Refused why }
 
--- a call, whatever the tick told before it and whatever data it heard: `frame-after` and `contents-after` are the frame buffer and the burst content behind the call
+-- a call, whatever the tick told before it and whatever data it heard: `frame-after` and `contents-after` are the frame buffer and the burst content after the call
 pub record DeviceCalledIs (limit : ℕ) (d : Device) (call : DeviceHostCall) (put frame contents : List ℕ) (r : DeviceCallTaken)
     (frame-after contents-after : List ℕ) : Type 0 where
   pub goes : (told : DeviceTold) (event : Event) (bytes : List ℕ)
       → deviceCalls limit (tells d told event) (callOf call put) frame bytes contents
       ≡ deviceSent (r .device) frame-after bytes contents-after told (resultOf (r .result))
 
--- a tick: what is sent, told and answered, the state and the lent buffers behind it; and each frame that its reader found
+-- a tick: what is sent, told and answered, the state and the lent buffers after it; and each frame that its reader found
 pub record DeviceTickIs (limit : ℕ) (d : Device) (heard : Heard) (call : DeviceHostCall) (put frame bytes contents : List ℕ) (r : DeviceTicked)
     (frame-after bytes-after contents-after : List ℕ) : Type 0 where
   pub step : stepOf r frame-after bytes-after contents-after ≡ deviceTick limit (sideOf d frame bytes contents) heard (callOf call put)

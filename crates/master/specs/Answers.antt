@@ -35,7 +35,7 @@ abbrev pub askedFrame : Called Master → List ℕ → List ℕ → List ℕ
 askedFrame (accepted m) frame put = stored frame 0 put
 askedFrame (refused why) frame put = frame
 
--- a request that comes to this
+-- a request with this outcome
 pub record AskedIs (c : Called Master) (m : Master) (q : Request) (bytes frame : List ℕ) (r : MasterRequested) (after : List ℕ) : Type 0 where
   pub result : asked r ≡ c
   pub buffer : after ≡ askedFrame c frame (frameBytes (q .preamble) (requestHeader m q) bytes)
@@ -44,6 +44,6 @@ pub record AskedIs (c : Called Master) (m : Master) (q : Request) (bytes frame :
 abbrev pub RequestIs : ℕ → Master → Request → List ℕ → List ℕ → MasterRequested → List ℕ → Type 0
 RequestIs limit m q bytes frame r after = AskedIs (requested limit m q (length bytes)) m q bytes frame r after
 
--- from the address on, where polling addresses go up to `polling`
+-- for the checks from the address on, where polling addresses go up to `polling`
 abbrev pub UpToIs : ℕ → ℕ → Master → Request → List ℕ → List ℕ → MasterRequested → List ℕ → Type 0
 UpToIs limit polling m q bytes frame r after = AskedIs (requestedUpTo polling limit m q (length bytes)) m q bytes frame r after

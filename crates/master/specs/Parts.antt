@@ -37,6 +37,6 @@ pub record FramePutIs (preamble : ℕ) (h : Header) (bytes frame : List ℕ) (n 
 abbrev pub sendsNothing : Master → MasterSent
 sendsNothing m = sends m false (m .timer) (m .message) (m .receiver) Sent.Silent
 
--- a character of the STX is sent, with the timer and the stage behind it
+-- a character of the STX is sent, with the timer and the stage after it
 abbrev pub sendsCharacter : Master → Timer → Stage → ℕ → ℕ → MasterSent
 sendsCharacter m t stage attempts c = sends m true t (attempted (m .message) stage attempts) passing (Sent.Character c)

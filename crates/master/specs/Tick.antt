@@ -31,13 +31,13 @@ stepOf r frame bytes = record { side = sideOf (r .master) frame bytes; sent = r 
 abbrev pub uncalled : Master → MasterCallTaken
 uncalled m = record { master = m; result = CallStatus.Nothing }
 
--- a call, whatever the tick told before it and whatever data it heard: `after` is the frame buffer behind the call
+-- a call, whatever the tick told before it and whatever data it heard: `after` is the frame buffer after the call
 pub record MasterCalledIs (limit : ℕ) (m : Master) (call : MasterHostCall) (put frame : List ℕ) (r : MasterCallTaken) (after : List ℕ) : Type 0 where
   pub goes : (told : MasterTold) (event : Event) (bytes : List ℕ)
       → masterCalls limit (tells m told event) (callOf call put) frame bytes
       ≡ masterSent (masterSends (r .master) after) after bytes told (resultOf (r .result))
 
--- a tick: what is sent, told and answered, the state and both lent buffers behind it; and each frame that its reader found
+-- a tick: what is sent, told and answered, the state and both lent buffers after it; and each frame that its reader found
 pub record MasterTickIs (limit : ℕ) (m : Master) (heard : Heard) (call : MasterHostCall) (put frame bytes : List ℕ) (r : MasterTicked)
     (frame-after bytes-after : List ℕ) : Type 0 where
   pub step : stepOf r frame-after bytes-after ≡ masterTick limit (sideOf m frame bytes) heard (callOf call put)

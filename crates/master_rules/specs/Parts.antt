@@ -8,10 +8,10 @@ use Rattle.turns.specs.declared.Ending.{Ending}
 use Rattle.turns.specs.declared.MasterTold.the-variants.{Nothing}
 use Rattle.turns.specs.declared.Message.{Message}
 
--- address and command of an ACK are those of the request
+-- whether address and command of an ACK are those of the request
 abbrev pub sameRequest : Header → Header → Bool
 sameRequest q h = if sameBit (q .long) (h .long) then (if q .address =? h .address then q .command =? h .command else false) else false
 
--- a message that has not come to its end
+-- a message that has not ended
 abbrev pub unended : Message → Ending
 unended g = record { message = g; told = Nothing }

@@ -1,5 +1,5 @@
 -- How the code stands for what is to be believed.
--- A script of the modem chip has two bytes for each access: 16 times the operation plus a low part, and a value. Each access gives a number.
+-- A script for the modem chip has two bytes for each access: 16 times the operation plus a low part, and a value. Each access gives a number.
 use Prim.Native.Nat.{ℕ, _+_, _*_, _/_, _%_}
 use mathlib.Core.List.{List}
 use mathlib.Core.Path.{_≡_}
@@ -24,11 +24,11 @@ accessedAs r = gives (r .number) (r .chip)
 
 -- ---- operations 0 to 2: a register
 
--- the low part: 10 to 15 stand for registers 255 to 260
+-- the register of the low part; 10 to 15 stand for registers 255 to 260
 abbrev pub registerOf : ℕ → ℕ
 registerOf low = if low <? 10 then low else low + 245
 
--- 0, or the refusal
+-- 0, or the refusal's number
 abbrev pub readRefusal : Called Looked → ℕ
 readRefusal (accepted looked) = 0
 readRefusal (refused why) = why % 256
@@ -49,7 +49,7 @@ onRegister x operation n v =
 abbrev pub markOf : ℕ → Mark
 markOf n = if n =? 1 then Overrun else if n =? 2 then Framing else Sound
 
--- nothing, or a character with its ninth bit
+-- what goes out, as a number: 0 for nothing, else 1 or 2 by the character's ninth bit
 abbrev pub outNumber : Carried → ℕ
 outNumber Silence = 0
 outNumber (Nine c ninth mark) = if ninth then 2 else 1
@@ -58,7 +58,7 @@ abbrev pub outCharacter : Carried → ℕ
 outCharacter Silence = 0
 outCharacter (Nine c ninth mark) = c
 
--- the count, one byte further on
+-- the count moved up by one byte, with the value as its lowest byte
 abbrev pub counting : Chip → ℕ → Chip
 counting x v = record {
   count = x .count % 16777216 * 256 + v;
@@ -73,7 +73,7 @@ counting x v = record {
   deaf = x .deaf;
 }
 
--- 3 a tick begins behind silence, 4 behind a character with ninth bit and mark in the low part; 5 it ends, and gives what goes out; 6 which character that is; 7 a fresh chip; 8 and above put the value behind the count's bytes
+-- 3: a tick begins after silence; 4: after a character, with its ninth bit and mark in the low part; 5: the tick ends, and gives what goes out; 6: which character that is; 7: a fresh chip; 8 and above: the count moves up by one byte, and the value becomes its lowest byte
 abbrev pub onTick : Chip → ℕ → ℕ → ℕ → Ticked Chip
 onTick x operation low v =
     if operation =? 3 then gives 0 (arrives x Silence) else

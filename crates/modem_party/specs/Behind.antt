@@ -18,13 +18,13 @@ use Rattle.turns.specs.declared.Sent.{Sent}
 
 -- ---- a party, and a list of ticks without the chip
 
--- a party's tick: the party behind it, what it sends, and all that it tells
+-- a party's tick: the party after it, what it sends, and all that it tells
 pub record Step (S T : Type 0) : Type 0 where
   pub behind : S
   pub sent : Sent
   pub told : T
 
--- what is heard, the ninth bit under a mark, and the host's call
+-- what is heard, the ninth bit where damage is marked, and the host's call
 pub record Tick (C : Type 0) : Type 0 where
   pub heard : Heard
   pub bit : Bool
@@ -34,7 +34,7 @@ unfoldable pub plain : {S C T : Type 0} → (S → Heard → C → Step S T) →
 plain step s [] = []
 plain step s (t ∷ ts) = step s (t .heard) (t .call) ∷ plain step (step s (t .heard) (t .call) .behind) ts
 
--- what is asked of a party: it is deaf in the tick behind one in which it sent, and deaf it does what it does in silence (document 01: "A sending party hears nothing")
+-- what is asked of a party: it is deaf in the tick after one in which it sent, and a deaf party does what it does in silence (document 01: "A sending party hears nothing")
 pub record HearsNot {S C T : Type 0} (step : S → Heard → C → Step S T) (deaf : S → Bool) : Type 0 where
   pub ignores : (s : S) (h : Heard) (c : C) → deaf s ≡ true → step s h c ≡ step s Silence c
   pub sends-deaf : (s : S) (h : Heard) (c : C) (x : ℕ) → step s h c .sent ≡ Sent.Character x → deaf (step s h c .behind) ≡ true
@@ -51,7 +51,7 @@ pub record Behind (S T : Type 0) : Type 0 where
   pub chip : Chip
   pub carried : Carried
 
--- the party's tick is done; what it sends goes out
+-- the party's tick is over; what it sends goes out
 abbrev pub closes : {S T : Type 0} → Chip → Step S T → Behind S T
 closes x u = record { step = u; chip = chipAfter (says x (u .sent)); carried = goesOut (says x (u .sent)) }
 
@@ -59,7 +59,7 @@ closes x u = record { step = u; chip = chipAfter (says x (u .sent)); carried = g
 abbrev pub behindTick : {S C T : Type 0} → (S → Heard → C → Step S T) → Chip → S → Carried → C → Behind S T
 behindTick step x s w c = closes (hears (arrives x w) .chip) (step s (hears (arrives x w) .heard) c)
 
--- what the party does in a tick, and what its line gets
+-- what the party does in a tick, and what goes out on its line
 pub record OnLine (S T : Type 0) : Type 0 where
   pub step : Step S T
   pub carried : Carried
@@ -84,7 +84,7 @@ unfoldable pub wired : {S T : Type 0} → List (Step S T) → List (OnLine S T)
 wired [] = []
 wired (u ∷ us) = record { step = u; carried = wireSent (u .sent) } ∷ wired us
 
--- a chip between two ticks of a party: byte 2 is read, nothing is written, and it is deaf only if the party is. A fresh one is so.
+-- a chip between two ticks of a party: byte 2 is read, nothing is written, and it is deaf only if the party is. A fresh chip is so.
 pub record Rests (x : Chip) (deaf : Bool) : Type 0 where
   pub read-out : x .received ≡ false
   pub ready : x .ready ≡ true
@@ -94,13 +94,13 @@ pub record Rests (x : Chip) (deaf : Bool) : Type 0 where
 abbrev pub BehindSame : {S C T : Type 0} → (S → Heard → C → Step S T) → (S → Bool) → Type 0
 BehindSame {S} {C} {T} step deaf = (x : Chip) (s : S) (ts : List (Tick C)) → Rests x (deaf s) → chipped step x s ts ≡ wired (plain step s ts)
 
--- ---- one tick that the code made: the party did `u`, and its chip ended the tick as `e`
+-- ---- one tick that the code ran: the party did `u`, and its chip ended the tick as `e`
 
 pub record BehindIs {S C T : Type 0} (step : S → Heard → C → Step S T) (deaf : S → Bool) (x : Chip) (w : Carried) (s : S) (c : C) (u : Step S T) (e : TickEnded) : Type 0 where
   -- the party's tick with what the driver heard, and the chip's end of the tick with what the party sends
   pub ticks : u ≡ step s (hears (arrives x w) .heard) c
   pub ends : e ≡ tickEnds (says (hears (arrives x w) .chip) (u .sent))
-  -- and so: what it does without the chip, where the chip rests
+  -- and so: the party does what it does without the chip, where the chip was at rest
   pub same : (h : Heard) (bit : Bool) → w ≡ wire h bit → Rests x (deaf s) → u ≡ step s h c
   pub sends : (h : Heard) (bit : Bool) → w ≡ wire h bit → Rests x (deaf s) → e .carried ≡ wireSent (u .sent)
   pub rests : (h : Heard) (bit : Bool) → w ≡ wire h bit → Rests x (deaf s) → Rests (e .chip) (deaf (u .behind))

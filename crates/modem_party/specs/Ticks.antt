@@ -20,7 +20,7 @@ use Rattle.modem_party.specs.Behind.{Step, BehindSame, BehindIs}
 use Rattle.modem_party.specs.declared.MasterBehind.{MasterBehind}
 use Rattle.modem_party.specs.declared.DeviceBehind.{DeviceBehind}
 
--- ---- the two parties; all that a tick tells is the whole of it
+-- ---- the two parties; all that a tick tells is the whole step
 
 abbrev pub masterDone : MasterStep → Step MasterSide MasterStep
 masterDone u = record { behind = u .side; sent = u .sent; told = u }

@@ -1,5 +1,5 @@
 -- Inner contracts: nothing that is to be believed rests on them.
--- What is heard in a tick, silence or a character.
+-- Whether silence or a character is heard in a tick.
 use mathlib.Core.Bool.{Bool, true, false}
 use Rattle.line.specs.declared.Heard.{Heard}
 use Rattle.line.specs.declared.Heard.the-variants.{Silence, Character, Damaged}

@@ -1,5 +1,5 @@
 -- Inner contracts: nothing that is to be believed rests on them.
--- Which ticks of a party have a line: those in which it hears what the script changed, finds a frame or a broken one, tells its host something or refuses its call. What a line says is printed, and no promise speaks of what is printed.
+-- Which ticks of a party have a line: those in which it hears what the script changed, finds a frame or a broken one, tells its host something or refuses its call. The text of a line is only printed, and nothing is promised of it.
 use Prim.Native.Nat.{ℕ}
 use mathlib.Core.Bool.{Bool, true, false}
 use Rattle.base.specs.Choice.{if_then_else_, _<?_}
@@ -29,6 +29,6 @@ refusedBy CallStatus.Nothing = 0
 refusedBy CallStatus.Taken = 0
 refusedBy (CallStatus.Refused why) = number why
 
--- a device tells its host only of a frame that it found, so this is all for a device
+-- a device tells its host only of a frame that it found, so for a device this covers all
 abbrev pub hasLine : Bool → Event → ℕ → Bool
 hasLine changed event refused = if changed then true else (if eventShows event then true else 0 <? refused)

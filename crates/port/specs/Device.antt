@@ -1,5 +1,5 @@
 -- To be believed: what the engine must do, or what is claimed of it.
--- Document 02, item 13: a device of the infrared port. It is document 01's device (crates/turns/specs/Device.antt) but for what stands here: the shorter STO of commands 0 and 11, its preamble, and that it dozes. It has no call for burst content, so document 01's refusal of "burst on without burst content" with 10 is that of every "burst on" (specs/NoBurst).
+-- Document 02, item 13: a device of the infrared port. It is document 01's device (crates/turns/specs/Device.antt) except for what stands here: the shorter STO of commands 0 and 11, its preamble, and that it dozes. It has no call for burst content, so document 01's refusal of "burst on without burst content" with 10 refuses every "burst on" (specs/NoBurst).
 use Prim.Native.Nat.{ℕ, _+_}
 use mathlib.Core.Bool.{Bool, true, false}
 use mathlib.Core.List.{List}
@@ -34,7 +34,7 @@ use Rattle.port.specs.declared.PortDeviceSent.{PortDeviceSent}
 
 -- ---- what wakes a dozing device
 
--- this character, undamaged
+-- whether this character is heard, undamaged
 abbrev pub isUndamaged : ℕ → Heard → Bool
 isUndamaged c Silence = false
 isUndamaged c (Character e) = e =? c
@@ -60,17 +60,17 @@ wakes a b h = if alternate a b h then true else (if isOther b then isOther h els
 
 -- ---- take: what was heard
 
--- a silent tick is quiet, and counted as long as it matters; any character ends the quiet
+-- a silent tick is quiet, and is counted as long as the count matters; any character ends the quiet
 abbrev pub quietAfter : ℕ → Heard → ℕ
 quietAfter n Silence = if n <? dozeTicks then n + 1 else n
 quietAfter n (Character c) = 0
 quietAfter n (Damaged c kind) = 0
 
--- "dozes after 20,946 quiet ticks"; else it listens like this
+-- "dozes after 20,946 quiet ticks"; else it listens in this manner
 abbrev pub unlessQuiet : ℕ → Ear → Ear
 unlessQuiet quiet ear = if dozeTicks ≤? quiet then Dozes Silence Silence else ear
 
--- after what was heard, with this ear
+-- the device after what was heard, which then listens in this manner
 abbrev pub deviceTook : PortDevice → Heard → Ear → DeviceTaken → PortDeviceTaken
 deviceTook y heard ear t = record {
   device = record { device = t .device; ear = ear; quiet = quietAfter (y .quiet) heard };
@@ -78,11 +78,11 @@ deviceTook y heard ear t = record {
   event = t .event;
 }
 
--- one that does not doze
+-- a device that was not dozing before this tick
 abbrev pub listensOn : PortDevice → Heard → Ear → DeviceTaken → PortDeviceTaken
 listensOn y heard ear t = deviceTook y heard (unlessQuiet (quietAfter (y .quiet) heard) ear) t
 
--- a device that does not read: it is as it was, and nothing is told of this tick, or that a character is passed over
+-- a device that does not read: it is as it was; of this tick nothing is told, or that a character is passed over
 abbrev pub unread : Device → Event → DeviceTaken
 unread d event = record { device = d; told = DeviceTold.Nothing; event = event }
 
@@ -126,7 +126,7 @@ isIdle Check = false
 abbrev pub hearsWakeUp : Device → Heard → Bool
 hearsWakeUp d heard = if isIdle (d .receiver .place) then isUndamaged 0x00 heard else false
 
--- "a BACK counts as a damaged frame": it is told so, and a device makes nothing of either
+-- "a BACK counts as a damaged frame": it is told as one, and a device does nothing on either
 abbrev pub countedAs : Event → Event
 countedAs Nothing = Nothing
 countedAs PassedOver = PassedOver
@@ -137,11 +137,11 @@ countedAs (Event.Damaged w d) = Event.Damaged w d
 abbrev pub reads : DeviceTaken → DeviceTaken
 reads t = record { device = t .device; told = t .told; event = countedAs (t .event) }
 
--- as any character, it drops a request in hand
+-- as any character does, it drops a request in hand
 abbrev pub dropsRequest : Device → Device
 dropsRequest d = deviceWith d (d .receiver) Listens (d .request) Same (d .length) (d .due)
 
--- "does the same"; all else is document 01's
+-- "does the same"; all else is as in document 01
 abbrev pub awake : PortDevice → Heard → PortDeviceTaken
 awake y heard =
     if hearsWakeUp (y .device) heard then listensOn y heard (PassesOver false) (unread (dropsRequest (y .device)) (passedOver heard))
@@ -160,7 +160,7 @@ portDeviceTakes y heard =
 
 -- ---- the host's answer
 
--- "8: .. past T+STO", of the request's command: with n ticks left of the longest STO, this one included
+-- "8: .. past T+STO", of the request's command; n ticks are left of the longest STO, this one included
 abbrev pub pastSto : ℕ → Turn → Bool
 pastSto command Listens = false
 pastSto command (Asked n) = n + stoOf command ≤? infraredProfile .sto

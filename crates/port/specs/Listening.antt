@@ -1,5 +1,5 @@
 -- To be believed: what the engine must do, or what is claimed of it.
--- Document 02, item 13: when a device dozes, when it wakes and when it goes on reading, worked out from the history of what it heard and sent, over every list. The proofs are in proofs/Listening and proofs/Hands.
+-- Document 02, item 13: when a device dozes, when it wakes and when it goes on reading, worked out from what it heard and sent, for every list. The proofs are in proofs/Listening and proofs/Hands.
 use Prim.Native.Nat.{ℕ, _+_}
 use mathlib.Core.Bool.{Bool, true, false}
 use mathlib.Core.Path.{_≡_}
@@ -58,14 +58,14 @@ abbrev pub lastTwoOnes : List Heard → Heard → Bool
 lastTwoOnes [] h = false
 lastTwoOnes (b ∷ past) h = if isUndamaged 0xFF b then isUndamaged 0xFF h else false
 
--- how it listens after a tick that it hears, with so many quiet ticks, this one among them: "dozes after 20,946 quiet ticks"
+-- how it listens after a tick that it hears, with so many quiet ticks, this tick included: "dozes after 20,946 quiet ticks"
 abbrev pub mannerAfter : Manner → Device → List Heard → Heard → ℕ → Manner
 -- "an awake one that hears 0x00 between frames does the same"
 mannerAfter reading d past h q = if dozeTicks ≤? q then dozing else (if hearsWakeUp d h then passing-over else reading)
 mannerAfter passing-over d past h q = if dozeTicks ≤? q then dozing else (if lastTwoOnes past h then reading else passing-over)
 mannerAfter dozing d past h q = if lastWake past h then passing-over else dozing
 
--- the ticks since it has listened so
+-- what was heard in the ticks since it has listened in this manner
 abbrev pub pastAfter : Manner → Manner → List Heard → Heard → List Heard
 pastAfter reading reading past h = h ∷ past
 pastAfter passing-over passing-over past h = h ∷ past
@@ -77,7 +77,7 @@ pastAfter passing-over dozing past h = []
 pastAfter dozing reading past h = []
 pastAfter dozing passing-over past h = []
 
--- in every tick: a device that is deaf listens as before, and one that hears as its last ticks say
+-- in every tick: a deaf device listens as before, and one that hears listens as its last ticks say
 pub data ListensAsSaid (limit : ℕ) : ℕ → List Heard → PortDeviceSide → List DeviceInput → Type 0 where
   no-tick : {q : ℕ} {past : List Heard} {x : PortDeviceSide} → ListensAsSaid limit q past x []
   deaf-and : {q : ℕ} {past : List Heard} {x : PortDeviceSide} {i : DeviceInput} {is : List DeviceInput} → x .device .device .deaf ≡ true
@@ -98,7 +98,7 @@ Listening =
     (limit preamble polling unique : ℕ) (x : PortDeviceSide) (inputs : List DeviceInput)
     → portDeviceStarts preamble polling unique ≡ accepted (x .device) → (manner (x .device .ear) ≡ reading) × ListensAsSaid limit 0 [] x inputs
 
--- 0x00 between frames: undamaged, and not where the reader passes over characters after a broken frame
+-- 0x00 between frames: it is undamaged, and the reader is not passing over characters after a broken frame
 pub record HearsZero (d : Device) (heard : Heard) : Type 0 where
   pub between-frames : d .receiver .place ≡ Idle
   pub is-zero : heard ≡ Character 0x00

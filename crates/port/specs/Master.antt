@@ -1,5 +1,5 @@
 -- To be believed: what the engine must do, or what is claimed of it.
--- Document 02, item 13: the master of the infrared port. It is document 01's master (crates/turns/specs/Master.antt) but for what stands here: what a frame does, the request's preamble, and the wake-up.
+-- Document 02, item 13: the master of the infrared port. It is document 01's master (crates/turns/specs/Master.antt) except for what stands here: what a frame does, the request's preamble, and the wake-up.
 use Prim.Native.Nat.{ℕ, _+_, _-_, _%_}
 use mathlib.Core.Bool.{Bool, true, false}
 use mathlib.Core.List.{List}
@@ -40,7 +40,7 @@ afterPortFrame m r w bytes =
     (ifAwaiting (m .message .stage) (m .message) (atFrame m w bytes) .told)
     (Frame w)
 
--- by what document 01's master m finds in this tick: all but a frame is as there
+-- by what document 01's master m finds in this tick: everything but a frame is as it is there
 abbrev pub byFound : Master → List ℕ → MasterTaken → Event → MasterTaken
 byFound m bytes t Nothing = t
 byFound m bytes t PassedOver = t
@@ -56,7 +56,7 @@ endsAnswer Broken = false
 endsAnswer (Frame w) = w .header .frame =? ack
 endsAnswer (Damaged w d) = false
 
--- ticks since an answer's last character, which is taken in the tick after it: counted up as long as it matters
+-- ticks since an answer's last character, which is taken in the tick after it; they are counted as long as the count matters
 abbrev pub sinceAfter : ℕ → Event → ℕ
 sinceAfter n e = if endsAnswer e then 1 else (if n ≤? dozeTicks then n + 1 else n)
 
@@ -93,7 +93,7 @@ wakeUpCharacter n = if n % 2 =? 0 then 0x00 else 0xFF
 abbrev pub deafened : Master → Master
 deafened m = sends m true (m .timer) (m .message) (m .receiver) Silent .master
 
--- a character of the wake-up: meanwhile the message waits in its open window
+-- a character of the wake-up; meanwhile the message waits in its open window
 abbrev pub sendsWakeUp : PortMaster → ℕ → PortMasterSent
 sendsWakeUp x n =
     record { master = record { master = deafened (x .master); since = x .since; wake = Left (n - 1) }; sent = Sent.Character (wakeUpCharacter n) }

@@ -1,5 +1,5 @@
 -- To be believed: what the engine must do, or what is claimed of it.
--- Document 02, item 13: "burst is never on nor BURST ever set, and a BACK counts as a damaged frame". "It refuses burst on with 10". The claims, over every list of what a party hears and what its host asks or gives; the proofs are in proofs/NoBurst.
+-- Document 02, item 13: "burst is never on nor BURST ever set, and a BACK counts as a damaged frame". "It refuses burst on with 10". These are claimed for every list of what a party hears and what its host asks or gives; the proofs are in proofs/NoBurst.
 use Prim.Native.Nat.{ℕ, _≤_}
 use mathlib.Core.Bool.{Bool, false}
 use mathlib.Core.Path.{_≡_}
@@ -19,18 +19,18 @@ use Rattle.port.specs.Ticks.{PortMasterSide, PortMasterStep, MasterInput
 abbrev pub NoBack : Event → Type 0
 NoBack e = (w : Whole) → e ≡ Frame w → w .header .frame ≡ back → ⊥
 
--- BURST of the master, in every tick
+-- in every tick the master's BURST is clear, and no BACK is told as a frame
 pub data NeverSet : List PortMasterStep → Type 0 where
   no-tick : NeverSet []
   clear-and : {s : PortMasterStep} {ss : List PortMasterStep} → s .side .master .master .burst ≡ false → NoBack (s .event) → NeverSet ss → NeverSet (s ∷ ss)
 
--- an answer that wishes burst on, by what became of the same answer without a wish: "8: no request in hand, or past T+STO; 9: data outside 2 to 255", else 10
+-- an answer that wishes burst on, compared with the same answer without a wish: "8: no request in hand, or past T+STO; 9: data outside 2 to 255", else 10
 pub data RefusedOn : CallResult → CallResult → Type 0 where
   by-10 : RefusedOn was-taken (was-refused 10)
   by-8 : RefusedOn (was-refused 8) (was-refused 8)
   by-9 : RefusedOn (was-refused 9) (was-refused 9)
 
--- burst of a device, and what it answers to burst on, in every tick
+-- in every tick a device does not burst, no BACK is told as a frame, and an answer that wishes burst on is refused
 pub data NeverOn (limit : ℕ) : PortDeviceSide → List DeviceInput → Type 0 where
   no-tick : {x : PortDeviceSide} → NeverOn limit x []
   off-and : {x : PortDeviceSide} {i : DeviceInput} {is : List DeviceInput}

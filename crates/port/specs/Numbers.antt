@@ -27,7 +27,7 @@ dozeTicks = 20946
 abbrev pub wakeUpLength : ℕ
 wakeUpLength = 358
 
--- "the profile's condition on RT1 secondary does not apply": the port's profile meets every other condition of document 01's line. It does not meet that one, and so is refused with 1 on the pair. The proof is in proofs/Numbers.
+-- "the profile's condition on RT1 secondary does not apply": the port's profile meets every other condition in document 01's line on profiles. It does not meet that one, so on the pair it is refused with 1. The proof is in proofs/Numbers.
 pub record MeetsOthers (p : Profile) : Type 0 where
   pub no-value-refused : valueRefused p ≡ false
   pub hold-below-rt2 : p .hold < p .rt2

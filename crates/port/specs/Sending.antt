@@ -1,5 +1,5 @@
 -- To be believed: what the engine must do, or what is claimed of it.
--- Document 02, item 13: "A master with no answer's last character in the 20,946 ticks before sends before each STX 358 characters of 0x00, 0xFF in turn, the message directly behind." The claim, over every list, on what the master hears and sends, what its host asks and what it is told. Its messages, the STX frames sent and the attempts reported are followed as in crates/turns/specs/Attempts.antt. The proof is in proofs/Sending.
+-- Document 02, item 13: "A master with no answer's last character in the 20,946 ticks before sends before each STX 358 characters of 0x00, 0xFF in turn, the message directly behind." This is claimed for every list, of what the master hears and sends, what its host asks and what it is told. Its messages, the STX frames sent and the attempts reported are followed as in crates/turns/specs/Attempts.antt. The proof is in proofs/Sending.
 use Prim.Native.Nat.{ℕ, zero, suc, _+_, _≤_, _<_}
 use mathlib.Core.Bool.{Bool, true, false}
 use mathlib.Core.Path.{_≡_}
@@ -27,11 +27,11 @@ answerAmong zero es = false
 answerAmong (suc n) [] = false
 answerAmong (suc n) (e ∷ es) = if endsAnswer e then true else answerAmong n es
 
--- the characters of an attempt, a retry among them, by what the master has found when it begins: the newest is what the port carried in the tick before
+-- the characters of an attempt, which may be a retry, by what the master has found when it begins: the newest is what the port carried in the tick before
 abbrev pub attempt : List Event → List ℕ → List ℕ
 attempt found stx = if answerAmong dozeTicks found then stx else wakeUpBytes wakeUpLength ++ stx
 
--- What is sent in a tick: nothing, or the next character of an attempt, without a gap. `left` of the message's log is what is left of the attempt that is being sent. No attempt begins that would be one too many, and an STX is counted with its last character.
+-- What is sent in a tick: nothing, or the next character of an attempt, without a gap. `left` of the message's log is what is left of the attempt that is being sent. No attempt begins beyond the most that may be made, and an STX is counted with its last character.
 pub data Sends (retries : ℕ) (found : List Event) : MessageLog → Sent → MessageLog → Type 0 where
   has-none : Sends retries found no-message Silent no-message
   rests : {stx : List ℕ} {broadcast : Bool} {n : ℕ} → Sends retries found (in-hand stx broadcast [] n) Silent (in-hand stx broadcast [] n)
@@ -53,7 +53,7 @@ pub data SentAsSaid (limit : ℕ) (primary : Bool) (retries : ℕ) : MessageLog 
       (portMasterTick limit x (i .heard) (i .call) .side) is
       → SentAsSaid limit primary retries g past x (i ∷ is)
 
--- of every master that its start accepted, with room for the longest frame, whatever it hears and its host asks
+-- of every master that its start accepted, with room for the longest frame, whatever it hears and whatever its host asks
 abbrev pub WakeUpsAsSaid : Type 0
 WakeUpsAsSaid =
     (limit : ℕ) (primary : Bool) (retries : ℕ) (x : PortMasterSide) (inputs : List MasterInput) → limit ≤ 255

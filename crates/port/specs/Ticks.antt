@@ -1,5 +1,5 @@
 -- To be believed: what the engine must do, or what is claimed of it.
--- A tick of the port's master and of a device of it, with their lent buffers, as `masterTick` and `deviceTick` of crates/turns/specs/Link.antt are for the pair: take what the port carried in the tick before, then the host's call, then send one character or none.
+-- A tick of the port's master and of a device of the port, with their lent buffers, as `masterTick` and `deviceTick` of crates/turns/specs/Link.antt are for the pair: they take what the port carried in the tick before, then the host's call, then send one character or none.
 use Prim.Native.Nat.{ℕ}
 use mathlib.Core.Bool.{Bool, true, false}
 use mathlib.Core.List.{List, [], _∷_}
@@ -42,7 +42,7 @@ pub record PortMasterSide : Type 0 where
   pub bytes : List ℕ
 
 pub record PortMasterStep : Type 0 where
-  -- what it took, of the port's tick before
+  -- what it took: what the port carried in the tick before
   pub heard : Heard
   pub side : PortMasterSide
   pub sent : Sent
@@ -81,7 +81,7 @@ masterCalls limit heard t (requests q put) frame bytes =
 unfoldable pub portMasterTick : ℕ → PortMasterSide → Heard → MasterCall → PortMasterStep
 portMasterTick limit x heard call = masterCalls limit heard (portMasterTakes (x .master) heard (masterData x heard)) call (x .frame) (masterData x heard)
 
--- what the master does in each tick of a list of what it hears and what its host asks: with any devices, and with damage, noise and strangers on the port
+-- what the master does in each tick of a list of what it hears and what its host asks. The list may come from any devices, and from damage, noise and unknown senders on the port.
 pub record MasterInput : Type 0 where
   pub heard : Heard
   pub call : MasterCall
@@ -112,7 +112,7 @@ pub data PortCall : Type 0 where
   no-call : PortCall
   gives-answer : Wish → List ℕ → PortCall
 
--- an awake device that hears no 0x00 between frames reads
+-- an awake device reads, unless it hears 0x00 between frames
 abbrev pub readsBy : Device → Heard → Ear → Bool
 readsBy d heard Awake = if hearsWakeUp d heard then false else true
 readsBy d heard (PassesOver before) = false
@@ -124,7 +124,7 @@ readsTick y heard = if y .device .deaf then false else readsBy (y .device) heard
 abbrev pub deviceData : PortDeviceSide → Heard → List ℕ
 deviceData x heard = if readsTick (x .device) heard then takenData (x .device .device .receiver) heard (x .bytes) else x .bytes
 
--- where an error answer was put into it
+-- the frame buffer after what was heard: an error answer may have been put into it
 abbrev pub heardFrame : PortDeviceSide → Heard → List ℕ
 heardFrame x heard = if readsTick (x .device) heard then errorFrame (x .device .device) (deviceTakes (x .device .device) heard .event) (x .frame) else x .frame
 

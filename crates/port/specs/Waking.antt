@@ -1,5 +1,5 @@
 -- To be believed: what the engine must do, or what is claimed of it.
--- Document 02, item 13: what a device makes of a wake-up and of the STX behind it, and how long it stays awake. The claims; the proofs are in proofs/Waking, proofs/Stx and proofs/Listening.
+-- Document 02, item 13: what a device does on a wake-up and on the STX behind it, and how long it stays awake. The claims; the proofs are in proofs/Waking, proofs/Stx and proofs/Listening.
 use Prim.Native.Nat.{ℕ, _<_, _≤_}
 use mathlib.Core.Bool.{true, false}
 use mathlib.Core.Path.{_≡_}
@@ -27,7 +27,7 @@ use Rattle.port.specs.Listening.{manner, reading, dozing}
 use Rattle.port.specs.Ticks.{PortCall, PortDeviceSide, PortDeviceStep, DeviceInput, portDeviceTick, portDeviceRun}
 use Rattle.port.specs.declared.Ear.the-variants.{Awake}
 
--- ticks that carry these characters, with whatever the device's host gives meanwhile
+-- ticks that carry these characters, whatever the device's host gives meanwhile
 pub data Carries : List DeviceInput → List ℕ → Type 0 where
   no-more : Carries [] []
   and : {c : ℕ} {call : PortCall} {is : List DeviceInput} {cs : List ℕ} → Carries is cs → Carries (record { heard = Character c; call = call } ∷ is) (c ∷ cs)
@@ -47,14 +47,14 @@ pub data Quietly : List PortDeviceStep → Type 0 where
   no-tick : Quietly []
   quiet-and : {s : PortDeviceStep} {ss : List PortDeviceStep} → s .sent ≡ Silent → s .told ≡ DeviceTold.Nothing → Quietly ss → Quietly (s ∷ ss)
 
--- awake, with a reader behind two 0xFF
+-- awake, with a reader that has heard two 0xFF
 pub record ReadsPreamble (x : PortDeviceSide) : Type 0 where
   pub is-awake : x .device .ear ≡ Awake
   pub hears : x .device .device .deaf ≡ false
   pub listens : x .device .device .turn ≡ Listens
   pub reader : x .device .device .receiver ≡ blank (Preamble 2)
 
--- After any ticks since its start, a wake-up and the first character of the preamble behind it lead every such device into the preamble: what follows is read as document 01's reader reads it.
+-- After any ticks since its start, a wake-up and the first character of the preamble behind it bring every such device into the preamble: what follows is read as document 01's reader reads it.
 abbrev pub WakeUpHeard : Type 0
 WakeUpHeard =
     (limit preamble polling unique : ℕ) (x : PortDeviceSide) (before inputs : List DeviceInput)
@@ -62,7 +62,7 @@ WakeUpHeard =
     → Carries inputs (wakeUpBytes wakeUpLength ++ (0xFF ∷ []))
     → Quietly (portDeviceRun limit (afterTicks limit x before) inputs) × ReadsPreamble (afterTicks limit (afterTicks limit x before) inputs)
 
--- ---- whoever heard an answer's last character is awake when a master without a wake-up begins
+-- ---- a device that heard an answer's last character is awake when a master begins without a wake-up
 
 -- a device that is not dozing after a tick in which it heard a character is not dozing in the next 20,945 ticks either, whatever it hears
 abbrev pub StaysAwake : Type 0

@@ -1,5 +1,5 @@
 -- Inner contracts: nothing that is to be believed rests on them.
--- What a device's parts take, and a call inside its tick.
+-- What the parts of a device's tick promise, and a call inside it.
 use Prim.Native.Nat.{ℕ}
 use mathlib.Core.List.{List}
 use mathlib.Core.Path.{_≡_}
@@ -20,7 +20,7 @@ use Rattle.port_device.specs.declared.PortHostCall.{PortHostCall}
 use Rattle.port_device.specs.declared.PortCallTaken.{PortCallTaken}
 use Rattle.port_device.specs.Ticks.{sideOf, callOf}
 
--- one that is awake and hears: it reads, unless it hears 0x00 between frames
+-- a device that is awake and hears: it reads, unless it hears 0x00 between frames
 pub record AwakeIs (y : PortDevice) (heard : Heard) (bytes frame : List ℕ) (t : PortDeviceTaken) (bytes-after frame-after : List ℕ) : Type 0 where
   pub takes : t ≡ awake y heard
   pub data-is : bytes-after ≡ (if hearsWakeUp (y .device) heard then bytes else L.deviceData (lent (y .device) bytes) heard)

@@ -1,5 +1,5 @@
 -- Inner contracts: nothing that is to be believed rests on them.
--- What the master's parts take, and a call inside its tick.
+-- What the parts of the master's tick promise, and a call inside it.
 use Prim.Native.Nat.{ℕ}
 use mathlib.Core.List.{List}
 use mathlib.Core.Path.{_≡_}

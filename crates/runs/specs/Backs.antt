@@ -1,5 +1,5 @@
 -- To be believed: what the engine must do, or what is claimed of it.
--- Of BACKs, as Credit says it of ACKs: each BACK that a master finds whole has the unique address of the device that sent it, and the command and data that its host gave last before its first character. For each device a log is kept of what its host gave and what it sent, from what a run shows.
+-- For BACKs what Credit says for ACKs: each BACK that a master finds whole has the unique address of the device that sent it, and the command and data that its host gave last before its first character. For each device a log is kept of what its host gave and what it sent, from what a run shows.
 use Prim.Native.Nat.{ℕ, _-_, _≤_}
 use mathlib.Core.Path.{_≡_}
 use mathlib.Core.Bool.{Bool, true, false}
@@ -43,7 +43,7 @@ givenBy no-call a g = g
 givenBy (gives-answer wish put) a g = g
 givenBy (gives-content command put) a g = contentBy command put a g
 
--- behind the call of the tick a character goes out, or none
+-- after the call of the tick a character goes out, or none
 abbrev pub sentBy : Sent → LastGiven → List LastGiven → ContentLog
 sentBy Silent g row = record { last = g; sent-with = [] }
 sentBy (Character c) g row = record { last = g; sent-with = g ∷ row }

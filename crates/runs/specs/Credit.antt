@@ -23,7 +23,7 @@ use Rattle.turns.specs.declared.MasterTold.the-variants.{Answered, GivenUp, Bro
 use Rattle.turns.specs.declared.Sent.{Sent}
 use Rattle.turns.specs.declared.Sent.the-variants.{Silent, Character}
 
--- ---- what is closed
+-- ---- when ledgers are closed
 
 -- nothing that stands in the ledgers can be reported any more
 unfoldable pub closed : List Ledger → List Ledger
@@ -37,7 +37,7 @@ closedBy (Answered w) gs = closed gs
 closedBy (GivenUp n) gs = closed gs
 closedBy BroadcastSent gs = closed gs
 
--- behind every tick in which a master sends all are closed: what stands in them was told and given behind the last STX on the line
+-- after every tick in which a master sends all are closed: what stands in them was told and given after the last STX on the line
 abbrev pub closedAfter : Sent → List Ledger → List Ledger
 closedAfter Silent gs = gs
 closedAfter (Character c) gs = closed gs
@@ -58,7 +58,7 @@ askedBy primary (requests q put) none h = h
 askedBy primary (requests q put) was-taken h = stxHeader primary q
 askedBy primary (requests q put) (was-refused why) h = h
 
--- of the primary, and of the secondary, behind a tick
+-- of the primary, or of the secondary, after a tick
 abbrev pub askedAfter : Calls → LinkStep → (Bool → Header) → Bool → Header
 askedAfter c s asked primary = askedBy primary (callIn primary c) (masterIn primary s .result) (asked primary)
 

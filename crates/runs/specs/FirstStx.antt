@@ -21,7 +21,7 @@ abbrev pub callIn : Bool → Calls → MasterCall
 callIn true c = c .for-primary
 callIn false c = c .for-secondary
 
--- what is left of an STX goes out, a character in each tick, until it is out or the list ends
+-- what is left of an STX goes out, a character in each tick, until all of it is out or the list ends
 pub data GoesOut (primary : Bool) : List ℕ → List LinkStep → Type 0 where
   is-out : {ss : List LinkStep} → GoesOut primary [] ss
   list-ends : {left : List ℕ} → GoesOut primary left []
@@ -40,7 +40,7 @@ FirstStxIn ticks steps =
     → drop t ticks ≡ c ∷ later → drop t steps ≡ s ∷ after → callIn primary c ≡ requests q put → AcceptedIn primary s
     → FirstStx primary (frameBytes (q .preamble) (stxHeader primary q) put) (s ∷ after)
 
--- in the run of the common start, and in one in which each master starts at a tick of its own; of the premises only the masters' start is needed
+-- in the run of the common start, and in one in which each master starts at a tick of its own; of the premises only the masters' starts are needed
 abbrev pub FirstStxInARun : ℕ → Type 0
 FirstStxInARun limit = (p : Profile) (retries : ℕ) (l : Link) (ticks : List Calls) → Starts p retries l → FirstStxIn ticks (run limit l ticks)
 
@@ -53,6 +53,6 @@ abbrev pub characterOf : {primary : Bool} {n : ℕ} {ss : List LinkStep} → Beg
 characterOf (Demand3.begins n c e) = c
 characterOf (Demand3.waits e b) = characterOf b
 
--- where the first STX is such a one, that character is its first
+-- where FirstStx holds, that character is the first of the STX
 abbrev pub CharacterIsFirst : Type 0
 CharacterIsFirst = (primary : Bool) (n : ℕ) (stx : List ℕ) (ss : List LinkStep) → FirstStx primary stx ss → (b : BeginsWithin primary n ss) → characterOf b ≡ 0xFF

@@ -1,5 +1,5 @@
 -- To be believed: what the engine must do, or what is claimed of it.
--- Document 02, item 14: masters switched on when it suits. Each master starts at a tick of its own. The statement in the item's words; what a run shows is what each party sends, tells and answers in each tick.
+-- Document 02, item 14: masters switched on when it suits. Each master starts at a tick of its own. The statement follows the item's words; a run shows what each party sends, tells and answers in each tick.
 use Prim.Native.Nat.{ℕ, zero, suc, _+_, _-_, _≤_, _<_}
 use mathlib.Core.Path.{_≡_}
 use mathlib.Core.Bool.{Bool, true, false}
@@ -66,7 +66,7 @@ pub record LatePremises (limit : ℕ) (p : Profile) (retries a b : ℕ) (l : Lin
 
 -- ---- who sends in tick t
 
--- a number that tick t of a run shows; behind the last tick it is 0
+-- a number that tick t of a run shows; past the last tick it is 0
 unfoldable pub inTick : (LinkStep → ℕ) → List LinkStep → ℕ → ℕ
 inTick f [] t = 0
 inTick f (s ∷ ss) zero = f s
@@ -103,7 +103,7 @@ pub record BothSend (steps : List LinkStep) (t : ℕ) : Type 0 where
   pub secondary-sends : masterSent false steps t ≡ 1
   pub no-device : devicesSent steps t ≡ 0
 
--- a tick of the overlap: both masters have sent since they began together, and not for longer than the longest frame
+-- a tick of the overlap: both masters have sent since they began together, for no longer than the longest frame
 pub record InOverlap (limit : ℕ) (steps : List LinkStep) (t : ℕ) : Type 0 where
   pub first : ℕ
   pub begin-together : BeginTogether steps first
@@ -111,7 +111,7 @@ pub record InOverlap (limit : ℕ) (steps : List LinkStep) (t : ℕ) : Type 0 wh
   pub since : (u : ℕ) → first ≤ u → u ≤ t → BothSend steps u
   pub in-a-frame : t < first + longestFrame limit
 
--- the overlap that begins in tick u has ended by tick t: in some tick since not both masters send
+-- the overlap that begins in tick u has ended by tick t: in some tick from u to t not both masters send
 pub record EndedBy (steps : List LinkStep) (u t : ℕ) : Type 0 where
   pub tick : ℕ
   pub since-first : u ≤ tick
@@ -130,12 +130,12 @@ pub record OneOverlap (limit : ℕ) (steps : List LinkStep) : Type 0 where
 
 -- ---- a frame that a master sent, or heard whole
 
--- the tick reader beside a master, in one tick: it hears what the line carries, but "a sending party hears nothing", and behind its own frame "passes over all characters until a silent tick"
+-- the tick reader beside a master, in one tick: it hears what the line carries, but "a sending party hears nothing", and after its own frame it "passes over all characters until a silent tick"
 abbrev pub hears : Sent → Receiver → Heard → Taken
 hears Silent r heard = taken r heard
 hears (Character c) r heard = tells passing Nothing
 
--- what such a reader tells of tick t, where the master starts in tick n and the reader with it
+-- what this reader tells of tick t, where the master starts in tick n and the reader with it
 unfoldable pub heardIn : Bool → ℕ → Receiver → List LinkStep → ℕ → Event
 heardIn primary n r [] t = Nothing
 heardIn primary zero r (s ∷ ss) zero = hears (masterIn primary s .sent) r (linkAfter s .line) .event
@@ -153,7 +153,7 @@ pub data Shared (by-primary by-secondary : ℕ) (to-primary to-secondary : Event
 abbrev pub SharedFrame : ℕ → ℕ → List LinkStep → ℕ → Type 0
 SharedFrame a b steps t = Shared (masterSent true steps t) (masterSent false steps t) (heardIn true a passing steps t) (heardIn false b passing steps t)
 
--- how it is seen on the line: both masters have started, tick u is silent, one party sends in each tick from there to t, and the next tick is silent
+-- how it is seen on the line: both masters have started, tick u is silent, one party sends in each tick after it up to t, and the next tick is silent
 pub record FrameSeen (a b : ℕ) (steps : List LinkStep) (u t : ℕ) : Type 0 where
   pub primary-on : a ≤ u
   pub secondary-on : b ≤ u
@@ -163,18 +163,18 @@ pub record FrameSeen (a b : ℕ) (steps : List LinkStep) (u t : ℕ) : Type 0 wh
   pub silent-behind : sendersIn steps (suc t) ≡ 0
   pub in-the-run : suc t < length steps
 
--- a frame that is seen so is such a frame
+-- a frame seen in this way is a shared frame
 abbrev pub SeenIsShared : ℕ → ℕ → List LinkStep → Type 0
 SeenIsShared a b steps = (u t : ℕ) → FrameSeen a b steps u t → SharedFrame a b steps t
 
 -- ---- the wait
 
--- the ticks from which on it is claimed: "from the end of the overlap on", here even from the tick behind its first on, or "from the end of the first frame that one master sent or heard whole and the other heard whole"
+-- the ticks from which on it is claimed: "from the end of the overlap on", here even from the tick after its first on, or "from the end of the first frame that one master sent or heard whole and the other heard whole"
 pub data Claimed (a b : ℕ) (steps : List LinkStep) (t : ℕ) : Type 0 where
   behind-overlap : (u : ℕ) → u < t → BeginTogether steps u → Claimed a b steps t
   behind-frame : (u : ℕ) → u ≤ t → SharedFrame a b steps u → Claimed a b steps t
 
--- "The wait of the common start holds for messages accepted from" there on, counted from their acceptance alone. Tick t of the run is s, and `after` are those behind it; of a message due only after the last tick, no wait is claimed.
+-- "The wait of the common start holds for messages accepted from" there on, counted from their acceptance alone. Tick t of the run is s, and `after` are the ticks after it; of a message due only after the last tick, no wait is claimed.
 abbrev pub LateWaitIn : ℕ → Profile → ℕ → ℕ → ℕ → List LinkStep → Type 0
 LateWaitIn limit p retries a b steps =
     (primary : Bool) (t : ℕ) (s : LinkStep) (after : List LinkStep) → drop t steps ≡ s ∷ after → Claimed a b steps t → AcceptedIn primary s → longestWait limit p retries < length (s ∷ after) → BeginsWithin primary (longestWait limit p retries) (s ∷ after)

@@ -1,5 +1,5 @@
 -- To be believed: what the engine must do, or what is claimed of it.
--- Document 02, item 1: "Senders still leave no gap, so turns on a sound pair are those of document 01." Document 01's silent tick of a reader, a master and a device is written out, and with it document 01's run; under demand 3's premises the two runs are equal.
+-- Document 02, item 1: "Senders still leave no gap, so turns on a sound pair are those of document 01." Document 01's silent tick is written out for a reader, a master and a device, and with it document 01's run; under demand 3's premises the two runs are equal.
 use Prim.Native.Nat.{ℕ}
 use mathlib.Core.Path.{_≡_}
 use mathlib.Core.List.{List, [], _∷_}
@@ -26,11 +26,11 @@ use Rattle.turns.specs.declared.DeviceTold.{DeviceTold}
 
 -- ---- document 01's silent tick: "A silent tick inside a frame breaks it, and the next character may start another."
 
--- a reader; that the reader of each party below is this one: `master-reads-01`, `device-reads-01` in proofs/SoundPairs
+-- a reader; `master-reads-01` and `device-reads-01` in proofs/SoundPairs say that the reader of each party below is this one
 abbrev pub silence01 : Receiver → Taken
 silence01 r = if insideFrame (r .place) then tells idle Broken else tells idle Nothing
 
--- a master: the frame that the tick breaks, then the count. The silent tick that breaks a frame is the first of the timer behind it.
+-- a master: the frame that the tick breaks, then the count. The silent tick that breaks a frame is the first that the timer after it counts.
 abbrev pub masterSilence01 : Master → MasterTaken
 masterSilence01 m =
     if insideFrame (m .receiver .place) then M.counts (afterBreak m idle Broken .master) (afterBreak m idle Broken .told) Broken
@@ -40,7 +40,7 @@ masterSilence01 m =
 abbrev pub deviceSilence01 : Device → DeviceTaken
 deviceSilence01 d = if insideFrame (d .receiver .place) then D.counts d idle (D.dueAfter (d .profile) (D.endedBy Broken)) Broken else D.counts d idle (d .due) Nothing
 
--- ---- document 01's tick of each party: what is heard but silence is taken as it is now, and so are the host's call and what is sent
+-- ---- document 01's tick of each party: everything heard but silence is taken as it is now, and so are the host's call and what is sent
 
 abbrev pub masterHears01 : Master → Heard → List ℕ → MasterTaken
 masterHears01 m Silence bytes = masterSilence01 m

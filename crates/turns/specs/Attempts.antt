@@ -35,7 +35,7 @@ pub data Reports (retries : ℕ) : MessageLog → MasterTold → Type 0 where
   is-given-up : {stx : List ℕ} {n : ℕ} → n ≡ retries + 1 → Reports retries (in-hand stx false [] n) (GivenUp n)
   is-sent-once : {stx : List ℕ} {n : ℕ} → n ≡ 1 → Reports retries (in-hand stx true [] n) BroadcastSent
 
--- behind a report no message is in hand
+-- after a report no message is in hand
 abbrev pub behindReport : MasterTold → MessageLog → MessageLog
 behindReport Nothing g = g
 behindReport (Answered w) g = no-message
@@ -46,13 +46,13 @@ behindReport BroadcastSent g = no-message
 abbrev pub stxHeader : Bool → Request → Header
 stxHeader primary q = record { frame = stx; long = q .long; primary = primary; burst = false; address = q .address; command = q .command }
 
--- what the host asks: a request is taken only where no message is in hand, and is the message then, with no STX sent yet
+-- what the host asks: a request is taken only where no message is in hand; it is then the message in hand, with no STX sent yet
 pub data Asked (primary : Bool) : MasterCall → CallResult → MessageLog → MessageLog → Type 0 where
   asks-nothing : {g : MessageLog} → Asked primary no-request none g g
   is-taken : {q : Request} {put : List ℕ} → Asked primary (requests q put) was-taken no-message (in-hand (frameBytes (q .preamble) (stxHeader primary q) put) (isBroadcast (stxHeader primary q)) [] 0)
   is-refused : {q : Request} {put : List ℕ} {why : ℕ} {g : MessageLog} → Asked primary (requests q put) (was-refused why) g g
 
--- what is sent: nothing, or the next character of the message's STX, without a gap. No STX begins that would be one too many, and one is counted with its last character.
+-- what is sent: nothing, or the next character of the message's STX, without a gap. No STX begins beyond the most that may be sent, and one is counted with its last character.
 pub data Sends (retries : ℕ) : MessageLog → Sent → MessageLog → Type 0 where
   has-none : Sends retries no-message Silent no-message
   rests : {stx : List ℕ} {broadcast : Bool} {n : ℕ} → Sends retries (in-hand stx broadcast [] n) Silent (in-hand stx broadcast [] n)
@@ -69,7 +69,7 @@ pub data Counted (limit : ℕ) (primary : Bool) (retries : ℕ) : MessageLog →
       → Sends retries asked (masterTick limit x (i .heard) (i .call) .sent) after
       → Counted limit primary retries after (masterTick limit x (i .heard) (i .call) .side) is → Counted limit primary retries g x (i ∷ is)
 
--- for every master that started, whatever it hears and its host asks
+-- for every master that started, whatever it hears and whatever its host asks
 abbrev pub AttemptsAsSaid : ℕ → Type 0
 AttemptsAsSaid limit =
     (p : Profile) (primary : Bool) (retries : ℕ) (x : MasterSide) (inputs : List MasterInput) → MasterStarts p primary retries x → Counted limit primary retries no-message x inputs

@@ -44,7 +44,7 @@ wishedBy no-call a w = w
 wishedBy (gives-answer wish put) a w = takenWith wish a w
 wishedBy (gives-content command put) a w = w
 
--- "A wish takes effect with its ACK's first character": the first that the device sends behind the answer
+-- "A wish takes effect with its ACK's first character": the first that the device sends after the answer
 abbrev pub effective : Bool → Wished → BurstLog
 effective on no-wish = record { on = on; pending = no-wish }
 effective on (wishes wish) = record { on = wished on wish; pending = no-wish }
@@ -69,7 +69,7 @@ pub data Agrees (limit : ℕ) : BurstLog → DeviceSide → List DeviceInput →
       → deviceTick limit x (i .heard) (i .call) .side .device .burst ≡ logAfter x (i .heard) (i .call) (deviceTick limit x (i .heard) (i .call)) g .on
       → Agrees limit (logAfter x (i .heard) (i .call) (deviceTick limit x (i .heard) (i .call)) g) (deviceTick limit x (i .heard) (i .call) .side) is → Agrees limit g x (i ∷ is)
 
--- "burst starts off"; for every device that started, whatever it hears and its host gives
+-- "burst starts off"; for every device that started, whatever it hears and whatever its host gives
 abbrev pub BurstsAsSaid : ℕ → Type 0
 BurstsAsSaid limit =
     (p : Profile) (x : DeviceSide) (inputs : List DeviceInput) → profileMade p ≡ accepted p → DeviceStarts p x → Agrees limit (record { on = false; pending = no-wish }) x inputs

@@ -70,7 +70,7 @@ longerWithBurst limit p = 4 * longestFrame limit + p .rt1s + 2 * p .rt2
 abbrev pub dueWithin : ℕ → Profile → ℕ → ℕ → ℕ
 dueWithin limit p retries t = (p .rt1s - t) + longestWait limit p retries
 
--- "Of a message due only after the list's last tick, no wait is claimed." Tick t of the run is s, and `after` are those behind it.
+-- "Of a message due only after the list's last tick, no wait is claimed." Tick t of the run is s, and `after` are the ticks after it.
 abbrev pub WaitIn : ℕ → Profile → ℕ → List LinkStep → Type 0
 WaitIn limit p retries steps =
     (primary : Bool) (t : ℕ) (s : LinkStep) (after : List LinkStep) → drop t steps ≡ s ∷ after → AcceptedIn primary s

@@ -1,5 +1,5 @@
 -- To be believed: what the engine must do, or what is claimed of it.
--- Document 01, "Device's turns", with the refusals of device start, device answer and burst content. A tick of a device is: take what was heard, then the host's answer or burst content, then send.
+-- Document 01, "Device's turns", with the refusals of device start, device answer and burst content. In a tick a device takes what was heard, then its host's answer or burst content, then sends.
 use Prim.Native.Nat.{ℕ, _+_, _-_}
 use mathlib.Core.Bool.{Bool, true, false}
 use mathlib.Core.List.{List, [], _∷_}
@@ -61,7 +61,7 @@ deviceWith d r turn request wish length due = record {
 abbrev pub isOwn : Device → Header → Bool
 isOwn d h = if h .long then d .unique =? h .address else (if d .polling =? h .address then h .command =? 0 else false)
 
--- which request the host may answer. Item 6: "a device's host answers command 11 if the tag is its own; other broadcasts still get none." Whose tag it is, the hosts say.
+-- which request the host may answer. Item 6: "a device's host answers command 11 if the tag is its own; other broadcasts still get none." Whose tag it is, the hosts decide.
 abbrev pub mayAnswer : Device → Header → Bool
 mayAnswer d h = if seeksTag h then true else isOwn d h
 
@@ -69,7 +69,7 @@ mayAnswer d h = if seeksTag h then true else isOwn d h
 
 -- what ended on the line, for this device's next BACK
 pub data EndedForDevice : Type 0 where
-  -- nothing: a frame goes on, heard or its own
+  -- nothing: a frame goes on, one that is heard or its own
   inside : EndedForDevice
   own-ack : EndedForDevice
   own-back : EndedForDevice
@@ -107,11 +107,11 @@ errorStatus m = 0x80 + (if m .parity then 0x40 else 0) + (if m .overrun then 0x2
 abbrev pub errorData : FrameDamage → List ℕ
 errorData m = errorStatus m ∷ 0 ∷ []
 
--- an ACK to a request: the form of its address, its master bit and its command; the burst flag if the device bursts. Item 6: "Our transmitters repeat the request's address bytes, with their burst flag."
+-- an ACK to a request repeats the form of its address, its master bit and its command, and has the burst flag if the device bursts. Item 6: "Our transmitters repeat the request's address bytes, with their burst flag."
 abbrev pub answerHeader : Header → Bool → Header
 answerHeader h burst = record { frame = ack; long = h .long; primary = h .primary; burst = burst; address = h .address; command = h .command }
 
--- "Expansion bytes or damage in the address: no answer." Else damage in an STX "that as heard is for this device" is answered without the host. A damaged broadcast is for no device, so that item 6's "A damaged one is never answered" (`damaged-unanswered` in proofs/TagSentences).
+-- "Expansion bytes or damage in the address: no answer." Other damage in an STX "that as heard is for this device" is answered without the host. A damaged broadcast is for no device, so item 6's "A damaged one is never answered" holds (`damaged-unanswered` in proofs/TagSentences).
 abbrev pub hasError : Device → Whole → FrameDamage → Bool
 hasError d w m =
     if w .header .frame =? stx then
@@ -127,7 +127,7 @@ tells d told event = record { device = d; told = told; event = event }
 abbrev pub listensOn : Device → DeviceTold → Change
 listensOn d told = record { turn = Listens; request = d .request; length = d .length; told = told }
 
--- an undamaged STX without expansion bytes: told to the host, with the ticks in which it may be answered, or another broadcast, "told to the host and never answered"
+-- an undamaged STX without expansion bytes is told to the host: a request, with the ticks in which it may be answered, or another broadcast, "told to the host and never answered"
 abbrev pub afterRequest : Device → Whole → Change
 afterRequest d w =
     if mayAnswer d (w .header) then record { turn = Asked (d .profile .sto); request = w .header; length = d .length; told = Request w } else
@@ -155,7 +155,7 @@ afterCharacter d Broken = listensOn d DeviceTold.Nothing
 afterCharacter d (Frame w) = afterFrame d w
 afterCharacter d (Damaged w m) = afterDamage d w m
 
--- the device behind a character: "A character heard before then drops the request", and its wish
+-- the device after a character: "A character heard before then drops the request", and its wish
 abbrev pub changed : Device → Receiver → Event → Change → DeviceTaken
 changed d r event c = tells (deviceWith d r (c .turn) (c .request) Same (c .length) (dueAfter (d .profile) (endedBy event))) (c .told) event
 
@@ -182,11 +182,11 @@ nextTurn d due = if backDue d due then Follows else waited (d .turn)
 abbrev pub counts : Device → Receiver → ℕ → Event → DeviceTaken
 counts d r due event = tells (deviceWith d r (nextTurn d due) (d .request) (d .wish) (d .length) (due - 1)) DeviceTold.Nothing event
 
--- "both then count in the timers": of RT1 primary one silent tick is over where the second is counted
+-- "both then count in the timers": when the second silent tick is counted, one tick of RT1 primary is already over
 abbrev pub brokenDue : Device → ℕ
 brokenDue d = dueAfter (d .profile) (endedBy Broken) - 1
 
--- a silent tick that is passed over inside a frame counts nothing; the second in a row breaks the frame, and both count in the timer behind it; outside a frame each is counted
+-- a silent tick that is passed over inside a frame counts nothing; the second in a row breaks the frame, and both count in the timer after it; outside a frame each is counted
 abbrev pub onSilence : Device → Receiver → DeviceTaken
 onSilence d r =
     if insideFrame (d .receiver .place) then
@@ -212,7 +212,7 @@ errorFrame d (Damaged w m) frame = if hasError d w m then writeBuffer (d .preamb
 
 -- ---- the host's answer
 
--- "The host's answer may turn burst on or off": what burst is from the ACK's first character on
+-- "The host's answer may turn burst on or off": whether the device bursts from the ACK's first character on
 abbrev pub wished : Bool → Wish → Bool
 wished burst Same = burst
 wished burst On = true
@@ -313,7 +313,7 @@ firstFor d = if d .burst then d .primary else true
 abbrev pub behindAck : Bool → Turn
 behindAck burst = if burst then Follows else Listens
 
--- one character of an ACK, with burst as it is from the first on
+-- one character of an ACK; `burst` holds from its first character on
 abbrev pub answersFrom : Device → List ℕ → ℕ → Bool → Bool → DeviceSent
 answersFrom d frame n burst primary =
     if n + 1 <? d .length then sends d true (Answers (n + 1)) (d .length) burst primary (dueAfter (d .profile) inside) passing (Sent.Character (byteAt frame n))
@@ -351,7 +351,7 @@ begunFrame d (Answers n) content frame = frame
 begunFrame d Follows content frame = writeBuffer (d .preamble) (backHeader d) (take (d .content .count) content) frame 0
 begunFrame d (Bursts n) content frame = frame
 
--- ---- start: "3; 4, also for unique address 0". Fresh, with burst off and no request in hand.
+-- ---- start: "3; 4, also for unique address 0". A fresh device has burst off and no request in hand.
 
 abbrev pub freshDevice : Profile → ℕ → ℕ → ℕ → Device
 freshDevice p preamble polling unique = record {

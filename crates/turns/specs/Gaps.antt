@@ -1,5 +1,5 @@
 -- To be believed: what the engine must do, or what is claimed of it.
--- Document 02, item 1, of master and device, on what each hears, what its host calls and what it sends: "One silent tick inside a frame is now passed over", "The second in a row breaks the frame, and both then count in the timers", and "Senders still leave no gap".
+-- Document 02, item 1, for master and device, said of what each hears, what its host calls and what it sends: "One silent tick inside a frame is now passed over", "The second in a row breaks the frame, and both then count in the timers", and "Senders still leave no gap".
 use Prim.Native.Nat.{ℕ, suc, _≤_}
 use mathlib.Core.Path.{_≡_}
 use mathlib.Core.Bool.{Bool, true, false}
@@ -54,7 +54,7 @@ pub record InsideFrame (last : Heard) (deaf : Bool) (r : Receiver) : Type 0 wher
   pub character : IsCharacter last
   pub inside : taken r last .event ≡ Nothing
 
--- in a silent tick behind it, without a call, nothing is sent and nothing told, and the next character is taken as if that tick had not been
+-- in a silent tick after it, without a call, nothing is sent and nothing told, and the next character is taken as if that tick had not been
 pub record MasterPassesOver (limit : ℕ) (x : MasterSide) (next : Heard) (call : MasterCall) : Type 0 where
   pub sends-nothing : masterTick limit x Silence no-request .sent ≡ Silent
   pub tells-nothing : masterTick limit x Silence no-request .told ≡ MasterTold.Nothing
@@ -78,7 +78,7 @@ DeviceGapPassed limit =
 
 -- ---- "The second in a row breaks the frame, and both then count in the timers."
 
--- The line carries no character behind tick T: from tick T+2 on the party takes silent line ticks, whatever its host calls.
+-- The line carries no character after tick T: from tick T+2 on the party takes silent line ticks, whatever its host calls.
 unfoldable pub masterSilence : List MasterCall → List MasterInput
 masterSilence [] = []
 masterSilence (c ∷ cs) = record { heard = Silence; call = c } ∷ masterSilence cs
@@ -130,7 +130,7 @@ pub data NoGap : List ℕ → List Sent → Type 0 where
   begins-frame : {c : ℕ} {left : List ℕ} {ss : List Sent} → IsFrame (c ∷ left) → NoGap left ss → NoGap [] (Character c ∷ ss)
   goes-on : {c : ℕ} {left : List ℕ} {ss : List Sent} → NoGap left ss → NoGap (c ∷ left) (Character c ∷ ss)
 
--- every master and device that started, whatever it hears and its host calls
+-- every master and device that started, whatever it hears and whatever its host calls
 abbrev pub MasterLeavesNoGap : ℕ → Type 0
 MasterLeavesNoGap limit =
     (p : Profile) (primary : Bool) (retries : ℕ) (x : MasterSide) (inputs : List MasterInput) → profileMade p ≡ accepted p → MasterStarts p primary retries x → NoGap [] (masterSents limit x inputs)

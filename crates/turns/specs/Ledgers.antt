@@ -1,5 +1,5 @@
 -- To be believed: what the engine must do, or what is claimed of it.
--- For each device a ledger of what its host was told and gave, from what a run shows; and the premise of item 6 on the answers to command 11.
+-- For each device a ledger of what its host was told and gave, kept from what a run shows; and item 6's premise on the answers to command 11.
 use Prim.Native.Nat.{ℕ, _+_, _≤_}
 use mathlib.Core.Bool.{Bool, true, false}
 use mathlib.Core.List.{List, [], _∷_}
@@ -58,7 +58,7 @@ blanks (x ∷ xs) = blank ∷ blanks xs
 
 -- ---- item 6: "one tag, one device, so that at most one host's answer to each command 11 is taken"
 
--- its host's answer to the command 11 that it was told last was taken
+-- whether its host's answer to the command 11 that it was told last was taken
 abbrev pub found : Ledger → Bool
 found blank = false
 found (told h) = false
@@ -69,7 +69,7 @@ unfoldable pub finders : List Ledger → ℕ
 finders [] = 0
 finders (g ∷ gs) = (if found g then 1 else 0) + finders gs
 
--- at most one behind every tick, from the calls and what the run shows
+-- at most one after every tick, from the calls and what the run shows
 pub data OneFinds : List Ledger → List Calls → List LinkStep → Type 0 where
   no-tick : {gs : List Ledger} → OneFinds gs [] []
   tick-and : {gs : List Ledger} {c : Calls} {cs : List Calls} {s : LinkStep} {ss : List LinkStep} → finders (ledgersAfter (c .for-devices) (s .for-devices) gs) ≤ 1

@@ -90,7 +90,7 @@ pub record DeviceStep : Type 0 where
 abbrev pub deviceData : DeviceSide → Heard → List ℕ
 deviceData x heard = if x .device .deaf then x .bytes else takenData (x .device .receiver) heard (x .bytes)
 
--- the frame buffer behind what was heard, where an error answer was put into it
+-- the frame buffer after what was heard: an error answer may have been put into it
 abbrev pub heardFrame : DeviceSide → Heard → List ℕ
 heardFrame x heard = errorFrame (x .device) (deviceTakes (x .device) heard .event) (x .frame)
 
@@ -143,7 +143,7 @@ pub record Link : Type 0 where
   -- what the line carried in the last tick
   pub line : Heard
 
--- a tick's calls; a device behind the end of the list has none
+-- a tick's calls; a device past the end of the list has none
 pub record Calls : Type 0 where
   pub for-primary : MasterCall
   pub for-secondary : MasterCall

@@ -1,5 +1,5 @@
 -- To be believed: what the engine must do, or what is claimed of it.
--- Document 01, "Master's turns", with "Timers" and the refusals of master start and master request. A tick of a master is: take what was heard, then the host's request, then send.
+-- Document 01, "Master's turns", with "Timers" and the refusals of master start and master request. In a tick a master takes what was heard, then its host's request, then sends.
 use Prim.Native.Nat.{ℕ, _+_, _-_, _*_, _/_}
 use mathlib.Core.Bool.{Bool, true, false}
 use mathlib.Core.List.{List}
@@ -94,14 +94,14 @@ burstCounted m = if m .burst then (if m .timer .quiet =? 1 then false else true)
 
 -- ---- BURST
 
--- the address is that of a device: a long one is, but in the ACK to command 11 by broadcast it is the request's
+-- whether the address is a device's: a long address is, except in the ACK to command 11 by broadcast, where it is the request's
 abbrev pub namesDevice : Header → Bool
 namesDevice h = if seeksTag h then false else h .long
 
 abbrev pub addressOf : Header → Noted
 addressOf h = record { long = h .long; address = h .address }
 
--- the noted address is this long one
+-- whether the noted address is this long one
 abbrev pub isNoted : Noted → Header → Bool
 isNoted n h = if n .long then n .address =? h .address else false
 
@@ -120,13 +120,13 @@ notedAfter noted h =
     if h .frame =? ack then (if h .burst then (if namesDevice h then addressOf h else noted) else noted)
     else noted
 
--- ---- the timer behind what ended
+-- ---- the timer after what ended
 
 -- what ended on the line, for this master
 pub data EndedForMaster : Type 0 where
   -- nothing yet: the master is fresh
   fresh : EndedForMaster
-  -- nothing: a frame goes on, heard or its own
+  -- nothing: a frame goes on, one that is heard or its own
   inside : EndedForMaster
   -- "a broken or damaged frame", and "characters passed over"
   broken : EndedForMaster
@@ -136,7 +136,7 @@ pub data EndedForMaster : Type 0 where
   back-to-itself : EndedForMaster
   back-to-other : EndedForMaster
 
--- the master bit of a frame is its own
+-- whether a frame's master bit is the master's own
 abbrev pub toItself : Master → Header → Bool
 toItself m h = if m .primary then h .primary else (if h .primary then false else true)
 
@@ -147,7 +147,7 @@ endedBy m h =
     if h .frame =? ack then (if toItself m h then ack-to-itself else ack-to-other) else
     any-stx
 
--- by what ended, and BURST behind it: "BURST is brought up to date before the frame's timer is chosen." A BACK has set it, and a fresh master's is clear.
+-- by what ended, and BURST after it: "BURST is brought up to date before the frame's timer is chosen." A BACK has set it, and a fresh master's is clear.
 abbrev pub timerAfter : Profile → Bool → EndedForMaster → Bool → Timer
 -- "BURST clear, and fresh, after a broken or damaged frame, or after any STX: timer RT1."
 timerAfter p primary fresh burst = timer (ownRt1 p primary)
@@ -177,7 +177,7 @@ ends g told = record { message = messageAt g Free; told = told }
 abbrev pub fails : ℕ → Message → Ending
 fails retries g = if g .attempts ≤? retries then record { message = messageAt g Waiting; told = MasterTold.Nothing } else ends g (GivenUp (g .attempts))
 
--- "the ACK with its master bit, address and command": the address is the long or short form and its bits
+-- "the ACK with its master bit, address and command": equal addresses are both long or both short, with the same bits
 abbrev pub sameBit : Bool → Bool → Bool
 sameBit a b = if a then b else (if b then false else true)
 
@@ -213,7 +213,7 @@ ifAwaiting (Awaiting n) g e = e
 abbrev pub tells : Master → MasterTold → Event → MasterTaken
 tells m told event = record { master = m; told = told; event = event }
 
--- behind a frame: BURST, then the timer, and the message
+-- after a frame: BURST, then the timer, and the message
 abbrev pub afterFrame : Master → Receiver → Whole → List ℕ → MasterTaken
 afterFrame m r w bytes =
     tells (masterWith m r
@@ -235,7 +235,7 @@ afterBreak m r event =
 abbrev pub frameGoesOn : Master → Receiver → MasterTaken
 frameGoesOn m r = tells (masterWith m r (m .burst) (m .noted) (timerAfter (m .profile) (m .primary) inside (m .burst)) (m .message)) MasterTold.Nothing Nothing
 
--- behind a character, by what the reader tells
+-- after a character, by what the reader tells
 abbrev pub onCharacter : Master → Receiver → Event → List ℕ → MasterTaken
 onCharacter m r Nothing bytes = frameGoesOn m r
 onCharacter m r PassedOver bytes = afterBreak m r PassedOver
@@ -257,14 +257,14 @@ rt1Ends Waiting = false
 rt1Ends (Sending n) = false
 rt1Ends (Awaiting n) = n ≤? 1
 
--- "A master that gives up on RT1's end leaves that window unused", and so does one that reports a broadcast there: the whole window
+-- "A master that gives up on RT1's end leaves that window unused", and so does one that reports a broadcast there; the whole window stays unused
 abbrev pub unlessEnded : Stage → Timer → Timer
 unlessEnded Free t = record { next = t .next; window = 0; quiet = t .quiet }
 unlessEnded Waiting t = t
 unlessEnded (Sending n) t = t
 unlessEnded (Awaiting n) t = t
 
--- a silent tick: RT1's end, the quiet time's end, the window's end
+-- a silent tick: RT1, the quiet time and the window may end in it
 abbrev pub counts : Master → MasterTold → Event → MasterTaken
 counts m told event =
     if rt1Ends (m .message .stage) then
@@ -276,11 +276,11 @@ counts m told event =
 abbrev pub countsTwice : Master → MasterTold → Event → MasterTaken
 countsTwice m told event = counts (counts m told event .master) (counts m told event .told) event
 
--- the same master with the reader behind a silent tick
+-- the same master with the reader after a silent tick
 abbrev pub withReader : Master → Receiver → Master
 withReader m r = masterWith m r (m .burst) (m .noted) (m .timer) (m .message)
 
--- a silent tick that is passed over inside a frame counts nothing; the second in a row breaks the frame, and both count in the timer behind it; outside a frame each is counted
+-- a silent tick that is passed over inside a frame counts nothing; the second in a row breaks the frame, and both count in the timer after it; outside a frame each is counted
 abbrev pub onSilence : Master → Receiver → MasterTaken
 onSilence m r =
     if insideFrame (m .receiver .place) then
@@ -293,7 +293,7 @@ onHeard m Silence bytes = onSilence m (taken (m .receiver) Silence .receiver)
 onHeard m (Character c) bytes = onCharacter m (taken (m .receiver) (Character c) .receiver) (taken (m .receiver) (Character c) .event) bytes
 onHeard m (Heard.Damaged c kind) bytes = onCharacter m (taken (m .receiver) (Heard.Damaged c kind) .receiver) (taken (m .receiver) (Heard.Damaged c kind) .event) bytes
 
--- "A sending party hears nothing", and neither does a fresh one in its first tick. `bytes` is the lent data buffer behind this tick.
+-- "A sending party hears nothing", and neither does a fresh one in its first tick. `bytes` is the lent data buffer after this tick.
 unfoldable pub masterTakes : Master → Heard → List ℕ → MasterTaken
 masterTakes m heard bytes = if m .deaf then tells m MasterTold.Nothing Nothing else onHeard m heard bytes
 
@@ -335,7 +335,7 @@ requested limit m q count =
 
 -- ---- send
 
--- what a master sends, and the master behind it
+-- what a master sends, and the master after it
 abbrev pub sends : Master → Bool → Timer → Message → Receiver → Sent → MasterSent
 sends m deaf t g r sent = record {
   master = record {
@@ -352,7 +352,7 @@ sends m deaf t g r sent = record {
   sent = sent;
 }
 
--- one character of the STX: behind its last one the master waits RT1 for the ACK
+-- one character of the STX; after its last one the master waits RT1 for the ACK
 abbrev pub attempted : Message → Stage → ℕ → Message
 attempted g stage attempts = record { stage = stage; header = g .header; length = g .length; attempts = attempts }
 
@@ -363,7 +363,7 @@ sendsAt m frame n attempts =
     else
     sends m true (timerAfter (m .profile) (m .primary) any-stx (m .burst)) (attempted (m .message) (Awaiting (ownRt1 (m .profile) (m .primary))) attempts) passing (Sent.Character (byteAt frame n))
 
--- one attempt more: a message that waits has a retry left, and its attempts are at most R
+-- one more attempt: a message that waits has a retry left, and its attempts are at most R
 abbrev pub oneMore : ℕ → ℕ → ℕ
 oneMore retries attempts = if attempts ≤? retries then attempts + 1 else attempts
 
@@ -379,7 +379,7 @@ masterSends m frame = sendsBy m frame (m .message .stage)
 
 -- ---- start
 
--- "2: R outside 3 to 15". A fresh master counts RT1, BURST clear, and has no message.
+-- "2: R outside 3 to 15". A fresh master counts RT1, its BURST is clear, and it has no message.
 abbrev pub noMessage : Message
 noMessage = record { stage = Free; header = noHeader; length = 0; attempts = 0 }
 

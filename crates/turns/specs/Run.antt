@@ -79,7 +79,7 @@ pub data EachTick (P : LinkStep → Type 0) : List LinkStep → Type 0 where
   no-tick : EachTick P []
   tick-and : {s : LinkStep} {ss : List LinkStep} → P s → EachTick P ss → EachTick P (s ∷ ss)
 
--- "at most one device bursts at a time", behind this tick
+-- "at most one device bursts at a time", after this tick
 abbrev pub OneBursts : LinkStep → Type 0
 OneBursts s = Sole (sides (s .for-devices))
 

@@ -27,7 +27,7 @@ pub data Question : Type 0 where
   ask-polling : ℕ → Question
   -- a master sends so many data bytes
   ask-data : ℕ → Question
-  -- a host answers so many ticks behind the last character of the STX, with FSK
+  -- a host answers so many ticks after the last character of the STX, with FSK
   answer-at : ℕ → Question
   -- the longest frame
   longest : Question
@@ -83,11 +83,11 @@ result none = nothing
 result was-taken = taken
 result (was-refused why) = refuses why
 
--- the STX's last character goes out in tick T and is heard in T+1; each silent tick behind it is one more. The host answers in tick T+late.
+-- the STX's last character goes out in tick T and is heard in T+1; each silent tick after it is one more. The host answers in tick T+late.
 abbrev pub answerAt : ℕ → Outcome
 answerAt late = result (deviceTick mostData (hearing device (Silence ∷ Silence ∷ (characters (frameBytes fewestPreambles request []) ++ replicate (late - 2) Silence))) Silence (gives-answer Same (0 ∷ 0 ∷ [])) .result)
 
--- ---- M10: no frame that the writer writes is longer than so many bytes, and one is as long
+-- ---- M10: no frame that the writer writes is longer than so many bytes, and one has that length
 
 pub record Longest (n : ℕ) : Type 0 where
   pub none-longer : (preamble : ℕ) (h : Header) (put : List ℕ) (room place end : ℕ) → writeAnswer preamble h (length put) room place ≡ accepted end → (end ≤ place + n) × (length (frameBytes preamble h put) ≤ n)

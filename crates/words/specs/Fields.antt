@@ -7,11 +7,11 @@ use lib.ListN.{getD}
 use mir.Val.{boolByte}
 use Rattle.base.specs.Choice.{_=?_}
 
--- the word at a place, or 0 behind the last
+-- the word at a place, or 0 past the last
 abbrev pub wordAt : List ℕ → ℕ → ℕ
 wordAt words place = getD words place 0
 
--- a number of so many bits: the lowest of the word
+-- a number of so many bits: the lowest bits of the word
 abbrev pub numberAt : ℕ → List ℕ → ℕ → ℕ
 numberAt bits words place = wordAt words place % 2 ^ bits
 

@@ -1,5 +1,5 @@
 -- How the code stands for what is to be believed.
--- Values of their types: what the code's structs hold, whose numbers have 8, 16 or 32 bits. proofs/Kept.antt says that such a value is what its words are unpacked to.
+-- Values within their types: what the code's structs can hold, whose numbers have 8, 16 or 32 bits. proofs/Kept.antt says that such a value is what its words are unpacked to.
 use Prim.Native.Nat.{ℕ, _<_, _^_}
 use Rattle.frame.specs.declared.Header.{Header}
 use Rattle.line.specs.declared.Event.{Event}

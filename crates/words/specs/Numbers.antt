@@ -41,7 +41,7 @@ eventNumbers (Damaged w m) = 4 ∷ frameNumbers w m
 abbrev pub tickNumbers : ℕ → ℕ → ℕ → Event → List ℕ
 tickNumbers sent told attempts event = sent ∷ told ∷ attempts ∷ eventNumbers event
 
--- the other way round: what 17 numbers tell; an event's number that is none of these tells nothing
+-- the other way round: what 17 numbers tell; any other number of an event tells nothing
 abbrev pub wholeAt : List ℕ → Whole
 wholeAt numbers = record {
   header = record {

@@ -54,7 +54,7 @@ placeWord Count = 7
 placeWord (Data n) = 8 + 16 * n
 placeWord Check = 9
 
--- the numbers 10 to 15 are 0's place
+-- the numbers 10 to 15 stand for the place with number 0
 abbrev pub placeBy : ℕ → ℕ → Place
 placeBy number n =
     if number =? 1 then Idle else
