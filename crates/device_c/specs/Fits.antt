@@ -1,5 +1,5 @@
 -- How the code stands for what is to be believed.
--- Values of their types, as the code's devices hold them.
+-- Values within their types, as the code's devices hold them.
 use Prim.Native.Nat.{ℕ, _<_, _^_}
 use Rattle.turns.specs.declared.Content.{Content}
 use Rattle.turns.specs.declared.Device.{Device}

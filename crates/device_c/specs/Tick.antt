@@ -17,7 +17,7 @@ use Rattle.device_tick.specs.declared.DeviceHostCall.{DeviceHostCall}
 use Rattle.words.specs.Numbers.{tickNumbers, sentNumber, callNumber}
 use Rattle.device_c.specs.Words.{packed, unpacked, limitAt}
 
--- what a call leaves behind a tick: the words and the three lent buffers, the results and what it returns
+-- what a call leaves after a tick: the words and the three lent buffers, the results and what it returns
 pub record StepIs (limit : ℕ) (s : DeviceStep) (event : Event) (words frame bytes contents results : List ℕ) (r : ℕ) : Type 0 where
   pub words-are : words ≡ packed limit (s .side .device)
   pub limit-is : limitAt words ≡ limit
@@ -28,7 +28,7 @@ pub record StepIs (limit : ℕ) (s : DeviceStep) (event : Event) (words frame by
   pub results-are : results ≡ tickNumbers (sentNumber (s .sent)) (deviceTells (s .told) .number) 0 event
   pub returned : r ≡ callNumber (s .result)
 
--- the step of the device that the words before were, and what its reader found; the data of the host's call are `put`
+-- the step of the device that the words stood for before the call, and what its reader found; the data of the host's call are `put`
 abbrev pub DeviceTicks : Lent (List ℕ) → Lent (List ℕ) → Lent (List ℕ) → Lent (List ℕ)
     → Heard → DeviceHostCall → Lent (List ℕ) → Lent (List ℕ) → ℕ → Type 0
 DeviceTicks words frame bytes contents heard call put results r =

@@ -1,5 +1,5 @@
 -- How the code stands for what is to be believed.
--- A device and its data limit as 41 words of 64 bits, one for each field, in four parts: what it was started with, its reader, its answer, and its burst mode with the data limit. The words of a program in C are some device, whatever they hold; proofs/Kept.antt says that `unpacked (packed limit d)` is d, for every device whose numbers are within their types (`DeviceFits` in specs/Fits.antt). That is every device that the code holds: its fields have these types.
+-- A device and its data limit as 41 words of 64 bits, one for each field, in four parts: what it was started with, its reader, its answer, and its burst mode with the data limit. Whatever words a program in C lends, they stand for some device; proofs/Kept.antt says that `unpacked (packed limit d)` is d, for every device whose numbers are within their types (`DeviceFits` in specs/Fits.antt). That is every device that the code holds: its fields have these types.
 use Prim.Native.Nat.{ℕ, _+_, _*_, _/_, _%_, _^_}
 use mathlib.Core.List.{List, [], _∷_, _++_}
 use Rattle.base.specs.Choice.{if_then_else_, _=?_}
@@ -17,7 +17,7 @@ use Rattle.device_c.specs.declared.Settings.{Settings}
 use Rattle.device_c.specs.declared.Answering.{Answering}
 use Rattle.device_c.specs.declared.Bursting.{Bursting}
 
--- ---- a turn: its number and 16 times the number that it holds; the numbers 7 to 15 are 0's turn
+-- ---- a turn: its number and 16 times the number that it holds; the numbers 7 to 15 stand for the turn with number 0
 
 abbrev pub turnWord : Turn → ℕ
 turnWord Listens = 0
@@ -41,7 +41,7 @@ turnBy number n =
 abbrev pub turnOf : ℕ → Turn
 turnOf word = turnBy (word % 16) (word / 16 % 2 ^ 16)
 
--- ---- a wish: its number; any other word is 0's wish
+-- ---- a wish: its number; any other word stands for the wish with number 0
 
 abbrev pub wishWord : Wish → ℕ
 wishWord Same = 0
@@ -63,7 +63,7 @@ settingsWords p preamble polling unique = profileWords p ++ (preamble ∷ pollin
 abbrev pub settingsAt : List ℕ → Settings
 settingsAt words = record { profile = profileAt words 0; preamble = numberAt 8 words 5; polling = numberAt 8 words 6; unique = wordAt words 7 }
 
--- the request in hand, and its answer: 10 words, behind the reader's 16
+-- the request in hand, and its answer: 10 words, after the reader's 16
 abbrev pub answeringWords : Device → List ℕ
 answeringWords d = flagWord (d .deaf) ∷ turnWord (d .turn) ∷ wishWord (d .wish) ∷ d .length ∷ headerWords (d .request)
 

@@ -52,7 +52,7 @@ NoneFits = (p : Profile) (retries wait : ℕ) → dataLength p retries wait ≡ 
 
 -- ---- the two halves joined: the owner's wait on a link that is given the length
 
--- every accepted message's first character goes out within this wait of its acceptance, or of tick RT1 secondary if that is later, while no device bursts. Tick t of the run is s, and `after` are those behind it.
+-- every accepted message's first character goes out within this wait of its acceptance, or of tick RT1 secondary if that is later, while no device bursts. Tick t of the run is s, and `after` are the ticks after it.
 abbrev pub OwnerWaitIn : ℕ → Profile → List LinkStep → Type 0
 OwnerWaitIn wait p steps =
     (primary : Bool) (t : ℕ) (s : LinkStep) (after : List LinkStep) → drop t steps ≡ s ∷ after → AcceptedIn primary s

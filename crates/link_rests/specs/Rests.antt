@@ -38,7 +38,7 @@ deviceRests d = onlyCounts (deviceWay d Silence DeviceHost.DeviceHostCall.Nothin
 abbrev pub masterRests : Master → Bool
 masterRests m = onlyCounts (masterWay m Silence MasterHost.MasterHostCall.Nothing false false (m .receiver))
 
--- where no device is here, nothing changes
+-- in a slot without a device nothing changes
 abbrev pub slotRests : Slot → Bool
 slotRests s = if s .here then deviceRests (s .device) else true
 
@@ -52,7 +52,7 @@ mastersRest ms = if masterRests (getD ms 0 anyMaster) then masterRests (getD ms 
 abbrev pub linkRests : Link → Bool
 linkRests l = if isSilence (l .line) then (if mastersRest (l .masters) then slotsRest (l .devices) else false) else false
 
--- ---- behind so many silent ticks
+-- ---- after so many silent ticks
 
 -- a device's timer runs out
 abbrev pub deviceRested : ℕ → Device → Device

@@ -9,7 +9,7 @@ use Rattle.parties.specs.Stands.{uncalled}
 abbrev pub uncalledTick : L.Link → LinkStep
 uncalledTick l = linkTick mostData l uncalled
 
--- the link behind so many of them
+-- the link after so many of them
 unfoldable pub afterTicks : ℕ → L.Link → L.Link
 afterTicks zero l = l
 afterTicks (suc n) l = linkAfter (uncalledTick (afterTicks n l))

@@ -79,19 +79,19 @@ linkStarts p retries s = both freshLink (mastersStart p retries) (devicesStart p
 
 -- ---- what the code's answer says
 
--- what was made, with the answer to it
+-- what a start made, by its answer
 abbrev pub made : {A : Type 0} → A → StartAnswer → Called A
 made a Started = accepted a
 made a (Refused why) = refused (number why)
 
--- an answer alone, and the lowest of two
+-- an answer without what was made; and the lowest of two
 abbrev pub answerAs : StartAnswer → Called (Unit {0})
 answerAs x = made tt x
 
 abbrev pub lowest : Called (Unit {0}) → Called (Unit {0}) → Called (Unit {0})
 lowest x y = both (λ a b. tt) x y
 
--- the link that stands beside a refusal
+-- the link that is given beside a refusal
 abbrev pub emptyLink : Link
 emptyLink = freshLink (replicate 2 anyMaster) (replicate 6 absent)
 

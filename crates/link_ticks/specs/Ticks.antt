@@ -1,5 +1,5 @@
 -- How the code stands for what is to be believed.
--- Ticks of a link: one with calls, and more without a call, up to one in which a host is told something. They are a run of crates/turns/specs/Link.antt.
+-- Ticks of a link: one with calls, and more without calls, up to one in which a host is told something. They are a run of crates/turns/specs/Link.antt.
 use Prim.Native.Nat.{ℕ, zero, suc, _<_}
 use mathlib.Core.Bool.{Bool, true, false}
 use mathlib.Core.List.{List, [], _∷_, _++_}
@@ -81,14 +81,14 @@ atMost most = if most <? 64 then most else 64
 abbrev pub stepsOf : ℕ → Link → Calls → List ℕ → ℕ → Rows → List LinkStep
 stepsOf limit l c put most x = upToTold (run limit (linkOf l x) (callsFirst (atMost most) (callsOf put (heres (l .devices)) c)))
 
--- the link behind a run
+-- the link after a run
 unfoldable pub linkBehind : L.Link → List LinkStep → L.Link
 linkBehind l [] = l
 linkBehind l (s ∷ ss) = linkBehind (linkAfter s) ss
 
 -- ---- what each party sent, by its number
 
--- something of each slot: what its device gives, or what stood there where none is here
+-- a value for each slot: what its device gives, or what stood there where the slot has no device
 unfoldable pub onHere : {A B : Type 0} → (A → B → B) → List Bool → List A → List B → List B
 onHere f hs xs [] = []
 onHere f [] xs (b ∷ bs) = b ∷ bs
@@ -160,14 +160,14 @@ masterNothing = record { told = MasterTold.Nothing; result = CallOutcome.Nothing
 abbrev pub deviceNothing : DeviceDid
 deviceNothing = record { told = DeviceTold.Nothing; result = CallOutcome.Nothing }
 
--- behind one tick
+-- after one tick
 abbrev pub mastersDo : LinkStep → List MasterDid → List MasterDid
 mastersDo s ds = masterDid (s .for-primary) (getD ds 0 masterNothing) ∷ masterDid (s .for-secondary) (getD ds 1 masterNothing) ∷ []
 
 abbrev pub devicesDo : List Bool → LinkStep → List DeviceDid → List DeviceDid
 devicesDo hs s ds = onHere deviceDid hs (s .for-devices) ds
 
--- behind all
+-- after all of them
 unfoldable pub mastersDid : List LinkStep → List MasterDid → List MasterDid
 mastersDid [] ds = ds
 mastersDid (s ∷ ss) ds = mastersDid ss (mastersDo s ds)
@@ -184,7 +184,7 @@ linkWith masters devices line = record { masters = masters; devices = devices; l
 abbrev pub callsWith : List MasterCall → List DeviceCall → Calls
 callsWith masters devices = record { masters = masters; devices = devices }
 
--- ---- the promise: `x` and `sent` are the rows and what stands in `sent` before, `x-after` and `sent-after` behind the ticks
+-- ---- the promise: `x` is the rows and `sent` what stands in `sent` before the ticks, `x-after` and `sent-after` are those after them
 
 pub record RunIs (limit : ℕ) (l : Link) (c : Calls) (put : List ℕ) (most : ℕ) (x : Rows) (sent : List (List ℕ))
     (r : Ticked) (x-after : Rows) (sent-after : List (List ℕ)) : Type 0 where

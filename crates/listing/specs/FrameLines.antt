@@ -23,7 +23,7 @@ unfoldable pub characters : List ℕ → List Sent
 characters [] = []
 characters (c ∷ cs) = Character c ∷ characters cs
 
--- Of each tick it is given whether at most one party sends in it. "alone in each tick", in n ticks from this one on:
+-- "alone in each tick", in n ticks from this one on; `lone` says of each tick whether at most one party sends in it
 unfoldable pub aloneFor : (ℕ → Bool) → ℕ → ℕ → Bool
 aloneFor lone tick zero = true
 aloneFor lone tick (suc n) = if lone tick then aloneFor lone (tick + 1) n else false
@@ -39,7 +39,7 @@ partyLines lone party tick e (s ∷ ss) =
 unfoldable pub frameLine : (ℕ → Bool) → ℕ → ℕ → (w : List ℕ) → IsFrame w → List Line
 frameLine lone party tick w f = if aloneFor lone tick (length w) then lineOf (tick + length w - 1) party (f .header) (length w) ∷ [] else []
 
--- what a party sends from this tick on, as silent ticks and frames, and the lines of the frames that it "sent to the end before the stop, alone in each tick". A frame that the stop cuts has none.
+-- what a party sends from this tick on, as silent ticks and frames, and the lines of the frames that it "sent to the end before the stop, alone in each tick". A frame that the stop cuts off has no line.
 pub data Frames (lone : ℕ → Bool) (party : ℕ) : ℕ → List Sent → List Line → Type 0 where
   at-stop : {tick : ℕ} → Frames lone party tick [] []
   silent : {tick : ℕ} {ss : List Sent} {ls : List Line} → Frames lone party (tick + 1) ss ls → Frames lone party tick (Silent ∷ ss) ls

@@ -32,12 +32,12 @@ lineOf tick party header length = record { tick = tick; party = party; header = 
 abbrev pub quietMonitor : Monitor
 quietMonitor = record { receiver = idle; count = 0; alone = true }
 
--- a monitor behind a tick, and the line of the frame that ended in it
+-- a monitor after a tick, and the line of the frame that ended in it
 pub record PartyLines : Type 0 where
   pub monitor : Monitor
   pub lines : List Line
 
--- the frame is not at its end, or is none
+-- the frame is not at its end, or there is none
 abbrev pub goesOn : Receiver → ℕ → Bool → PartyLines
 goesOn r count alone = record { monitor = record { receiver = r; count = count; alone = alone }; lines = [] }
 
@@ -45,7 +45,7 @@ goesOn r count alone = record { monitor = record { receiver = r; count = count; 
 unfoldable pub frameEnds : Line → Bool → PartyLines
 frameEnds l alone = record { monitor = quietMonitor; lines = if alone then l ∷ [] else [] }
 
--- behind a character, by what the reader tells of it
+-- after a character, by what the reader tells of it
 abbrev pub endsBy : ℕ → ℕ → ℕ → Bool → Receiver → Event → PartyLines
 endsBy tick party count alone r Nothing = goesOn r count alone
 endsBy tick party count alone r PassedOver = goesOn r count alone
@@ -56,11 +56,11 @@ endsBy tick party count alone r (Damaged w m) = goesOn r count alone
 unfoldable pub endsWith : ℕ → ℕ → ℕ → Bool → Taken → PartyLines
 endsWith tick party count alone t = endsBy tick party count alone (t .receiver) (t .event)
 
--- one character more. The count stops at 65,535, and no play has more ticks.
+-- one more character. The count stops at 65,535; the longest frame has 284 characters.
 abbrev pub oneMore : ℕ → ℕ
 oneMore n = if n <? 65535 then n + 1 else 65535
 
--- a tick of one party. The characters of a frame are sent in ticks one behind the other, so a silent tick begins anew.
+-- a tick of one party. The characters of a frame are sent in successive ticks, so after a silent tick the monitor starts again.
 unfoldable pub listens : ℕ → ℕ → Bool → Monitor → Sent → PartyLines
 listens tick party lone e Silent = record { monitor = quietMonitor; lines = [] }
 listens tick party lone e (Sent.Character c) =
@@ -68,12 +68,12 @@ listens tick party lone e (Sent.Character c) =
 
 -- ---- every party
 
--- the monitors behind a tick, and the lines of the frames that ended in it
+-- the monitors after a tick, and the lines of the frames that ended in it
 pub record TickLines : Type 0 where
   pub monitors : List Monitor
   pub lines : List Line
 
--- a party, and those behind it
+-- a party, and those after it
 abbrev pub besides : PartyLines → TickLines → TickLines
 besides h r = record { monitors = h .monitor ∷ r .monitors; lines = h .lines ++ r .lines }
 
@@ -101,7 +101,7 @@ unfoldable pub linesFrom : ℕ → List Monitor → List (List Sent) → List Li
 linesFrom tick es [] = []
 linesFrom tick es (ss ∷ ticks) = tickLines tick es ss .lines ++ linesFrom (tick + 1) (tickLines tick es ss .monitors) ticks
 
--- and the monitors behind them
+-- and the monitors after them
 unfoldable pub monitorsFrom : ℕ → List Monitor → List (List Sent) → List Monitor
 monitorsFrom tick es [] = es
 monitorsFrom tick es (ss ∷ ticks) = monitorsFrom (tick + 1) (tickLines tick es ss .monitors) ticks

@@ -18,7 +18,7 @@ use Rattle.listing.specs.declared.Listened.{Listened}
 abbrev pub sentFor : ℕ → Sent
 sentFor n = if n <? 256 then Character n else Silent
 
--- a tick, and ticks one behind the other
+-- a tick, and ticks one after the other
 unfoldable pub rowSent : List ℕ → List Sent
 rowSent row = map sentFor row
 
@@ -28,7 +28,7 @@ rowsSent rows = map rowSent rows
 abbrev pub lesser : ℕ → ℕ → ℕ
 lesser m n = if m <? n then m else n
 
--- How many of 64 rows are listed, from this tick on: so many as are asked for, of the 4,294,967,295 ticks that a play has at most.
+-- How many of 64 rows are listed, from this tick on: as many as are asked for, of the 4,294,967,295 ticks that a play has at most.
 abbrev pub rowsListed : ℕ → ℕ → ℕ
 rowsListed tick count = lesser (lesser count 64) (4294967295 - tick)
 
@@ -39,7 +39,7 @@ heardSoFar m = if m .count =? 0 then quietMonitor else m
 unfoldable pub allHeard : List Monitor → List Monitor
 allHeard ms = map heardSoFar ms
 
--- the monitors behind some ticks, and the lines of the frames that ended in them
+-- the monitors after some ticks, and the lines of the frames that ended in them
 abbrev pub ticksLines : ℕ → List Monitor → List (List Sent) → TickLines
 ticksLines tick ms ticks = record { monitors = monitorsFrom tick ms ticks; lines = linesFrom tick ms ticks }
 

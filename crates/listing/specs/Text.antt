@@ -1,5 +1,5 @@
 -- To be believed: what the engine must do, or what is claimed of it.
--- Document 01, "The player": the text of the output, a line for each frame behind the header line.
+-- Document 01, "The player": the text of the output, which is the header line and then a line for each frame.
 use Prim.Native.Nat.{ℕ}
 use mathlib.Core.Bool.{Bool}
 use mathlib.Core.List.{List, [], _∷_, _++_}
@@ -8,7 +8,7 @@ use Rattle.texts.specs.Decimal.{decimalOf}
 use Rattle.frame.specs.Delimiter.{stx, ack}
 use Rattle.listing.specs.Lines.{Line}
 
--- a number in decimal: of 32 bits it has at most ten digits
+-- a number in decimal; one of 32 bits has at most ten digits
 abbrev pub decimal : ℕ → List ℕ
 decimal n = decimalOf 10 n
 
@@ -26,7 +26,7 @@ typeName frame = if frame =? stx then 83 ∷ 84 ∷ 88 ∷ [] else (if frame =? 
 abbrev pub masterDigit : Bool → ℕ
 masterDigit primary = if primary then 48 else 49
 
--- a word of a line, with a space behind it
+-- a word of a line, with a space after it
 abbrev pub word : List ℕ → List ℕ
 word text = text ++ (32 ∷ [])
 

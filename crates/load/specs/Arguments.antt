@@ -8,7 +8,7 @@ use Rattle.base.specs.Choice.{if_then_else_, _<?_, _outside_to_}
 abbrev pub largest : ℕ
 largest = 4294967295
 
--- the digits behind those whose number is n, in decimal; 0, which the writer refuses, where one is no digit or the number has more than 32 bits
+-- the number that decimal digits give where those before them gave n; 0, which the writer refuses, where one is no digit or the number has more than 32 bits
 unfoldable pub numberFrom : ℕ → List ℕ → ℕ
 numberFrom n [] = n
 numberFrom n (c ∷ text) =

@@ -23,7 +23,7 @@ use Rattle.turns.specs.declared.Wish.{Wish}
 
 -- ---- what a run shows
 
--- what is shown at a place of a list; `other` behind its end
+-- what is shown at a place of a list; `other` past its end
 unfoldable pub shownAt : {A B : Type 0} → A → (B → A) → ℕ → List B → A
 shownAt other show place [] = other
 shownAt other show zero (x ∷ xs) = show x
@@ -39,7 +39,7 @@ askedResult primary tick steps = shownAt none (λ (s : LinkStep). masterIn prima
 abbrev pub masterTold : Bool → ℕ → List LinkStep → MasterTold
 masterTold primary tick steps = shownAt MasterTold.Nothing (λ (s : LinkStep). masterIn primary s .told) tick steps
 
--- a device in a tick, by its place among the devices: what its host gives, what becomes of that, what it tells its host, and whether it bursts behind the tick
+-- a device in a tick, by its place among the devices: what its host gives, what becomes of that, what it tells its host, and whether it bursts after the tick
 abbrev pub gave : ℕ → ℕ → List Calls → DeviceCall
 gave device tick calls = shownAt no-call (λ (c : Calls). shownAt no-call (λ (d : DeviceCall). d) device (c .for-devices)) tick calls
 
@@ -76,7 +76,7 @@ untouched device [] = true
 untouched device (s ∷ ss) =
     if senders s =? 0 then (if isTaken (shownAt none (λ (d : DeviceStep). d .result) device (s .for-devices)) then false else untouched device ss) else false
 
--- a device is told a request, in T+1, the tick behind its last character; since then nobody has sent and no answer was taken; its host answers past T+STO, and is refused with 8
+-- a device is told a request, in T+1, the tick after its last character; since then nobody has sent and no answer was taken; its host answers past T+STO, and is refused with 8
 pub record LateAnswer (sto : ℕ) (calls : List Calls) (steps : List LinkStep) : Type 0 where
   pub device : ℕ
   pub request : Whole
@@ -106,7 +106,7 @@ unfoldable pub times : ℕ → List ℕ → List ℕ
 times zero bytes = []
 times (suc n) bytes = bytes ++ times n bytes
 
--- a master asks the unique address that no device of the link has, which is not broadcast; its STX goes out R + 1 times, and nothing else does; then the message is reported as given up, with R + 1 attempts
+-- a master asks a unique address that no device of the link has and that is not broadcast; the master sends its STX R + 1 times, and nothing else; then the message is reported as given up, with R + 1 attempts
 pub record AbsentDevice (l : Link) (retries : ℕ) (calls : List Calls) (steps : List LinkStep) : Type 0 where
   pub primary : Bool
   pub request : Request
@@ -122,7 +122,7 @@ pub record AbsentDevice (l : Link) (retries : ℕ) (calls : List Calls) (steps :
 
 -- ---- "burst turned on and off"
 
--- a device does not burst behind tick `on` and does behind the next one; later it does behind tick `off`, and does not behind the next one
+-- a device does not burst after tick `on` and does after the next one; later it does after tick `off`, and does not after the next one
 pub record BurstTurned (steps : List LinkStep) : Type 0 where
   pub device : ℕ
   pub on : ℕ

@@ -53,6 +53,6 @@ NoTwoSendInAPlay = (seed count : ℕ) → EachTick NoTwoSend (playOf seed count)
 abbrev pub WaitInAPlay : Type 0
 WaitInAPlay = (seed count : ℕ) → WaitIn mostData fskProfile 3 (playOf seed count)
 
--- "in every play each kind listed occurs": so from 13 records on, where document 02 asks it from 64 on
+-- "in every play each kind listed occurs": this holds from 13 records on, where document 02 asks it from 64 on
 abbrev pub KindsOccur : Type 0
 KindsOccur = (seed count : ℕ) → 13 ≤ count → EachKind readyLink (fskProfile .sto) 3 (callsOf seed count) (playOf seed count)

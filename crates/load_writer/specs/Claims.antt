@@ -15,7 +15,7 @@ AlwaysTaken = (seed count : ℕ) → 1 ≤ count → count ≤ mostRecords → g
 abbrev pub ReadsBack : Type 0
 ReadsBack = (seed count : ℕ) → count ≤ mostRecords → recordsOf (scriptBytes (load seed count)) ≡ load seed count
 
--- "two seeds never give one script": so from 13 records on, where document 02 asks it from 64 on
+-- "two seeds never give one script": this holds from 13 records on, where document 02 asks it from 64 on
 abbrev pub SeedsDiffer : Type 0
 SeedsDiffer =
     (s t count : ℕ) → s < 2 ^ 32 → t < 2 ^ 32 → 13 ≤ count → count ≤ mostRecords

@@ -8,14 +8,14 @@ use Rattle.script.specs.declared.Entry.{Entry}
 
 -- ---- the numbers: "Marsaglia's xorshift32 (left 13, right 17, left 5)"
 
--- a number and itself shifted, in 32 bits
+-- the exclusive-or of a number and the same number shifted, in 32 bits
 abbrev pub leftwards : ℕ → ℕ → ℕ
 leftwards k x = bitXor x (x * 2 ^ k % 2 ^ 32)
 
 abbrev pub rightwards : ℕ → ℕ → ℕ
 rightwards k x = bitXor x (x / 2 ^ k)
 
--- the number that a number draws. The first number of a load is the one that its seed draws.
+-- the number that is drawn after a number. The first number of a load is the one drawn after its seed.
 unfoldable pub draw : ℕ → ℕ
 draw x = leftwards 5 (rightwards 17 (leftwards 13 x))
 
@@ -26,7 +26,7 @@ call tick party action argument = record { tick = tick; party = party; action = 
 
 unfoldable pub opening : List Entry
 opening =
-    -- nobody has address 8
+    -- no device has address 8
     call 0 0 3 8
     ∷ call 0 1 3 3
     ∷ call 250 0 3 2
@@ -54,7 +54,7 @@ front x = opening ++ (mark x 0 ∷ mark x 1 ∷ mark x 2 ∷ mark x 3 ∷ [])
 abbrev pub pairTick : ℕ → ℕ
 pairTick k = 401 + (2 * k - k / 8)
 
--- the unique address that a master asks: that of party 2 more often than the others; 0 is broadcast, and 1 is nobody's
+-- the unique address that a master asks: that of party 2 more often than the others; 0 is broadcast, and no device has 1
 abbrev pub askedOf : ℕ → ℕ
 askedOf v = if v <? 8 then v else if v <? 12 then 2 else v - 8
 
@@ -97,7 +97,7 @@ drawnFrom k x (suc zero) = stopAt (pairTick k) ∷ []
 drawnFrom k x (suc (suc zero)) = lower (pairTick k) x ∷ stopAt (pairTick k) ∷ []
 drawnFrom k x (suc (suc (suc n))) = lower (pairTick k) x ∷ upper (pairTick k) (draw x) ∷ drawnFrom (k + 1) (draw (draw x)) (suc n)
 
--- so many records: first these, and behind them drawn ones
+-- so many records: first these, and after them drawn ones
 unfoldable pub laid : ℕ → List Entry → ℕ → List Entry
 laid x [] n = drawnFrom 0 x n
 laid x (e ∷ es) zero = []

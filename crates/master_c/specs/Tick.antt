@@ -31,7 +31,7 @@ toldAttempts (Answered w) = 0
 toldAttempts (GivenUp n) = n
 toldAttempts BroadcastSent = 0
 
--- what a call leaves behind a tick: the words and both lent buffers, the results and what it returns
+-- what a call leaves after a tick: the words and both lent buffers, the results and what it returns
 pub record StepIs (limit : ℕ) (s : MasterStep) (event : Event) (words frame bytes results : List ℕ) (r : ℕ) : Type 0 where
   pub words-are : words ≡ packed limit (s .side .master)
   pub limit-is : limitAt words ≡ limit
@@ -41,7 +41,7 @@ pub record StepIs (limit : ℕ) (s : MasterStep) (event : Event) (words frame by
   pub results-are : results ≡ tickNumbers (sentNumber (s .sent)) (masterTells (s .told) .number) (toldAttempts (s .told)) event
   pub returned : r ≡ callNumber (s .result)
 
--- the step of the master that the words before were, and what its reader found; the data of the host's request are `put`
+-- the step of the master that the words stood for before the call, and what its reader found; the data of the host's request are `put`
 abbrev pub MasterTicks : Lent (List ℕ) → Lent (List ℕ) → Lent (List ℕ) → Heard → MasterHostCall → Lent (List ℕ) → Lent (List ℕ) → ℕ → Type 0
 MasterTicks words frame bytes heard call put results r =
     StepIs

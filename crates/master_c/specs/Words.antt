@@ -1,5 +1,5 @@
 -- How the code stands for what is to be believed.
--- A master and its data limit as 40 words of 64 bits, one for each field, in the order of `packed`. The words of a program in C are some master, whatever they hold; proofs/Kept.antt says that `unpacked (packed limit m)` is m, for every master whose numbers are within their types (`MasterFits`). That is every master that the code holds: its fields have these types.
+-- A master and its data limit as 40 words of 64 bits, one for each field, in the order of `packed`. Whatever words a program in C lends, they stand for some master; proofs/Kept.antt says that `unpacked (packed limit m)` is m, for every master whose numbers are within their types (`MasterFits`). That is every master that the code holds: its fields have these types.
 use Prim.Native.Nat.{ℕ, _+_, _*_, _/_, _%_, _^_, _<_}
 use mathlib.Core.List.{List, [], _∷_, _++_}
 use Rattle.base.specs.Choice.{if_then_else_, _=?_}
@@ -13,7 +13,7 @@ use Rattle.words.specs.Fields.{wordAt, numberAt, flagWord, flagAt}
 use Rattle.words.specs.Reader.{headerWords, headerAt, profileWords, profileAt, receiverWords, receiverAt}
 use Rattle.words.specs.Fits.{HeaderFits, ProfileFits, ReceiverFits}
 
--- a stage: its number and 16 times the number that it holds; the numbers 4 to 15 are 0's stage
+-- a stage: its number and 16 times the number that it holds; the numbers 4 to 15 stand for the stage with number 0
 abbrev pub stageWord : Stage → ℕ
 stageWord Free = 0
 stageWord Waiting = 1
@@ -60,7 +60,7 @@ frontWords m =
     m .timer .quiet ∷
     [])
 
--- the address that BURST was set by, the message and the data limit: 12 words, behind the reader's 16
+-- the address that BURST was set by, the message and the data limit: 12 words, after the reader's 16
 abbrev pub endWords : ℕ → Master → List ℕ
 endWords limit m = flagWord (m .noted .long) ∷ m .noted .address ∷ messageWords (m .message) ++ (limit ∷ [])
 

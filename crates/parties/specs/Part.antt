@@ -1,5 +1,5 @@
 -- How the code stands for what is to be believed.
--- The data of a call: so many of the lent bytes, from a place on, as far as there are.
+-- The data of a call: so many of the lent bytes from a place on, or as many as there are.
 use Prim.Native.Nat.{ℕ, _+_, _-_, _≤_}
 use mathlib.Core.Path.{_≡_}
 use mathlib.Core.List.{List}
@@ -11,13 +11,13 @@ use Rattle.parties.specs.declared.Part.{Part}
 abbrev pub dataOf : Part → List ℕ → List ℕ
 dataOf p put = take (p .count) (drop (p .from) put)
 
--- where the part begins and ends, of so many lent bytes: at their end, if it begins behind it
+-- where the part begins and ends in so many lent bytes; where it would begin past their end, both are that end
 abbrev pub boundsOf : ℕ → ℕ → ℕ → Bounds
 boundsOf from count room =
     if from <? room then record { start = from; end = if room - from <? count then room else from + count }
     else record { start = room; end = room }
 
--- those bounds: they lie inside, and between them stands the part
+-- those bounds lie inside, and between them stands the part
 pub record PartIs (from count room : ℕ) (b : Bounds) : Type 0 where
   pub bounds : b ≡ boundsOf from count room
   pub in-order : b .start ≤ b .end

@@ -1,5 +1,5 @@
 -- Inner contracts: nothing that is to be believed rests on them.
--- The line's reader, that of one who hears all that the line carries, and when a party's reader is that one. The law in proofs/Readers.antt says that two readers of which this is told are equal.
+-- The line's reader, which hears all that the line carries, and whether a party's reader equals it. The law in proofs/Readers.antt says that two readers are equal where `sameReader` says so.
 use Prim.Native.Nat.{ℕ}
 use mathlib.Core.Bool.{Bool, true, false}
 use Rattle.base.specs.Choice.{if_then_else_, _=?_}
@@ -21,7 +21,7 @@ findsNothing Broken = false
 findsNothing (Frame w) = false
 findsNothing (Damaged w m) = false
 
--- the line's reader behind a tick
+-- the line's reader after a tick
 abbrev pub stepOf : Taken → LineStep
 stepOf t = record { reader = t .receiver; quiet = findsNothing (t .event) }
 

@@ -1,5 +1,5 @@
 -- How the code stands for what is to be believed.
--- How the parties, rows and calls of the code stand for those of crates/turns/specs/Link.antt: the devices of a link are those that are here, in the slots' order.
+-- How the parties, rows and calls of the code stand for those of crates/turns/specs/Link.antt. The devices of a link are those of the slots that have one, in the slots' order.
 use Prim.Native.Nat.{ℕ, suc, _+_}
 use mathlib.Core.Bool.{Bool, true, false}
 use mathlib.Core.List.{List, [], _∷_, map}
@@ -42,7 +42,7 @@ rowsOf frames bytes contents = record { frames = frames; bytes = bytes; contents
 abbrev pub masterAt : Rows → ℕ → Master → MasterSide
 masterAt x i m = M.sideOf m (getD (x .frames) i []) (getD (x .bytes) i [])
 
--- there are always two; this stands behind them
+-- there are always two masters; this one is given for any other number
 abbrev pub anyMaster : Master
 anyMaster = freshMaster (record { sto = 0; hold = 0; rt2 = 0; rt1p = 0; rt1s = 0 }) true 0
 
@@ -54,7 +54,7 @@ abbrev pub ifHere : {A : Type 0} → Bool → A → List A → List A
 ifHere true a others = a ∷ others
 ifHere false a others = others
 
--- the devices that are here, from this number on
+-- the devices of the slots that have one, from this number on
 unfoldable pub devicesFrom : Rows → ℕ → List Slot → List DeviceSide
 devicesFrom x i [] = []
 devicesFrom x i (s ∷ ss) = ifHere (s .here) (deviceAt x i (s .device)) (devicesFrom x (suc i) ss)

@@ -1,5 +1,5 @@
 -- Inner contracts: nothing that is to be believed rests on them.
--- How a party's tick goes: it only counts a silent tick, it only hears a character, or it acts. The laws in proofs/Ways.antt say that the short ways are its tick.
+-- How a party's tick goes: it only counts a silent tick, it only hears a character, or it acts. The laws in proofs/Ways.antt say that the first two, which are shorter, do what its tick does.
 use Prim.Native.Nat.{ℕ, _-_}
 use mathlib.Core.Bool.{Bool, true, false}
 use Rattle.base.specs.Choice.{if_then_else_}
@@ -24,7 +24,7 @@ use Rattle.parties.specs.declared.Slot.{Slot}
 use Rattle.parties.specs.declared.Way.{Way}
 use Rattle.parties.specs.declared.Way.the-variants.{Counts, Hears, Acts}
 
--- a character: the line's reader finds nothing, and the party's reader is that one, by its flag or compared
+-- a character: the party only hears it where the line's reader finds nothing and the party's reader equals that one, by its flag or by comparison
 abbrev pub hearsIf : Bool → Bool → Bool → Way
 hearsIf follows quiet same = if quiet then (if follows then Hears else if same then Hears else Acts) else Acts
 

@@ -1,5 +1,5 @@
 -- Inner contracts: nothing that is to be believed rests on them.
--- Document 02, item 11: a play in pieces. A listing may be longer than any buffer, so a program writes the header line and then one piece behind the other.
+-- Document 02, item 11: a play in pieces. A listing may be longer than any buffer, so a program writes the header line and then one piece after the other.
 use Prim.Native.Nat.{ℕ, _+_, _≤_, _<_}
 use mathlib.Core.Bool.{true}
 use mathlib.Core.List.{List, [], _++_}
@@ -32,7 +32,7 @@ pub record Begun (out : List ℕ) (r : Playing) (out-after : List ℕ) : Type 0 
   pub play-is : r ≡ firstPlay (r .at)
   pub head : PutIs headLine out 0 (r .at) out-after
 
--- a piece of a play that stands: a text at the output's front, whole; what was left to print is this text and then what is left now
+-- a piece of a play for which Stands holds: a text, whole, at the output's front; what was left to print is this text and then what is left now
 pub record Piece (told : Told) (script : List ℕ) (p : Playing) (x : Rows) (out : List ℕ) (r : Playing) (x-after : Rows) (out-after : List ℕ) : Type 0 where
   pub text : List ℕ
   pub end : r .at ≡ length text
@@ -41,7 +41,7 @@ pub record Piece (told : Told) (script : List ℕ) (p : Playing) (x : Rows) (out
   pub left : textLeft (told .form) script (told .stop) p x ≡ text ++ textLeft (told .form) script (told .stop) r x-after
   pub stands : Stands (told .form) script r
 
--- a piece of any play: it goes on where there is room for the lines of 64 ticks, and ends before the stop only where there is none any more
+-- a piece of any play: it goes on where there is room for the lines of 64 ticks, and ends before the stop only where that room is used up
 pub record PieceIs (told : Told) (script : List ℕ) (p : Playing) (x : Rows) (out : List ℕ) (r : Playing) (x-after : Rows) (out-after : List ℕ) : Type 0 where
   pub later : p .tick < told .stop → linesRoom ≤ length out → p .tick < r .tick
   pub before-stop : p .tick ≤ told .stop → r .tick ≤ told .stop
@@ -53,7 +53,7 @@ PieceOf told script p frames bytes contents out r =
     PieceIs told (before script) p (rowsOf (before frames) (before bytes) (before contents)) (before out) r
     (rowsOf (after frames) (after bytes) (after contents)) (after out)
 
--- what is written from a play on: the front of the output behind each piece, up to the stop
+-- what is written from a play on: the front of the output after each piece, up to the stop
 pub data Written (told : Told) (script : List ℕ) : Playing → Rows → List ℕ → Type 0 where
   over : {p : Playing} {x : Rows} → told .stop ≤ p .tick → Written told script p x []
   next : {p r : Playing} {x x-after : Rows} {out out-after rest : List ℕ}

@@ -1,5 +1,5 @@
 -- Inner contracts: nothing that is to be believed rests on them.
--- The ticks of a play, one behind the other or several at once.
+-- The ticks of a play, one after the other or several at once.
 use Prim.Native.Nat.{ℕ, _+_, _-_, _≤_, _<_}
 use mathlib.Core.Bool.{Bool, true, false}
 use mathlib.Core.List.{List}
@@ -40,30 +40,30 @@ pub record Stands (form : Form) (script : List ℕ) (p : Playing) : Type 0 where
   pub reads : Reads form script (p .next) (p .tick)
   pub there : heres (p .link .devices) ≡ replicate 6 true
 
--- behind some ticks of a link that rests
+-- after some ticks of a link that rests
 abbrev pub restedFor : ℕ → Playing → Playing
 restedFor n p = record { link = linkRested n (p .link); monitors = replicate 8 quietMonitor; tick = p .tick + n; next = p .next; at = p .at }
 
--- a play whose output begins anew
+-- a play whose output starts again at the buffer's front
 abbrev pub atFront : Playing → Playing
 atFront p = record { link = p .link; monitors = p .monitors; tick = p .tick; next = p .next; at = 0 }
 
--- the lines of 64 ticks, of at most 40 bytes each; and whether there is room for them behind a place
+-- the room for the lines of 64 ticks, of at most 40 bytes each; and whether there is so much room from a place on
 abbrev pub linesRoom : ℕ
 linesRoom = 2560
 
 abbrev pub hasRoom : ℕ → ℕ → Bool
 hasRoom length at = if length <? at then false else linesRoom ≤? length - at
 
--- the run of a play's next ticks, so many
+-- the run of so many of a play's next ticks
 abbrev pub stepsFrom : Form → List ℕ → ℕ → Playing → Rows → List LinkStep
 stepsFrom form script n p x = run mostData (linkOf (p .link) x) (callsFrom (p .tick) n (recordsIn form script))
 
--- its monitors behind them, and the lines of the frames that ended in them
+-- its monitors after them, and the lines of the frames that ended in them
 abbrev pub linesOf : Form → List ℕ → ℕ → Playing → Rows → TickLines
 linesOf form script n p x = ticksLines (p .tick) (allHeard (p .monitors)) (sentIn (stepsFrom form script n p x))
 
--- one tick or more: link, monitors and output are those behind the run of so many ticks. How many are taken at once is left open, and nothing that is printed depends on it.
+-- one tick or more: link, monitors and output are those after the run of so many ticks. How many are taken at once is left open, and nothing that is printed depends on it.
 pub record PlaysOn (form : Form) (script : List ℕ) (stop : ℕ) (p : Playing) (x : Rows) (out : List ℕ)
     (r : Playing) (x-after : Rows) (out-after : List ℕ) : Type 0 where
   pub ticks : ℕ
@@ -75,7 +75,7 @@ pub record PlaysOn (form : Form) (script : List ℕ) (stop : ℕ) (p : Playing) 
   pub lines-are : TickLinesAre (linesOf form script ticks p x) out (p .at) (allHeard (r .monitors)) (r .at) out-after
   pub short : length (linesText (linesOf form script ticks p x .lines)) ≤ linesRoom
 
--- of any play: it goes on, and not past the stop; of one that stands, all of it
+-- any play goes on, and not past the stop; where Stands holds, PlaysOn does
 pub record Onward (told : Told) (script : List ℕ) (p : Playing) (x : Rows) (out : List ℕ) (r : Playing) (x-after : Rows) (out-after : List ℕ) : Type 0 where
   pub later : p .tick < r .tick
   pub before-stop : r .tick ≤ told .stop
@@ -87,7 +87,7 @@ OnwardIs told script p frames bytes contents out r =
     Onward told (before script) p (rowsOf (before frames) (before bytes) (before contents)) (before out) r
     (rowsOf (after frames) (after bytes) (after contents)) (after out)
 
--- all that is left
+-- all that is left is printed
 abbrev pub PlaysAll : Told → Lent (List ℕ) → Playing → Lent (List (List ℕ)) → Lent (List (List ℕ)) → Lent (List (List ℕ)) → Lent (List ℕ) → ℕ → Type 0
 PlaysAll told script p frames bytes contents out r =
     PutIs (textLeft (told .form) (before script) (told .stop) p (rowsOf (before frames) (before bytes) (before contents))) (before out) (p .at) r (after out)

@@ -23,7 +23,7 @@ use Rattle.script.specs.declared.ScriptCall.the-variants.{Nothing, Call}
 unfoldable pub zeroBytes : List ℕ
 zeroBytes = replicate mostData 0
 
--- the first so many of them
+-- so many of them, from the first on
 abbrev pub zeros : ℕ → Part
 zeros n = record { from = 0; count = n }
 

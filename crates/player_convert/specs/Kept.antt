@@ -1,5 +1,5 @@
 -- To be believed: what the engine must do, or what is claimed of it.
--- Document 02, item 11: "with every value kept". What is claimed of every script that was turned; that it plays to the same listing stands in crates/player/specs/Turned.antt.
+-- Document 02, item 11: "with every value kept". What is claimed of every script that was turned. That it plays to the same listing is claimed in crates/player/specs/Turned.antt.
 use Prim.Native.Nat.{ℕ, _≤_, _<_}
 use mathlib.Core.Bool.{Bool, true, false}
 use mathlib.Core.List.{List}
@@ -22,7 +22,7 @@ TurnKeeps = (f : Form) (script result : List ℕ) (room : ℕ) → converted f s
 abbrev pub Bytes : List ℕ → Type 0
 Bytes s = (i : ℕ) → getD s i 0 < 256
 
--- turned there and back it is the very bytes
+-- turned into the other form and back, a script has the same bytes again
 abbrev pub ThereAndBack : Type 0
 ThereAndBack =
     (f : Form) (script result : List ℕ) (room back : ℕ) → Bytes script → converted f script room ≡ accepted result → length script ≤ back

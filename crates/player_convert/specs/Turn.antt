@@ -30,7 +30,7 @@ abbrev pub other : Form → Form
 other Old = New
 other New = Old
 
--- the largest tick that a form's records can say
+-- the largest tick that a form's records can hold
 abbrev pub mostTick : Form → ℕ
 mostTick Old = 65535
 mostTick New = 4294967295
@@ -40,7 +40,7 @@ unfoldable pub anyAbove : ℕ → List Entry → Bool
 anyAbove most [] = false
 anyAbove most (e ∷ es) = if most <? e .tick then true else anyAbove most es
 
--- "then 15": a result, for lent bytes of which there are so many
+-- "then 15": the result, where so many bytes are lent
 abbrev pub byRoom : List ℕ → ℕ → Called (List ℕ)
 byRoom bytes room = if room <? length bytes then refused 15 else accepted bytes
 
@@ -84,12 +84,12 @@ pub record ConvertIs (c : Called (List ℕ)) (out : List ℕ) (r : Converted) (a
 
 -- ---- the loops
 
--- records that a form can say: what every script's are, its bytes being bytes
+-- records that a form can hold; those of every script of bytes are such
 pub data Sayable (f : Form) : List Entry → Type 0 where
   none : Sayable f []
   more : {e : Entry} {es : List Entry} → e .tick ≤ mostTick f → e .action < 16 → Sayable f es → Sayable f (e ∷ es)
 
--- the records of a script of form f, put in form g at the front of lent bytes; r is how many bytes they are
+-- the records of a script of form f, put in form g at the front of lent bytes; r is how many bytes they take
 pub record PutsRecords (f g : Form) (script out : List ℕ) (r : ℕ) (after : List ℕ) : Type 0 where
   pub count : r ≡ length (turned g (recordsIn f script))
   pub bytes : after ≡ stored out 0 (turned g (recordsIn f script))

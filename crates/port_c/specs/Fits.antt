@@ -1,5 +1,5 @@
 -- How the code stands for what is to be believed.
--- Values of their types, as the code's masters and devices of the port hold them.
+-- Values within their types, as the code's masters and devices of the port hold them.
 use Prim.Native.Nat.{ℕ, _<_, _^_}
 use Rattle.line.specs.declared.Heard.{Heard}
 use Rattle.line.specs.declared.Heard.the-variants.{Silence, Character, Damaged}

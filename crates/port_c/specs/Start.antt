@@ -1,5 +1,5 @@
 -- How the code stands for what is to be believed.
--- The starts of the port's master and of a device of the port, over both arrays of words, as those of the pair are over one (crates/start_c/specs/Start.antt). The data limit is document 02's, item 12.
+-- The starts of the port's master and of a device of the port, over both arrays of words; those of the pair are over one (crates/start_c/specs/Start.antt). The data limit is that of document 02, item 12.
 use Prim.Native.Nat.{ℕ}
 use mathlib.Core.List.{List}
 use mathlib.Core.Path.{_≡_}
@@ -25,13 +25,13 @@ pub record PortStartIs {A : Type 0} (packed : A → List ℕ) (ported : A → Li
   pub unpacked-is : UnpackedIs unpacked started words-after port-after
   pub limit-is : LimitIs limit-at limit started words-after
 
--- 2, then 9
+-- refused with 2, then with 9
 abbrev pub PortMasterLeft : ℕ → Called PortMaster → Lent (List ℕ) → Lent (List ℕ) → ℕ → Type 0
 PortMasterLeft limit started words port r =
     PortStartIs (λ (x : PortMaster). MasterWords.packed limit (x .master)) masterWords unpackedMaster MasterWords.limitAt limit (limited limit started)
     (before words) (before port) (after words) (after port) r
 
--- 3 and 4, then 9
+-- refused with 3 and 4, then with 9
 abbrev pub PortDeviceLeft : ℕ → Called PortDevice → Lent (List ℕ) → Lent (List ℕ) → ℕ → Type 0
 PortDeviceLeft limit started words port r =
     PortStartIs (λ (y : PortDevice). DeviceWords.packed limit (y .device)) deviceWords unpackedDevice DeviceWords.limitAt limit (limited limit started)

@@ -33,7 +33,7 @@ pub record MasterStepIs (limit : ℕ) (s : PortMasterStep) (words port frame byt
   pub results-are : results ≡ tickNumbers (sentNumber (s .sent)) (masterTells (s .told) .number) (toldAttempts (s .told)) (s .event)
   pub returned : r ≡ callNumber (s .result)
 
--- the step of the master that the words before were; the data of the host's request are `put`
+-- the step of the master that the words stood for before the call; the data of the host's request are `put`
 abbrev pub PortMasterTicks : Lent (List ℕ) → Lent (List ℕ) → Lent (List ℕ) → Lent (List ℕ) → Heard → MasterHostCall → Lent (List ℕ) → Lent (List ℕ) → ℕ → Type 0
 PortMasterTicks words port frame bytes heard call put results r =
     MasterStepIs (MasterWords.limitAt (before words))
@@ -61,7 +61,7 @@ pub record DeviceStepIs (limit : ℕ) (s : PortDeviceStep) (words port frame byt
   pub results-are : results ≡ tickNumbers (sentNumber (s .sent)) (deviceTells (s .told) .number) 0 (s .event)
   pub returned : r ≡ callNumber (s .result)
 
--- the step of the device that the words before were; the data of the host's answer are `put`
+-- the step of the device that the words stood for before the call; the data of the host's answer are `put`
 abbrev pub PortDeviceTicks : Lent (List ℕ) → Lent (List ℕ) → Lent (List ℕ) → Lent (List ℕ) → Heard → PortHostCall → Lent (List ℕ) → Lent (List ℕ) → ℕ → Type 0
 PortDeviceTicks words port frame bytes heard call put results r =
     DeviceStepIs (DeviceWords.limitAt (before words))

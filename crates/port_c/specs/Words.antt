@@ -1,5 +1,5 @@
 -- How the code stands for what is to be believed.
--- The port's words beside those of its master or device. The words of a program in C are some master or device, whatever they hold; proofs/Kept.antt says that `unpackedMaster` and `unpackedDevice` give back every one that the code holds.
+-- The port's words beside those of its master or device. Whatever words a program in C lends, they stand for some master or device; proofs/Kept.antt says that `unpackedMaster` and `unpackedDevice` give back every one that the code holds.
 use Prim.Native.Nat.{ℕ, _+_, _-_, _%_, _^_}
 use mathlib.Core.Bool.{true, false}
 use mathlib.Core.List.{List, [], _∷_}
@@ -19,7 +19,7 @@ use Rattle.port.specs.declared.PortMaster.{PortMaster}
 use Rattle.port.specs.declared.WakeUp.{WakeUp}
 use Rattle.port.specs.declared.WakeUp.the-variants.{Off, Left}
 
--- ---- the master's two: the ticks since an answer, and the wake-up
+-- ---- the master's two words: the ticks since an answer, and the wake-up
 
 -- 0, or one more than the characters still to be sent
 abbrev pub wakeWord : WakeUp → ℕ
@@ -35,7 +35,7 @@ masterWords x = x .since ∷ wakeWord (x .wake) ∷ []
 abbrev pub unpackedMaster : List ℕ → List ℕ → PortMaster
 unpackedMaster words port = record { master = MasterWords.unpacked words; since = numberAt 16 port 0; wake = wakeOf (wordAt port 1) }
 
--- ---- a device's six: its ear, kind and character of the two ticks before for one that dozes, and the quiet ticks
+-- ---- a device's six words: how it listens; for one that dozes, kind and character of what was heard in the two ticks before; and the quiet ticks
 
 -- what was heard, by the numbers of `heardOf`
 abbrev pub damageKind : Damage → ℕ

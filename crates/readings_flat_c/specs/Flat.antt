@@ -1,5 +1,5 @@
 -- How the code stands for what is to be believed.
--- A table of flat numbers and a byte area in which what a tick tells was entered: before and after.
+-- A table of flat numbers and a byte area, before and after what a tick tells is entered.
 use Prim.Native.Nat.{ℕ, _/_, _<_, _^_}
 use mathlib.Core.List.{List}
 use mathlib.Core.Path.{_≡_}

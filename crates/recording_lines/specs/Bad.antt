@@ -8,7 +8,7 @@ use Rattle.recording.specs.Form.{tickRefused}
 use Rattle.recording_lines.specs.declared.FirstBad.{FirstBad}
 use Rattle.recording_lines.specs.declared.FirstBad.the-variants.{Tick, None}
 
--- from tick t on; a last odd byte is a bad tick
+-- from tick t on; an odd last byte is a bad tick
 unfoldable pub firstBad : ℕ → List ℕ → FirstBad
 firstBad t [] = None
 firstBad t (first ∷ []) = Tick t

@@ -1,5 +1,5 @@
 -- How the code stands for what is to be believed.
--- What is claimed of the lines and of the first bad tick: a recording may be gone through in pieces, whatever their sizes, and nothing is left out of the output with room for it.
+-- What is claimed of the lines and of the first bad tick: a recording may be read in pieces of any size, and nothing is left out of an output that has room for it.
 use Prim.Native.Nat.{ℕ, _+_, _*_, _≤_}
 use mathlib.Core.Bool.{Bool}
 use mathlib.Core.Path.{_≡_}
@@ -28,7 +28,7 @@ BadInPieces =
     (t n : ℕ) (first second : List ℕ) → length first ≡ 2 * n
     → firstBad t (first ++ second) ≡ (if isBad (firstBad t first) then firstBad t first else firstBad (t + n) second)
 
--- there is a first bad tick just where the recording is refused
+-- there is a first bad tick exactly where the recording is refused
 abbrev pub BadSaid : Type 0
 BadSaid = (t : ℕ) (recording : List ℕ) → isBad (firstBad t recording) ≡ badRecording recording
 

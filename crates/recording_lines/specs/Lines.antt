@@ -1,5 +1,5 @@
 -- How the code stands for what is to be believed.
--- What the program `frames` prints: of document 02, item 9, a line for each frame and break that the tick reader finds, in the order of their ticks. What goes from piece to piece of a recording is `Kept`.
+-- What the program `frames` prints: a line for each frame and break that the tick reader finds (document 02, item 9), in the order of their ticks. `Kept` is what is passed on from one piece of a recording to the next.
 use Prim.Native.Nat.{ℕ, _+_}
 use mathlib.Core.Bool.{Bool, true, false}
 use mathlib.Core.List.{List, [], _∷_, _++_}
@@ -56,7 +56,7 @@ lineBy first last (Damaged w m) bytes = damagedLine first last
 
 -- ---- from tick to tick
 
--- what goes from piece to piece: the reader, the next tick and the first one of the frame, and the data so far
+-- what is passed on from piece to piece: the reader, the next tick and the first one of the frame, and the data so far
 pub record Kept : Type 0 where
   pub progress : Progress
   pub bytes : List ℕ
@@ -73,11 +73,11 @@ isIdle Count = false
 isIdle (Data n) = false
 isIdle Check = false
 
--- before a frame, a frame or break that is told later begins in this tick at the earliest
+-- where the reader is before a frame, a frame or break that is told later begins in this tick at the earliest
 abbrev pub firstOf : Progress → ℕ
 firstOf p = if isIdle (p .receiver .place) then p .tick else p .first
 
--- ticks have 64 bits, and no file has more
+-- ticks are counted in 64 bits, and no file has more
 abbrev pub nextTick : ℕ → ℕ
 nextTick t = if t <? 18446744073709551615 then t + 1 else t
 
@@ -91,7 +91,7 @@ stepped k h = record {
 unfoldable pub lineAt : Kept → Heard → List ℕ
 lineAt k h = lineBy (firstOf (k .progress)) (k .progress .tick) (taken (k .progress .receiver) h .event) (takenData (k .progress .receiver) h (k .bytes))
 
--- the lines of some ticks, and what is kept behind them
+-- the lines of some ticks, and what is kept after them
 unfoldable pub linesFrom : Kept → List Heard → List ℕ
 linesFrom k [] = []
 linesFrom k (h ∷ hs) = lineAt k h ++ linesFrom (stepped k h) hs

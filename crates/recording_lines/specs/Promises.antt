@@ -1,5 +1,5 @@
 -- How the code stands for what is to be believed.
--- What is promised of a tick and of a piece: what is kept behind it, and the text of its lines in the lent output buffer.
+-- What is promised of a tick and of a piece: what is kept after it, and the text of its lines in the lent output buffer.
 use Prim.Native.Nat.{ℕ}
 use mathlib.Core.List.{List}
 use mathlib.Core.Path.{_≡_}
@@ -13,7 +13,7 @@ use Rattle.recording_lines.specs.declared.Printed.{Printed}
 abbrev pub keep : Progress → List ℕ → Kept
 keep p bytes = record { progress = p; bytes = bytes }
 
--- a tick: what is kept behind it, part by part, and the line behind a place of the output
+-- a tick: what is kept after it, part by part, and its line from a place of the output on
 pub record TickIs (p : Progress) (h : Heard) (bytes after before : List ℕ) (at : ℕ) (r : Printed) (out : List ℕ) : Type 0 where
   pub receiver-is : r .progress .receiver ≡ taken (p .receiver) h .receiver
   pub tick-is : r .progress .tick ≡ nextTick (p .tick)

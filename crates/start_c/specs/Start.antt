@@ -1,5 +1,5 @@
 -- How the code stands for what is to be believed.
--- The starts. Of a master or a device: the profile that it is given, and what it leaves behind, of a party that is `started` or of none, with the refusal's number.
+-- The starts. For a master or a device: the profile that the start is given, and what the start leaves where it is accepted and where it is refused.
 use Prim.Native.Nat.{ℕ}
 use mathlib.Core.Bool.{Bool}
 use mathlib.Core.List.{List}
@@ -19,7 +19,7 @@ use Rattle.words.specs.Reader.{receiverWords, receiverAt}
 use Rattle.master_c.specs.Words as MasterWords
 use Rattle.device_c.specs.Words as DeviceWords
 
--- ---- the tick reader: its words, which are unpacked to the reader that it starts as
+-- ---- the tick reader: its words, which are unpacked to a reader at its start
 
 pub record ReaderStarts (words : Lent (List ℕ)) : Type 0 where
   pub words-are : after words ≡ receiverWords passing
@@ -63,7 +63,7 @@ pub record StartIs {A : Type 0} (packed : A → List ℕ) (unpacked : List ℕ �
   pub unpacked-is : UnpackedIs unpacked started after
   pub limit-is : LimitIs limit-at limit started after
 
--- ---- a master: 1 for the profile, then 2 and 9
+-- ---- a master: refused with 1 for the profile, then with 2 and 9
 
 abbrev pub masterBy : Called Profile → Bool → ℕ → Called Master
 masterBy (accepted p) primary retries = masterStarts p primary retries
@@ -76,7 +76,7 @@ MasterLeft limit started words r =
 abbrev pub MasterStarts : Profile → Bool → ℕ → ℕ → Lent (List ℕ) → ℕ → Type 0
 MasterStarts p primary retries limit words r = MasterLeft limit (masterBy (profileMade p) primary retries) words r
 
--- ---- a device: 1 for the profile, then 3, 4 and 9
+-- ---- a device: refused with 1 for the profile, then with 3, 4 and 9
 
 abbrev pub deviceBy : Called Profile → ℕ → ℕ → ℕ → Called Device
 deviceBy (accepted p) preamble polling unique = deviceStarts p preamble polling unique

@@ -1,5 +1,5 @@
 -- How the code stands for what is to be believed.
--- The bytes of a list of ticks: the encoder to the decoder of Ticks.antt, and which lists it encodes. That every such list is decoded from its bytes is proved in proofs/Encode.antt.
+-- The bytes of a list of ticks: the encoder for the decoder of Ticks.antt, and which lists it encodes. That every such list is decoded from its bytes is proved in proofs/Encode.antt.
 use Prim.Native.Nat.{ℕ, _+_, _*_, _/_, _%_, _^_, _≤_, _<_}
 use mathlib.Core.Bool.{Bool, true, false}
 use mathlib.Core.Path.{_≡_}
@@ -22,7 +22,7 @@ callBytes kind preamble command address put =
     (length put / 256) ∷ (length put % 256) ∷
     put
 
--- "one byte 0, no call"; the kind of a request is four times its revision and 1 with a short address, 2 with a long address
+-- "one byte 0, no call"; the kind of a request is four times its revision, plus 1 with a short address or 2 with a long address
 abbrev pub masterBytes : MasterCall → List ℕ
 masterBytes no-request = 0 ∷ []
 masterBytes (requests q put) = callBytes (q .revision * 4 + (if q .long then 2 else 1)) (q .preamble) (q .command) (q .address) put
@@ -38,7 +38,7 @@ deviceBytes no-call = 0 ∷ []
 deviceBytes (gives-answer wish put) = callBytes (wishKind wish) 0 0 0 put
 deviceBytes (gives-content command put) = callBytes 4 0 command 0 put
 
--- the calls to the present slots, one behind the other; no call to an absent slot, nor to a device behind the end of the list
+-- the calls to the present slots, one after the other; no call to an absent slot, nor to a device past the end of the list
 abbrev pub slotsBytes : List Bool → List DeviceCall → List ℕ
 slotsBytes [] calls = []
 slotsBytes (false ∷ slots) calls = 0 ∷ slotsBytes slots calls

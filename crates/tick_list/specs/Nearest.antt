@@ -1,5 +1,5 @@
 -- How the code stands for what is to be believed.
--- The codable call that is nearest to a call, and the calls of which a run is that of their nearest. That each call is refused with the number with which its nearest is, and that a run over any list of ticks is one over some byte string, is proved in proofs/Nearest.antt.
+-- For each call the nearest one that can be encoded, and the calls for which a run over the nearest ones is the same run. That each call is refused with the number with which its nearest is, and that a run over any list of ticks is one over some byte string, is proved in proofs/Nearest.antt.
 use Prim.Native.Nat.{ℕ, zero, suc, _-_, _^_, _<_}
 use mathlib.Core.Bool.{Bool, true, false}
 use mathlib.Core.List.{List, [], _∷_, map}
@@ -12,7 +12,7 @@ use Rattle.turns.specs.declared.Wish.{Wish}
 use Rattle.tick_list.specs.Ticks.{Here}
 use Rattle.tick_list.specs.Encode.{Bytes}
 
--- ---- the nearest codable call
+-- ---- the nearest call that can be encoded
 
 -- n, or the most where n is above it
 abbrev pub atMost : ℕ → ℕ → ℕ
@@ -46,7 +46,7 @@ present [] = 0
 present (false ∷ slots) = present slots
 present (true ∷ slots) = suc (present slots)
 
--- a call for each of n devices; "a device behind the end of the list has none"
+-- a call for each of n devices; "a device past the end of the list has none"
 abbrev pub nearestDevices : ℕ → List DeviceCall → List DeviceCall
 nearestDevices zero calls = []
 nearestDevices (suc n) [] = no-call ∷ nearestDevices n []

@@ -1,5 +1,5 @@
 -- How the code stands for what is to be believed.
--- What is read of a list of ticks at a place of it: the calls of the tick that stands there, each with the part of the list that is its data, and the place behind them. That these are the calls of Ticks.antt is proved in proofs/Readings.antt.
+-- What is read of a list of ticks at a place of it: the calls of the tick that stands there, each with the part of the list that is its data, and the place after them. That these are the calls of Ticks.antt is proved in proofs/Readings.antt.
 use Prim.Native.Nat.{ℕ, zero, suc, _+_, _-_, _≤_}
 use mathlib.Core.List.{List, [], _∷_}
 use mathlib.Core.Path.{_≡_}
@@ -13,7 +13,7 @@ use Rattle.tick_list.specs.declared.TickRead.{TickRead}
 
 -- ---- a call
 
--- its data stand behind its first ten bytes; where the list ends before them there are none
+-- its data stand after its first ten bytes; where the list ends before that there are none
 abbrev pub partIn : List ℕ → ℕ → Part
 partIn ticks at = if length ticks - at <? 10 then record { from = at; count = 0 } else record { from = at + 10; count = lengthIn (drop at ticks) }
 
@@ -23,21 +23,21 @@ masterCallAt ticks at = record { call = requestIn (drop at ticks); part = partIn
 abbrev pub deviceCallAt : List ℕ → ℕ → DeviceCall
 deviceCallAt ticks at = record { call = answerIn (drop at ticks); part = partIn ticks at }
 
--- so many places on, or the end
+-- so many places further, or the end
 abbrev pub forward : ℕ → ℕ → ℕ → ℕ
 forward at n end = if end - at <? n then end else at + n
 
--- the place behind a call
+-- the place after a call
 unfoldable pub nextIn : List ℕ → ℕ → ℕ
 nextIn ticks at = if kindIn (drop at ticks) =? 0 then forward at 1 (length ticks) else forward at (10 + lengthIn (drop at ticks)) (length ticks)
 
--- ---- so many calls, one behind the other
+-- ---- so many calls, one after the other
 
 unfoldable pub callsFrom : {A : Type 0} → (List ℕ → ℕ → A) → List ℕ → ℕ → ℕ → List A
 callsFrom call ticks zero at = []
 callsFrom call ticks (suc n) at = call ticks at ∷ callsFrom call ticks n (nextIn ticks at)
 
--- the place behind them
+-- the place after them
 unfoldable pub placeBehind : List ℕ → ℕ → ℕ → ℕ
 placeBehind ticks zero at = at
 placeBehind ticks (suc n) at = placeBehind ticks n (nextIn ticks at)
@@ -56,6 +56,6 @@ tickFrom ticks at = record {
   next = placeBehind ticks 8 at;
 }
 
--- behind the end of the list stands what stands at its end
+-- past the end of the list the same is read as at its end
 abbrev pub tickAt : List ℕ → ℕ → TickRead
 tickAt ticks at = tickFrom ticks (if at <? length ticks then at else length ticks)

@@ -1,6 +1,6 @@
 -- How the code stands for what is to be believed.
--- A list of ticks as bytes, so that a run can be lent "a list of ticks from tick 0" (document 01, "Runs of the link"). Every byte string is some list of ticks. A tick of a link with six slots is eight calls, one behind the other: to the primary, to the secondary, and to the devices of the slots.
--- A call is one byte 0, no call; or a kind that is not 0, the preamble, the command, the address in five bytes, the length of the data in two, each most significant first, and the data. The length counts modulo 257, so that a call can have 0 to 256 data bytes. Behind the end every byte is 0, and data are as many as there are.
+-- A list of ticks as bytes, so that a run can be lent "a list of ticks from tick 0" (document 01, "Runs of the link"). Every byte string is some list of ticks. A tick of a link with six slots is eight calls, one after the other: to the primary, to the secondary, and to the devices of the slots.
+-- A call is one byte 0, no call; or a kind that is not 0, the preamble, the command, the address in five bytes, the length of the data in two, each most significant first, and the data. The length counts modulo 257, so that a call can have 0 to 256 data bytes. Past the list's end every byte counts as 0, and a call's data end where the list ends.
 use Prim.Native.Nat.{ℕ, zero, suc, _+_, _*_, _/_, _%_, _^_}
 use mathlib.Core.Bool.{Bool, true, false}
 use mathlib.Core.List.{List, [], _∷_}
@@ -29,7 +29,7 @@ lengthIn rest = (byteAt rest 8 * 256 + byteAt rest 9) % 257
 abbrev pub dataIn : List ℕ → List ℕ
 dataIn rest = take (lengthIn rest) (drop 10 rest)
 
--- a master's call: the kind is four times the revision and 1 for a request with a short address, 2 for one with a long address; any other is none
+-- a master's call: the kind is four times the revision, plus 1 for a request with a short address or 2 for one with a long address; any other kind is no call
 abbrev pub requestOf : Bool → List ℕ → MasterHost.MasterHostCall
 requestOf long rest = MasterHost.MasterHostCall.Requests (record {
   preamble = byteAt rest 1;
@@ -49,7 +49,7 @@ requestIn rest = requestBy (kindIn rest % 4) rest
 abbrev pub answerIn : List ℕ → DeviceHost.DeviceHostCall
 answerIn rest = hostCallBy (kindIn rest) (byteAt rest 2)
 
--- the rest of the list behind a call
+-- the rest of the list after a call
 unfoldable pub behindCall : List ℕ → List ℕ
 behindCall rest = if kindIn rest =? 0 then drop 1 rest else drop (10 + lengthIn rest) rest
 
@@ -72,7 +72,7 @@ unfoldable pub slotsIn : Here → List ℕ → List DeviceCall
 slotsIn [] rest = []
 slotsIn (h ∷ hs) rest = ifHere h (deviceCallIn rest) (slotsIn hs (behindCall rest))
 
--- the rest of the list behind so many calls
+-- the rest of the list after so many calls
 unfoldable pub behind : ℕ → List ℕ → List ℕ
 behind zero rest = rest
 behind (suc n) rest = behind n (behindCall rest)
@@ -86,7 +86,7 @@ callsIn here rest = record {
 
 -- ---- the list
 
--- at most n ticks: each takes a byte at least, so that there are no more than bytes
+-- at most n ticks; each takes at least one byte, so there are no more ticks than bytes
 unfoldable pub ticksFrom : Here → ℕ → List ℕ → List Calls
 ticksFrom here zero rest = []
 ticksFrom here (suc n) [] = []
