@@ -56,7 +56,8 @@ pub data Gapped : List Heard → List Heard → Type 0 where
 -- With the reader r and the lent buffer b, nothing is told of what is heard before its last tick. After that tick, t is the reader with what it tells there, and d is the buffer.
 pub data Ends : Receiver → List ℕ → List Heard → Taken → List ℕ → Type 0 where
   last : {r : Receiver} {b d : List ℕ} {h : Heard} {t : Taken} → taken r h ≡ t → takenData r h b ≡ d → Ends r b (h ∷ []) t d
-  before : {r : Receiver} {b d : List ℕ} {h : Heard} {hs : List Heard} {t : Taken} → taken r h .event ≡ Nothing → Ends (taken r h .receiver) (takenData r h b) hs t d → Ends r b (h ∷ hs) t d
+  before : {r : Receiver} {b d : List ℕ} {h : Heard} {hs : List Heard} {t : Taken}
+      → taken r h .event ≡ Nothing → Ends (taken r h .receiver) (takenData r h b) hs t d → Ends r b (h ∷ hs) t d
 
 -- Single silent ticks inside a frame, put in or taken out, change neither what is told of it, nor its data, nor the reader after it. The characters are arbitrary: expansion bytes and damaged characters may be among them, and what is told may be a whole frame, a damaged one or a break.
 pub record SameEnd (r : Receiver) (b : List ℕ) (cs hs : List Heard) (t : Taken) (d : List ℕ) : Type 0 where
@@ -75,5 +76,6 @@ characters (c ∷ cs) = Character c ∷ characters cs
 -- Of a frame that the writer writes, with two or more 0xFF of its preamble and single silent ticks inside, nothing is told before its last character. There the frame that was written is told, with its data at the front of the lent buffer.
 abbrev pub FrameWithGaps : Type 0
 FrameWithGaps =
-    (written heard room place end : ℕ) (h : Header) (bytes b : List ℕ) (hs : List Heard) → writeAnswer written h (length bytes) room place ≡ accepted end → 2 ≤ heard
-    → Gapped (characters (frameBytes heard h bytes)) hs → Ends idle b hs (tells idle (Frame (record { header = h; expansion = 0; count = length bytes }))) (stored b 0 bytes)
+    (written heard room place end : ℕ) (h : Header) (bytes b : List ℕ) (hs : List Heard)
+    → writeAnswer written h (length bytes) room place ≡ accepted end → 2 ≤ heard → Gapped (characters (frameBytes heard h bytes)) hs
+    → Ends idle b hs (tells idle (Frame (record { header = h; expansion = 0; count = length bytes }))) (stored b 0 bytes)

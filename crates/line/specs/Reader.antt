@@ -82,7 +82,8 @@ summed r c = bitXor (r .sum) c
 
 -- the reader with one more character of the frame, at its next place
 abbrev pub next : Receiver → Header → Place → ℕ → Taken
-next r h place c = tells (record { place = place; header = h; expansion = r .expansion; count = r .count; sum = summed r c; damage = r .damage; gap = false }) Nothing
+next r h place c =
+    tells (record { place = place; header = h; expansion = r .expansion; count = r .count; sum = summed r c; damage = r .damage; gap = false }) Nothing
 
 -- before a frame: 0xFF, or a character "that is neither 0xFF nor a delimiter"
 unfoldable pub atIdle : ℕ → Taken
@@ -119,7 +120,8 @@ atFirst r c = if r .header .long then next r (firstHeader (r .header) c) (Addres
 
 -- another address byte: the address so far, and eight more bits
 abbrev pub addressHeader : Header → ℕ → Header
-addressHeader h c = record { frame = h .frame; long = h .long; primary = h .primary; burst = h .burst; address = h .address % 2 ^ 32 * 256 + c; command = h .command }
+addressHeader h c =
+    record { frame = h .frame; long = h .long; primary = h .primary; burst = h .burst; address = h .address % 2 ^ 32 * 256 + c; command = h .command }
 
 unfoldable pub atAddress : Receiver → ℕ → ℕ → Taken
 atAddress r n c = if 1 <? n then next r (addressHeader (r .header) c) (Address (n - 1)) c else next r (addressHeader (r .header) c) (behindAddress r) c
@@ -135,7 +137,8 @@ atCommand r c = next r (commandHeader (r .header) c) Count c
 
 -- the byte count: "an ACK or BACK with count below 2" breaks the frame
 abbrev pub counted : Receiver → ℕ → Place → Taken
-counted r c place = tells (record { place = place; header = r .header; expansion = r .expansion; count = c; sum = summed r c; damage = r .damage; gap = false }) Nothing
+counted r c place =
+    tells (record { place = place; header = r .header; expansion = r .expansion; count = c; sum = summed r c; damage = r .damage; gap = false }) Nothing
 
 unfoldable pub atCount : Receiver → ℕ → Taken
 atCount r c = if tooFew (r .header .frame) c then breaks else if c =? 0 then counted r c Check else counted r c (Data 0)

@@ -22,7 +22,8 @@ use Rattle.master_c.specs.Words.{packed, unpacked, limitAt}
 -- the host's request, field by field, or none
 abbrev pub requestOf : Bool → ℕ → ℕ → Bool → ℕ → ℕ → MasterHostCall
 requestOf requests preamble revision long address command =
-    if requests then MasterHostCall.Requests (record { preamble = preamble; revision = revision; long = long; address = address; command = command }) else MasterHostCall.Nothing
+    if requests then MasterHostCall.Requests (record { preamble = preamble; revision = revision; long = long; address = address; command = command })
+    else MasterHostCall.Nothing
 
 -- the attempts of a message that is given up; 0 where the host is told anything else
 abbrev pub toldAttempts : MasterTold → ℕ

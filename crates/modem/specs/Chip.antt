@@ -12,7 +12,8 @@ use Rattle.modem.specs.declared.TickEnded.{TickEnded}
 
 -- "All start at 0, but for ready."
 abbrev pub freshChip : Chip
-freshChip = record { count = 0; control = 0; latest = 0; kind = 0; carrier = false; received = false; ready = true; sending = false; outgoing = 0; deaf = false }
+freshChip =
+    record { count = 0; control = 0; latest = 0; kind = 0; carrier = false; received = false; ready = true; sending = false; outgoing = 0; deaf = false }
 
 -- ---- a tick begins
 

@@ -96,7 +96,8 @@ BehindSame {S} {C} {T} step deaf = (x : Chip) (s : S) (ts : List (Tick C)) → R
 
 -- ---- one tick that the code ran: the party did `u`, and its chip ended the tick as `e`
 
-pub record BehindIs {S C T : Type 0} (step : S → Heard → C → Step S T) (deaf : S → Bool) (x : Chip) (w : Carried) (s : S) (c : C) (u : Step S T) (e : TickEnded) : Type 0 where
+pub record BehindIs {S C T : Type 0} (step : S → Heard → C → Step S T) (deaf : S → Bool) (x : Chip) (w : Carried) (s : S) (c : C)
+    (u : Step S T) (e : TickEnded) : Type 0 where
   -- the party's tick with what the driver heard, and the chip's end of the tick with what the party sends
   pub ticks : u ≡ step s (hears (arrives x w) .heard) c
   pub ends : e ≡ tickEnds (says (hears (arrives x w) .chip) (u .sent))

@@ -77,7 +77,8 @@ foundBy x heard = masterTakes (x .master) heard (masterData x heard) .event
 -- a device with the BACK's address sent as many characters as the BACK has; when the first of them went out, its host had given this command and these data last
 pub data SentBack (w : Whole) (bytes : List ℕ) : List DeviceSide → List ContentLog → Type 0 where
   this-one : {x : DeviceSide} {xs : List DeviceSide} {g : ContentLog} {gs : List ContentLog} → w .header .address ≡ x .device .unique
-      → getD (g .sent-with) (frameLength (x .device .preamble) (w .header) (w .count) - 1) no-content ≡ content (w .header .command) bytes → SentBack w bytes (x ∷ xs) (g ∷ gs)
+      → getD (g .sent-with) (frameLength (x .device .preamble) (w .header) (w .count) - 1) no-content ≡ content (w .header .command) bytes
+      → SentBack w bytes (x ∷ xs) (g ∷ gs)
   another : {x : DeviceSide} {xs : List DeviceSide} {g : ContentLog} {gs : List ContentLog} → SentBack w bytes xs gs → SentBack w bytes (x ∷ xs) (g ∷ gs)
 
 pub record BackFound (primary : Bool) (gs : List ContentLog) (l : Link) (s : LinkStep) (w : Whole) : Type 0 where
@@ -88,11 +89,14 @@ pub record BackFound (primary : Bool) (gs : List ContentLog) (l : Link) (s : Lin
 pub data EachBack (limit : ℕ) : List ContentLog → Link → List Calls → Type 0 where
   no-tick : {gs : List ContentLog} {l : Link} → EachBack limit gs l []
   tick-and : {gs : List ContentLog} {l : Link} {c : Calls} {cs : List Calls}
-      → ((primary : Bool) (w : Whole) → foundBy (masterOf primary l) (l .line) ≡ Frame w → w .header .frame ≡ back → BackFound primary gs l (linkTick limit l c) w)
-      → EachBack limit (contentLogsAfter (c .for-devices) (linkTick limit l c .for-devices) gs) (linkAfter (linkTick limit l c)) cs → EachBack limit gs l (c ∷ cs)
+      → ((primary : Bool) (w : Whole) → foundBy (masterOf primary l) (l .line) ≡ Frame w → w .header .frame ≡ back
+      → BackFound primary gs l (linkTick limit l c) w)
+      → EachBack limit (contentLogsAfter (c .for-devices) (linkTick limit l c .for-devices) gs) (linkAfter (linkTick limit l c)) cs
+      → EachBack limit gs l (c ∷ cs)
 
 -- under demand 3's premises, with room for the longest data in the masters' lent buffers
 abbrev pub BacksInARun : ℕ → Type 0
 BacksInARun limit =
-    (p : Profile) (retries : ℕ) (l : Link) (ticks : List Calls) → Premises limit p retries l ticks → mostData ≤ length (l .primary .bytes) → mostData ≤ length (l .secondary .bytes)
+    (p : Profile) (retries : ℕ) (l : Link) (ticks : List Calls) → Premises limit p retries l ticks
+    → mostData ≤ length (l .primary .bytes) → mostData ≤ length (l .secondary .bytes)
     → EachBack limit (noContents (l .devices)) l ticks

@@ -89,10 +89,12 @@ pub data EachCredited (limit : ℕ) : (Bool → Header) → List Ledger → Link
   no-tick : {asked : Bool → Header} {gs : List Ledger} {l : Link} → EachCredited limit asked gs l []
   tick-and : {asked : Bool → Header} {gs : List Ledger} {l : Link} {c : Calls} {cs : List Calls}
       → ((primary : Bool) (w : Whole) → masterIn primary (linkTick limit l c) .told ≡ Answered w → Credited primary (asked primary) gs l (linkTick limit l c) w)
-      → EachCredited limit (askedAfter c (linkTick limit l c) asked) (bookedBy c (linkTick limit l c) gs) (linkAfter (linkTick limit l c)) cs → EachCredited limit asked gs l (c ∷ cs)
+      → EachCredited limit (askedAfter c (linkTick limit l c) asked) (bookedBy c (linkTick limit l c) gs) (linkAfter (linkTick limit l c)) cs
+      → EachCredited limit asked gs l (c ∷ cs)
 
 -- under demand 3's premises, with room for the longest data in the masters' lent buffers
 abbrev pub CreditInARun : ℕ → Type 0
 CreditInARun limit =
-    (p : Profile) (retries : ℕ) (l : Link) (ticks : List Calls) → Premises limit p retries l ticks → mostData ≤ length (l .primary .bytes) → mostData ≤ length (l .secondary .bytes)
+    (p : Profile) (retries : ℕ) (l : Link) (ticks : List Calls) → Premises limit p retries l ticks
+    → mostData ≤ length (l .primary .bytes) → mostData ≤ length (l .secondary .bytes)
     → EachCredited limit noneAsked (blanks (l .devices)) l ticks

@@ -25,13 +25,15 @@ callIn false c = c .for-secondary
 pub data GoesOut (primary : Bool) : List ℕ → List LinkStep → Type 0 where
   is-out : {ss : List LinkStep} → GoesOut primary [] ss
   list-ends : {left : List ℕ} → GoesOut primary left []
-  next : {c : ℕ} {left : List ℕ} {s : LinkStep} {ss : List LinkStep} → masterIn primary s .sent ≡ Character c → GoesOut primary left ss → GoesOut primary (c ∷ left) (s ∷ ss)
+  next : {c : ℕ} {left : List ℕ} {s : LinkStep} {ss : List LinkStep} → masterIn primary s .sent ≡ Character c
+      → GoesOut primary left ss → GoesOut primary (c ∷ left) (s ∷ ss)
 
 -- the master waits, and then its first STX is this one
 pub data FirstStx (primary : Bool) : List ℕ → List LinkStep → Type 0 where
   list-ends : {stx : List ℕ} → FirstStx primary stx []
   waits : {stx : List ℕ} {s : LinkStep} {ss : List LinkStep} → masterIn primary s .sent ≡ Silent → FirstStx primary stx ss → FirstStx primary stx (s ∷ ss)
-  begins : {left : List ℕ} {s : LinkStep} {ss : List LinkStep} → masterIn primary s .sent ≡ Character 0xFF → GoesOut primary left ss → FirstStx primary (0xFF ∷ left) (s ∷ ss)
+  begins : {left : List ℕ} {s : LinkStep} {ss : List LinkStep} → masterIn primary s .sent ≡ Character 0xFF
+      → GoesOut primary left ss → FirstStx primary (0xFF ∷ left) (s ∷ ss)
 
 -- what is claimed of every request that is accepted: tick t of the list is c, and s in the run
 abbrev pub FirstStxIn : List Calls → List LinkStep → Type 0
@@ -46,7 +48,8 @@ FirstStxInARun limit = (p : Profile) (retries : ℕ) (l : Link) (ticks : List Ca
 
 abbrev pub FirstStxInALateRun : ℕ → Type 0
 FirstStxInALateRun limit =
-    (p : Profile) (retries a b : ℕ) (l : Link) (ticks : List Calls) → MasterStarts p true retries (l .primary) → MasterStarts p false retries (l .secondary) → FirstStxIn ticks (lateRun limit a b l ticks)
+    (p : Profile) (retries a b : ℕ) (l : Link) (ticks : List Calls) → MasterStarts p true retries (l .primary)
+    → MasterStarts p false retries (l .secondary) → FirstStxIn ticks (lateRun limit a b l ticks)
 
 -- the character that BeginsWithin speaks of
 abbrev pub characterOf : {primary : Bool} {n : ℕ} {ss : List LinkStep} → BeginsWithin primary n ss → ℕ
@@ -55,4 +58,5 @@ characterOf (Demand3.waits e b) = characterOf b
 
 -- where FirstStx holds, that character is the first of the STX
 abbrev pub CharacterIsFirst : Type 0
-CharacterIsFirst = (primary : Bool) (n : ℕ) (stx : List ℕ) (ss : List LinkStep) → FirstStx primary stx ss → (b : BeginsWithin primary n ss) → characterOf b ≡ 0xFF
+CharacterIsFirst =
+    (primary : Bool) (n : ℕ) (stx : List ℕ) (ss : List LinkStep) → FirstStx primary stx ss → (b : BeginsWithin primary n ss) → characterOf b ≡ 0xFF

@@ -51,7 +51,8 @@ lateRun limit a b l (c ∷ cs) = lateTick limit a b l c ∷ lateRun limit (a - 1
 -- "devices were started before": in the run's first tick, or some ticks earlier on a line that nobody had used, whatever its host gave since
 pub data Started (limit : ℕ) (p : Profile) (line : Heard) : DeviceSide → Type 0 where
   starts-now : {x : DeviceSide} → DeviceStarts p x → Started limit p line x
-  started-before : {x : DeviceSide} → line ≡ Silence → Started limit p line x → (call : DeviceCall) → Started limit p line (deviceTick limit x Silence call .side)
+  started-before : {x : DeviceSide} → line ≡ Silence → Started limit p line x → (call : DeviceCall)
+      → Started limit p line (deviceTick limit x Silence call .side)
 
 -- the masters of l are those that their starts made, and its devices share no address. That no character is otherwise damaged or lost is how the line is defined in Link.
 pub record LatePremises (limit : ℕ) (p : Profile) (retries a b : ℕ) (l : Link) (ticks : List Calls) : Type 0 where
@@ -177,7 +178,8 @@ pub data Claimed (a b : ℕ) (steps : List LinkStep) (t : ℕ) : Type 0 where
 -- "The wait of the common start holds for messages accepted from" there on, counted from their acceptance alone. Tick t of the run is s, and `after` are the ticks after it; of a message due only after the last tick, no wait is claimed.
 abbrev pub LateWaitIn : ℕ → Profile → ℕ → ℕ → ℕ → List LinkStep → Type 0
 LateWaitIn limit p retries a b steps =
-    (primary : Bool) (t : ℕ) (s : LinkStep) (after : List LinkStep) → drop t steps ≡ s ∷ after → Claimed a b steps t → AcceptedIn primary s → longestWait limit p retries < length (s ∷ after) → BeginsWithin primary (longestWait limit p retries) (s ∷ after)
+    (primary : Bool) (t : ℕ) (s : LinkStep) (after : List LinkStep) → drop t steps ≡ s ∷ after → Claimed a b steps t → AcceptedIn primary s
+    → longestWait limit p retries < length (s ∷ after) → BeginsWithin primary (longestWait limit p retries) (s ∷ after)
 
 -- ---- item 14
 
@@ -187,4 +189,6 @@ pub record LateStart (limit : ℕ) (p : Profile) (retries a b : ℕ) (steps : Li
   pub seen-is-shared : SeenIsShared a b steps
 
 abbrev pub Item14 : ℕ → Type 0
-Item14 limit = (p : Profile) (retries a b : ℕ) (l : Link) (ticks : List Calls) → LatePremises limit p retries a b l ticks → LateStart limit p retries a b (lateRun limit a b l ticks)
+Item14 limit =
+    (p : Profile) (retries a b : ℕ) (l : Link) (ticks : List Calls) → LatePremises limit p retries a b l ticks
+    → LateStart limit p retries a b (lateRun limit a b l ticks)

@@ -26,4 +26,6 @@ lateRun01 limit a b l [] = []
 lateRun01 limit a b l (c ∷ cs) = lateTick01 limit a b l c ∷ lateRun01 limit (a - 1) (b - 1) (linkAfter (lateTick01 limit a b l c)) cs
 
 abbrev pub LateSoundPair : ℕ → Type 0
-LateSoundPair limit = (p : Profile) (retries a b : ℕ) (l : Link) (ticks : List Calls) → LatePremises limit p retries a b l ticks → lateRun limit a b l ticks ≡ lateRun01 limit a b l ticks
+LateSoundPair limit =
+    (p : Profile) (retries a b : ℕ) (l : Link) (ticks : List Calls) → LatePremises limit p retries a b l ticks
+    → lateRun limit a b l ticks ≡ lateRun01 limit a b l ticks

@@ -38,7 +38,9 @@ masterSilence01 m =
 
 -- a device: "after RT1 primary behind anything else"
 abbrev pub deviceSilence01 : Device → DeviceTaken
-deviceSilence01 d = if insideFrame (d .receiver .place) then D.counts d idle (D.dueAfter (d .profile) (D.endedBy Broken)) Broken else D.counts d idle (d .due) Nothing
+deviceSilence01 d =
+    if insideFrame (d .receiver .place) then D.counts d idle (D.dueAfter (d .profile) (D.endedBy Broken)) Broken
+    else D.counts d idle (d .due) Nothing
 
 -- ---- document 01's tick of each party: everything heard but silence is taken as it is now, and so are the host's call and what is sent
 

@@ -49,15 +49,18 @@ stxHeader primary q = record { frame = stx; long = q .long; primary = primary; b
 -- what the host asks: a request is taken only where no message is in hand; it is then the message in hand, with no STX sent yet
 pub data Asked (primary : Bool) : MasterCall → CallResult → MessageLog → MessageLog → Type 0 where
   asks-nothing : {g : MessageLog} → Asked primary no-request none g g
-  is-taken : {q : Request} {put : List ℕ} → Asked primary (requests q put) was-taken no-message (in-hand (frameBytes (q .preamble) (stxHeader primary q) put) (isBroadcast (stxHeader primary q)) [] 0)
+  is-taken : {q : Request} {put : List ℕ} → Asked primary (requests q put) was-taken no-message
+      (in-hand (frameBytes (q .preamble) (stxHeader primary q) put) (isBroadcast (stxHeader primary q)) [] 0)
   is-refused : {q : Request} {put : List ℕ} {why : ℕ} {g : MessageLog} → Asked primary (requests q put) (was-refused why) g g
 
 -- what is sent: nothing, or the next character of the message's STX, without a gap. No STX begins beyond the most that may be sent, and one is counted with its last character.
 pub data Sends (retries : ℕ) : MessageLog → Sent → MessageLog → Type 0 where
   has-none : Sends retries no-message Silent no-message
   rests : {stx : List ℕ} {broadcast : Bool} {n : ℕ} → Sends retries (in-hand stx broadcast [] n) Silent (in-hand stx broadcast [] n)
-  begins : {c : ℕ} {left : List ℕ} {broadcast : Bool} {n : ℕ} → IsFrame (c ∷ left) → n < mostSent retries broadcast → Sends retries (in-hand (c ∷ left) broadcast [] n) (Character c) (in-hand (c ∷ left) broadcast left n)
-  goes-on : {c d : ℕ} {stx left : List ℕ} {broadcast : Bool} {n : ℕ} → Sends retries (in-hand stx broadcast (c ∷ d ∷ left) n) (Character c) (in-hand stx broadcast (d ∷ left) n)
+  begins : {c : ℕ} {left : List ℕ} {broadcast : Bool} {n : ℕ} → IsFrame (c ∷ left) → n < mostSent retries broadcast
+      → Sends retries (in-hand (c ∷ left) broadcast [] n) (Character c) (in-hand (c ∷ left) broadcast left n)
+  goes-on : {c d : ℕ} {stx left : List ℕ} {broadcast : Bool} {n : ℕ}
+      → Sends retries (in-hand stx broadcast (c ∷ d ∷ left) n) (Character c) (in-hand stx broadcast (d ∷ left) n)
   ends : {c : ℕ} {stx : List ℕ} {broadcast : Bool} {n : ℕ} → Sends retries (in-hand stx broadcast (c ∷ []) n) (Character c) (in-hand stx broadcast [] (n + 1))
 
 -- in every tick: the report, then the host's call, then what is sent
@@ -72,4 +75,5 @@ pub data Counted (limit : ℕ) (primary : Bool) (retries : ℕ) : MessageLog →
 -- for every master that started, whatever it hears and whatever its host asks
 abbrev pub AttemptsAsSaid : ℕ → Type 0
 AttemptsAsSaid limit =
-    (p : Profile) (primary : Bool) (retries : ℕ) (x : MasterSide) (inputs : List MasterInput) → MasterStarts p primary retries x → Counted limit primary retries no-message x inputs
+    (p : Profile) (primary : Bool) (retries : ℕ) (x : MasterSide) (inputs : List MasterInput) → MasterStarts p primary retries x
+    → Counted limit primary retries no-message x inputs

@@ -67,9 +67,11 @@ pub data Agrees (limit : ℕ) : BurstLog → DeviceSide → List DeviceInput →
   no-tick : {g : BurstLog} {x : DeviceSide} → Agrees limit g x []
   tick-and : {g : BurstLog} {x : DeviceSide} {i : DeviceInput} {is : List DeviceInput}
       → deviceTick limit x (i .heard) (i .call) .side .device .burst ≡ logAfter x (i .heard) (i .call) (deviceTick limit x (i .heard) (i .call)) g .on
-      → Agrees limit (logAfter x (i .heard) (i .call) (deviceTick limit x (i .heard) (i .call)) g) (deviceTick limit x (i .heard) (i .call) .side) is → Agrees limit g x (i ∷ is)
+      → Agrees limit (logAfter x (i .heard) (i .call) (deviceTick limit x (i .heard) (i .call)) g) (deviceTick limit x (i .heard) (i .call) .side) is
+      → Agrees limit g x (i ∷ is)
 
 -- "burst starts off"; for every device that started, whatever it hears and whatever its host gives
 abbrev pub BurstsAsSaid : ℕ → Type 0
 BurstsAsSaid limit =
-    (p : Profile) (x : DeviceSide) (inputs : List DeviceInput) → profileMade p ≡ accepted p → DeviceStarts p x → Agrees limit (record { on = false; pending = no-wish }) x inputs
+    (p : Profile) (x : DeviceSide) (inputs : List DeviceInput) → profileMade p ≡ accepted p → DeviceStarts p x
+    → Agrees limit (record { on = false; pending = no-wish }) x inputs

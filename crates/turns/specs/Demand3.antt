@@ -75,7 +75,8 @@ abbrev pub WaitIn : ℕ → Profile → ℕ → List LinkStep → Type 0
 WaitIn limit p retries steps =
     (primary : Bool) (t : ℕ) (s : LinkStep) (after : List LinkStep) → drop t steps ≡ s ∷ after → AcceptedIn primary s
     → (NoneBursts primary (s ∷ after) → dueWithin limit p retries t < length (s ∷ after) → BeginsWithin primary (dueWithin limit p retries t) (s ∷ after))
-    × (dueWithin limit p retries t + longerWithBurst limit p < length (s ∷ after) → BeginsWithin primary (dueWithin limit p retries t + longerWithBurst limit p) (s ∷ after))
+    × (dueWithin limit p retries t + longerWithBurst limit p < length (s ∷ after)
+    → BeginsWithin primary (dueWithin limit p retries t + longerWithBurst limit p) (s ∷ after))
 
 abbrev pub WaitInARun : ℕ → Type 0
 WaitInARun limit = (p : Profile) (retries : ℕ) (l : Link) (ticks : List Calls) → Premises limit p retries l ticks → WaitIn limit p retries (run limit l ticks)

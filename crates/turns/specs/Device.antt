@@ -238,7 +238,8 @@ answeredBy limit d wish count Listens = refused 8
 answeredBy limit d wish count (Asked left) =
     if count outside fewestAnswered to limit then refused 9 else
     if wishRefused d wish then refused 10 else
-    accepted (deviceWith d (d .receiver) (answersAt d left) (d .request) wish (frameLength (d .preamble) (answerHeader (d .request) (wished (d .burst) wish)) count) (d .due))
+    accepted (deviceWith d (d .receiver) (answersAt d left) (d .request) wish
+    (frameLength (d .preamble) (answerHeader (d .request) (wished (d .burst) wish)) count) (d .due))
 answeredBy limit d wish count AnswerWaits = refused 8
 answeredBy limit d wish count Begins = refused 8
 answeredBy limit d wish count (Answers n) = refused 8

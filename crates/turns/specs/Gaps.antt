@@ -68,7 +68,8 @@ pub record DevicePassesOver (limit : ℕ) (x : DeviceSide) (next : Heard) (call 
 -- in any state of a master that sends nothing in tick T+1, and in any state of a device
 abbrev pub MasterGapPassed : ℕ → Type 0
 MasterGapPassed limit =
-    (x : MasterSide) (last next : Heard) (call after : MasterCall) → InsideFrame last (x .master .deaf) (x .master .receiver) → masterTick limit x last call .sent ≡ Silent → IsCharacter next
+    (x : MasterSide) (last next : Heard) (call after : MasterCall) → InsideFrame last (x .master .deaf) (x .master .receiver)
+    → masterTick limit x last call .sent ≡ Silent → IsCharacter next
     → MasterPassesOver limit (masterTick limit x last call .side) next after
 
 abbrev pub DeviceGapPassed : ℕ → Type 0
@@ -104,14 +105,16 @@ behindBreak m = if m .burst then quietTime (m .profile) (m .primary) else ownRt1
 -- in any state: the message, or its retry, begins where the timer ends that counts from the last character
 abbrev pub MasterCountsBoth : ℕ → Type 0
 MasterCountsBoth limit =
-    (x : MasterSide) (last : Heard) (call : MasterCall) (calls : List MasterCall) → profileMade (x .master .profile) ≡ accepted (x .master .profile) → InsideFrame last (x .master .deaf) (x .master .receiver)
-    → ToSend (x .master) → behindBreak (x .master) ≤ length calls → BeginsAfter (behindBreak (x .master)) (masterSents limit x (record { heard = last; call = call } ∷ masterSilence calls))
+    (x : MasterSide) (last : Heard) (call : MasterCall) (calls : List MasterCall) → profileMade (x .master .profile) ≡ accepted (x .master .profile)
+    → InsideFrame last (x .master .deaf) (x .master .receiver) → ToSend (x .master) → behindBreak (x .master) ≤ length calls
+    → BeginsAfter (behindBreak (x .master)) (masterSents limit x (record { heard = last; call = call } ∷ masterSilence calls))
 
 -- and a bursting device's BACK: "after RT1 primary behind anything else"
 abbrev pub DeviceCountsBoth : ℕ → Type 0
 DeviceCountsBoth limit =
-    (x : DeviceSide) (last : Heard) (call : DeviceCall) (calls : List DeviceCall) → profileMade (x .device .profile) ≡ accepted (x .device .profile) → InsideFrame last (x .device .deaf) (x .device .receiver)
-    → x .device .burst ≡ true → x .device .profile .rt1p ≤ length calls → BeginsAfter (x .device .profile .rt1p) (deviceSents limit x (record { heard = last; call = call } ∷ deviceSilence calls))
+    (x : DeviceSide) (last : Heard) (call : DeviceCall) (calls : List DeviceCall) → profileMade (x .device .profile) ≡ accepted (x .device .profile)
+    → InsideFrame last (x .device .deaf) (x .device .receiver) → x .device .burst ≡ true → x .device .profile .rt1p ≤ length calls
+    → BeginsAfter (x .device .profile .rt1p) (deviceSents limit x (record { heard = last; call = call } ∷ deviceSilence calls))
 
 -- ---- "Senders still leave no gap"
 
@@ -133,7 +136,9 @@ pub data NoGap : List ℕ → List Sent → Type 0 where
 -- every master and device that started, whatever it hears and whatever its host calls
 abbrev pub MasterLeavesNoGap : ℕ → Type 0
 MasterLeavesNoGap limit =
-    (p : Profile) (primary : Bool) (retries : ℕ) (x : MasterSide) (inputs : List MasterInput) → profileMade p ≡ accepted p → MasterStarts p primary retries x → NoGap [] (masterSents limit x inputs)
+    (p : Profile) (primary : Bool) (retries : ℕ) (x : MasterSide) (inputs : List MasterInput) → profileMade p ≡ accepted p
+    → MasterStarts p primary retries x → NoGap [] (masterSents limit x inputs)
 
 abbrev pub DeviceLeavesNoGap : ℕ → Type 0
-DeviceLeavesNoGap limit = (p : Profile) (x : DeviceSide) (inputs : List DeviceInput) → profileMade p ≡ accepted p → DeviceStarts p x → NoGap [] (deviceSents limit x inputs)
+DeviceLeavesNoGap limit =
+    (p : Profile) (x : DeviceSide) (inputs : List DeviceInput) → profileMade p ≡ accepted p → DeviceStarts p x → NoGap [] (deviceSents limit x inputs)

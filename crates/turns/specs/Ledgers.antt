@@ -72,5 +72,6 @@ finders (g ∷ gs) = (if found g then 1 else 0) + finders gs
 -- at most one after every tick, from the calls and what the run shows
 pub data OneFinds : List Ledger → List Calls → List LinkStep → Type 0 where
   no-tick : {gs : List Ledger} → OneFinds gs [] []
-  tick-and : {gs : List Ledger} {c : Calls} {cs : List Calls} {s : LinkStep} {ss : List LinkStep} → finders (ledgersAfter (c .for-devices) (s .for-devices) gs) ≤ 1
+  tick-and : {gs : List Ledger} {c : Calls} {cs : List Calls} {s : LinkStep} {ss : List LinkStep}
+      → finders (ledgersAfter (c .for-devices) (s .for-devices) gs) ≤ 1
       → OneFinds (ledgersAfter (c .for-devices) (s .for-devices) gs) cs ss → OneFinds gs (c ∷ cs) (s ∷ ss)

@@ -55,7 +55,8 @@ abbrev pub masterData : MasterSide → Heard → List ℕ
 masterData x heard = if x .master .deaf then x .bytes else takenData (x .master .receiver) heard (x .bytes)
 
 abbrev pub masterSent : MasterSent → List ℕ → List ℕ → MasterTold → CallResult → MasterStep
-masterSent s frame bytes told result = record { side = record { master = s .master; frame = frame; bytes = bytes }; sent = s .sent; told = told; result = result }
+masterSent s frame bytes told result =
+    record { side = record { master = s .master; frame = frame; bytes = bytes }; sent = s .sent; told = told; result = result }
 
 abbrev pub masterCalled : Called Master → Master → List ℕ → List ℕ → List ℕ → MasterTold → MasterStep
 masterCalled (accepted m) before put frame bytes told = masterSent (masterSends m (stored frame 0 put)) (stored frame 0 put) bytes told was-taken

@@ -87,7 +87,9 @@ countBurst p t =
 
 -- the quiet time's "end clears BURST", and opens a window
 abbrev pub timerCounted : Master → Timer
-timerCounted m = if m .burst then (if m .timer .quiet =? 1 then opened (m .profile) else countBurst (m .profile) (m .timer)) else countClear (m .profile) (m .timer)
+timerCounted m =
+    if m .burst then (if m .timer .quiet =? 1 then opened (m .profile) else countBurst (m .profile) (m .timer))
+    else countClear (m .profile) (m .timer)
 
 abbrev pub burstCounted : Master → Bool
 burstCounted m = if m .burst then (if m .timer .quiet =? 1 then false else true) else false
@@ -227,7 +229,8 @@ afterFrame m r w bytes =
 -- "For turns and BURST a damaged frame is neither STX, ACK nor BACK", "and characters passed over are a broken frame"
 abbrev pub afterBreak : Master → Receiver → Event → MasterTaken
 afterBreak m r event =
-    tells (masterWith m r (m .burst) (m .noted) (timerAfter (m .profile) (m .primary) broken (m .burst)) (ifAwaiting (m .message .stage) (m .message) (atBreak m) .message))
+    tells (masterWith m r (m .burst) (m .noted) (timerAfter (m .profile) (m .primary) broken (m .burst))
+    (ifAwaiting (m .message .stage) (m .message) (atBreak m) .message))
     (ifAwaiting (m .message .stage) (m .message) (atBreak m) .told)
     event
 
@@ -268,7 +271,8 @@ unlessEnded (Awaiting n) t = t
 abbrev pub counts : Master → MasterTold → Event → MasterTaken
 counts m told event =
     if rt1Ends (m .message .stage) then
-    tells (masterWith m (m .receiver) (burstCounted m) (m .noted) (unlessEnded (atBreak m .message .stage) (timerCounted m)) (atBreak m .message)) (atBreak m .told) event
+    tells (masterWith m (m .receiver) (burstCounted m) (m .noted) (unlessEnded (atBreak m .message .stage) (timerCounted m)) (atBreak m .message))
+    (atBreak m .told) event
     else
     tells (masterWith m (m .receiver) (burstCounted m) (m .noted) (timerCounted m) (messageAt (m .message) (waited (m .message .stage)))) told event
 
@@ -291,7 +295,8 @@ onSilence m r =
 abbrev pub onHeard : Master → Heard → List ℕ → MasterTaken
 onHeard m Silence bytes = onSilence m (taken (m .receiver) Silence .receiver)
 onHeard m (Character c) bytes = onCharacter m (taken (m .receiver) (Character c) .receiver) (taken (m .receiver) (Character c) .event) bytes
-onHeard m (Heard.Damaged c kind) bytes = onCharacter m (taken (m .receiver) (Heard.Damaged c kind) .receiver) (taken (m .receiver) (Heard.Damaged c kind) .event) bytes
+onHeard m (Heard.Damaged c kind) bytes =
+    onCharacter m (taken (m .receiver) (Heard.Damaged c kind) .receiver) (taken (m .receiver) (Heard.Damaged c kind) .event) bytes
 
 -- "A sending party hears nothing", and neither does a fresh one in its first tick. `bytes` is the lent data buffer after this tick.
 unfoldable pub masterTakes : Master → Heard → List ℕ → MasterTaken
@@ -359,9 +364,11 @@ attempted g stage attempts = record { stage = stage; header = g .header; length 
 abbrev pub sendsAt : Master → List ℕ → ℕ → ℕ → MasterSent
 sendsAt m frame n attempts =
     if n + 1 <? m .message .length then
-    sends m true (timerAfter (m .profile) (m .primary) inside (m .burst)) (attempted (m .message) (Sending (n + 1)) attempts) passing (Sent.Character (byteAt frame n))
+    sends m true (timerAfter (m .profile) (m .primary) inside (m .burst)) (attempted (m .message) (Sending (n + 1)) attempts)
+    passing (Sent.Character (byteAt frame n))
     else
-    sends m true (timerAfter (m .profile) (m .primary) any-stx (m .burst)) (attempted (m .message) (Awaiting (ownRt1 (m .profile) (m .primary))) attempts) passing (Sent.Character (byteAt frame n))
+    sends m true (timerAfter (m .profile) (m .primary) any-stx (m .burst)) (attempted (m .message) (Awaiting (ownRt1 (m .profile) (m .primary))) attempts)
+    passing (Sent.Character (byteAt frame n))
 
 -- one more attempt: a message that waits has a retry left, and its attempts are at most R
 abbrev pub oneMore : ℕ → ℕ → ℕ
@@ -370,7 +377,9 @@ oneMore retries attempts = if attempts ≤? retries then attempts + 1 else attem
 -- "A waiting message, or a retry that is due, begins there."
 abbrev pub sendsBy : Master → List ℕ → Stage → MasterSent
 sendsBy m frame Free = sends m false (m .timer) (m .message) (m .receiver) Silent
-sendsBy m frame Waiting = if 0 <? m .timer .window then sendsAt m frame 0 (oneMore (m .retries) (m .message .attempts)) else sends m false (m .timer) (m .message) (m .receiver) Silent
+sendsBy m frame Waiting =
+    if 0 <? m .timer .window then sendsAt m frame 0 (oneMore (m .retries) (m .message .attempts))
+    else sends m false (m .timer) (m .message) (m .receiver) Silent
 sendsBy m frame (Sending n) = sendsAt m frame n (m .message .attempts)
 sendsBy m frame (Awaiting n) = sends m false (m .timer) (m .message) (m .receiver) Silent
 

@@ -34,7 +34,8 @@ pub data Distinct : List DeviceSide → Type 0 where
 -- "at most one device bursts at a time"
 pub data Sole : List DeviceSide → Type 0 where
   no-one : Sole []
-  sole-and : {x : DeviceSide} {xs : List DeviceSide} → All (λ (y : DeviceSide). x .device .burst ≡ true → y .device .burst ≡ true → ⊥) xs → Sole xs → Sole (x ∷ xs)
+  sole-and : {x : DeviceSide} {xs : List DeviceSide}
+      → All (λ (y : DeviceSide). x .device .burst ≡ true → y .device .burst ≡ true → ⊥) xs → Sole xs → Sole (x ∷ xs)
 
 -- ---- the start
 

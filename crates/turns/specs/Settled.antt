@@ -46,7 +46,8 @@ pub record CheckByte (bytes : List ℕ) (check : ℕ) : Type 0 where
   pub content : List ℕ
   pub has-bytes : protectedBytes header content ≡ bytes
   pub is-written : writeAnswer fewestPreambles header (length content) (longestFrame mostData) 0 ≡ accepted (fewestPreambles + length bytes + 1)
-  pub every : (preamble : ℕ) (h : Header) (put : List ℕ) → protectedBytes h put ≡ bytes → frameBytes preamble h put ≡ preambleBytes preamble ++ (bytes ++ (check ∷ []))
+  pub every : (preamble : ℕ) (h : Header) (put : List ℕ) → protectedBytes h put ≡ bytes
+      → frameBytes preamble h put ≡ preambleBytes preamble ++ (bytes ++ (check ∷ []))
 
 -- ---- M4 to M7: what a fresh master answers to a request
 
@@ -55,10 +56,14 @@ outcome (accepted x) = taken
 outcome (refused why) = refuses why
 
 abbrev pub askPolling : ℕ → Outcome
-askPolling address = outcome (requested mostData (freshMaster fskProfile true 3) (record { preamble = fewestPreambles; revision = 7; long = false; address = address; command = 0 }) 0)
+askPolling address =
+    outcome (requested mostData (freshMaster fskProfile true 3)
+    (record { preamble = fewestPreambles; revision = 7; long = false; address = address; command = 0 }) 0)
 
 abbrev pub askData : ℕ → Outcome
-askData count = outcome (requested mostData (freshMaster fskProfile true 3) (record { preamble = fewestPreambles; revision = 7; long = true; address = 1; command = 1 }) count)
+askData count =
+    outcome (requested mostData (freshMaster fskProfile true 3)
+    (record { preamble = fewestPreambles; revision = 7; long = true; address = 1; command = 1 }) count)
 
 -- ---- M8 and M9: what a device answers to its host
 
@@ -76,7 +81,12 @@ hearing x [] = x
 hearing x (h ∷ hs) = hearing (deviceTick mostData x h no-call .side) hs
 
 abbrev pub device : DeviceSide
-device = record { device = freshDevice fskProfile fewestPreambles 0 2; frame = replicate (longestFrame mostData) 0; bytes = replicate mostData 0; contents = replicate mostData 0 }
+device = record {
+  device = freshDevice fskProfile fewestPreambles 0 2;
+  frame = replicate (longestFrame mostData) 0;
+  bytes = replicate mostData 0;
+  contents = replicate mostData 0;
+}
 
 abbrev pub result : CallResult → Outcome
 result none = nothing
@@ -85,12 +95,16 @@ result (was-refused why) = refuses why
 
 -- the STX's last character goes out in tick T and is heard in T+1; each silent tick after it is one more. The host answers in tick T+late.
 abbrev pub answerAt : ℕ → Outcome
-answerAt late = result (deviceTick mostData (hearing device (Silence ∷ Silence ∷ (characters (frameBytes fewestPreambles request []) ++ replicate (late - 2) Silence))) Silence (gives-answer Same (0 ∷ 0 ∷ [])) .result)
+answerAt late =
+    result (deviceTick mostData
+    (hearing device (Silence ∷ Silence ∷ (characters (frameBytes fewestPreambles request []) ++ replicate (late - 2) Silence)))
+    Silence (gives-answer Same (0 ∷ 0 ∷ [])) .result)
 
 -- ---- M10: no frame that the writer writes is longer than so many bytes, and one has that length
 
 pub record Longest (n : ℕ) : Type 0 where
-  pub none-longer : (preamble : ℕ) (h : Header) (put : List ℕ) (room place end : ℕ) → writeAnswer preamble h (length put) room place ≡ accepted end → (end ≤ place + n) × (length (frameBytes preamble h put) ≤ n)
+  pub none-longer : (preamble : ℕ) (h : Header) (put : List ℕ) (room place end : ℕ) → writeAnswer preamble h (length put) room place ≡ accepted end
+      → (end ≤ place + n) × (length (frameBytes preamble h put) ≤ n)
   pub preamble : ℕ
   pub header : Header
   pub content : List ℕ
