@@ -1,5 +1,5 @@
 /*
- * driver.c - README.md's driver over the modem chip of libnengapiko_tests.a: a master behind the chip
+ * driver.c - docs/C.md's driver over the modem chip of libnengapiko_tests.a: a master behind the chip
  * and one without it hear the same line, with damage of each kind, and are asked the same. In each
  * tick both must leave the same results, words and buffers; what goes out must be what is sent, with
  * odd parity; request to send must be set just where something is, and the interrupts stay on. The
@@ -58,7 +58,7 @@ static void chip_write(uint8_t byte, uint8_t value)
         abort();
 }
 
-/* line_heard and line_send, which tests/driver takes out of README.md. */
+/* line_heard and line_send, which tests/driver takes out of docs/C.md. */
 #include "line.h"
 
 /* The ninth bit of a character: odd parity. */
