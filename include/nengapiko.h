@@ -192,7 +192,7 @@ uint32_t nengapiko_read(const uint8_t *NENGAPIKO_RESTRICT bytes, size_t size,
  * some state, so every call takes them, whatever they hold. They are to be kept as a call has left
  * them, and the words have no meaning but this.
  *
- * README.md, "From C", has the driver by which a party behind the modem chip of document 02, item 5,
+ * docs/C.md has the driver by which a party behind the modem chip of document 02, item 5,
  * hears and sends: which registers it reads and writes in each tick, and in which order.
  */
 
@@ -371,7 +371,7 @@ uint32_t nengapiko_device_tick(uint64_t *NENGAPIKO_RESTRICT state,
  *
  * Where the parties of a link start in one tick with one profile, one R and one data limit, the first
  * character of every message goes out within so many ticks of its request, or of tick RT1 secondary if
- * that is later, whatever the hosts give and whether devices answer or not: demand 3, which README.md
+ * that is later, whatever the hosts give and whether devices answer or not: demand 3, which docs/PROVED.md
  * has with its premises. The more data a frame may have, the longer this wait is.
  */
 
