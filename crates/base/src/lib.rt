@@ -1,10 +1,10 @@
-// What every layer shares: the refusals of documents 01 and 02, a range test, and whether both of two hold.
+// What every layer shares: the refusals of documents 01 and 02, a range test, and whether two conditions both hold.
 ghost use mathlib.Core.Path.{_≡_};
 ghost use mathlib.Core.Bool.{false};
 ghost use Rattle.base.specs.Choice.{if_then_else_, _outside_to_};
 ghost use Rattle.base.specs.Refusal.{number};
 
-// Why a call is refused. Each is a number of document 01's table, the last ones of document 02.
+// Why a call is refused. Each has a number in document 01's table; the last ones are document 02's.
 pub enum Refusal {
     BadProfile,
     BadRetries,
@@ -35,7 +35,7 @@ pub enum Refusal {
 }
 
 impl Refusal {
-    // Its number in the table.
+    // The refusal's number in the table.
     pub fn number(self) -> u32
         ensures { λ r. ⌜ r ≡ number self ⌝ }
     {
@@ -70,7 +70,7 @@ impl Refusal {
     }
 }
 
-// Whether x lies outside low to high, both of which are inside.
+// Whether x lies outside low to high; both bounds are inside.
 pub fn outside(x: usize, low: usize, high: usize) -> bool
     ensures { λ r. ⌜ r ≡ (x outside low to high) ⌝ }
 {

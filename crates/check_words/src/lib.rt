@@ -46,7 +46,7 @@ fn fold(w: u64) -> u8
     (c % 256) as u8
 }
 
-// The exclusive-or of every other of the eight words from i on.
+// The exclusive-or of every second word of the eight from i on.
 fn every_other(p: &[u8], i: usize) -> u64
     requires { ⌜ i + 56 ≤ length (now p) ⌝ }
     ensures { λ r. ⌜ folded r ≡ everyOther (now (p .entry)) i ⌝ }
@@ -54,7 +54,7 @@ fn every_other(p: &[u8], i: usize) -> u64
     (word(p, i) ^ word(p, i + 16)) ^ (word(p, i + 32) ^ word(p, i + 48))
 }
 
-// Of every other of the sixteen words from i on.
+// The exclusive-or of every second word of the sixteen from i on.
 fn every_other_of_16(p: &[u8], i: usize) -> u64
     requires { ⌜ i + 120 ≤ length (now p) ⌝ }
     ensures { λ r. ⌜ folded r ≡ everyOtherOf16 (now (p .entry)) i ⌝ }
@@ -78,7 +78,7 @@ fn xor_blocks(x: u8, bytes: &[u8], n: usize) -> u64
     a ^ b
 }
 
-// The exclusive-or of a word and the half block behind the blocks, where there is one, as a word.
+// The exclusive-or of a word and the half block after the blocks, where there is one, as a word.
 fn xor_half_block(first: u64, bytes: &[u8]) -> u64
     ensures { λ r. ⌜ folded r ≡ xorOnto first (now (bytes .entry)) (inBlocks (now (bytes .entry))) (length (now (bytes .entry)) % 128 / 64 * 64) ⌝ }
 {
@@ -104,7 +104,7 @@ fn xor_words(first: u64, bytes: &[u8], start: usize, count: usize) -> u64
     sum
 }
 
-// The exclusive-or of x and all whole words, as a word. Behind the longest frame's blocks there are none.
+// The exclusive-or of x and all whole words, as a word. After the longest frame's blocks there are none left.
 fn xor_long(x: u8, bytes: &[u8]) -> u64
     ensures { λ r. ⌜ folded r ≡ xorFrom x (take (inWords (now (bytes .entry))) (now (bytes .entry))) ⌝ }
 {
@@ -117,7 +117,7 @@ fn xor_long(x: u8, bytes: &[u8]) -> u64
     xor_words(halves, bytes, n / 64 * 64, n % 64 / 8)
 }
 
-// The bytes behind the whole words, as a word: of the last eight bytes the high ones.
+// The bytes after the whole words, as a word: they are the high ones of the last eight bytes.
 fn last_bytes(bytes: &[u8]) -> u64
     requires { ⌜ 8 ≤ length (now bytes) ⌝ }
     ensures { λ r. ⌜ folded r ≡ exclusiveOr (drop (inWords (now (bytes .entry))) (now (bytes .entry))) ⌝ }
@@ -126,7 +126,7 @@ fn last_bytes(bytes: &[u8]) -> u64
     word(bytes, n - 8) >> 8 >> (56 - n % 8 * 8)
 }
 
-// The exclusive-or of a word and the bytes behind the whole words.
+// The exclusive-or of a word and the bytes after the whole words.
 fn with_last(sum: u64, bytes: &[u8]) -> u8
     requires { ⌜ 8 ≤ length (now bytes) ⌝ }
     ensures { λ r. ⌜ r ≡ xorFrom (folded sum) (drop (inWords (now (bytes .entry))) (now (bytes .entry))) ⌝ }
@@ -145,7 +145,7 @@ fn xor_short(x: u8, bytes: &[u8]) -> u8
     frame::xor_bytes(x, bytes)
 }
 
-// The exclusive-or of x and some bytes: by words, where there are eight. Fewer than eight words are compiled without a loop.
+// The exclusive-or of x and some bytes: by words, where there are at least eight bytes. Fewer than eight words are compiled without a loop.
 pub fn xor_from(x: u8, bytes: &[u8]) -> u8
     ensures { λ r. ⌜ r ≡ xorFrom x (now (bytes .entry)) ⌝ }
 {

@@ -26,7 +26,7 @@ pub fn put_header(h: Header, out: &mut [u8], at: usize) -> usize
     put_field(b" address ", h.address, out, place)
 }
 
-// Prints the first bytes, so many, as a line.
+// Prints the first count bytes as a line.
 pub fn print_line(bytes: &[u8], count: usize) {
     io::write_all(STDOUT_FILENO, texts::front(bytes, count));
     io::write_all(STDOUT_FILENO, b"\n");

@@ -12,7 +12,7 @@ pub const ACK: u8 = 6;
 
 pub const BACK: u8 = 1;
 
-// What a frame says, preamble and data aside.
+// What a frame says, without preamble and data.
 pub struct Header {
     pub address: u64,
     // the frame type: STX, ACK or BACK
@@ -26,14 +26,14 @@ pub struct Header {
     pub command: u8,
 }
 
-// What a byte is in the delimiter's place.
+// What a byte means in the delimiter's place.
 pub enum Delimiter {
     // the frame type, whether the address is long, and how many expansion bytes there are
     Is(u8, bool, u8),
     Not,
 }
 
-// What the writer answers: where the frame ends in the buffer, or why there is none.
+// What the writer answers: where the frame ends in the buffer, or why nothing was written.
 pub enum Written {
     To(usize),
     Refused(Refusal),
@@ -55,7 +55,7 @@ pub enum Read {
     Refused(Refusal),
 }
 
-// What a byte says in the delimiter's place.
+// What a byte means in the delimiter's place.
 pub fn delimiter_of(byte: u8) -> Delimiter
     ensures { λ r. ⌜ r ≡ delimiterOf byte ⌝ }
 {

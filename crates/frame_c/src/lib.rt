@@ -1,4 +1,4 @@
-// The frame writer and reader for programs in C: a frame's fields as arguments, and what each call is answered as numbers.
+// The frame writer and reader for programs in C: a frame's fields are arguments, and each call answers in numbers.
 use frame::Found;
 use frame::Header;
 use frame::Read;
@@ -7,7 +7,7 @@ ghost use mathlib.Core.Path.{_≡_};
 ghost use Rattle.base.specs.Choice.{bit};
 ghost use Rattle.frame_c.specs.Numbers.{header, foundNumbers, WriteCall, ReadCall};
 
-// Writes a frame, and sets end to where it ends; or gives the refusal's number and changes nothing.
+// Writes a frame, and sets end to where it ends; or returns the refusal's number and changes nothing.
 #[no_mangle]
 pub extern "C" fn nengapiko_write(
     preamble: usize,
@@ -72,7 +72,7 @@ fn numbers_of(found: Found) -> [u64; 11]
     ]
 }
 
-// Reads the frame at the front of some bytes into its numbers; or gives the refusal's number and changes nothing.
+// Reads the frame at the front of some bytes into its numbers; or returns the refusal's number and changes nothing.
 #[no_mangle]
 pub extern "C" fn nengapiko_read(bytes: &[u8], fields: &mut [u64; 11]) -> u32
     ensures { λ r. ⌜ ReadCall bytes fields r ⌝ }

@@ -20,7 +20,7 @@ fn put_refused(why: Refusal, out: &mut [u8], at: usize) -> usize {
     put_field(b": refused ", why.number() as u64, out, at)
 }
 
-// The numbers behind the header.
+// The numbers after the header.
 fn put_rest(f: Found, out: &mut [u8], at: usize) -> usize {
     let h = f.header;
     let mut place = put_field(b" expansion ", f.expansion as u64, out, at);
@@ -56,7 +56,7 @@ fn print_delimiter(byte: u8, out: &mut [u8]) {
     print_line(out, place);
 }
 
-// What a byte says in the delimiter's place.
+// What a byte means in the delimiter's place.
 fn show_delimiter(byte: u8) {
     let mut out = io::buffer();
     print_delimiter(byte, &mut out);

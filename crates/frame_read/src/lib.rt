@@ -11,7 +11,7 @@ ghost use Rattle.frame.specs.Limits.{mostData};
 ghost use Rattle.frame.specs.Address.{addressOf, uniqueAddress};
 ghost use Rattle.frame.specs.Read.{preambles, commandPlace, headerOf, withCount, withCommand, readBody, readFrame, readAs, partOf};
 
-// How many 0xFF stand in front.
+// How many 0xFF the bytes begin with.
 fn count_preambles(bytes: &[u8]) -> usize
     ensures { λ r. ⌜ (r ≡ preambles (now (bytes .entry))) × (r ≤ length (now (bytes .entry))) ⌝ }
 {
@@ -81,7 +81,7 @@ fn command_place(long: bool, expansion: u8) -> usize
     1 + (expansion as usize) + 1
 }
 
-// The frame in a body, behind its byte count.
+// The frame in a body whose byte count is read.
 fn with_count(
     preamble: usize,
     body: &[u8],
@@ -117,7 +117,7 @@ fn with_count(
     Read::Refused(Refusal::Unsound)
 }
 
-// The frame in a body, behind its delimiter.
+// The frame in a body whose delimiter is read.
 fn with_command(
     preamble: usize,
     body: &[u8],
@@ -136,7 +136,7 @@ fn with_command(
     with_count(preamble, body, frame, long, expansion, place, count)
 }
 
-// The frame whose delimiter is the first byte of a body, behind so many preambles.
+// The frame whose delimiter is the first byte of a body, after so many preamble characters.
 fn read_body(preamble: usize, body: &[u8]) -> Read
     requires { ⌜ preamble + length (now body) < 2 ^ 64 ⌝ }
     ensures { λ r. ⌜ readAs r ≡ readBody preamble (now (body .entry)) ⌝ }

@@ -1,4 +1,4 @@
-// The frame writer: a frame's fields and data in, its bytes into the part of a lent buffer that begins at the place named.
+// The frame writer: it takes a frame's fields and data, and writes its bytes into the part of a lent buffer that begins at the named place.
 use base::Refusal;
 use frame::Header;
 use frame::Written;
@@ -26,7 +26,7 @@ fn put_preamble(part: &mut [u8])
     }
 }
 
-// A bit that is on or off.
+// The bit if it is on, else 0.
 pub fn flag(on: bool, bit: u8) -> u8
     ensures { λ r. ⌜ (r ≡ (if on then bit else 0)) × (r ≤ bit) ⌝ }
 {
@@ -52,7 +52,7 @@ fn delimiter_byte(h: Header) -> u8
     flag(h.long, 128) + h.frame
 }
 
-// A field of one byte. As each function that puts a field, it gives the exclusive-or of x and what it put.
+// Puts a field of one byte. Like each function that puts a field, it returns the exclusive-or of x and what it put.
 fn put_byte(part: &mut [u8], x: u8, byte: u8) -> u8
     requires { ⌜ length (now part) ≡ 1 ⌝ }
     ensures { λ r. ⌜ PartIs x (byte ∷ []) (now (part .exit)) r ⌝ }
@@ -61,7 +61,7 @@ fn put_byte(part: &mut [u8], x: u8, byte: u8) -> u8
     x ^ byte
 }
 
-// A unique address.
+// Puts a unique address.
 fn put_long_address(part: &mut [u8], x: u8, h: Header) -> u8
     requires { ⌜ (length (now part) ≡ 5) × (h .address < 2 ^ 38) ⌝ }
     ensures { λ r. ⌜ PartIs x (longAddress h) (now (part .exit)) r ⌝ }
@@ -80,7 +80,7 @@ fn put_long_address(part: &mut [u8], x: u8, h: Header) -> u8
     x ^ first ^ second ^ third ^ fourth ^ fifth
 }
 
-// The address.
+// Puts the address.
 fn put_address(part: &mut [u8], x: u8, h: Header) -> u8
     requires { ⌜ (length (now part) ≡ addressLength (h .long)) × (h .address ≤ largestAddress (h .long)) ⌝ }
     ensures { λ r. ⌜ PartIs x (addressBytes h) (now (part .exit)) r ⌝ }
@@ -91,7 +91,7 @@ fn put_address(part: &mut [u8], x: u8, h: Header) -> u8
     put_byte(part, x, first_byte(h, h.address as u8))
 }
 
-// Delimiter, address, command and byte count.
+// Puts delimiter, address, command and byte count.
 fn put_header(part: &mut [u8], h: Header, count: u8) -> u8
     requires { ⌜ (length (now part) ≡ headerLength h) × (h .frame ≤ 6) × (h .address ≤ largestAddress (h .long)) ⌝ }
     ensures { λ r. ⌜ PartIs 0 (headerBytes h count) (now (part .exit)) r ⌝ }
@@ -104,7 +104,7 @@ fn put_header(part: &mut [u8], h: Header, count: u8) -> u8
     put_byte(&mut part[command_end..], command, count)
 }
 
-// The data.
+// Puts the data.
 fn put_data(part: &mut [u8], x: u8, bytes: &[u8]) -> u8
     requires { ⌜ length (now part) ≡ length (now bytes) ⌝ }
     ensures { λ r. ⌜ PartIs x (now (bytes .entry)) (now (part .exit)) r ⌝ }
@@ -120,7 +120,7 @@ fn put_data(part: &mut [u8], x: u8, bytes: &[u8]) -> u8
     sum
 }
 
-// How many bytes delimiter, address, command and byte count are.
+// How many bytes delimiter, address, command and byte count have.
 fn header_length(h: Header) -> usize
     ensures { λ r. ⌜ (r ≡ headerLength h) × (r ≤ 8) ⌝ }
 {
@@ -130,7 +130,7 @@ fn header_length(h: Header) -> usize
     4
 }
 
-// Delimiter to check byte, at the front of part.
+// Puts delimiter to check byte at the front of part.
 fn put_body(part: &mut [u8], h: Header, bytes: &[u8])
     requires { ⌜ (headerLength h + length (now bytes) + 1 ≤ length (now part)) × WithinLimits h (length (now bytes)) ⌝ }
     ensures { λ _. ⌜ now (part .exit) ≡ stored (now (part .entry)) 0 (bodyBytes h (now (bytes .entry))) ⌝ }
@@ -142,7 +142,7 @@ fn put_body(part: &mut [u8], h: Header, bytes: &[u8])
     put_byte(&mut part[end..end + 1], 0, check);
 }
 
-// The whole frame, at the front of part.
+// Puts the whole frame at the front of part.
 fn put_frame(part: &mut [u8], preamble: usize, h: Header, bytes: &[u8])
     requires { ⌜ (frameLength preamble h (length (now bytes)) ≤ length (now part)) × WithinLimits h (length (now bytes)) ⌝ }
     ensures { λ _. ⌜ now (part .exit) ≡ stored (now (part .entry)) 0 (frameBytes preamble h (now (bytes .entry))) ⌝ }
@@ -169,7 +169,7 @@ fn frame_length(preamble: usize, h: Header, count: usize) -> usize
     preamble + (header_length(h) + count + 1)
 }
 
-// Whether so many bytes fit a buffer of room bytes from a place on.
+// Whether so many bytes fit into a buffer of room bytes from a place on.
 fn by_room(place: usize, length: usize, room: usize) -> Written
     ensures { λ r. ⌜ writtenAs r ≡ byRoom (place + length) room ⌝ }
 {

@@ -1,4 +1,4 @@
-// Joins two recordings of one pair: join FIRST SECOND > JOINED. The files are read twice, a piece of each at a time, first for the answer and then to write: nothing is written of taps that are refused. A refusal is said on standard error.
+// Joins two recordings of one pair: join FIRST SECOND > JOINED. The files are read twice, a piece of each at a time, first for the answer and then to write: nothing is written for taps that are refused. A refusal is printed on standard error.
 use base::Refusal;
 use libc::SEEK_SET;
 use libc::STDERR_FILENO;
@@ -55,7 +55,7 @@ fn both_over(first: i32, second: i32) -> bool {
     false
 }
 
-// The answer of both files, by the answers of their pieces.
+// The answer for both files, made from the answers for their pieces.
 fn answer_of(
     first: i32,
     second: i32,
@@ -80,7 +80,7 @@ fn answer_of(
     answer
 }
 
-// A joined piece, where it is one, written.
+// Writes a joined piece, where there is one.
 fn write_piece(piece: JoinAnswer, out: &[u8]) -> bool {
     match piece {
         JoinAnswer::Joined => {

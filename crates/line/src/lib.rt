@@ -44,7 +44,7 @@ pub enum Place {
     Passing,
     // before a frame
     Idle,
-    // behind so many 0xFF; 2 stands for two or more
+    // after so many 0xFF; 2 stands for two or more
     Preamble(u8),
     // at the first address byte
     First,
@@ -108,7 +108,7 @@ pub struct Taken {
 }
 
 impl Damage {
-    // Its number in document 01.
+    // The kind's number in document 01.
     pub fn number(self) -> u8
         ensures { λ r. ⌜ r ≡ damageNumber self ⌝ }
     {
@@ -145,7 +145,7 @@ impl Profile {
         }
     }
 
-    // The infrared port's. It has one master, and is no profile of the pair.
+    // The infrared port's profile. The port has one master, so this is no profile of the pair.
     pub fn infrared() -> Self
         ensures { λ r. ⌜ r ≡ infraredProfile ⌝ }
     {
@@ -178,7 +178,7 @@ fn value_refused(p: Profile) -> bool
     base::outside(p.rt1s as usize, 1, 1000)
 }
 
-// Whether the values do not stand to each other as they must.
+// Whether the values are not in the order that they must have.
 fn order_refused(p: Profile) -> bool
     ensures { λ r. ⌜ r ≡ orderRefused p ⌝ }
 {
@@ -198,7 +198,7 @@ fn order_refused(p: Profile) -> bool
 }
 
 impl Profile {
-    // A profile of other values, or refusal 1.
+    // A profile of these values, or refusal 1.
     pub fn checked(self) -> MadeProfile
         ensures { λ r. ⌜ madeAs r ≡ profileMade self ⌝ }
     {

@@ -19,7 +19,7 @@ fn event_number(event: Event) -> u8
     }
 }
 
-// A tick of the reader, by the two bytes of a recording.
+// A tick of the reader, made from the two bytes of a recording.
 fn stepped(r: Receiver, first: u8, c: u8, bytes: &mut [u8; 255]) -> Taken
     ensures { λ t. ⌜ t ≡ step r first c ⌝ }
 {
@@ -48,7 +48,7 @@ fn run(recording: &[u8], events: &mut [u8], bytes: &mut [u8; 255]) -> usize
     i
 }
 
-// What the reader tells in each tick of a recording, from its start on: at the front of events, for as many ticks as both hold, and their number.
+// What the reader tells in each tick of a recording, from its start on: at the front of events, for as many ticks as both have room for. Returns their number.
 #[no_mangle]
 pub extern "C" fn nengapiko_ticks(recording: &[u8], events: &mut [u8]) -> usize
     ensures { λ r. ⌜ RunIs (told (now (recording .entry))) (now (events .entry)) r (now (events .exit)) ⌝ }

@@ -1,6 +1,6 @@
-// The modem chip of document 02, item 5: its registers, a tick of it, and a driver that hears and sends through them.
+// The modem chip of document 02, item 5: its registers, its tick, and a driver that hears and sends through them.
 //
-// A tick goes so: `arrive` with what the line carried in the tick before; any reads and writes of registers; `end_tick`, which says what goes out.
+// In a tick: `arrive` with what the line carried in the tick before; then any reads and writes of registers; then `end_tick`, which says what goes out.
 use base::Refusal;
 use line::Damage;
 use line::Heard;
@@ -35,7 +35,7 @@ pub struct Chip {
     pub carrier: bool,
     pub received: bool,
     pub ready: bool,
-    // a character goes out at the end of this tick, and which
+    // whether a character goes out at the end of this tick, and which
     pub sending: bool,
     pub outgoing: u8,
     // it sent in the tick before, and hears nothing in this one
@@ -46,7 +46,7 @@ pub struct Chip {
     pub kind: u8,
 }
 
-// What reading a register answers: its value, and the chip behind the read.
+// What reading a register answers: its value, and the chip after the read.
 pub enum RegisterRead {
     Value(u8, Chip),
     Refused(Refusal),
@@ -58,19 +58,19 @@ pub enum RegisterWritten {
     Refused(Refusal),
 }
 
-// What a register shows, and the chip behind the read.
+// What a register shows, and the chip after the read.
 pub struct Looked {
     pub value: u8,
     pub chip: Chip,
 }
 
-// The chip behind a tick, and what goes out in it.
+// The chip after a tick, and what goes out in it.
 pub struct TickEnded {
     pub chip: Chip,
     pub carried: Carried,
 }
 
-// The chip behind what the driver heard.
+// The chip after the driver has heard, and what was heard.
 pub struct ChipHeard {
     pub chip: Chip,
     pub heard: Heard,
@@ -128,7 +128,7 @@ pub fn fresh() -> Chip
     }
 }
 
-// A chip with these values of what it receives.
+// A chip with these values for what it receives.
 fn receiving(x: Chip, carrier: bool, latest: u8, kind: u8, received: bool) -> Chip
     ensures { λ r. ⌜ r ≡ receives x carrier latest kind received ⌝ }
 {
@@ -323,7 +323,7 @@ pub fn write(x: Chip, n: usize, v: u8) -> RegisterWritten
     RegisterWritten::Refused(Refusal::Register)
 }
 
-// A tick ends: what goes out, and the chip behind it.
+// A tick ends: what goes out, and the chip after it.
 pub fn end_tick(x: Chip) -> TickEnded
     ensures { λ r. ⌜ r ≡ tickEnds x ⌝ }
 {
@@ -410,7 +410,7 @@ fn heard_from(status: u8, kind: u8, c: u8) -> Heard
     Heard::Silence
 }
 
-// What was heard: status, byte 3, then byte 2, in every tick.
+// What was heard: status, byte 3, then byte 2 are read, in every tick.
 pub fn hear(x: Chip) -> ChipHeard
     ensures { λ r. ⌜ r ≡ hears x ⌝ }
 {

@@ -30,11 +30,11 @@ pub struct Row {
     // the two bits of the second data byte that are meant for one master only, as the last frame to each had them
     pub primary: u8,
     pub secondary: u8,
-    // always 0: with it every byte of a row is a field's
+    // always 0: with it every byte of a row belongs to a field
     pub spare: u32,
 }
 
-// By what a row is found.
+// What a row is found by.
 pub struct Key {
     pub address: u64,
     pub command: u8,
@@ -49,7 +49,7 @@ pub enum Sought {
     Full,
 }
 
-// What is put into a table's rows: a row at a place, none where the place is behind the last row; and 0 or the refusal's number.
+// What is put into a table's rows: a row at a place, or none where the place is past the last row; and 0 or the refusal's number.
 pub struct Put {
     pub at: usize,
     pub row: Row,
@@ -94,7 +94,7 @@ pub fn told_key(event: Event) -> Key
     }
 }
 
-// Whether a row is of an address and a command.
+// Whether a row has this address and command.
 fn has_key(row: Row, k: Key) -> bool
     ensures { λ r. ⌜ r ≡ hasKey k row ⌝ }
 {
@@ -104,7 +104,7 @@ fn has_key(row: Row, k: Key) -> bool
     false
 }
 
-// One row more is looked at.
+// One more row is looked at.
 pub fn sought_next(s: Sought, at: usize, row: Row, k: Key) -> Sought
     ensures { λ r. ⌜ r ≡ next s at row k ⌝ }
 {
@@ -128,7 +128,7 @@ pub fn sought_next(s: Sought, at: usize, row: Row, k: Key) -> Sought
     }
 }
 
-// The number of the row that is looked up, of so many; their number where there is none.
+// The number of the row that is looked up among so many; the number of rows where there is none.
 pub fn looked_up(rows: usize, s: Sought, k: Key) -> usize
     ensures { λ r. ⌜ r ≡ lookedUpBy rows s k ⌝ }
 {
@@ -172,14 +172,14 @@ fn own_bits(b: u8) -> u8
     CONFIGURATION_CHANGED * (b / CONFIGURATION_CHANGED % 2) + MORE_STATUS * (b / MORE_STATUS % 2)
 }
 
-// The byte with both as 0.
+// The byte with both of these bits 0.
 fn common_byte(b: u8) -> u8
     ensures { λ r. ⌜ r ≡ commonByte b ⌝ }
 {
     b - own_bits(b)
 }
 
-// What is stored of data byte i.
+// What is stored for data byte i.
 fn stored_byte(i: usize, b: u8) -> u8
     ensures { λ r. ⌜ r ≡ storedByte i b ⌝ }
 {
@@ -189,7 +189,7 @@ fn stored_byte(i: usize, b: u8) -> u8
     b
 }
 
-// A master's bits of a row; an empty row has none.
+// A master's bits in a row; an empty row has none.
 fn kept_bits(primary: bool, row: Row) -> u8
     ensures { λ r. ⌜ r ≡ keptBits primary row ⌝ }
 {
@@ -218,7 +218,7 @@ pub fn shown_byte(stored: u8, bits: u8) -> u8
     common_byte(stored) + own_bits(bits)
 }
 
-// The first count bytes, at the front of a part of the area, as they are stored.
+// Copies the first count bytes to the front of a part of the area, as they are stored.
 fn copy(to: &mut [u8], bytes: &[u8], count: u8)
     requires { ⌜ (count ≤ length (now to)) × (count ≤ length (now bytes)) ⌝ }
     ensures { λ _. ⌜ after to ≡ stored (before to) 0 (take count (storedBytes (before bytes))) ⌝ }
@@ -252,7 +252,7 @@ fn row_for(i: usize, tick: u64, w: Whole, second: u8, was: Row) -> Row
     }
 }
 
-// The data of a frame that goes to row i are stored.
+// Stores the data of a frame that goes to row i.
 fn put_row(area: &mut [u8], i: usize, tick: u64, w: Whole, bytes: &[u8; 255], was: Row) -> Put
     requires { ⌜ rowBytes * i + rowBytes ≤ length (now area) ⌝ }
     ensures { λ r. ⌜ RowIs (before area) (after area) i tick w (before bytes) was r ⌝ }
@@ -280,7 +280,7 @@ fn nothing_put(rows: usize, refusal: u32) -> Put
     }
 }
 
-// The same where row i is one of so many; else nothing is put.
+// The same where row i is one of so many rows; else nothing is put.
 fn put_at(
     area: &mut [u8],
     rows: usize,
@@ -299,7 +299,7 @@ fn put_at(
     nothing_put(rows, 0)
 }
 
-// The same by where the frame goes; a table that is full refuses it.
+// The same, by where the frame goes; a full table refuses it.
 fn put_by(area: &mut [u8], rows: usize, s: Sought, tick: u64, w: Whole, bytes: &[u8; 255]) -> Put
     requires { ⌜ rowBytes * rows ≤ length (now area) ⌝ }
     ensures { λ r. ⌜ PutByIs (before area) (after area) rows s tick w (before bytes) r ⌝ }
@@ -321,7 +321,7 @@ fn put_frame(area: &mut [u8], rows: usize, s: Sought, tick: u64, w: Whole, bytes
     nothing_put(rows, 0)
 }
 
-// What a table of so many rows is given for what a tick tells; a reading's data are stored.
+// What is put into a table of so many rows for what a tick tells; a reading's data are stored.
 pub fn store(
     area: &mut [u8],
     rows: usize,
@@ -361,7 +361,7 @@ fn row_at(numbers: &[u64], i: usize) -> Row
     }
 }
 
-// The search over flat numbers, seven to a row.
+// The search over flat numbers, seven for a row.
 pub fn search(numbers: &[u64], k: Key) -> Sought
     ensures { λ r. ⌜ r ≡ sought (rowsOf (before numbers)) k ⌝ }
 {

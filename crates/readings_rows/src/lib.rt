@@ -1,4 +1,4 @@
-// The latest readings table as a lent slice of rows, in few thin functions, each proved by a walk of its MIR, by hand.
+// The latest readings table as a lent slice of rows, in few thin functions; each is proved by hand, step by step over its MIR.
 use readings::Key;
 use readings::Row;
 use readings::Sought;
@@ -21,7 +21,7 @@ pub fn search(rows: &[Row], k: Key) -> Sought
     s
 }
 
-// A row at a place; nothing where the place is behind the last row.
+// Puts a row at a place; nothing where the place is past the last row.
 pub fn put(rows: &mut [Row], at: usize, row: Row)
     ensures { λ _. ⌜ after rows ≡ set (before rows) at row ⌝ }
 {

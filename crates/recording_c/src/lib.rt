@@ -3,7 +3,7 @@ use recording_join::JoinAnswer;
 use recording_list::Listed;
 ghost use Rattle.recording_c.specs.Numbers.{ListCall, JoinCall};
 
-// Lists the frames and breaks of a recording at the front of out, and sets entries to their number; or gives the refusal's number and changes nothing.
+// Lists the frames and breaks of a recording at the front of out, and sets entries to their number; or returns the refusal's number and changes nothing.
 #[no_mangle]
 pub extern "C" fn nengapiko_list(recording: &[u8], out: &mut [u8], entries: &mut usize) -> u32
     ensures { λ r. ⌜ ListCall recording out entries r ⌝ }
@@ -18,7 +18,7 @@ pub extern "C" fn nengapiko_list(recording: &[u8], out: &mut [u8], entries: &mut
     }
 }
 
-// Joins two recordings at the front of out; or gives the refusal's number, and for 23 sets tick to the first tick with two different characters, and changes nothing else.
+// Joins two recordings at the front of out; or returns the refusal's number, and for 23 sets tick to the first tick with two different characters, and changes nothing else.
 #[no_mangle]
 pub extern "C" fn nengapiko_join(
     first: &[u8],

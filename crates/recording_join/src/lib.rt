@@ -37,7 +37,7 @@ fn takes_second(x: u16, y: u16) -> bool
     y < x
 }
 
-// The tick that is taken of two, as one number each.
+// Which of two ticks is taken, as one number each.
 fn taken(v: u16, w: u16) -> u16
     ensures { λ r. ⌜ r ≡ (if takesSecond (v % 256) (w % 256) then w else v) ⌝ }
 {
@@ -63,7 +63,7 @@ fn differ(v: u16, w: u16) -> bool
     false
 }
 
-// How many ticks two recordings of one length have: the lower number, by which the compiler sees that each place is within both, and compiles a loop over ticks to vectors.
+// How many ticks two recordings of equal length have: the lower number. By it the compiler sees that each place is within both, and compiles a loop over ticks to vectors.
 fn ticks_of_both(first: &[u8], second: &[u8]) -> usize
     requires { ⌜ length (now first) ≡ length (now second) ⌝ }
     ensures { λ r. ⌜ r ≡ length (now (first .entry)) / 2 ⌝ }
@@ -128,7 +128,7 @@ fn by_difference(first: &[u8], second: &[u8], out: &mut [u8]) -> JoinAnswer
     }
 }
 
-// Joins two recordings of one pair from one tick on, at the front of a buffer. A refusal leaves the buffer as it was.
+// Joins two recordings of one pair that begin in the same tick, at the front of a buffer. A refusal leaves the buffer as it was.
 pub fn join(first: &[u8], second: &[u8], out: &mut [u8]) -> JoinAnswer
     ensures { λ r. ⌜ JoinIs (now (first .entry)) (now (second .entry)) (now (out .entry)) r (now (out .exit)) ⌝ }
 {
@@ -147,7 +147,7 @@ pub fn join(first: &[u8], second: &[u8], out: &mut [u8]) -> JoinAnswer
     JoinAnswer::Refused(Refusal::UnequalTaps)
 }
 
-// A sum, or the last number of 64 bits where it is above that.
+// A sum, or the largest number of 64 bits where the sum is above that.
 fn sum_within(a: usize, b: usize) -> usize
     ensures { λ r. ⌜ r ≡ (if largestTick <? a + b then largestTick else a + b) ⌝ }
 {
@@ -164,7 +164,7 @@ fn same_tick(t: usize) -> usize
     t
 }
 
-// Which of two refusals applies, the second of what follows: 21 goes first.
+// Which of two refusals applies, the second being for what follows: 21 comes first.
 fn refused_by(why: Refusal, other: Refusal) -> Refusal
     ensures { λ r. ⌜ r ≡ refusedBy why other ⌝ }
 {
@@ -174,7 +174,7 @@ fn refused_by(why: Refusal, other: Refusal) -> Refusal
     other
 }
 
-// The answer of so many ticks and of what follows them, by the answers of both.
+// The answer for so many ticks and what follows them, made from the answers for each.
 pub fn pieced(ticks: usize, earlier: JoinAnswer, later: JoinAnswer) -> JoinAnswer
     ensures { λ r. ⌜ r ≡ within64 (pieced ticks earlier later) ⌝ }
 {

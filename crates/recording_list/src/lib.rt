@@ -29,7 +29,7 @@ enum Next {
     Over,
 }
 
-// So many characters: the tick behind the last, their exclusive-or and whether one was damaged.
+// So many characters: the tick after the last, their exclusive-or and whether one was damaged.
 enum Run {
     To(usize, u8, bool),
     RunBroke(usize),
@@ -43,7 +43,7 @@ enum Outcome {
     Cut,
 }
 
-// A character of the preamble: the tick behind another 0xFF, or what became of the frame.
+// A character of the preamble: the tick after another 0xFF, or what became of the frame.
 enum Step {
     More(usize),
     Ended(Outcome),
@@ -98,7 +98,7 @@ fn character_of(v: u16) -> u8
     (v / 256) as u8
 }
 
-// Whether a character was damaged, behind one more tick.
+// Whether a character was damaged, after one more tick.
 fn harmed(harm: bool, v: u16) -> bool
     ensures { λ r. ⌜ r ≡ harmedBy harm v ⌝ }
 {
@@ -134,7 +134,7 @@ fn one_by_one(recording: &[u8], from: usize, need: usize, before: u8, hurt: bool
     Run::To(t, sum, harm)
 }
 
-// 0 just where it was 0 before and the tick is an undamaged character.
+// 0 exactly where it was 0 before and the tick is an undamaged character.
 fn other_than_sound(other: u16, v: u16) -> u16
     ensures { λ r. ⌜ StillSound other v r ⌝ }
 {
@@ -147,7 +147,7 @@ struct Plain {
     sum: u8,
 }
 
-// It goes on to the end, whatever it meets: so the loop is compiled to vectors.
+// It goes on to the end, whatever it finds: so the loop is compiled to vectors.
 fn plain_run(recording: &[u8], t: usize, need: usize, before: u8) -> Plain
     requires { ⌜ 2 * (t + need) ≤ length (now recording) ⌝ }
     ensures { λ r. ⌜ PlainIs (now (recording .entry)) t need before r ⌝ }
@@ -258,7 +258,7 @@ fn head_from(recording: &[u8], t: usize, need: usize, frame: u8, sum: u8) -> Out
     }
 }
 
-// A character but 0xFF in the preamble, behind one 0xFF or behind two.
+// A character other than 0xFF in the preamble, after one 0xFF or after two.
 fn delimiter_at(recording: &[u8], u: usize, v: u16, two: bool) -> Outcome
     requires { ⌜ (badRecording (now recording) ≡ false) × (2 * u + 2 ≤ length (now recording)) ⌝ }
     requires { ⌜ TickIs (now recording) u v × (v % 256 ≡ 32) × (v / 256 ≡ 255 → ⊥) ⌝ }
@@ -293,7 +293,7 @@ fn other_at(recording: &[u8], u: usize, v: u16, two: bool) -> Outcome
     Outcome::Breaks(u)
 }
 
-// A character of the preamble, behind one 0xFF or behind two.
+// A character of the preamble, after one 0xFF or after two.
 fn preamble_at(recording: &[u8], u: usize, two: bool) -> Step
     requires { ⌜ (badRecording (now recording) ≡ false) × SoundTick (now recording) u ⌝ }
     ensures { λ r. ⌜ StepIs (now (recording .entry)) u two r ⌝ }
@@ -318,7 +318,7 @@ fn preamble_step(recording: &[u8], t: usize, two: bool) -> Step
     }
 }
 
-// The preamble, behind one 0xFF or behind two, from a tick on.
+// The preamble, after one 0xFF or after two, from a tick on.
 fn preamble_with_gaps(recording: &[u8], from: usize, before: bool) -> Outcome
     requires { ⌜ (badRecording (now recording) ≡ false) × (2 * from ≤ length (now recording)) ⌝ }
     ensures { λ r. ⌜ FrameIs (now (recording .entry)) from (inPreamble before) r ⌝ }
@@ -339,7 +339,7 @@ fn preamble_with_gaps(recording: &[u8], from: usize, before: bool) -> Outcome
     Outcome::Cut
 }
 
-// The preamble from its second character on: each 0xFF that follows at once, and then with silent ticks.
+// The preamble from its second character on: first each 0xFF that follows without a gap, then those with silent ticks between them.
 fn preamble_from(recording: &[u8], from: usize) -> Outcome
     requires { ⌜ (badRecording (now recording) ≡ false) × (2 * from ≤ length (now recording)) ⌝ }
     ensures { λ r. ⌜ FrameIs (now (recording .entry)) from (blank (Place.Preamble 1)) r ⌝ }
@@ -358,7 +358,7 @@ fn preamble_from(recording: &[u8], from: usize) -> Outcome
     Outcome::Cut
 }
 
-// A frame, or a break, from a tick with a character on, before which the reader is before a frame.
+// A frame, or a break, from a tick with a character on; before that tick the reader is before a frame.
 fn frame_from(recording: &[u8], t: usize) -> Outcome
     requires { ⌜ (badRecording (now recording) ≡ false) × SoundTick (now recording) t ⌝ }
     ensures { λ r. ⌜ FrameIs (now (recording .entry)) t idle r ⌝ }
@@ -406,7 +406,7 @@ fn sound_from(recording: &[u8], from: usize) -> usize
     t
 }
 
-// The entry of a tick with a character, before which the reader is before a frame.
+// The entry of a tick with a character; before that tick the reader is before a frame.
 fn item_at(recording: &[u8], t: usize) -> Item
     requires { ⌜ (badRecording (now recording) ≡ false) × SoundTick (now recording) t ⌝ }
     ensures { λ r. ⌜ ItemIs (now (recording .entry)) t r ⌝ }
@@ -435,7 +435,7 @@ fn put_entry(part: &mut [u8], tick: usize, verdict: u8)
     part[8] = verdict;
 }
 
-// An entry at the place of its number, where the list is put and not only counted.
+// Puts an entry at the place of its number, where the list is put and not only counted.
 fn put_if(put: bool, out: &mut [u8], n: usize, tick: usize, verdict: u8)
     requires { ⌜ HasRoom put (9 * n + 9) (now out) ⌝ }
     ensures { λ _. ⌜ now (out .exit) ≡ (if put then stored (now (out .entry)) (9 * n) (entry tick verdict) else now (out .entry)) ⌝ }
@@ -446,7 +446,7 @@ fn put_if(put: bool, out: &mut [u8], n: usize, tick: usize, verdict: u8)
     }
 }
 
-// The entries from a tick on, before which there are some, and at which the reader is before a frame: put or counted; how many there are then.
+// The entries from a tick on at which the reader is before a frame, after some others: put or only counted. Returns how many there are then.
 fn entries_from(recording: &[u8], from: usize, before: usize, put: bool, out: &mut [u8]) -> usize
     requires { ⌜ (badRecording (now recording) ≡ false) × (2 * from ≤ length (now recording)) × (before ≤ from) ⌝ }
     requires { ⌜ HasRoom put (9 * before + length (foundFrom (now recording) from idle)) (now out) ⌝ }
@@ -473,7 +473,7 @@ fn entries_from(recording: &[u8], from: usize, before: usize, put: bool, out: &m
     n
 }
 
-// All entries, put at the front of the buffer or counted; how many there are.
+// All entries, put at the front of the buffer or only counted. Returns how many there are.
 fn entries(recording: &[u8], put: bool, out: &mut [u8]) -> usize
     requires { ⌜ badRecording (now recording) ≡ false ⌝ }
     requires { ⌜ HasRoom put (length (listingOf (now recording))) (now out) ⌝ }
@@ -489,7 +489,7 @@ fn entries(recording: &[u8], put: bool, out: &mut [u8]) -> usize
     entries_from(recording, silence_from(recording, 1), 1, put, out)
 }
 
-// Whether the buffer holds the list. Half the ticks, rounded up, is the most that it can have: with room for these nothing is counted.
+// Whether the buffer has room for the list. It has at most half as many entries as ticks, rounded up: with room for these nothing is counted.
 fn has_room(recording: &[u8], out: &mut [u8]) -> bool
     requires { ⌜ badRecording (now recording) ≡ false ⌝ }
     ensures { λ r. ⌜ RoomIs (now (recording .entry)) (now (out .entry)) r (now (out .exit)) ⌝ }

@@ -1,4 +1,4 @@
-// Text in ASCII for programs that print what they run: put into a lent buffer from a place on, and read. What does not fit is left out.
+// Text in ASCII for the programs that print: it is put into a lent buffer from a place on, or read. What does not fit is left out.
 ghost use mathlib.Core.Path.{_≡_};
 ghost use mathlib.Core.List.{[], _∷_, _++_};
 ghost use mathlib.Core.Bool.{false};
@@ -8,7 +8,7 @@ ghost use Rattle.texts.specs.Decimal.{decimalOf};
 ghost use Rattle.texts.specs.Digits.{decimal, bitOf, digitOf, hexadecimal, spaced, valueOf, byteOf};
 ghost use Rattle.texts.specs.Put.{PutIs};
 
-// A byte at a place, if there is room for it; the next place.
+// Puts a byte at a place, if there is room for it; returns the next place.
 pub fn put_byte(b: u8, out: &mut [u8], at: usize) -> usize
     ensures { λ r. ⌜ PutIs (b ∷ []) (now (out .entry)) at r (now (out .exit)) ⌝ }
 {
@@ -19,7 +19,7 @@ pub fn put_byte(b: u8, out: &mut [u8], at: usize) -> usize
     at
 }
 
-// Bytes, one behind the other.
+// Bytes, one after the other.
 pub fn put_bytes(text: &[u8], out: &mut [u8], at: usize) -> usize
     ensures { λ r. ⌜ PutIs (now (text .entry)) (now (out .entry)) at r (now (out .exit)) ⌝ }
 {
@@ -103,7 +103,7 @@ pub fn put_hexadecimal(capital: bool, byte: u8, out: &mut [u8], at: usize) -> us
     put_byte(low, out, place)
 }
 
-// A byte in hexadecimal, with a space in front.
+// A byte in hexadecimal, with a space before it.
 pub fn put_spaced(byte: u8, out: &mut [u8], at: usize) -> usize
     ensures { λ r. ⌜ PutIs (spaced (byte ∷ [])) (now (out .entry)) at r (now (out .exit)) ⌝ }
 {
@@ -111,7 +111,7 @@ pub fn put_spaced(byte: u8, out: &mut [u8], at: usize) -> usize
     put_hexadecimal(false, byte, out, place)
 }
 
-// Bytes so, one behind the other.
+// Bytes in hexadecimal, with a space before each, one after the other.
 pub fn put_all_spaced(bytes: &[u8], out: &mut [u8], at: usize) -> usize
     ensures { λ r. ⌜ PutIs (spaced (now (bytes .entry))) (now (out .entry)) at r (now (out .exit)) ⌝ }
 {
@@ -124,7 +124,7 @@ pub fn put_all_spaced(bytes: &[u8], out: &mut [u8], at: usize) -> usize
     place
 }
 
-// The first bytes, so many, or all if there are fewer.
+// The first count bytes, or all if there are fewer.
 pub fn front(bytes: &[u8], count: usize) -> &[u8]
     ensures { λ r. ⌜ now r ≡ take count (now (bytes .entry)) ⌝ }
 {

@@ -1,4 +1,4 @@
-// The tick reader: it takes what is heard in a tick, and tells what became of a frame.
+// The tick reader: in each tick it takes what is heard, and tells what became of a frame.
 use frame::Delimiter;
 use frame::Header;
 use line::Damage;
@@ -14,7 +14,7 @@ ghost use mathlib.Core.Bool.{true, false};
 ghost use Rattle.base.specs.Choice.{if_then_else_, _=?_};
 ghost use Rattle.line.specs.Reader.{noDamage, blank, idle, passing, breaks, gapped, silentInside, insideFrame, silence, tells, next, atIdle, begins, atPreamble, behindAddress, firstHeader, atFirst, addressHeader, atAddress, atExpansion, commandHeader, atCommand, counted, atCount, atData, isDamaged, ended, atCheck, character, addressDamaged, kindDamaged, marked, damaged, keptByte, kept, ReaderTakeIs};
 
-// The next three give what they take, field by field. Copied as a block, with the unused bytes between its fields, a struct stays in memory; made anew, its fields can stay in registers.
+// The next three give what they take, field by field. A struct that is copied as a block, with the unused bytes between its fields, stays in memory; when it is built again field by field, its fields can stay in registers.
 pub fn same_header(h: Header) -> Header
     ensures { λ r. ⌜ r ≡ h ⌝ }
 {
@@ -71,7 +71,7 @@ fn undamaged() -> FrameDamage
     }
 }
 
-// A reader that has heard nothing of a frame, at a place.
+// A reader at a place, which holds nothing of a frame.
 fn blank_at(place: Place) -> Receiver
     ensures { λ r. ⌜ r ≡ blank place ⌝ }
 {
@@ -130,7 +130,7 @@ fn goes_on(r: Receiver) -> Taken
     }
 }
 
-// The reader behind a silent tick that is passed over.
+// The reader after a silent tick that is passed over.
 pub fn gapped_reader(r: Receiver) -> Receiver
     ensures { λ s. ⌜ s ≡ gapped r ⌝ }
 {
@@ -164,7 +164,7 @@ fn silent_inside(r: Receiver) -> Taken
     goes_on(gapped_reader(r))
 }
 
-// Inside a frame: behind its first 0xFF, up to its check byte.
+// Inside a frame: from its first 0xFF on, up to its check byte.
 pub fn is_inside(place: Place) -> bool
     ensures { λ b. ⌜ b ≡ insideFrame place ⌝ }
 {
@@ -201,7 +201,7 @@ fn silent(r: Receiver) -> Taken
     }
 }
 
-// The reader with one character more of the frame, at its next place.
+// The reader with one more character of the frame, at its next place.
 fn to_next(r: Receiver, h: Header, place: Place, c: u8) -> Taken
     ensures { λ t. ⌜ t ≡ next r h place c ⌝ }
 {
@@ -459,7 +459,7 @@ fn at_check(r: Receiver, c: u8) -> Taken
     }
 }
 
-// Whether an exclusive-or from delimiter to check byte tells a wrong check byte.
+// Whether an exclusive-or from delimiter to check byte shows a wrong check byte.
 fn wrong_check(sum: u8) -> bool
     ensures { λ r. ⌜ r ≡ (if sum =? 0 then false else true) ⌝ }
 {
@@ -572,7 +572,7 @@ fn heard_damage(r: Receiver, c: u8, kind: Damage) -> Taken
     }
 }
 
-// A data byte, at its number in the lent buffer.
+// Keeps a data byte at its number in the lent buffer.
 fn keep_byte(n: u8, c: u8, bytes: &mut [u8; 255])
     ensures { λ _. ⌜ now (bytes .exit) ≡ keptByte n c (now (bytes .entry)) ⌝ }
 {
@@ -582,7 +582,7 @@ fn keep_byte(n: u8, c: u8, bytes: &mut [u8; 255])
     }
 }
 
-// The data buffer behind a character.
+// The data buffer after a character.
 pub fn keep(place: Place, c: u8, bytes: &mut [u8; 255])
     ensures { λ _. ⌜ now (bytes .exit) ≡ kept place c (now (bytes .entry)) ⌝ }
 {
@@ -600,7 +600,7 @@ pub fn keep(place: Place, c: u8, bytes: &mut [u8; 255])
     }
 }
 
-// A tick: what was heard, and the buffer that holds the data of the frame being heard.
+// A tick: it takes what was heard, and the buffer that holds the data of the frame being heard.
 pub fn take(r: Receiver, heard: Heard, bytes: &mut [u8; 255]) -> Taken
     ensures { λ t. ⌜ ReaderTakeIs r heard (now (bytes .entry)) t (now (bytes .exit)) ⌝ }
 {
