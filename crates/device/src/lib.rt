@@ -68,7 +68,7 @@ fn answer_header(h: Header, burst: bool) -> Header
     }
 }
 
-// An ACK or BACK into the lent frame buffer, where the frame writer takes it.
+// Puts an ACK or BACK into the lent frame buffer, where the frame writer takes it.
 fn put_frame(preamble: u8, h: Header, bytes: &[u8], frame: &mut [u8; 284])
     ensures { λ _. ⌜ now (frame .exit) ≡ writeBuffer preamble h (now (bytes .entry)) (now (frame .entry)) 0 ⌝ }
 {
@@ -84,7 +84,7 @@ fn put_part(preamble: u8, h: Header, count: u8, contents: &[u8], frame: &mut [u8
     put_frame(preamble, h, &contents[..end], frame);
 }
 
-// The error answer to a damaged frame, into the lent frame buffer.
+// Puts the error answer to a damaged frame into the lent frame buffer.
 fn put_error(d: Device, w: Whole, m: FrameDamage, frame: &mut [u8; 284])
     ensures { λ _. ⌜ now (frame .exit) ≡ errorFrame d (Event.Damaged w m) (now (frame .entry)) ⌝ }
 {
@@ -108,7 +108,7 @@ fn put_error_answer(d: Device, event: Event, frame: &mut [u8; 284])
     }
 }
 
-// Takes what was heard: the device behind it, and what it tells its host. The data of the frame being heard are in the lent data buffer, and an error answer is put into the lent frame buffer.
+// Takes what was heard: returns the device after it, and what it tells its host. The data of the frame being heard are in the lent data buffer, and an error answer is put into the lent frame buffer.
 pub fn take(d: Device, heard: Heard, bytes: &mut [u8; 255], frame: &mut [u8; 284]) -> DeviceTaken
     ensures { λ t. ⌜ DeviceTakeIs d heard (now (bytes .entry)) (now (frame .entry)) t (now (bytes .exit)) (now (frame .exit)) ⌝ }
 {
@@ -154,7 +154,7 @@ fn wish_refused(d: Device, wish: Wish) -> bool
     }
 }
 
-// The turn behind an answer, with so many ticks left of its request.
+// The turn after an answer, with so many ticks left for its request.
 fn answers_at(d: Device, left: u16) -> Turn
     ensures { λ r. ⌜ r ≡ answersAt d left ⌝ }
 {
@@ -211,7 +211,7 @@ fn answer_by(limit: u8, d: Device, wish: Wish, count: usize) -> DeviceCalled
     }
 }
 
-// The host's answer, into the lent frame buffer.
+// Puts the host's answer into the lent frame buffer.
 fn put_answer(d: Device, wish: Wish, bytes: &[u8], frame: &mut [u8; 284])
     ensures { λ _. ⌜ now (frame .exit) ≡ answerFrame d wish (now (bytes .entry)) (now (frame .entry)) ⌝ }
 {
@@ -253,7 +253,7 @@ fn back_header(d: Device) -> Header
     }
 }
 
-// The next BACK, into the lent frame buffer.
+// Puts the next BACK into the lent frame buffer.
 fn put_back(d: Device, contents: &[u8; 255], frame: &mut [u8; 284])
     ensures { λ _. ⌜ now (frame .exit) ≡ begunFrame d Turn.Follows (now (contents .entry)) (now (frame .entry)) ⌝ }
 {
@@ -261,7 +261,7 @@ fn put_back(d: Device, contents: &[u8; 255], frame: &mut [u8; 284])
     put_part(d.preamble, back_header(d), content.count, contents, frame);
 }
 
-// The BACK that begins in this tick, if one does.
+// Puts the BACK that begins in this tick, if one does.
 fn put_begun(d: Device, contents: &[u8; 255], frame: &mut [u8; 284])
     ensures { λ _. ⌜ now (frame .exit) ≡ begunFrame d (d .turn) (now (contents .entry)) (now (frame .entry)) ⌝ }
 {

@@ -12,7 +12,7 @@ ghost use Rattle.line.specs.Reader.{passing};
 ghost use Rattle.turns.specs.Device.{wished, sends, firstFor, behindAck, answersFrom, burstsFrom, backLength, sendsBy, deviceSends};
 ghost use Rattle.device.specs.Promises.{deviceBehind};
 
-// Burst, from the ACK's first character on.
+// Whether the device bursts, from the ACK's first character on.
 pub fn wished_burst(burst: bool, wish: Wish) -> bool
     ensures { λ r. ⌜ r ≡ wished burst wish ⌝ }
 {
@@ -23,7 +23,7 @@ pub fn wished_burst(burst: bool, wish: Wish) -> bool
     }
 }
 
-// The device behind what it sends.
+// The device after what it sends.
 fn behind(
     d: Device,
     deaf: bool,
@@ -102,7 +102,7 @@ fn first_for(d: Device) -> bool
     true
 }
 
-// The turn behind an ACK.
+// The turn after an ACK.
 fn behind_ack(burst: bool) -> Turn
     ensures { λ r. ⌜ r ≡ behindAck burst ⌝ }
 {

@@ -1,4 +1,4 @@
-// What a device does behind what it heard. The functions follow the definitions of crates/turns/specs/Device.antt, in their order.
+// What a device does after what it heard. The functions follow the definitions of crates/turns/specs/Device.antt, in their order.
 use frame::Header;
 use line::Event;
 use line::FrameDamage;
@@ -65,7 +65,7 @@ fn is_own(d: Device, h: Header) -> bool
     false
 }
 
-// The silent ticks before the next BACK, behind an undamaged frame of another.
+// The silent ticks before the next BACK, after an undamaged frame of another party.
 fn due_after_frame(d: Device, w: Whole) -> u32
     ensures { λ r. ⌜ r ≡ dueAfter (d .profile) (endedBy (Event.Frame w)) ⌝ }
 {
@@ -77,7 +77,7 @@ fn due_after_frame(d: Device, w: Whole) -> u32
     profile.rt1p as u32
 }
 
-// The silent ticks before the next BACK, behind a character.
+// The silent ticks before the next BACK, after a character.
 fn due_after(d: Device, event: Event) -> u32
     ensures { λ r. ⌜ r ≡ dueAfter (d .profile) (endedBy event) ⌝ }
 {
@@ -149,7 +149,7 @@ fn may_answer(d: Device, h: Header) -> bool
     is_own(d, h)
 }
 
-// An undamaged STX without expansion bytes: a request that its host may answer, another broadcast, or another's request.
+// An undamaged STX without expansion bytes: a request that its host may answer, another broadcast, or a request for another device.
 fn after_request(d: Device, w: Whole) -> Change
     ensures { λ c. ⌜ c ≡ afterRequest d w ⌝ }
 {
@@ -216,7 +216,7 @@ fn after_character(d: Device, event: Event) -> Change
     }
 }
 
-// Behind a character.
+// After a character.
 fn on_character(d: Device, r: Receiver, event: Event) -> DeviceTaken
     ensures { λ t. ⌜ t ≡ onCharacter d r event ⌝ }
 {
@@ -233,7 +233,7 @@ fn on_character(d: Device, r: Receiver, event: Event) -> DeviceTaken
     }
 }
 
-// The turn behind a silent tick.
+// The turn after a silent tick.
 fn waits(turn: Turn) -> Turn
     ensures { λ t. ⌜ t ≡ waited turn ⌝ }
 {
@@ -248,7 +248,7 @@ fn waits(turn: Turn) -> Turn
     }
 }
 
-// A request in hand for so many ticks, behind one of them.
+// A request in hand for so many ticks, after one of them.
 fn waits_for_answer(n: u16) -> Turn
     ensures { λ t. ⌜ t ≡ waited (Turn.Asked n) ⌝ }
 {
@@ -268,7 +268,7 @@ fn back_due(d: Device, due: u32) -> bool
     false
 }
 
-// The turn behind a silent tick: a BACK begins where its timer ends.
+// The turn after a silent tick: a BACK begins where its timer ends.
 fn next_turn(d: Device, due: u32) -> Turn
     ensures { λ t. ⌜ t ≡ nextTurn d due ⌝ }
 {
@@ -294,7 +294,7 @@ fn count_tick(d: Device, r: Receiver, due: u32, event: Event) -> DeviceTaken
     }
 }
 
-// The ticks before the next BACK behind a frame that broke, before its second silent tick is counted.
+// The ticks before the next BACK after a frame that broke, before its second silent tick is counted.
 fn broken_due(d: Device) -> u32
     ensures { λ r. ⌜ r ≡ brokenDue d ⌝ }
 {
@@ -345,7 +345,7 @@ fn hears_silence(d: Device) -> DeviceTaken
     count_tick(d, tick_reader::idle_reader(), d.due, Event::Nothing)
 }
 
-// The same device, with the parts that the tick reader makes anew.
+// The same device, with the parts that the tick reader builds again field by field.
 fn same_device(d: Device) -> Device
     ensures { λ r. ⌜ r ≡ d ⌝ }
 {
@@ -358,7 +358,7 @@ fn same_device(d: Device) -> Device
     with_parts(d, receiver, turn, request, wish, d.length, d.due)
 }
 
-// Takes what was heard: the device behind it, and what it tells its host. The data of the frame being heard are in the lent data buffer.
+// Takes what was heard: returns the device after it, and what it tells its host. The data of the frame being heard are in the lent data buffer.
 pub fn take(d: Device, heard: Heard, bytes: &mut [u8; 255]) -> DeviceTaken
     ensures { λ t. ⌜ HeardIs d heard (now (bytes .entry)) t (now (bytes .exit)) ⌝ }
 {

@@ -48,13 +48,13 @@ pub fn host_call_by(number: u8, command: u8) -> DeviceHostCall
     DeviceHostCall::Nothing
 }
 
-// A device behind its host's call.
+// A device after its host's call.
 struct DeviceCallTaken {
     device: Device,
     result: CallStatus,
 }
 
-// A device behind a tick, what it sends, and what it tells its host.
+// A device after a tick, what it sends, and what it tells its host.
 pub struct DeviceTicked {
     pub device: Device,
     pub sent: Sent,
@@ -95,7 +95,7 @@ fn with_content(d: Device, command: u8, count: u8) -> Device
     }
 }
 
-// The device behind a burst content of so many data bytes.
+// The device after a burst content of so many data bytes.
 fn content_by(limit: u8, d: Device, command: u8, count: usize) -> DeviceCalled
     ensures { λ r. ⌜ calledAs r ≡ contentGiven limit d command count ⌝ }
 {
@@ -108,7 +108,7 @@ fn content_by(limit: u8, d: Device, command: u8, count: usize) -> DeviceCalled
     DeviceCalled::Accepted(with_content(d, command, count as u8))
 }
 
-// The data at the front of the lent content.
+// Puts the data at the front of the lent content.
 fn put_content(bytes: &[u8], contents: &mut [u8])
     requires { ⌜ (length (now bytes) ≤ mostData) × (mostData ≤ length (now contents)) ⌝ }
     ensures { λ _. ⌜ now (contents .exit) ≡ stored (now (contents .entry)) 0 (now (bytes .entry)) ⌝ }
@@ -140,7 +140,7 @@ fn content(
     }
 }
 
-// A device behind its host's answer or burst content, by what it answered.
+// A device after its host's answer or burst content, by what the call answered.
 fn called_by(d: Device, r: DeviceCalled) -> DeviceCallTaken
     ensures { λ t. ⌜ t ≡ calledBy d r ⌝ }
 {

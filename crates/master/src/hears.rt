@@ -1,4 +1,4 @@
-// What a master makes of what it hears in a tick.
+// What a master does on what it hears in a tick.
 use line::Event;
 use line::Heard;
 use line::Receiver;
@@ -16,7 +16,7 @@ ghost use Rattle.line.specs.declared.Heard.the-variants.{Silence};
 ghost use Rattle.turns.specs.Master.{tells, afterFrame, afterBreak, frameGoesOn, onCharacter, waited, rt1Ends, unlessEnded, counts, countsTwice, withReader, onSilence};
 ghost use Rattle.master.specs.Takes.{countedMessage, countedTimer, timerTicked, MasterTakeIs};
 
-// Behind a whole frame: BURST, then the timer, and the message.
+// After a whole frame: BURST, then the timer, and the message.
 fn after_frame(m: Master, r: Receiver, w: Whole, bytes: &[u8; 255]) -> MasterTaken
     ensures { λ t. ⌜ t ≡ afterFrame m r w (now (bytes .entry)) ⌝ }
 {
@@ -38,7 +38,7 @@ fn after_frame(m: Master, r: Receiver, w: Whole, bytes: &[u8; 255]) -> MasterTak
     }
 }
 
-// Behind a broken or damaged frame, or a character that is passed over.
+// After a broken or damaged frame, or a character that is passed over.
 pub fn after_break(m: Master, r: Receiver, event: Event) -> MasterTaken
     ensures { λ t. ⌜ t ≡ afterBreak m r event ⌝ }
 {
@@ -72,7 +72,7 @@ fn inside_frame(m: Master, r: Receiver) -> MasterTaken
     }
 }
 
-// Behind a character, by what the reader tells.
+// After a character, by what the reader tells.
 fn on_character(m: Master, r: Receiver, event: Event, bytes: &[u8; 255]) -> MasterTaken
     ensures { λ t. ⌜ t ≡ onCharacter m r event (now (bytes .entry)) ⌝ }
 {
@@ -140,7 +140,7 @@ fn unless_ended(stage: Stage, t: Timer) -> Timer
     }
 }
 
-// The message behind a silent tick, and what is told: RT1's end fails its attempt.
+// The message after a silent tick, and what is told: RT1's end fails its attempt.
 fn counted_message(m: Master, told: MasterTold) -> Ending
     ensures { λ e. ⌜ e ≡ countedMessage m told ⌝ }
 {
@@ -156,7 +156,7 @@ fn counted_message(m: Master, told: MasterTold) -> Ending
     }
 }
 
-// The timer behind a silent tick that leaves the message at this stage.
+// The timer after a silent tick that leaves the message at this stage.
 fn counted_timer(m: Master, left: Stage) -> Timer
     ensures { λ t. ⌜ t ≡ countedTimer m left ⌝ }
 {
@@ -220,7 +220,7 @@ fn passed_over(m: Master) -> MasterTaken
     }
 }
 
-// The timer's count alone: behind a break no ACK is awaited.
+// Only the timer is counted: after a break no ACK is awaited.
 fn timer_ticked(m: Master) -> Master
     ensures { λ n. ⌜ n ≡ timerTicked m ⌝ }
 {

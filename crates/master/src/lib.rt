@@ -1,4 +1,4 @@
-// A master: its start, its host's requests, what it sends, and its tick: it takes what was heard, then a request, then sends a character or none.
+// A master: its start, its host's requests, what it sends, and its tick, in which it takes what was heard, then a request, then sends a character or none.
 mod hears;
 
 use base::Refusal;
@@ -43,7 +43,7 @@ pub enum MasterRequested {
     Refused(Refusal),
 }
 
-// A host's request, its data aside.
+// A host's request, without its data.
 pub struct RequestFields {
     pub preamble: usize,
     pub address: u64,
@@ -59,13 +59,13 @@ pub enum MasterHostCall {
     Requests(RequestFields),
 }
 
-// A master behind its host's call.
+// A master after its host's call.
 struct MasterCallTaken {
     master: Master,
     result: CallStatus,
 }
 
-// A master behind a tick, what it sends, and what it tells its host.
+// A master after a tick, what it sends, and what it tells its host.
 pub struct MasterTicked {
     pub master: Master,
     pub sent: Sent,
@@ -117,7 +117,7 @@ fn with_message(m: Master, h: Header, length: u16) -> Master
     master_rules::with_parts(m, r, m.burst, noted, t, message)
 }
 
-// Puts an STX that can be written into the lent frame buffer; how many characters it has.
+// Puts an STX that can be written into the lent frame buffer; returns how many characters it has.
 fn put_stx(preamble: usize, h: Header, bytes: &[u8], frame: &mut [u8; 284]) -> u16
     requires { ⌜ Fits preamble h (length (now bytes)) ⌝ }
     ensures { λ r. ⌜ FramePutIs preamble h (now (bytes .entry)) (now (frame .entry)) r (now (frame .exit)) ⌝ }
@@ -139,7 +139,7 @@ fn polling_up_to(revision: u8) -> u64
     63
 }
 
-// A request, from its address on, where polling addresses go up to the second parameter.
+// A request, checked from its address on, where polling addresses go up to the second parameter.
 fn request_up_to(
     limit: u8,
     polling: u64,
@@ -197,7 +197,7 @@ pub fn request(
     request_up_to(limit, polling, m, q, bytes, frame)
 }
 
-// What a master sends, and the master behind it.
+// What a master sends, and the master after it.
 fn sends_as(m: Master, deaf: bool, t: Timer, g: Message, r: Receiver, sent: Sent) -> MasterSent
     ensures { λ x. ⌜ x ≡ sends m deaf t g r sent ⌝ }
 {
@@ -229,7 +229,7 @@ fn stays_silent(m: Master) -> MasterSent
     sends_as(m, false, t, g, r, Sent::Silent)
 }
 
-// One attempt more, while there are at most R.
+// One more attempt, while there are at most R.
 fn one_more(retries: u8, attempts: u16) -> u16
     ensures { λ r. ⌜ r ≡ oneMore retries attempts ⌝ }
 {
@@ -239,7 +239,7 @@ fn one_more(retries: u8, attempts: u16) -> u16
     attempts
 }
 
-// A character of the STX, with the timer and the stage behind it.
+// A character of the STX, with the timer and the stage after it.
 fn sends_character(m: Master, t: Timer, stage: Stage, attempts: u16, c: u8) -> MasterSent
     ensures { λ x. ⌜ x ≡ sendsCharacter m t stage attempts c ⌝ }
 {

@@ -14,7 +14,7 @@ ghost use mathlib.Core.Path.{_≡_};
 ghost use Rattle.turns.specs.Master.{ownRt1, quietTime, masterWith, messageAt, timer, burstTimer, opened, countClear, countBurst, timerCounted, burstCounted, namesDevice, addressOf, isNoted, burstAfter, notedAfter, toItself, broken, endedBy, timerAfter, ends, fails, sameBit, isAnswer, atBreak, answersMessage, atFrame, ifAwaiting};
 ghost use Rattle.master_rules.specs.Parts.{sameRequest, unended};
 
-// The own RT1 of a master with this master bit.
+// The RT1 of a master with this master bit.
 pub fn rt1_of(p: Profile, primary: bool) -> u16
     ensures { λ r. ⌜ r ≡ ownRt1 p primary ⌝ }
 {
@@ -24,7 +24,7 @@ pub fn rt1_of(p: Profile, primary: bool) -> u16
     p.rt1s
 }
 
-// Its own RT1.
+// The master's own RT1.
 pub fn own_rt1(m: Master) -> u16
     ensures { λ r. ⌜ r ≡ ownRt1 (m .profile) (m .primary) ⌝ }
 {
@@ -146,7 +146,7 @@ fn count_burst(p: Profile, t: Timer) -> Timer
     }
 }
 
-// The timer behind a silent tick.
+// The timer after a silent tick.
 pub fn timer_counted(m: Master) -> Timer
     ensures { λ t. ⌜ t ≡ timerCounted m ⌝ }
 {
@@ -161,7 +161,7 @@ pub fn timer_counted(m: Master) -> Timer
     count_clear(p, t)
 }
 
-// BURST behind a silent tick.
+// BURST after a silent tick.
 pub fn burst_counted(m: Master) -> bool
     ensures { λ r. ⌜ r ≡ burstCounted m ⌝ }
 {
@@ -194,7 +194,7 @@ fn is_noted(n: Noted, h: Header) -> bool
     false
 }
 
-// Whether an address is that of a device: a long one is, but in the ACK to command 11 by broadcast it is the request's.
+// Whether an address is a device's: a long address is, except in the ACK to command 11 by broadcast, where it is the request's.
 fn names_device(h: Header) -> bool
     ensures { λ r. ⌜ r ≡ namesDevice h ⌝ }
 {
@@ -204,7 +204,7 @@ fn names_device(h: Header) -> bool
     h.long
 }
 
-// BURST behind a frame.
+// BURST after a frame.
 pub fn burst_after(burst: bool, noted: Noted, h: Header) -> bool
     ensures { λ r. ⌜ r ≡ burstAfter burst noted h ⌝ }
 {
@@ -226,7 +226,7 @@ pub fn burst_after(burst: bool, noted: Noted, h: Header) -> bool
     burst
 }
 
-// The noted address behind a frame.
+// The noted address after a frame.
 pub fn noted_after(noted: Noted, h: Header) -> Noted
     ensures { λ n. ⌜ n ≡ notedAfter noted h ⌝ }
 {
@@ -245,7 +245,7 @@ pub fn noted_after(noted: Noted, h: Header) -> Noted
     noted
 }
 
-// Whether a frame's master bit is its own.
+// Whether a frame's master bit is the master's own.
 fn to_itself(m: Master, h: Header) -> bool
     ensures { λ r. ⌜ r ≡ toItself m h ⌝ }
 {
@@ -258,7 +258,7 @@ fn to_itself(m: Master, h: Header) -> bool
     true
 }
 
-// The timer behind a whole frame, with BURST as it is by then.
+// The timer after a whole frame, with BURST already brought up to date.
 pub fn timer_after(m: Master, burst: bool, h: Header) -> Timer
     ensures { λ t. ⌜ t ≡ timerAfter (m .profile) (m .primary) (endedBy m h) burst ⌝ }
 {
@@ -281,7 +281,7 @@ pub fn timer_after(m: Master, burst: bool, h: Header) -> Timer
     timer_of(own_rt1(m) as u32)
 }
 
-// The timer behind a broken or damaged frame, and behind its own STX.
+// The timer after a broken or damaged frame, and after the master's own STX.
 pub fn broken_timer(m: Master) -> Timer
     ensures { λ t. ⌜ t ≡ timerAfter (m .profile) (m .primary) broken (m .burst) ⌝ }
 {
@@ -291,7 +291,7 @@ pub fn broken_timer(m: Master) -> Timer
     timer_of(own_rt1(m) as u32)
 }
 
-// A message that has come to its end.
+// A message that has ended.
 fn ended_with(g: Message, told: MasterTold) -> Ending
     ensures { λ e. ⌜ e ≡ ends g told ⌝ }
 {
@@ -341,7 +341,7 @@ fn same_request(q: Header, h: Header) -> bool
     false
 }
 
-// Whether a frame is the ACK to its message.
+// Whether a frame is an ACK to the master's message.
 fn is_answer(m: Master, h: Header) -> bool
     ensures { λ r. ⌜ r ≡ isAnswer m h ⌝ }
 {
@@ -356,7 +356,7 @@ fn is_answer(m: Master, h: Header) -> bool
     false
 }
 
-// Whether a frame is the answer to its message: a broadcast has none, but for command 11.
+// Whether a frame is the answer to the master's message: a broadcast has none, except for command 11.
 fn answers_message(m: Master, h: Header) -> bool
     ensures { λ r. ⌜ r ≡ answersMessage m h ⌝ }
 {
@@ -371,7 +371,7 @@ fn answers_message(m: Master, h: Header) -> bool
     is_answer(m, h)
 }
 
-// What a whole frame makes of a message whose ACK is awaited.
+// What a whole frame does to a message whose ACK is awaited.
 pub fn at_frame(m: Master, w: Whole, bytes: &[u8; 255]) -> Ending
     ensures { λ e. ⌜ e ≡ atFrame m w (now (bytes .entry)) ⌝ }
 {
@@ -387,7 +387,7 @@ pub fn at_frame(m: Master, w: Whole, bytes: &[u8; 255]) -> Ending
     at_break(m)
 }
 
-// What a broken frame, or RT1's end, makes of it.
+// What a broken frame, or RT1's end, does to it.
 pub fn at_break(m: Master) -> Ending
     ensures { λ e. ⌜ e ≡ atBreak m ⌝ }
 {

@@ -1,4 +1,4 @@
-// The modem chip for programs in C and Rust: over a script of accesses, with a number for each.
+// The modem chip for programs in C and Rust, run over a script of accesses, with a number for each.
 use modem::Carried;
 use modem::Chip;
 use modem::Mark;
@@ -10,7 +10,7 @@ ghost use Rattle.modem.specs.Chip.{goesOut, chipAfter};
 ghost use Rattle.modem.specs.Accesses.{registerRead, registerWritten};
 ghost use Rattle.modem_c.specs.Script.{gives, accessedAs, registerOf, readRefusal, writeRefusal, onRegister, markOf, outNumber, outCharacter, counting, onTick, accessed, answers};
 
-// The chip behind an access, and what it gives.
+// The chip after an access, and what it gives.
 struct Accessed {
     number: u8,
     chip: Chip,
@@ -194,7 +194,7 @@ fn access(x: Chip, first: u8, v: u8) -> Accessed
     on_tick(x, first / 16, first % 16, v)
 }
 
-// What each access of a script gives, from a fresh chip on: at the front of events, for as many accesses as both hold, and their number.
+// What each access of a script gives, from a fresh chip on: at the front of events, for as many accesses as both have room for. Returns their number.
 #[no_mangle]
 pub extern "C" fn nengapiko_modem(script: &[u8], events: &mut [u8]) -> usize
     ensures { λ r. ⌜ RunIs (answers (now (script .entry))) (now (events .entry)) r (now (events .exit)) ⌝ }

@@ -1,4 +1,4 @@
-// A master and a device behind a modem chip. A tick: the chip takes what the line carried, the driver reads the registers, the party has its tick, the driver writes what it sends, and the tick ends.
+// A master and a device behind a modem chip. In a tick the chip takes what the line carried, the driver reads the registers, the party has its tick, the driver writes what it sends, and the tick ends.
 use device_tick::DeviceTicked;
 use master::MasterTicked;
 use modem::Carried;
@@ -17,13 +17,13 @@ pub struct Arrival {
     pub carried: Carried,
 }
 
-// A master behind a tick, and its chip with what goes out.
+// A master after a tick, and its chip with what goes out.
 pub struct MasterBehind {
     pub ticked: MasterTicked,
     pub ended: TickEnded,
 }
 
-// A device behind a tick, and its chip with what goes out.
+// A device after a tick, and its chip with what goes out.
 pub struct DeviceBehind {
     pub ticked: DeviceTicked,
     pub ended: TickEnded,

@@ -1,4 +1,4 @@
-// What master and device have in common: what silence and a broadcast are, a counter's tick, the characters of a frame that is sent, and what becomes of a host's call.
+// What master and device have in common: what silence and a broadcast are, how a count goes down, the characters of a frame that is sent, and what becomes of a host's call.
 use base::Refusal;
 use frame::Header;
 use line::Heard;
@@ -38,7 +38,7 @@ pub fn one_less(n: u32) -> u32
     0
 }
 
-// The byte at a place, or 0 behind the last.
+// The byte at a place, or 0 past the last.
 fn byte_at(bytes: &[u8], place: usize) -> u8
     ensures { λ r. ⌜ r ≡ byteAt (now (bytes .entry)) place ⌝ }
 {
@@ -48,7 +48,7 @@ fn byte_at(bytes: &[u8], place: usize) -> u8
     0
 }
 
-// The character with this number of a frame that is sent, or 0 behind the buffer's end.
+// The character with this number in a frame that is sent, or 0 past the buffer's end.
 pub fn character_at(frame: &[u8; 284], n: u16) -> u8
     ensures { λ r. ⌜ r ≡ byteAt (now (frame .entry)) n ⌝ }
 {

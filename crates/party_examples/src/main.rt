@@ -1,6 +1,6 @@
-// Drives a master and a device over a line that a script damages. Prints each frame that is sent, with its first and last tick, and each tick in which a party hears what the script changed, finds a frame or a broken one, tells its host something or refuses its call. Characters that are passed over are not printed.
+// Runs a master and a device over a line that a script damages. Prints each frame that is sent, with its first and last tick, and each tick in which a party hears what the script changed, finds a frame or a broken one, tells its host something or refuses its call. Characters that are passed over are not printed.
 //
-// A line of the input with a colon behind three digits is a scene: its number of ticks, and its orders. Any other line is printed as it is. An order is its tick in three digits, a letter for whom it is for, a letter for what is done, a number of two hexadecimal digits, and a semicolon:
+// A line of the input with a colon after three digits is a scene: its number of ticks, and its orders. Any other line is printed as it is. An order is its tick in three digits, a letter for the party it is for, a letter for what is done, a number of two hexadecimal digits, and a semicolon:
 //
 //     mr mu mt  the master's host requests command 0 of that polling address, or command 3 or 11 of that unique address
 //     da dn df  the device's host answers with that many zero bytes, with burst as it is, on or off
@@ -35,7 +35,7 @@ struct Order {
     number: u8,
 }
 
-// A master behind a tick, the buffer of its frame, and the data that it heard.
+// A master after a tick, the buffer of its frame, and the data that it heard.
 struct MasterSide {
     ticked: MasterTicked,
     frame: [u8; 284],
@@ -63,7 +63,7 @@ fn three_digits(a: u8, b: u8, c: u8) -> u16 {
     ((a % 16) as u16) * 100 + ((b % 16) as u16) * 10 + ((c % 16) as u16)
 }
 
-// The order of this tick for this one, if there is one.
+// The order of this tick for this party, if there is one.
 fn look(script: &[u8], tick: u16, whom: u8) -> Order {
     let mut at = 0;
     while 8 <= script.len() - at {
@@ -88,7 +88,7 @@ fn character_of(h: Heard) -> u8 {
     }
 }
 
-// What is heard behind an order.
+// What is heard after an order has changed it.
 fn altered(h: Heard, o: Order) -> Heard {
     let what = o.what;
     let damaged = character_of(h) ^ o.number;
@@ -102,7 +102,7 @@ fn altered(h: Heard, o: Order) -> Heard {
     }
 }
 
-// What the line carries under two that may send.
+// What the line carries where two may send.
 fn carried(a: Sent, b: Sent) -> Heard {
     match a {
         Sent::Silent => match b {
@@ -154,7 +154,7 @@ fn master_call(o: Order) -> master::MasterHostCall {
     }
 }
 
-// A request of command 0 has a data byte, one of command 11 a tag of six, one of command 3 none.
+// A request of command 0 has one data byte, one of command 11 a tag of six, one of command 3 none.
 fn data_count(o: Order) -> usize {
     if o.what == b'r' {
         return 1;
@@ -247,7 +247,7 @@ fn note(before: [u16; 3000], by_m: Sent, by_d: Sent, by_o: Sent, tick: u16) -> [
     log
 }
 
-// Both behind a tick, by what each and a third party sends.
+// Both after a tick, by what each and a third party sends.
 fn behind(m: MasterSide, d: DeviceSide, log: [u16; 3000], script: &[u8], tick: u16) -> Both {
     let m_ticked = m.ticked;
     let d_ticked = d.ticked;
@@ -285,7 +285,7 @@ fn tick_both(b: Both, tick: u16, script: &[u8]) -> Both {
     next
 }
 
-// Both for so many ticks.
+// Runs both for so many ticks.
 fn run(start: Both, ticks: u16, script: &[u8]) {
     let mut b = start;
     let mut next = 0;

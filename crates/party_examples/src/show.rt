@@ -1,4 +1,4 @@
-// Lines of text for what a master and a device do: what one sent, and what a party heard, found, told its host or refused in a tick.
+// Lines of text for what a master and a device do: what a party sent, and what a party heard, found, told its host or refused in a tick.
 use device_tick::DeviceTicked;
 use example_texts::print_line;
 use line::Damage;
@@ -23,7 +23,7 @@ pub struct Reception {
     pub changed: bool,
 }
 
-// The characters of a row of the log, from a tick to another.
+// The characters of a row of the log, from one tick to another.
 fn put_characters(row: &[u16], from: usize, to: usize, out: &mut [u8], at: usize) -> usize {
     let mut place = at;
     let mut i = from;
@@ -37,7 +37,7 @@ fn put_characters(row: &[u16], from: usize, to: usize, out: &mut [u8], at: usize
     place
 }
 
-// The tick in which that began which ended in front of this tick, or this tick if nothing did.
+// The first tick of what ended in the tick before this one, or this tick if nothing did.
 fn began(row: &[u16], tick: usize) -> usize {
     let mut i = tick;
     if tick < row.len() {
@@ -67,7 +67,7 @@ fn print_speech(name: &[u8], row: &[u16], from: usize, to: usize, out: &mut [u8]
     print_line(out, place);
 }
 
-// A line for what one sent without a pause until the tick before this.
+// A line for what a party sent without a pause until the tick before this.
 fn show_speech(name: &[u8], row: &[u16], tick: u16) {
     let to = tick as usize;
     let from = began(row, to);

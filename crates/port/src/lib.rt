@@ -7,7 +7,7 @@ use turns::Master;
 use turns::MasterTold;
 use turns::Sent;
 
-// The quiet ticks after which a device dozes, and the ticks in which an answer spares a wake-up.
+// The quiet ticks after which a device dozes, and the ticks after an answer in which no wake-up is needed.
 pub const DOZE_TICKS: u16 = 20946;
 
 // The characters of a wake-up.
@@ -30,7 +30,7 @@ pub enum WakeUp {
 // A master of the port.
 pub struct PortMaster {
     pub master: Master,
-    // ticks since an answer's last character, this one included; 20,947 where they are more, and where none was heard
+    // ticks since an answer's last character, this one included; 20,947 where there are more, and where none was heard
     pub since: u16,
     pub wake: WakeUp,
 }
@@ -52,9 +52,9 @@ pub struct PortMasterSent {
 pub enum Ear {
     // its reader reads
     Awake,
-    // passes over characters until two 0xFF in successive ticks; whether one was heard in the tick before
+    // it passes over characters until two 0xFF in successive ticks; whether one was heard in the tick before
     PassesOver(bool),
-    // dozes, with what was heard in the two ticks before, the last one second
+    // it dozes, with what was heard in the two ticks before, the last one second
     Dozes(Heard, Heard),
 }
 

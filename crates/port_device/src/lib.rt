@@ -31,7 +31,7 @@ ghost use Rattle.port_device.specs.Calls.{startedAs, PortAnswerIs};
 ghost use Rattle.port_device.specs.Ticks.{PortDeviceTickIs};
 ghost use Rattle.port_device.specs.Parts.{uncalled, AwakeIs, PortTakeIs, PortCalledIs};
 
-// STO of every other command, for which a request is in hand.
+// STO of every other command; a request stays in hand for so long.
 const LONGEST_STO: u16 = 87;
 
 // What a start answers.
@@ -129,7 +129,7 @@ fn wakes_up(a: Heard, b: Heard, heard: Heard) -> bool
     false
 }
 
-// The quiet ticks with one more, as long as it matters.
+// The quiet ticks with one more, as long as the count matters.
 fn one_more(n: u16) -> u16
     ensures { λ r. ⌜ r ≡ quietAfter n Heard.Silence ⌝ }
 {
@@ -150,7 +150,7 @@ fn quiet_after(n: u16, heard: Heard) -> u16
     }
 }
 
-// The ear, unless the device dozes off.
+// How the device listens, unless it begins to doze.
 fn unless_quiet(quiet: u16, ear: Ear) -> Ear
     ensures { λ r. ⌜ r ≡ unlessQuiet quiet ear ⌝ }
 {
@@ -160,7 +160,7 @@ fn unless_quiet(quiet: u16, ear: Ear) -> Ear
     ear
 }
 
-// A device after what was heard, with this ear.
+// A device after what was heard, which then listens in this manner.
 fn took(y: PortDevice, heard: Heard, ear: Ear, t: DeviceTaken) -> PortDeviceTaken
     ensures { λ r. ⌜ r ≡ deviceTook y heard ear t ⌝ }
 {
@@ -180,7 +180,7 @@ fn took(y: PortDevice, heard: Heard, ear: Ear, t: DeviceTaken) -> PortDeviceTake
     }
 }
 
-// The same of one that does not doze.
+// The same for a device that was not dozing.
 fn listens_on(y: PortDevice, heard: Heard, ear: Ear, t: DeviceTaken) -> PortDeviceTaken
     ensures { λ r. ⌜ r ≡ listensOn y heard ear t ⌝ }
 {
@@ -211,7 +211,7 @@ fn passed_over(heard: Heard) -> Event
     }
 }
 
-// The same device with a reader behind two 0xFF.
+// The same device with a reader that has heard two 0xFF.
 fn behind_two(d: Device) -> Device
     ensures { λ r. ⌜ r ≡ withReceiver d (blank (Place.Preamble 2)) ⌝ }
 {
@@ -338,7 +338,7 @@ fn counted_as(event: Event) -> Event
     }
 }
 
-// What document 01's device makes of what it hears.
+// What document 01's device does on what it hears.
 fn read(t: DeviceTaken) -> DeviceTaken
     ensures { λ r. ⌜ r ≡ reads t ⌝ }
 {
@@ -437,7 +437,7 @@ fn sto_of(command: u8) -> u16
     LONGEST_STO
 }
 
-// Whether so many ticks left of the longest STO are past a command's.
+// Whether, with so many ticks left of the longest STO, a command's own STO is over.
 fn is_past(command: u8, n: u16) -> bool
     ensures { λ r. ⌜ r ≡ pastSto command (Turn.Asked n) ⌝ }
 {

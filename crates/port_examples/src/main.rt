@@ -1,6 +1,6 @@
-// Drives a master and a device of the infrared port over a port that a script damages. Prints each wake-up and each frame that is sent, with its first and last tick, each change of how the device listens, and each tick in which a party hears what the script changed, finds a frame or a broken one, tells its host something or refuses its call. Characters that are passed over are not printed.
+// Runs a master and a device of the infrared port over a port that a script damages. Prints each wake-up and each frame that is sent, with its first and last tick, each change of how the device listens, and each tick in which a party hears what the script changed, finds a frame or a broken one, tells its host something or refuses its call. Characters that are passed over are not printed.
 //
-// A line of the input with a colon behind five digits is a scene: its number of ticks, and its orders. Any other line is printed as it is. An order is its tick in five digits, a letter for whom it is for, a letter for what is done, a number of two hexadecimal digits, and a semicolon:
+// A line of the input with a colon after five digits is a scene: its number of ticks, and its orders. Any other line is printed as it is. An order is its tick in five digits, a letter for the party it is for, a letter for what is done, a number of two hexadecimal digits, and a semicolon:
 //
 //     mr mu mt  the master's host requests command 0 of that polling address, or command 3 or 11 of that unique address
 //     da dn df  the device's host answers with that many zero bytes, with burst as it is, on or off
@@ -65,7 +65,7 @@ fn five_digits(a: u8, b: u8, c: u8, d: u8, e: u8) -> u32 {
     high + ((c % 16) as u32) * 100 + ((d % 16) as u32) * 10 + ((e % 16) as u32)
 }
 
-// The order of this tick for this one, if there is one.
+// The order of this tick for this party, if there is one.
 fn look(script: &[u8], tick: u32, whom: u8) -> Order {
     let mut at = 0;
     while 10 <= script.len() - at {
@@ -98,7 +98,7 @@ fn character_of(h: Heard) -> u8 {
     }
 }
 
-// What is heard by an order.
+// What is heard after an order has changed it.
 fn altered(h: Heard, o: Order) -> Heard {
     let what = o.what;
     let damaged = character_of(h) ^ o.number;
@@ -112,7 +112,7 @@ fn altered(h: Heard, o: Order) -> Heard {
     }
 }
 
-// What the port carries under two that may send.
+// What the port carries where two may send.
 fn carried(a: Sent, b: Sent) -> Heard {
     match a {
         Sent::Silent => match b {
@@ -291,7 +291,7 @@ fn tick_both(b: Both, tick: u32, script: &[u8]) -> Both {
     both_after(m, d, script, tick, by_m, by_d)
 }
 
-// Both for so many ticks.
+// Runs both for so many ticks.
 fn run(start: Both, ticks: u32, script: &[u8]) {
     let mut b = start;
     let mut next = 0;

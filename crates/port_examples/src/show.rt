@@ -1,4 +1,4 @@
-// Lines of text for what a master and a device of the port do: what one sent, how the device listens, and what a party heard, found, told its host or refused in a tick.
+// Lines of text for what a master and a device of the port do: what a party sent, how the device listens, and what a party heard, found, told its host or refused in a tick.
 use example_texts::print_line;
 use line::Damage;
 use line::Event;
@@ -34,7 +34,7 @@ fn frame_kind(sent: Sent) -> u8 {
     }
 }
 
-// A character that is sent while a wake-up goes on is of it.
+// A character that is sent during a wake-up belongs to it.
 fn master_kind(sent: Sent, wake: WakeUp) -> u8 {
     match wake {
         WakeUp::Off => frame_kind(sent),
@@ -50,7 +50,7 @@ fn size(n: u32) -> usize {
     n as usize
 }
 
-// So many ticks from one on, and who it is.
+// The first and last tick, and which party it is.
 fn put_ticks(name: &[u8], from: u32, last: u32, out: &mut [u8]) -> usize {
     let first = put_field(b"  ", wide(from), out, 0);
     let place = put_field(b"-", wide(last), out, first);

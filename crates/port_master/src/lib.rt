@@ -94,7 +94,7 @@ fn after_port_frame(m: Master, r: Receiver, w: Whole, bytes: &[u8; 255]) -> Mast
     after_other(m, r, w, bytes)
 }
 
-// By what the master m finds in this tick.
+// By what the pair's master m finds in this tick.
 fn by_found(m: Master, t: MasterTaken, bytes: &[u8; 255]) -> MasterTaken
     ensures { λ r. ⌜ r ≡ byFound m (now (bytes .entry)) t (t .event) ⌝ }
 {

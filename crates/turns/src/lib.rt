@@ -81,20 +81,20 @@ pub struct Ending {
     pub told: MasterTold,
 }
 
-// A master behind what it heard, and what it tells.
+// A master after what it heard, and what it tells.
 pub struct MasterTaken {
     pub master: Master,
     pub told: MasterTold,
     pub event: Event,
 }
 
-// A master behind a tick, and what it sends.
+// A master after a tick, and what it sends.
 pub struct MasterSent {
     pub master: Master,
     pub sent: Sent,
 }
 
-// A host's wish for burst mode, with an answer.
+// A host's wish for burst mode, given with an answer.
 pub enum Wish {
     Same,
     On,
@@ -104,7 +104,7 @@ pub enum Wish {
 // What a device does.
 pub enum Turn {
     Listens,
-    // a request is in hand, for so many ticks more, this one included
+    // a request is in hand, for so many more ticks, this one included
     Asked(u16),
     // an answer was taken in the tick that told the request, or is an error answer: it begins in the next tick
     AnswerWaits,
@@ -157,7 +157,7 @@ pub enum DeviceTold {
     Broadcast(Whole),
 }
 
-// What a character makes of a device's turn, and what its host is told.
+// What a character does to a device's turn, and what its host is told.
 pub struct Change {
     pub turn: Turn,
     pub request: Header,

@@ -19,7 +19,7 @@ ghost use Rattle.words.specs.Reader.{headerAt, profileAt, placeWord, pla
 ghost use Rattle.words.specs.Numbers.{noFrame, tickNumbers, wholeAt, eventBy, eventAt, sentNumber, callNumber};
 ghost use Rattle.words.specs.Fits.{HeaderFits, ProfileFits, PlaceFits, ReceiverFits};
 
-// The word at a place, or 0 behind the last.
+// The word at a place, or 0 past the last.
 pub fn word_at(words: &[u64], place: usize) -> u64
     ensures { λ r. ⌜ r ≡ wordAt (now (words .entry)) place ⌝ }
 {
@@ -55,7 +55,7 @@ pub fn flag_at(words: &[u64], place: usize) -> bool
     word_at(words, place) == 1
 }
 
-// Some words from a place on, as many as there is room for.
+// Puts some words from a place on, as many as there is room for.
 pub fn put(words: &mut [u64], place: u8, part: &[u64])
     ensures { λ _. ⌜ after words ≡ stored (before words) place (before part) ⌝ }
 {
