@@ -187,7 +187,7 @@ fn join(s: Settings, r: Receiver, a: Answering, b: Bursting) -> Device
     }
 }
 
-// The device that some words are.
+// The device that some words stand for.
 pub fn unpack(words: &[u64; 41]) -> Device
     ensures { λ d. ⌜ d ≡ unpacked (before words) ⌝ }
 {
@@ -328,7 +328,7 @@ pub fn told_number(told: DeviceTold) -> u64
     }
 }
 
-// A tick of the device that the words are. Lent are the data of an answer or of a burst content, the burst content, the buffer that holds the device's ACK or BACK and the one for the data of the frame that it hears.
+// A tick of the device that the words stand for. Lent are the data of an answer or of a burst content, the burst content, the buffer that holds the device's ACK or BACK and the one for the data of the frame that it hears.
 fn tick(
     words: &mut [u64; 41],
     frame: &mut [u8; 284],
@@ -356,7 +356,7 @@ fn tick(
     words::call_number(result)
 }
 
-// A tick of a device; gives 0, or the refusal's number of its host's answer or burst content.
+// A tick of a device; returns 0, or the number with which its host's answer or burst content is refused.
 #[no_mangle]
 pub extern "C" fn nengapiko_device_tick(
     state: &mut [u64; 41],

@@ -1,5 +1,5 @@
-// Prints the frames and breaks of a recording: frames FILE. A line has the first and the last tick, and whole, damaged or broken; of a whole frame behind it type, master, address, command, byte count and data in hexadecimal.
-// The file is read twice, a piece at a time, first for refusal 21: then its number and the first bad tick are the only line.
+// Prints the frames and breaks of a recording: frames FILE. A line has the first and the last tick, and whole, damaged or broken; for a whole frame there follow type, master, address, command, byte count and data in hexadecimal.
+// The file is read twice, a piece at a time, first for refusal 21: if it is refused, its number and the first bad tick are the only line.
 use libc::SEEK_SET;
 use libc::STDERR_FILENO;
 use libc::STDOUT_FILENO;
@@ -76,7 +76,7 @@ fn write_lines(out: &[u8]) -> bool {
     false
 }
 
-// What is kept behind a piece, and whether its lines were written.
+// What is kept after a piece, and whether its lines were written.
 struct Went {
     progress: Progress,
     on: bool,
@@ -104,7 +104,7 @@ fn print_piece(
     }
 }
 
-// The second pass: the lines, with what is kept from piece to piece, up to a piece that is not full. It answers whether they were all written.
+// The second pass: the lines, with what is kept from piece to piece, up to a piece that is not full. Returns whether they were all written.
 fn print(fd: i32, piece: &mut [u8], bytes: &mut [u8; 255], out: &mut [u8]) -> bool {
     let mut kept = recording_lines::start();
     let mut done = 0;

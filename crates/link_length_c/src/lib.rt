@@ -4,7 +4,7 @@ use link_length::DataLength;
 use link_length::LongestWait;
 ghost use Rattle.link_length_c.specs.Call.{profile, LengthCall, WaitCall};
 
-// Sets length to the largest data length whose plain wait stays within this one; or gives the refusal's number, 1, 2 or 26, and changes nothing.
+// Sets length to the largest data length whose plain wait stays within this one; or returns the refusal's number, 1, 2 or 26, and changes nothing.
 #[no_mangle]
 pub extern "C" fn nengapiko_data_length(
     sto: u16,
@@ -35,7 +35,7 @@ pub extern "C" fn nengapiko_data_length(
     }
 }
 
-// Sets wait to the longest wait on a link with this data length, with or without a bursting device; or gives the refusal's number, 1, 2 or 9, and changes nothing.
+// Sets wait to the longest wait on a link with this data length, with or without a bursting device; or returns the refusal's number, 1, 2 or 9, and changes nothing.
 #[no_mangle]
 pub extern "C" fn nengapiko_longest_wait(
     sto: u16,

@@ -1,4 +1,4 @@
-// A link that rests: the line is silent, and every party only counts. Until a host calls, nothing but timers changes. What it is behind any number of ticks, worked out party by party.
+// A link that rests: the line is silent, and every party only counts. Until a host calls, nothing but timers changes. What it is after any number of ticks is worked out party by party.
 use line::Heard;
 use line::Profile;
 use parties::Link;
@@ -14,7 +14,7 @@ ghost use Prim.Native.Nat.{_-_};
 ghost use Rattle.link_rests.specs.Rests.{onlyCounts, deviceRests, masterRests, slotRests, slotsRest, mastersRest, linkRests};
 ghost use Rattle.link_rests.specs.Rests.{deviceRested, timerRested, masterRested, slotRested, mastersRested, linkRested};
 
-// Whether a tick that goes so only counts.
+// Whether a tick of this way only counts.
 fn only_counts(way: Way) -> bool
     ensures { λ r. ⌜ r ≡ onlyCounts way ⌝ }
 {
@@ -119,7 +119,7 @@ fn device_rested(d: Device, ticks: u32) -> Device
     )
 }
 
-// A timer behind so many silent ticks with BURST clear.
+// A timer after so many silent ticks with BURST clear.
 fn timer_rested(p: Profile, start: Timer, ticks: u32) -> Timer
     ensures { λ r. ⌜ r ≡ timerRested ticks p start ⌝ }
 {
@@ -179,7 +179,7 @@ fn masters_rested(masters: [Master; 2], ticks: u32) -> [Master; 2]
     [primary, secondary]
 }
 
-// A link that rests, behind so many ticks.
+// A link that rests, after so many ticks.
 pub fn link_rested(l: Link, ticks: u32) -> Link
     ensures { λ r. ⌜ r ≡ linkRested ticks l ⌝ }
 {

@@ -13,7 +13,7 @@ ghost use Rattle.turns.specs.Master.{masterStarts};
 ghost use Rattle.parties.specs.Stands.{anyMaster};
 ghost use Rattle.link_start.specs.Start.{noProfile, anyDevice, absent, emptyLink, lower, both, deviceSlot, slotStarts, devicesStart, mastersStart, made, answerAs, lowest, StartedIs, refusedLink, LimitedIs};
 
-// What a device is started with, where one is here.
+// What a device is started with, where the slot has one.
 pub struct Setting {
     pub here: bool,
     pub preamble: usize,
@@ -27,13 +27,13 @@ pub enum StartAnswer {
     Refused(Refusal),
 }
 
-// What became of a link's start, and the link. Where it was refused, that is one without a device.
+// What became of a link's start, and the link. Where it was refused, that is a link without a device.
 pub struct LinkStarted {
     pub answer: StartAnswer,
     pub link: Link,
 }
 
-// Parties whose start was taken; where it was refused they are any.
+// Parties whose start was taken; where it was refused, any value may stand there.
 struct MasterBegun {
     master: Master,
     answer: StartAnswer,
@@ -262,7 +262,7 @@ fn refused_link(why: Refusal) -> LinkStarted
     }
 }
 
-// The same with a data limit: the lowest refusal is 2, 3, 4, or 9 for a limit outside 2 to 255. The link does not hold the limit: whoever starts it hands the same number on to every `link_ticks::ticks` of it, as the runs of link_run and late_run do.
+// The same with a data limit: the lowest refusal is 2, 3, 4, or 9 for a limit outside 2 to 255. The link does not hold the limit: whoever starts it gives the same number to every `link_ticks::ticks` of it, as the runs of link_run and late_run do.
 pub fn start_limited(
     limit: usize,
     profile: Profile,

@@ -52,7 +52,7 @@ fn device_call(call: DeviceCall, t: u16) -> DeviceCall
     parties::no_device_call()
 }
 
-// Whether a host is told something, with this.
+// Whether a host is told something, this included.
 fn master_tells(told: MasterTold, others: bool) -> bool
     ensures { λ r. ⌜ r ≡ masterTells told others ⌝ }
 {
@@ -74,7 +74,7 @@ fn device_tells(told: DeviceTold, others: bool) -> bool
     }
 }
 
-// What became of a call, where this is answered in another tick.
+// What became of a call, where this is answered in a further tick.
 fn answer_kept(old: CallOutcome, result: CallStatus) -> CallOutcome
     ensures { λ r. ⌜ r ≡ answerKept old (resultOf result) ⌝ }
 {
@@ -106,7 +106,7 @@ fn device_told_kept(old: DeviceTold, told: DeviceTold) -> DeviceTold
     }
 }
 
-// What a host was told and answered, behind another tick.
+// What a host was told and answered, after a further tick.
 fn master_did(old: MasterDid, told: MasterTold, result: CallStatus) -> MasterDid
     ensures { λ r. ⌜ r ≡ masterDidBy old told (resultOf result) ⌝ }
 {
@@ -170,13 +170,13 @@ fn goes_on(t: u16, most: u16, told: bool) -> bool
     false
 }
 
-// There is a row for each: what the arrays' types say, in words that the promise below needs.
+// There is a row for each party: the arrays' types say so, and the promise below needs it in words.
 fn rows_each(frames: &[[u8; 284]], bytes: &[[u8; 255]], contents: &[[u8; 255]], sent: &[[u16; 8]])
     requires { ⌜ (length (now frames) ≡ 8) × (length (now bytes) ≡ 8) × (length (now contents) ≡ 6) × (length (now sent) ≡ 64) ⌝ }
     ensures { λ _. ⌜ (length (before frames) ≡ 8) × (length (before bytes) ≡ 8) × (length (before contents) ≡ 6) × (length (before sent) ≡ 64) ⌝ }
 {}
 
-// The ticks, with link and calls taken apart. In each the devices tick from the last to the first, then the masters, and the line joins what they send in that order. `reader` is the line's, and ms_follow and ds_follow say who is known to have it: who heard in the last tick as it did.
+// The ticks, with link and calls given part by part. In each the devices tick from the last to the first, then the masters, and the line joins what they send in that order. `reader` is the line's, and ms_follow and ds_follow say whose reader is known to equal it: whoever heard in the last tick as it did.
 fn ticks_of(
     limit: u8,
     masters: [Master; 2],
@@ -335,7 +335,7 @@ pub struct Most {
     pub data: u8,
 }
 
-// The tick with these calls, and more without a call, so many in all and at most 64; they end behind a tick in which a host is told something. Row t of `sent` is what each party sent in tick t: the character, or 256. Each call names its data in what is put. The link does not hold its data limit: whoever started it with `link_start::start_limited` hands that limit on in every call, and whoever started it with `link_start::start` hands on 255.
+// The tick with these calls, and more without a call, so many in all and at most 64; they end after a tick in which a host is told something. Row t of `sent` is what each party sent in tick t: the character, or 256. Each call names its data in what is put. The link does not hold its data limit: whoever started it with `link_start::start_limited` gives that limit in every call, and whoever started it with `link_start::start` gives 255.
 pub fn ticks(
     most: Most,
     link: Link,

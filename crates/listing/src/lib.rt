@@ -30,13 +30,13 @@ pub struct Monitor {
 // A monitor for each party: 0 primary, 1 secondary, then the devices.
 pub type Monitors = [Monitor; 8];
 
-// The monitors behind some ticks, and the place behind their lines in the output.
+// The monitors after some ticks, and the place after their lines in the output.
 pub struct Listened {
     pub monitors: Monitors,
     pub at: usize,
 }
 
-// The same of one party and one tick.
+// The same for one party and one tick.
 struct MonitorHeard {
     monitor: Monitor,
     at: usize,
@@ -79,7 +79,7 @@ fn master_digit(primary: bool) -> u8
     b'1'
 }
 
-// The words of a line, each with a space behind it.
+// The words of a line, each with a space after it.
 fn put_number_word(n: u32, out: &mut [u8], at: usize) -> usize
     ensures { λ r. ⌜ PutIs (word (decimal n)) (now (out .entry)) at r (now (out .exit)) ⌝ }
 {
@@ -136,7 +136,7 @@ pub fn quiet_monitors() -> Monitors
     [e; 8]
 }
 
-// One character more, up to the largest count.
+// One more character, up to the largest count.
 fn one_more(n: u16) -> u16
     ensures { λ r. ⌜ r ≡ oneMore n ⌝ }
 {
@@ -172,7 +172,7 @@ fn frame_ends(
     }
 }
 
-// A monitor behind a character, by what its reader tells.
+// A monitor after a character, by what its reader tells.
 fn ends_with(
     tick: u32,
     party: u16,
@@ -244,7 +244,7 @@ fn rows_listed(tick: u32, count: u16) -> u32
     lesser_of(most, 4294967295 - tick)
 }
 
-// There are eight numbers in a row, and 64 rows: what the arrays' type says, in words that the promises below need.
+// There are eight numbers in a row, and 64 rows: the arrays' types say so, and the promises below need it in words.
 fn eight_numbers(row: &[u16])
     requires { ⌜ length (now row) ≡ 8 ⌝ }
     ensures { λ _. ⌜ length (before row) ≡ 8 ⌝ }
@@ -282,8 +282,8 @@ fn heard_so_far(m: Monitor) -> Monitor
     m
 }
 
-// So many ticks from this one on: the monitors behind them, and the lines of the frames that ended in them, put into the output.
-// Row k of sent is what each party sent in the tick k behind the first: the character, or 256 for none.
+// So many ticks from this one on: the monitors after them, and the lines of the frames that ended in them, put into the output.
+// Row k of sent is what each party sent k ticks after the first: the character, or 256 for none.
 pub fn list_ticks(
     monitors: Monitors,
     tick: u32,

@@ -52,14 +52,14 @@ fn argument(i: usize) -> u32 {
     0
 }
 
-// A refusal's number, a line of its own, put into this text first.
+// Prints a refusal's number as a line of its own, which is put into this text first.
 fn print_number(n: u32, text: &mut [u8]) {
     let a = texts::put_decimal(n as u64, text, 0);
     let b = texts::put_byte(b'\n', text, a);
     io::write_all(STDOUT_FILENO, texts::front(text, b));
 }
 
-// The script, written into this buffer first.
+// Prints the script, which is written into this buffer first.
 fn print_load(seed: u32, count: u32, script: &mut [u8]) {
     let loaded = load_writer::write(seed, count, script);
     match loaded {

@@ -1,1 +1,1 @@
-// The plays of loads, as theorems in proofs/. No functions.
+// The plays of loads, as theorems in proofs/. It has no functions.

@@ -17,7 +17,7 @@ pub enum Loaded {
     Refused(Refusal),
 }
 
-// The number that a number draws.
+// The number that is drawn after a number.
 fn draw(x: u32) -> u32
     ensures { λ r. ⌜ r ≡ draw x ⌝ }
 {
@@ -179,7 +179,7 @@ fn put_record(out: &mut [u8], at: usize, e: Entry)
     out[at + 3] = e.argument;
 }
 
-// The first n records of the opening and the mark, at the front.
+// Puts the first n records of the opening and the mark at the front.
 fn put_front(out: &mut [u8], x: u32, n: usize)
     requires { ⌜ (n ≤ 12) × (4 * n ≤ length (now out)) ⌝ }
     ensures { λ _. ⌜ now (out .exit) ≡ stored (now (out .entry)) 0 (scriptBytes (take n (front x))) ⌝ }
@@ -192,7 +192,7 @@ fn put_front(out: &mut [u8], x: u32, n: usize)
     }
 }
 
-// The last record or two, from pair k on.
+// Puts the last record or two, from pair k on.
 fn put_last(out: &mut [u8], at: usize, k: usize, x: u32, n: usize)
     requires { ⌜ (1 ≤ n) × (n ≤ 2) × (k ≤ 32762) × (at + 4 * n ≤ length (now out)) ⌝ }
     ensures { λ _. ⌜ now (out .exit) ≡ stored (now (out .entry)) at (scriptBytes (drawnFrom k x n)) ⌝ }
@@ -208,7 +208,7 @@ fn put_last(out: &mut [u8], at: usize, k: usize, x: u32, n: usize)
     put_record(out, at + 4, stop);
 }
 
-// So many drawn records, the stop among them, at the front.
+// Puts so many drawn records, the stop among them, at the front.
 fn put_drawn(out: &mut [u8], first: u32, count: usize)
     requires { ⌜ (1 ≤ count) × (count ≤ 65524) × (4 * count ≤ length (now out)) ⌝ }
     ensures { λ _. ⌜ now (out .exit) ≡ stored (now (out .entry)) 0 (scriptBytes (drawnFrom 0 first count)) ⌝ }
@@ -232,7 +232,7 @@ fn put_drawn(out: &mut [u8], first: u32, count: usize)
     put_last(out, at, k, x, n);
 }
 
-// A script of so many records, at the front.
+// Puts a script of so many records at the front.
 fn put_script(out: &mut [u8], seed: u32, count: usize)
     requires { ⌜ (1 ≤ count) × (count ≤ mostRecords) × (4 * count ≤ length (now out)) ⌝ }
     ensures { λ _. ⌜ now (out .exit) ≡ stored (now (out .entry)) 0 (scriptBytes (load seed count)) ⌝ }
@@ -251,7 +251,7 @@ fn put_script(out: &mut [u8], seed: u32, count: usize)
     put_drawn(&mut out[48..], y, count - 12);
 }
 
-// By the room in a buffer of so many bytes.
+// The answer, by the room in a buffer of so many bytes.
 fn by_room(count: usize, room: usize) -> Loaded
     requires { ⌜ count ≤ mostRecords ⌝ }
     ensures { λ r. ⌜ loadedAs r ≡ byRoom (4 * count) room ⌝ }

@@ -84,7 +84,7 @@ fn noted_at(words: &[u64], place: u16) -> Noted
     }
 }
 
-// The master that some words are.
+// The master that some words stand for.
 pub fn unpack(words: &[u64; 40]) -> Master
     ensures { λ m. ⌜ m ≡ unpacked (before words) ⌝ }
 {
@@ -238,7 +238,7 @@ pub fn told_attempts(told: MasterTold) -> u64
     }
 }
 
-// A tick of the master that the words are. Lent are the data of a request, the buffer that holds the master's STX and the one for the data of the frame that it hears.
+// A tick of the master that the words stand for. Lent are the data of a request, the buffer that holds the master's STX and the one for the data of the frame that it hears.
 fn tick(
     words: &mut [u64; 40],
     frame: &mut [u8; 284],
@@ -292,7 +292,7 @@ pub fn request_of(
     MasterHostCall::Nothing
 }
 
-// A tick of a master; gives 0, or the refusal's number of the request.
+// A tick of a master; returns 0, or the number of the request's refusal.
 #[no_mangle]
 pub extern "C" fn nengapiko_master_tick(
     state: &mut [u64; 40],

@@ -1,4 +1,4 @@
-// The parties of a link: two masters and six slots for devices, the calls to them, and the short ways of a party that only counts a silent tick or only hears a character.
+// The parties of a link: two masters and six slots for devices, the calls to them, and the shorter ticks of a party that only counts a silent tick or only hears a character.
 use device_tick::DeviceTicked;
 use frame::Header;
 use line::Damage;
@@ -31,7 +31,7 @@ ghost use Rattle.parties.specs.Readers.{sameDamage, sameCheckDamage, sam
 ghost use Rattle.parties.specs.Ways.{hearsIf, countsIf, callsDevice, isListening, deviceCounts, deviceWay, countedDevice, heardDevice, inSlot};
 ghost use Rattle.parties.specs.Ways.{callsMaster, isFree, isSending, masterCounts, masterCharacter, masterWay, countedMaster, heardMaster};
 
-// The data of a call: so many of the lent bytes, from a place on, as far as there are.
+// The data of a call: so many of the lent bytes from a place on, or as many as there are.
 pub struct Part {
     pub from: usize,
     pub count: usize,
@@ -93,7 +93,7 @@ pub struct Calls {
     pub devices: [DeviceCall; 6],
 }
 
-// A place for a device. Where none is here, `device` is any.
+// A place for a device. Where it has none, any value may stand in `device`.
 pub struct Slot {
     pub device: Device,
     pub here: bool,
@@ -124,7 +124,7 @@ pub struct DeviceDid {
     pub result: CallOutcome,
 }
 
-// A link behind so many ticks, and what the hosts were told and answered in them.
+// A link after so many ticks, and what the hosts were told and answered in them.
 pub struct Ticked {
     pub link: Link,
     pub count: u16,
@@ -132,7 +132,7 @@ pub struct Ticked {
     pub devices: [DeviceDid; 6],
 }
 
-// A character on a line that carried this without it.
+// What the line carries with a character more, where it carried this without it.
 fn join_character(c: u8, heard: Heard) -> Heard
     ensures { λ r. ⌜ r ≡ joins (Sent.Character c) heard ⌝ }
 {
@@ -143,7 +143,7 @@ fn join_character(c: u8, heard: Heard) -> Heard
     }
 }
 
-// What the line carries where one party sends this and the others are heard so.
+// What the line carries where one party sends this and this is heard of the others.
 pub fn join(sent: Sent, heard: Heard) -> Heard
     ensures { λ r. ⌜ r ≡ joins sent heard ⌝ }
 {
@@ -200,7 +200,7 @@ fn calls_device(c: DeviceCall) -> bool
     }
 }
 
-// The data buffer behind what was heard.
+// The data buffer after what was heard.
 pub fn keep(reader: Receiver, heard: Heard, bytes: &mut [u8; 255])
     ensures { λ _. ⌜ after bytes ≡ takenData reader heard (before bytes) ⌝ }
 {
@@ -233,7 +233,7 @@ pub enum Way {
     Acts,
 }
 
-// The line's reader behind a tick, made anew (docs/BENCHMARKS.md, "The link"), and whether it finds nothing there.
+// The line's reader after a tick, built again field by field (docs/BENCHMARKS.md, "The link"), and whether it finds nothing there.
 pub struct LineStep {
     pub reader: Receiver,
     pub quiet: bool,
@@ -264,7 +264,7 @@ fn step_of(t: Taken) -> LineStep
     }
 }
 
-// A step whose data nobody reads.
+// A step of a reader whose data nobody reads.
 fn step_apart(r: Receiver, heard: Heard) -> LineStep
     ensures { λ s. ⌜ s ≡ stepOf (taken r heard) ⌝ }
 {
@@ -287,7 +287,7 @@ fn silent_step(r: Receiver) -> LineStep
     }
 }
 
-// The line's reader, that of one who hears all that the line carries.
+// A step of the line's reader, which hears all that the line carries.
 pub fn line_step(r: Receiver, heard: Heard) -> LineStep
     ensures { λ s. ⌜ s ≡ stepOf (taken r heard) ⌝ }
 {
@@ -425,7 +425,7 @@ fn same_rest(a: Receiver, b: Receiver) -> bool
     false
 }
 
-// Whether two readers are one and the same.
+// Whether two readers are equal.
 fn same_reader(a: Receiver, b: Receiver) -> bool
     ensures { λ r. ⌜ r ≡ sameReader a b ⌝ }
 {
@@ -439,7 +439,7 @@ fn same_reader(a: Receiver, b: Receiver) -> bool
     false
 }
 
-// A character, of which the line's reader finds nothing or something, for a party whose reader is the line's: by its flag, or compared.
+// A character: whether a party may only hear it, by whether the line's reader finds nothing in it and whether the party's reader equals the line's, known by its flag or by comparison.
 fn if_hears(follows: bool, quiet: bool, own: Receiver, reader: Receiver) -> Way
     ensures { λ r. ⌜ r ≡ hearsIf follows quiet (sameReader own reader) ⌝ }
 {
@@ -479,7 +479,7 @@ fn device_counts(d: Device) -> bool
     is_listening(turn)
 }
 
-// How a device's tick goes. `reader` is the line's before the tick, `quiet` says that it finds nothing in it, and `follows` that the device is known to have it.
+// How a device's tick goes. `reader` is the line's before the tick, `quiet` says that it finds nothing in the tick, and `follows` that the device's reader is known to equal it.
 pub fn device_way(
     d: Device,
     heard: Heard,
@@ -506,7 +506,7 @@ pub fn device_way(
     }
 }
 
-// A device behind a silent tick that it only counts.
+// A device after a silent tick that it only counts.
 pub fn counted_device(d: Device) -> Slot
     ensures { λ r. ⌜ r ≡ inSlot (countedDevice d) ⌝ }
 {
@@ -521,7 +521,7 @@ pub fn counted_device(d: Device) -> Slot
     }
 }
 
-// A device behind a character that it only hears.
+// A device after a character that it only hears.
 pub fn heard_device(d: Device, r: Receiver) -> Slot
     ensures { λ s. ⌜ s ≡ inSlot (heardDevice d r) ⌝ }
 {
@@ -607,7 +607,7 @@ pub fn master_way(
     }
 }
 
-// A master behind a silent tick that it only counts.
+// A master after a silent tick that it only counts.
 pub fn counted_master(m: Master) -> Master
     ensures { λ r. ⌜ r ≡ countedMaster m ⌝ }
 {
@@ -620,7 +620,7 @@ pub fn counted_master(m: Master) -> Master
     master_rules::with_parts(m, idle, m.burst, noted, timer, message)
 }
 
-// A master behind a character that it only hears.
+// A master after a character that it only hears.
 pub fn heard_master(m: Master, r: Receiver) -> Master
     ensures { λ s. ⌜ s ≡ heardMaster m r ⌝ }
 {

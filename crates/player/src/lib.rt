@@ -33,12 +33,12 @@ pub struct Playing {
     pub at: usize,
 }
 
-// There is a monitor for each party: what the array's type says, in words that the promises below need.
+// There is a monitor for each party: the array's type says so, and the promises below need it in words.
 fn monitor_each(monitors: Monitors)
     ensures { λ _. ⌜ length monitors ≡ 8 ⌝ }
 {}
 
-// A tick is a 32-bit number: what its type says, likewise.
+// A tick is a 32-bit number: its type says so, likewise.
 fn tick_fits(tick: u32)
     ensures { λ _. ⌜ tick < 4294967296 ⌝ }
 {}
@@ -72,7 +72,7 @@ fn few_of(ticks: u32) -> u16
     63
 }
 
-// The tick with its calls and those behind it that have none, up to one in which a host is told something.
+// The tick with its calls and those after it that have none, up to one in which a host is told something.
 fn tick_on(
     p: Playing,
     told: Told,
@@ -113,7 +113,7 @@ fn tick_on(
     }
 }
 
-// One tick or more: as many as a link rests, or some of its ticks.
+// One tick or more: as many as the link rests for, or some of its ticks.
 fn onward(
     p: Playing,
     told: Told,
@@ -141,7 +141,7 @@ fn onward(
     tick_on(p, told, script, frames, bytes, contents, sent, out)
 }
 
-// The ticks up to the stop's; the place behind their lines in the output.
+// The ticks up to the stop's; returns the place after their lines in the output.
 fn play_from(
     start: Playing,
     told: Told,
@@ -163,7 +163,7 @@ fn play_from(
     p.at
 }
 
-// Whether behind a place there is room for the lines of 64 ticks, of at most 40 bytes each.
+// Whether from a place on there is room for the lines of 64 ticks, of at most 40 bytes each.
 fn has_room(length: usize, at: usize) -> bool
     ensures { λ r. ⌜ r ≡ hasRoom length at ⌝ }
 {
@@ -173,7 +173,7 @@ fn has_room(length: usize, at: usize) -> bool
     2560 <= length - at
 }
 
-// A play whose output begins anew.
+// A play whose output starts again at the buffer's front.
 fn at_front(p: Playing) -> Playing
     ensures { λ r. ⌜ r ≡ atFront p ⌝ }
 {
@@ -297,7 +297,7 @@ fn play_form(form: Form, script: &[u8], out: &mut [u8]) -> usize
     texts::put_bytes(b"16\n", out, 0)
 }
 
-// Plays a script whose records have so many bytes into any output: what it prints, as much as there is room for, and how much that is.
+// Plays a script whose records have so many bytes into any output: it puts what is printed, as much as there is room for, and returns how much that is.
 pub fn play_into(size: usize, script: &[u8], out: &mut [u8]) -> usize
     ensures { λ r. ⌜ PutIs (playSized size (before script)) (before out) 0 r (after out) ⌝ }
 {

@@ -10,7 +10,7 @@ use turns::Wish;
 ghost use mathlib.Core.Path.{_≡_};
 ghost use Rattle.player_calls.specs.Calls.{zeros, masterCallFor, requestWith, deviceCallFor, answerWith, deviceCallIn, callsFor};
 
-// The first so many of the zero bytes.
+// So many of the zero bytes, from the first on.
 fn zeros(n: u8) -> Part
     ensures { λ r. ⌜ r ≡ zeros n ⌝ }
 {

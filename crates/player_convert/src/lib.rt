@@ -17,7 +17,7 @@ pub enum Converted {
     Refused(Refusal),
 }
 
-// An old script's records in the new form, at the front of the lent bytes; how many bytes they are.
+// Puts an old script's records in the new form at the front of the lent bytes; returns how many bytes they take.
 fn widen(script: &[u8], out: &mut [u8]) -> usize
     requires { ⌜ (length (now script) % 4 ≡ 0) × (3 * length (now script) ≤ 2 * length (now out)) ⌝ }
     ensures { λ r. ⌜ PutsRecords Old New (before script) (before out) r (after out) ⌝ }
@@ -37,7 +37,7 @@ fn widen(script: &[u8], out: &mut [u8]) -> usize
     to
 }
 
-// A new script's records in the old form, whose ticks fit.
+// Puts a new script's records, whose ticks fit, in the old form.
 fn narrow(script: &[u8], out: &mut [u8]) -> usize
     requires { ⌜ (length (now script) % 6 ≡ 0) × (2 * length (now script) ≤ 3 * length (now out)) × Sayable Old (recordsIn New (now script)) ⌝ }
     ensures { λ r. ⌜ PutsRecords New Old (before script) (before out) r (after out) ⌝ }
@@ -79,7 +79,7 @@ fn into_old(script: &[u8], out: &mut [u8]) -> Converted
     Converted::To(end)
 }
 
-// A good new script, if its ticks fit: the stop's is the largest.
+// Turns a good new script back, if its ticks fit: the stop's tick is the largest.
 fn turn_back(script: &[u8], out: &mut [u8]) -> Converted
     requires { ⌜ goodIn New (now script) ≡ true ⌝ }
     ensures { λ r. ⌜ ConvertIs (byTicks New (before script) (length (before out))) (before out) r (after out) ⌝ }
@@ -91,7 +91,7 @@ fn turn_back(script: &[u8], out: &mut [u8]) -> Converted
     into_old(script, out)
 }
 
-// A good script. An old one's ticks always fit.
+// Turns a good script. An old one's ticks always fit.
 fn convert_good(form: Form, script: &[u8], out: &mut [u8]) -> Converted
     requires { ⌜ goodIn form (now script) ≡ true ⌝ }
     ensures { λ r. ⌜ ConvertIs (byTicks form (before script) (length (before out))) (before out) r (after out) ⌝ }

@@ -1,1 +1,1 @@
-// What the player prints for some scripts, as theorems in proofs/. No functions.
+// What the player prints for some scripts, as theorems in proofs/. It has no functions.

@@ -1,4 +1,4 @@
-// The infrared port's master and devices for programs in C: their states as words that the caller lends, those of a master or a device of the pair and beside them the port's, their starts and their ticks.
+// The infrared port's master and devices for programs in C: their states as words that the caller lends (those of a master or a device of the pair, and beside them the port's), their starts and their ticks.
 use base::Refusal;
 use line::Damage;
 use line::Heard;
@@ -109,7 +109,7 @@ fn wake_of(word: u64) -> WakeUp
     WakeUp::Left(((word - 1) % 65536) as u16)
 }
 
-// The master that some words are.
+// The master that some words stand for.
 fn unpack_master(state: &[u64; 40], port: &[u64; 2]) -> PortMaster
     ensures { λ x. ⌜ x ≡ unpackedMaster (before state) (before port) ⌝ }
 {
@@ -131,7 +131,7 @@ fn master_words(x: PortMaster) -> [u64; 2]
     [x.since as u64, wake_word(wake)]
 }
 
-// A tick of the master that the words are.
+// A tick of the master that the words stand for.
 fn tick_master(
     state: &mut [u64; 40],
     port: &mut [u64; 2],
@@ -166,7 +166,7 @@ fn tick_master(
     words::call_number(result)
 }
 
-// A tick of the port's master; gives 0, or the refusal's number of the request.
+// A tick of the port's master; returns 0, or the number of the request's refusal.
 #[no_mangle]
 pub extern "C" fn nengapiko_port_master_tick(
     state: &mut [u64; 40],
@@ -192,7 +192,7 @@ pub extern "C" fn nengapiko_port_master_tick(
     tick_master(state, port, frame, bytes, heard, call, put, results)
 }
 
-// A fresh master, where its data limit is one; else refusal 9.
+// A fresh master, where its data limit is from 2 to 255; else refusal 9.
 fn master_left(limit: usize, x: PortMaster, state: &mut [u64; 40], port: &mut [u64; 2]) -> u32
     ensures { λ r. ⌜ PortMasterLeft limit (accepted x) state port r ⌝ }
 {
@@ -321,7 +321,7 @@ fn ear_by(number: u64, a: Heard, b: Heard) -> Ear
     Ear::Awake
 }
 
-// The device that some words are.
+// The device that some words stand for.
 fn unpack_device(state: &[u64; 41], port: &[u64; 6]) -> PortDevice
     ensures { λ y. ⌜ y ≡ unpackedDevice (before state) (before port) ⌝ }
 {
@@ -370,7 +370,7 @@ fn call_by(number: u8) -> PortHostCall
     PortHostCall::Nothing
 }
 
-// A tick of the device that the words are.
+// A tick of the device that the words stand for.
 fn tick_device(
     state: &mut [u64; 41],
     port: &mut [u64; 6],
@@ -405,7 +405,7 @@ fn tick_device(
     words::call_number(result)
 }
 
-// A tick of a device of the port; gives 0, or the refusal's number of its host's answer.
+// A tick of a device of the port; returns 0, or the number with which its host's answer is refused.
 #[no_mangle]
 pub extern "C" fn nengapiko_port_device_tick(
     state: &mut [u64; 41],
@@ -425,7 +425,7 @@ pub extern "C" fn nengapiko_port_device_tick(
     tick_device(state, port, frame, bytes, heard, given, put, results)
 }
 
-// A fresh device, where its data limit is one; else refusal 9.
+// A fresh device, where its data limit is from 2 to 255; else refusal 9.
 fn device_left(limit: usize, y: PortDevice, state: &mut [u64; 41], port: &mut [u64; 6]) -> u32
     ensures { λ r. ⌜ PortDeviceLeft limit (accepted y) state port r ⌝ }
 {

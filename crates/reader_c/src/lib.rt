@@ -2,7 +2,7 @@
 ghost use Rattle.recording.specs.Recording.{heardOf};
 ghost use Rattle.reader_c.specs.Tick.{ReaderTicks};
 
-// A tick of the reader that the words are; bytes holds the data of the frame being heard.
+// A tick of the reader that the words stand for; bytes holds the data of the frame being heard.
 #[no_mangle]
 pub extern "C" fn nengapiko_reader_tick(
     state: &mut [u64; 16],

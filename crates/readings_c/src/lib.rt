@@ -1,4 +1,4 @@
-// The latest readings table for programs in C: a lent slice of rows. Each function over it is proved by a walk of its MIR, by hand.
+// The latest readings table for programs in C: a lent slice of rows. Each function over it is proved by hand, step by step over its MIR.
 use readings::Row;
 ghost use mathlib.Core.Path.{_≡_};
 ghost use Rattle.base.specs.Lent.{before, after};
@@ -6,7 +6,7 @@ ghost use Rattle.readings.specs.Table.{cleared, lookedUp, shownByte};
 ghost use Rattle.readings.specs.Stores.{EnterIs};
 ghost use Rattle.words.specs.Numbers.{eventAt};
 
-// Every row is emptied; the byte area is left alone.
+// Empties every row; the byte area stays as it is.
 #[no_mangle]
 pub extern "C" fn nengapiko_readings_clear(rows: &mut [Row])
     ensures { λ _. ⌜ after rows ≡ cleared (before rows) ⌝ }
@@ -19,7 +19,7 @@ pub extern "C" fn nengapiko_readings_clear(rows: &mut [Row])
     }
 }
 
-// What a tick's numbers tell is entered, or refused; the tick is that of the frame's last character, and bytes holds its data.
+// Enters what a tick's numbers tell, or refuses it; the tick is that of the frame's last character, and bytes holds its data.
 #[no_mangle]
 pub extern "C" fn nengapiko_readings_enter(
     rows: &mut [Row],

@@ -20,7 +20,7 @@ fn row_numbers(row: Row) -> [u64; 7]
     ]
 }
 
-// A row at a place; nothing where the place is behind the last row.
+// Puts a row at a place; nothing where the place is past the last row.
 fn put(numbers: &mut [u64], at: usize, row: Row)
     ensures { λ _. ⌜ RowIsPut (before numbers) (after numbers) at row ⌝ }
 {
@@ -32,7 +32,7 @@ fn put(numbers: &mut [u64], at: usize, row: Row)
     words::put(&mut numbers[i..], 0, &part);
 }
 
-// What a tick's numbers tell is entered, or refused, as by nengapiko_readings_enter.
+// Enters what a tick's numbers tell, or refuses it, as nengapiko_readings_enter does.
 #[no_mangle]
 pub extern "C" fn nengapiko_readings_flat(
     numbers: &mut [u64],

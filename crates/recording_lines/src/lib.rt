@@ -26,7 +26,7 @@ pub struct Progress {
     pub first: u64,
 }
 
-// What is kept behind some ticks, and the place behind their lines in the output.
+// What is kept after some ticks, and the place after their lines in the output.
 pub struct Printed {
     pub progress: Progress,
     pub at: usize,
@@ -44,7 +44,7 @@ pub fn start() -> Progress
     }
 }
 
-// A number, with a space behind it.
+// A number, with a space after it.
 fn put_word(n: u64, out: &mut [u8], at: usize) -> usize
     ensures { λ r. ⌜ PutIs (word (decimal n)) (now (out .entry)) at r (now (out .exit)) ⌝ }
 {
@@ -157,7 +157,7 @@ fn next_tick(t: u64) -> u64
     t
 }
 
-// A tick of the reader, by the two bytes of a recording.
+// A tick of the reader, made from the two bytes of a recording.
 fn hear(r: Receiver, first: u8, c: u8, bytes: &mut [u8; 255]) -> Taken
     ensures { λ t. ⌜ ReaderTakeIs r (heardOf (first / 32) c) (now (bytes .entry)) t (now (bytes .exit)) ⌝ }
 {
@@ -187,7 +187,7 @@ fn tick(p: Progress, first: u8, c: u8, bytes: &mut [u8; 255], out: &mut [u8], at
     }
 }
 
-// The lines of a piece of a recording, at the front of the output, and what is kept behind it. A last odd byte is no tick.
+// The lines of a piece of a recording, at the front of the output, and what is kept after it. An odd last byte is no tick.
 pub fn lines(p: Progress, piece: &[u8], bytes: &mut [u8; 255], out: &mut [u8]) -> Printed
     ensures { λ r. ⌜ LinesAre p (ticksOf (now (piece .entry))) (now (bytes .entry)) (now (bytes .exit)) (now (out .entry)) r (now (out .exit)) ⌝ }
 {
@@ -207,13 +207,13 @@ pub fn lines(p: Progress, piece: &[u8], bytes: &mut [u8; 255], out: &mut [u8]) -
     }
 }
 
-// The first tick of a recording that none has, the last odd byte among them.
+// The first tick for which a recording is refused; an odd last byte counts as such a tick.
 pub enum FirstBad {
     Tick(usize),
     None,
 }
 
-// Whether no recording has a tick of these two bytes.
+// Whether no recording can have a tick of these two bytes.
 fn is_refused(first: u8, c: u8) -> bool
     ensures { λ r. ⌜ r ≡ tickRefused first c ⌝ }
 {

@@ -18,7 +18,7 @@ fn wide(x: u8) -> u64
     x as u64
 }
 
-// A byte of what stands from a place on, and 0 behind the end.
+// A byte of what stands from a place on, or 0 past the end.
 fn byte_in(ticks: &[u8], at: usize, k: usize) -> u8
     requires { ⌜ at ≤ length (now ticks) ⌝ }
     ensures { λ r. ⌜ r ≡ byteAt (drop at (before ticks)) k ⌝ }
@@ -80,7 +80,7 @@ fn part_in(ticks: &[u8], at: usize) -> Part
     }
 }
 
-// So many places on, or the end.
+// So many places further, or the end.
 fn forward(at: usize, n: usize, end: usize) -> usize
     requires { ⌜ at ≤ end ⌝ }
     ensures { λ r. ⌜ (r ≡ forward at n end) × (r ≤ end) ⌝ }
@@ -91,7 +91,7 @@ fn forward(at: usize, n: usize, end: usize) -> usize
     at + n
 }
 
-// The place behind a call.
+// The place after a call.
 fn next_in(ticks: &[u8], at: usize) -> usize
     requires { ⌜ at ≤ length (now ticks) ⌝ }
     ensures { λ r. ⌜ (r ≡ nextIn (before ticks) at) × (r ≤ length (before ticks)) ⌝ }
@@ -172,7 +172,7 @@ fn device_call(ticks: &[u8], at: usize) -> DeviceCall
     }
 }
 
-// Calls that were read, and the place behind them.
+// Calls that were read, and the place after them.
 struct MastersRead {
     calls: [MasterCall; 2],
     next: usize,
@@ -223,7 +223,7 @@ fn devices_read(ticks: &[u8], start: usize) -> DevicesRead
     }
 }
 
-// The calls of a tick, and the place behind it.
+// The calls of a tick, and the place after it.
 pub struct TickRead {
     pub calls: Calls,
     pub next: usize,
@@ -247,7 +247,7 @@ fn tick_from(ticks: &[u8], at: usize) -> TickRead
     }
 }
 
-// The calls of the tick that stands at this place of the list, or at its end, and the place behind it.
+// The calls of the tick that stands at this place of the list, or at its end, and the place after it.
 pub fn read(ticks: &[u8], at: usize) -> TickRead
     ensures { λ r. ⌜ r ≡ tickAt (before ticks) at ⌝ }
 {
