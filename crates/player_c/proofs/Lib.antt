@@ -1,3 +1,2 @@
 -- The calls by what was answered.
 pub mod Calls
-pub mod Loads

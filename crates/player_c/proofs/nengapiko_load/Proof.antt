@@ -1,5 +1,5 @@
 use borrow.Author.Needs.{needs}
-use Rattle.player_c.proofs.Loads.{loads}
+use Rattle.player_c.proofs.Calls.{loads}
 use Rattle.player_c.proofs.nengapiko_load.Statement.{statement}
 use Rattle.player_c.proofs.nengapiko_load.Tie as tie
 
