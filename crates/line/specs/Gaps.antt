@@ -53,7 +53,7 @@ pub data GapsBefore : List Heard → List Heard → Type 0 where
 pub data Gapped : List Heard → List Heard → Type 0 where
   from-first : {h : Heard} {cs hs : List Heard} → IsCharacter h → GapsBefore cs hs → Gapped (h ∷ cs) (h ∷ hs)
 
--- With the reader r and the lent buffer b, nothing is told of what is heard before its last tick. After that tick, t is the reader with what it tells there, and d is the buffer.
+-- With the reader r and the lent buffer b, nothing is told before the last tick of what is heard. After that tick, t is the reader with what it tells there, and d is the buffer.
 pub data Ends : Receiver → List ℕ → List Heard → Taken → List ℕ → Type 0 where
   last : {r : Receiver} {b d : List ℕ} {h : Heard} {t : Taken} → taken r h ≡ t → takenData r h b ≡ d → Ends r b (h ∷ []) t d
   before : {r : Receiver} {b d : List ℕ} {h : Heard} {hs : List Heard} {t : Taken}

@@ -170,7 +170,7 @@ SeenIsShared a b steps = (u t : ℕ) → FrameSeen a b steps u t → SharedFrame
 
 -- ---- the wait
 
--- the ticks from which on it is claimed: "from the end of the overlap on", here even from the tick after its first on, or "from the end of the first frame that one master sent or heard whole and the other heard whole"
+-- the ticks from which on it is claimed: "from the end of the overlap on", here even from the tick after its first one, or "from the end of the first frame that one master sent or heard whole and the other heard whole"
 pub data Claimed (a b : ℕ) (steps : List LinkStep) (t : ℕ) : Type 0 where
   behind-overlap : (u : ℕ) → u < t → BeginTogether steps u → Claimed a b steps t
   behind-frame : (u : ℕ) → u ≤ t → SharedFrame a b steps u → Claimed a b steps t

@@ -127,7 +127,7 @@ tells d told event = record { device = d; told = told; event = event }
 abbrev pub listensOn : Device → DeviceTold → Change
 listensOn d told = record { turn = Listens; request = d .request; length = d .length; told = told }
 
--- an undamaged STX without expansion bytes is told to the host: a request, with the ticks in which it may be answered, or another broadcast, "told to the host and never answered"
+-- an undamaged STX without expansion bytes: one that the host may answer is told to it, with the ticks in which it may be answered; another broadcast is "told to the host and never answered"; of any other nothing is told
 abbrev pub afterRequest : Device → Whole → Change
 afterRequest d w =
     if mayAnswer d (w .header) then record { turn = Asked (d .profile .sto); request = w .header; length = d .length; told = Request w } else
@@ -314,7 +314,7 @@ firstFor d = if d .burst then d .primary else true
 abbrev pub behindAck : Bool → Turn
 behindAck burst = if burst then Follows else Listens
 
--- one character of an ACK; `burst` holds from its first character on
+-- one character of an ACK; `burst` is whether the device bursts from the ACK's first character on
 abbrev pub answersFrom : Device → List ℕ → ℕ → Bool → Bool → DeviceSent
 answersFrom d frame n burst primary =
     if n + 1 <? d .length then sends d true (Answers (n + 1)) (d .length) burst primary (dueAfter (d .profile) inside) passing (Sent.Character (byteAt frame n))

@@ -69,7 +69,7 @@ unfoldable pub finders : List Ledger → ℕ
 finders [] = 0
 finders (g ∷ gs) = (if found g then 1 else 0) + finders gs
 
--- at most one after every tick, from the calls and what the run shows
+-- at most one such answer after every tick, by the calls and what the run shows
 pub data OneFinds : List Ledger → List Calls → List LinkStep → Type 0 where
   no-tick : {gs : List Ledger} → OneFinds gs [] []
   tick-and : {gs : List Ledger} {c : Calls} {cs : List Calls} {s : LinkStep} {ss : List LinkStep}
