@@ -53,7 +53,7 @@ pub record Shown (k : Kept) : Type 0 where
   pub shows : (primary : Bool) (i : ℕ) → i < length (k .rows) → isEmpty (rowOf (k .rows) i) ≡ false
       → shownBits primary k i ≡ lastBits (keyIn (rowOf (k .rows) i)) (mineOf primary (k .log))
 
--- of two tables: every address and command that both have a row for, at whatever numbers, shows this master's host the same bits
+-- of two tables: rows of the same address and command, at whatever numbers, show this master's host the same bits
 pub record SameBits (primary : Bool) (k l : Kept) : Type 0 where
   pub same : (i j : ℕ) → i < length (k .rows) → j < length (l .rows) → isEmpty (rowOf (k .rows) i) ≡ false
       → hasKey (keyIn (rowOf (k .rows) i)) (rowOf (l .rows) j) ≡ true → shownBits primary k i ≡ shownBits primary l j

@@ -37,7 +37,7 @@ NoneLost =
     (first second : List ℕ) (room : ℕ) → IsJoined first second room → (t c : ℕ)
     → Either (heardIn t first ≡ Character c) (heardIn t second ≡ Character c) → heardIn t (joinedOf first second) ≡ Character c
 
--- a tick is silent exactly where it is silent in both taps: no damage is lost
+-- a tick is silent exactly where it is silent in both taps: damage never becomes silence
 pub record SilentJustWhere (t : ℕ) (first second : List ℕ) : Type 0 where
   pub only-there : heardIn t (joinedOf first second) ≡ Silence → (heardIn t first ≡ Silence) × (heardIn t second ≡ Silence)
   pub there : heardIn t first ≡ Silence → heardIn t second ≡ Silence → heardIn t (joinedOf first second) ≡ Silence
