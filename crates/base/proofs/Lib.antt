@@ -2,5 +2,6 @@
 pub mod Choices
 pub mod Lists
 pub mod Stores
+pub mod Filling
 pub mod Tables
 mod Numbers

@@ -2,4 +2,5 @@
 pub mod Choice
 pub mod Refusal
 pub mod Store
+pub mod Events
 pub mod Lent

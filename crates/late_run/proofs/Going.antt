@@ -4,11 +4,11 @@ use native.Mathlib.Omega.{arith}
 use mathlib.Core.Path.{_≡_, refl, sym, ap, subst, _∙_}
 use mathlib.Core.List.{List, _∷_}
 use lib.ListN.{length, drop, set, length-drop}
+use Rattle.base.specs.Events.{RunIs}
+use Rattle.base.proofs.Filling.{Filling, filling-begun, filling-more, filling-ended, filling-full}
 use Rattle.turns.specs.Link.{Calls, linkAfter}
 use Rattle.turns.specs.Link as L
 use Rattle.runs.specs.Late.{lateTick, lateRun}
-use Rattle.recording.specs.Recording.{RunIs}
-use Rattle.recording.proofs.Runs.{Filling, filling-begun, filling-more, filling-ended, filling-full}
 use Rattle.parties.specs.Stands.{Rows, linkOf, heres}
 use Rattle.parties.specs.declared.Link.{Link}
 use Rattle.tick_list.specs.Ticks.{Here, behind, callsIn, ticksOf}

@@ -6,12 +6,12 @@ use mathlib.Core.Path.{_≡_, refl, sym, ap, subst, _∙_}
 use mathlib.Core.List.{List, [], _∷_}
 use lib.ListN.{length, getD}
 use lib.Seq.{take-nil, drop-nil}
+use Rattle.base.specs.Events.{RunIs}
 use Rattle.base.specs.Store.{stored}
 use Rattle.base.specs.Refusal.{number, Called, accepted, refused}
 use Rattle.base.specs.declared.Refusal.{Refusal}
 use Rattle.line.specs.declared.Heard.{Heard}
 use Rattle.line.specs.declared.Profile.{Profile}
-use Rattle.recording.specs.Recording.{RunIs}
 use Rattle.turns.specs.Master.{masterStarts}
 use Rattle.turns.specs.Link.{DeviceSide, LinkStep}
 use Rattle.turns.specs.Run.{All, none, and, Distinct, DeviceStarts, EachTick, count, senders}

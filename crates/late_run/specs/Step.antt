@@ -6,9 +6,9 @@ use mathlib.Core.Bool.{true}
 use mathlib.Core.List.{List, [], _∷_}
 use lib.ListN.{length, drop, getD}
 use Rattle.base.specs.Choice.{if_then_else_, _=?_}
+use Rattle.base.specs.Events.{RunIs}
 use Rattle.base.specs.Lent as B
 use Rattle.base.specs.Lent.{Lent}
-use Rattle.recording.specs.Recording.{RunIs}
 use Rattle.turns.specs.Link.{LinkStep, linkAfter}
 use Rattle.runs.specs.Late.{lateTick, lateRun}
 use Rattle.turns.specs.declared.Master.{Master}

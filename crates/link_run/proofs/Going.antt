@@ -5,10 +5,10 @@ use mathlib.Core.Bool.{Bool}
 use mathlib.Core.Path.{_≡_, refl, sym, ap, _∙_}
 use mathlib.Core.List.{List, [], _∷_}
 use lib.ListN.{length, drop, set, length-drop}
+use Rattle.base.specs.Events.{RunIs}
+use Rattle.base.proofs.Filling.{Filling, filling-begun, filling-more, filling-ended, filling-full}
 use Rattle.turns.specs.Link.{Calls, linkTick, linkAfter, run}
 use Rattle.turns.specs.Link as L
-use Rattle.recording.specs.Recording.{RunIs}
-use Rattle.recording.proofs.Runs.{Filling, filling-begun, filling-more, filling-ended, filling-full}
 use Rattle.parties.specs.Stands.{Rows, linkOf, heres}
 use Rattle.parties.specs.declared.Link.{Link}
 use Rattle.parties.specs.declared.Slot.{Slot}

@@ -5,11 +5,11 @@ use mathlib.Core.Path.{_≡_, refl, sym, ap, subst, _∙_}
 use mathlib.Core.List.{List, [], _∷_}
 use lib.ListN.{length, getD, length-replicate}
 use lib.Seq.{take-nil, drop-nil}
+use Rattle.base.specs.Events.{RunIs}
 use Rattle.base.specs.Store.{stored}
 use Rattle.base.specs.Refusal.{number, Called, accepted, refused}
 use Rattle.base.specs.declared.Refusal.{Refusal}
 use Rattle.line.specs.declared.Profile.{Profile}
-use Rattle.recording.specs.Recording.{RunIs}
 use Rattle.turns.specs.Run.{Distinct, EachTick, no-tick, OneBursts, NoTwoSend}
 use Rattle.turns.specs.Demand3.{Premises, WaitIn}
 use Rattle.runs.proofs.Wait as W

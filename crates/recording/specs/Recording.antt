@@ -1,10 +1,10 @@
 -- How the code stands for what is to be believed.
--- A tick of a recording as one number, and what a run over a recording promises.
+-- A tick of a recording as one number, and the numbers of a run over a recording.
 use Prim.Native.Nat.{ℕ, _+_, _*_, _/_, _%_, _≤_, _<_}
 use mathlib.Core.Path.{_≡_}
 use mathlib.Core.List.{List, [], _∷_}
-use lib.ListN.{length, take, getD}
-use Rattle.base.specs.Store.{stored}
+use lib.ListN.{length, getD}
+pub use Rattle.base.specs.Events.{RunIs}
 pub use Rattle.recording.specs.Form.{heardOf}
 
 -- v is the two bytes of tick t as one number, the character the high byte
@@ -28,8 +28,3 @@ unfoldable pub trace : {S : Type 0} → (S → ℕ → ℕ → Ticked S) → S �
 trace tick s [] = []
 trace tick s (first ∷ []) = []
 trace tick s (first ∷ c ∷ recording) = tick s first c .number ∷ trace tick (tick s first c .behind) recording
-
--- what a run promises: as many of the numbers as there is room for, at the front of the lent events, and how many they are
-pub record RunIs (numbers before : List ℕ) (r : ℕ) (after : List ℕ) : Type 0 where
-  pub events : after ≡ stored before 0 (take (length before) numbers)
-  pub returned : r ≡ length (take (length before) numbers)

@@ -4,10 +4,10 @@ use Prim.Native.Nat.{ℕ}
 use mathlib.Core.List.{List, [], _∷_}
 use mathlib.Core.Path.{_≡_}
 use Rattle.base.specs.Choice.{_<?_}
+use Rattle.base.specs.Events.{RunIs}
 use Rattle.base.specs.Lent.{Lent, before, after}
 use Rattle.base.specs.Refusal.{Called, accepted, refused}
 use Rattle.line.specs.declared.Profile.{Profile}
-use Rattle.recording.specs.Recording.{RunIs}
 use Rattle.link_start.specs.Start.{limitedStarts}
 use Rattle.link_start.specs.declared.Setting.{Setting}
 use Rattle.link_run.specs.Run.{numbersOf, ranAs}
