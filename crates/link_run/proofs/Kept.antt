@@ -1,14 +1,12 @@
--- A run keeps its promise: by whether its start was accepted.
+-- A run of the common start keeps its promise.
 use Prim.Native.Nat.{ℕ, _<_}
 use native.Mathlib.Omega.{arith}
 use mathlib.Core.Path.{_≡_, refl, sym, ap, subst, _∙_}
 use mathlib.Core.List.{List, [], _∷_}
 use lib.ListN.{length, getD, length-replicate}
-use lib.Seq.{take-nil, drop-nil}
-use Rattle.base.specs.Events.{RunIs}
+use lib.Seq.{drop-nil}
 use Rattle.base.specs.Store.{stored}
-use Rattle.base.specs.Refusal.{number, Called, accepted, refused}
-use Rattle.base.specs.declared.Refusal.{Refusal}
+use Rattle.base.specs.Refusal.{Called, accepted, refused}
 use Rattle.line.specs.declared.Profile.{Profile}
 use Rattle.turns.specs.Run.{Distinct, EachTick, no-tick, OneBursts, NoTwoSend}
 use Rattle.turns.specs.Demand3.{Premises, WaitIn}
@@ -18,13 +16,11 @@ use Rattle.runs.proofs.Backs.{backs-in-a-run}
 use Rattle.parties.specs.Stands.{heres}
 use Rattle.parties.specs.declared.Link.{Link}
 use Rattle.link_start.specs.Fresh.{lentFresh}
-use Rattle.link_start.specs.Start.{limitedStarts, made, LimitedIs}
+use Rattle.link_start.specs.Start.{limitedStarts}
 use Rattle.link_start.specs.declared.Setting.{Setting}
-use Rattle.link_start.specs.declared.LinkStarted.{LinkStarted}
-use Rattle.link_start.specs.declared.StartAnswer.{StartAnswer}
-use Rattle.link_start.proofs.Started.{slots-started, all-start, limited-bounds, limited-link}
+use Rattle.link_start.proofs.Started.{all-start, limited-bounds, limited-link}
 use Rattle.tick_list.specs.Ticks.{ticksOf}
-use Rattle.link_run.specs.Run.{runSteps, stepsBy, stepsOf, devicesBy, FindsBy, numbersOf, ranAs, ranBy, OneSender, RunPremises, Demand3Of, CreditOf, BacksOf, written, RunKeeps}
+use Rattle.link_run.specs.Run.{stepsBy, stepsOf, devicesBy, FindsBy, ranAs, ranBy, OneSender, RunPremises, Demand3Of, CreditOf, BacksOf, written, RunKeeps}
 use Rattle.link_run.specs.declared.RunEnded.{RunEnded}
 use Rattle.link_run.proofs.Senders.{none-in-tick, written-tells}
 
@@ -93,33 +89,3 @@ run-keeps limit p retries s six ticks before r after x y = record {
   backs = backs-kept limit p retries s six ticks;
   one-sender = one-sender-kept limit p retries s six ticks before after y;
 }
-
-module _ (limit : ℕ) (p : Profile) (retries : ℕ) (s : List Setting) (ticks before : List ℕ) (started : LinkStarted) (six : length s ≡ 6) (q : LimitedIs limit p retries s started) where
-  promised : (c : Called Link) (r : RunEnded) (after : List ℕ) → limitedStarts limit p retries s ≡ c → ranAs r ≡ ranBy c (length (written (stepsBy limit c ticks) before)) → after ≡ stored before 0 (written (stepsBy limit c ticks) before)
-      → RunKeeps limit p retries s ticks before r after
-  unfolding stepsOf
-  promised c r after e x y =
-      run-keeps limit p retries s six ticks before r after (x ∙ ap (λ (k : Called Link). ranBy k (length (written (stepsBy limit k ticks) before))) (sym e))
-      (y ∙ ap (λ (k : Called Link). stored before 0 (written (stepsBy limit k ticks) before)) (sym e))
-
-  -- what the answer says of the start
-  pub was-started : started .answer ≡ StartAnswer.Started → limitedStarts limit p retries s ≡ accepted (started .link)
-  was-started e = sym (q .answer-is) ∙ ap (made (started .link)) e
-
-  -- the link that was started has six slots
-  pub six-slots : started .answer ≡ StartAnswer.Started → length (started .link .devices) ≡ 6
-  six-slots e = slots-started p retries s (started .link) (limited-link limit p retries s (started .link) (was-started e)) ∙ six
-
-  -- its limit is a byte
-  pub limit-small : started .answer ≡ StartAnswer.Started → limit < 256
-  limit-small e = omega (arith, limited-bounds limit p retries s (started .link) (was-started e))
-
-  pub run-accepted : (n : ℕ) (after : List ℕ) → started .answer ≡ StartAnswer.Started
-      → RunIs (numbersOf (runSteps limit (lentFresh (started .link)) (ticksOf (heres (started .link .devices)) ticks))) before n after → RunKeeps limit p retries s ticks before (RunEnded.Ran n) after
-  run-accepted n after e r = promised (accepted (started .link)) (RunEnded.Ran n) after (was-started e) (ap (λ (k : ℕ). accepted k) (r .returned)) (r .events)
-
-  pub run-refused : (why : Refusal) → started .answer ≡ StartAnswer.Refused why → RunKeeps limit p retries s ticks before (RunEnded.Refused why) before
-  unfolding numbersOf stored
-  run-refused why e = promised (refused (number why)) (RunEnded.Refused why) before (sym (q .answer-is) ∙ ap (made (started .link)) e) refl (sym (ap (λ (l : List ℕ). stored before 0 l) (take-nil (length before))))
-
-pub ruleset kept = (refl, six-slots, limit-small, run-accepted, run-refused)

@@ -1,4 +1,4 @@
--- Laws of one tick of a run: its calls, and its number from what each party sent.
+-- Laws of one tick of a run: its number from what each party sent, and the calls that are read.
 use Prim.Native.Nat.{ℕ, zero, suc, _+_, _*_, _≤_, _<_}
 use native.Mathlib.Numerals.{add-one}
 use native.Mathlib.Omega.{arith}
@@ -11,12 +11,12 @@ use Rattle.base.specs.Choice.{if_then_else_, _<?_}
 use Rattle.base.proofs.Choices.{if-below, if-not-below}
 use Rattle.line.specs.declared.Heard.{Heard}
 use Rattle.turns.specs.Party.{CallResult, none, was-taken, was-refused}
-use Rattle.turns.specs.Link.{DeviceSide, DeviceStep, LinkStep, deviceTicks, linkTick, linkAfter}
+use Rattle.turns.specs.Link.{DeviceSide, DeviceStep, LinkStep, deviceTicks, linkTick}
 use Rattle.turns.specs.Link as L
 use Rattle.turns.specs.Run.{count, deviceSenders}
 use Rattle.turns.specs.declared.Sent.{Sent}
 use Rattle.turns.specs.declared.Sent.the-variants.{Silent, Character}
-use Rattle.parties.specs.Stands.{Rows, ifHere, deviceAt, devicesFrom, linkOf, heres, callsOf, codeOf}
+use Rattle.parties.specs.Stands.{Rows, ifHere, deviceAt, devicesFrom, heres, callsOf, codeOf}
 use Rattle.parties.specs.declared.CallOutcome.{CallOutcome}
 use Rattle.parties.specs.declared.Calls.{Calls}
 use Rattle.parties.specs.declared.Link.{Link}
@@ -26,14 +26,14 @@ use Rattle.parties.specs.declared.Ticked.{Ticked}
 use Rattle.link_ticks.specs.Ticks.{onHere, deviceCode, codes, SendsByte, sends-none, sends-byte, DevicesSendBytes, no-device, device-and, SendBytes, answerKept, masterNothing, mastersDo}
 use Rattle.link_ticks.specs.Ticks as T
 use Rattle.link_ticks.proofs.Lists.{any-default}
-use Rattle.link_ticks.proofs.Answers.{ticked-each, stepWith, one-link, one-row, one-bytes, one-masters}
+use Rattle.link_ticks.proofs.Answers.{ticked-each, stepWith, one-row, one-bytes, one-masters}
 use Rattle.tick_list.specs.Ticks.{Here, behind, callsIn}
 use Rattle.tick_list.specs.Read.{tickAt}
 use Rattle.tick_list.specs.Nearest.{present}
 use Rattle.tick_list.proofs.Readings.{calls-are, rest-is}
 use Rattle.tick_list.specs.declared.TickRead.{TickRead}
 use Rattle.link_run.specs.Run.{taken, tickNumber}
-use Rattle.link_run.specs.Step.{countIn, sendersIn, takenIn, rowNumber, stepAt, StepIs}
+use Rattle.link_run.specs.Step.{countIn, sendersIn, takenIn, rowNumber}
 use Rattle.link_run.proofs.Going.{heres-length}
 
 -- ---- who sends, as a row of numbers tells it
@@ -117,10 +117,9 @@ devices-here x i (s ∷ ss) = by (s .here) (devices-here x (suc i) ss)
     by true e = ap suc e
     by false e = e
 
--- ---- the tick
+-- ---- the tick: its number, whatever the calls were, and what is read of the list
 
 module _ (limit : ℕ) (l : Link) (ticks : List ℕ) (at : ℕ) (x x-after : Rows) (sent sent-after : List (List ℕ)) (read : TickRead) (t : Ticked) where
-  -- the number that the code gives, whatever the calls were
   pub number-agrees : (c : Calls) → T.RunIs limit l c ticks 1 x sent t x-after sent-after → length (l .devices) ≡ 6 → rowNumber (getD sent-after 0 []) (t .masters) ≡ tickNumber (stepWith limit l c ticks x)
   unfolding linkTick
   number-agrees c is six =
@@ -136,14 +135,3 @@ module _ (limit : ℕ) (l : Link) (ticks : List ℕ) (at : ℕ) (x x-after : Row
 
     pub next-read : drop (read .next) ticks ≡ behind 8 (drop at ticks)
     next-read = ap (λ (r : TickRead). drop (r .next) ticks) reads ∙ rest-is ticks at
-
-  pub step-is : (number : ℕ) → read ≡ tickAt ticks at → T.RunIs limit l (read .calls) ticks 1 x sent t x-after sent-after → number ≡ rowNumber (getD sent-after 0 []) (t .masters) → length (l .devices) ≡ 6
-      → StepIs limit l ticks at x (record { link = t .link; number = number; next = read .next }) x-after
-  step-is number reads is n six =
-      let step : stepWith limit l (read .calls) ticks x ≡ stepAt limit l x ticks at = ap (linkTick limit (linkOf l x)) (calls-read reads six) in
-      record {
-        behind-is = one-link limit l (read .calls) ticks x x-after sent sent-after t is ∙ ap linkAfter step;
-        number-is = n ∙ number-agrees (read .calls) is six ∙ ap tickNumber step;
-        slots = is .slots;
-        next = next-read reads six;
-      }

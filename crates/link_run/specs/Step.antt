@@ -1,19 +1,29 @@
 -- Inner contracts: nothing that is to be believed rests on them.
--- One tick of a run: the link behind it, its number, and the place behind it in the list.
-use Prim.Native.Nat.{ℕ, _+_, _*_}
+-- One tick of a run: its number, the link behind it, and the place behind it in the list. The code ticks all parties; a master that has not started has no call in that tick, and behind it is what it was before.
+use Prim.Native.Nat.{ℕ, _+_, _-_, _*_, _<_}
 use mathlib.Core.Path.{_≡_}
+use mathlib.Core.Bool.{true}
 use mathlib.Core.List.{List, [], _∷_}
 use lib.ListN.{length, drop, getD}
-use Rattle.base.specs.Choice.{if_then_else_, _<?_}
-use Rattle.base.specs.Lent.{Lent, before, after}
-use Rattle.turns.specs.Link.{LinkStep, linkTick, linkAfter}
-use Rattle.parties.specs.Stands.{Rows, rowsOf, linkOf, heres}
+use Rattle.base.specs.Choice.{if_then_else_, _<?_, _=?_}
+use Rattle.base.specs.Events.{RunIs}
+use Rattle.base.specs.Lent as B
+use Rattle.base.specs.Lent.{Lent}
+use Rattle.turns.specs.Link.{LinkStep, linkAfter}
+use Rattle.runs.specs.Late.{lateTick, lateRun}
+use Rattle.turns.specs.declared.Master.{Master}
+use Rattle.turns.specs.declared.Stage.the-variants.{Free}
+use Rattle.master.specs.declared.MasterHostCall.{MasterHostCall}
+use Rattle.parties.specs.Stands.{Rows, rowsOf, anyMaster, linkOf, heres, noMasterCall}
 use Rattle.parties.specs.declared.CallOutcome.{CallOutcome}
+use Rattle.parties.specs.declared.Calls.{Calls}
 use Rattle.parties.specs.declared.Link.{Link}
+use Rattle.parties.specs.declared.MasterCall.{MasterCall}
 use Rattle.parties.specs.declared.MasterDid.{MasterDid}
 use Rattle.link_ticks.specs.Ticks.{masterNothing}
 use Rattle.tick_list.specs.Ticks.{behind, callsIn, ticksOf}
-use Rattle.link_run.specs.Run.{runSteps, numbersOf, tickNumber}
+use Rattle.link_run.specs.Run.{tickNumber, numbersOf}
+use Rattle.link_run.specs.declared.StartTicks.{StartTicks}
 use Rattle.link_run.specs.declared.Stepped.{Stepped}
 
 -- ---- a tick's number, from what each party sent, as a number, and what became of the masters' calls
@@ -39,25 +49,71 @@ masterNumber row dids i = takenIn (getD dids i masterNothing .result) + 4 * coun
 abbrev pub rowNumber : List ℕ → List MasterDid → ℕ
 rowNumber row dids = sendersIn row + 16 * masterNumber row dids 0 + 32 * masterNumber row dids 1
 
+-- ---- masters that have not started
+
+-- in how many ticks each master starts, a tick later
+abbrev pub startsBehind : StartTicks → StartTicks
+startsBehind s = record { primary = s .primary - 1; secondary = s .secondary - 1 }
+
+-- the calls that are taken: none of a master that has not started
+abbrev pub callTaken : ℕ → MasterCall → MasterCall
+callTaken start c = if start =? 0 then c else record { call = MasterHostCall.Nothing; part = c .part }
+
+abbrev pub requestsTaken : StartTicks → List MasterCall → List MasterCall
+requestsTaken s cs = callTaken (s .primary) (getD cs 0 noMasterCall) ∷ callTaken (s .secondary) (getD cs 1 noMasterCall) ∷ []
+
+abbrev pub callsTaken : StartTicks → Calls → Calls
+callsTaken s c = record { masters = requestsTaken s (c .masters); devices = c .devices }
+
+-- the link behind a tick: a master that has not started is what it was before
+abbrev pub masterBehind : ℕ → Master → Master → Master
+masterBehind start before ticked = if start =? 0 then ticked else before
+
+abbrev pub mastersBehind : StartTicks → List Master → List Master → List Master
+mastersBehind s before ticked =
+    masterBehind (s .primary) (getD before 0 anyMaster) (getD ticked 0 anyMaster)
+    ∷ masterBehind (s .secondary) (getD before 1 anyMaster) (getD ticked 1 anyMaster)
+    ∷ []
+
+abbrev pub linkBehind : StartTicks → Link → Link → Link
+linkBehind s l t = record { masters = mastersBehind s (l .masters) (t .masters); devices = t .devices; line = t .line }
+
+-- a fresh master: it hears nothing in its first tick, and has no message
+pub record Fresh (m : Master) : Type 0 where
+  pub hears-nothing : m .deaf ≡ true
+  pub no-message : m .message .stage ≡ Free
+
+-- a link with six slots, in which a master that has not started is fresh
+pub record LateReady (s : StartTicks) (l : Link) : Type 0 where
+  pub six : length (l .devices) ≡ 6
+  pub primary : 0 < s .primary → Fresh (getD (l .masters) 0 anyMaster)
+  pub secondary : 0 < s .secondary → Fresh (getD (l .masters) 1 anyMaster)
+
 -- ---- a run
 
 -- the numbers of a whole run from a link on
-abbrev pub allNumbers : ℕ → Link → Rows → List ℕ → List ℕ
-allNumbers limit l x ticks = numbersOf (runSteps limit (linkOf l x) (ticksOf (heres (l .devices)) ticks))
+abbrev pub lateNumbers : ℕ → Link → StartTicks → Rows → List ℕ → List ℕ
+lateNumbers limit l starts x ticks = numbersOf (lateRun limit (starts .primary) (starts .secondary) (linkOf l x) (ticksOf (heres (l .devices)) ticks))
+
+abbrev pub LateRunIs : ℕ → Link → StartTicks → List ℕ → Lent (List ℕ) → Lent (List (List ℕ)) → Lent (List (List ℕ)) → Lent (List (List ℕ)) → ℕ → Type 0
+LateRunIs limit l starts ticks events frames bytes contents r =
+    RunIs (lateNumbers limit l starts (rowsOf (B.before frames) (B.before bytes) (B.before contents)) ticks) (B.before events) r (B.after events)
 
 -- ---- the tick that turns gives for the calls at this place of the list
 
-abbrev pub stepAt : ℕ → Link → Rows → List ℕ → ℕ → LinkStep
-stepAt limit l x ticks at = linkTick limit (linkOf l x) (callsIn (heres (l .devices)) (drop at ticks))
+abbrev pub stepAt : ℕ → Link → StartTicks → Rows → List ℕ → ℕ → LinkStep
+stepAt limit l starts x ticks at = lateTick limit (starts .primary) (starts .secondary) (linkOf l x) (callsIn (heres (l .devices)) (drop at ticks))
 
-pub record StepIs (limit : ℕ) (l : Link) (ticks : List ℕ) (at : ℕ) (x : Rows) (r : Stepped) (x-after : Rows) : Type 0 where
-  pub behind-is : linkOf (r .link) x-after ≡ linkAfter (stepAt limit l x ticks at)
-  pub number-is : r .number ≡ tickNumber (stepAt limit l x ticks at)
+pub record LateStepping (limit : ℕ) (l : Link) (starts : StartTicks) (ticks : List ℕ) (at : ℕ) (x : Rows) (r : Stepped) (x-after : Rows) : Type 0 where
+  pub behind-is : linkOf (r .link) x-after ≡ linkAfter (stepAt limit l starts x ticks at)
+  pub number-is : r .number ≡ tickNumber (stepAt limit l starts x ticks at)
+  pub ready : LateReady (startsBehind starts) (r .link)
   pub slots : heres (r .link .devices) ≡ heres (l .devices)
   pub next : drop (r .next) ticks ≡ behind 8 (drop at ticks)
 
--- a link has six slots
-abbrev pub SteppedIs : ℕ → Link → List ℕ → ℕ → Lent (List (List ℕ)) → Lent (List (List ℕ)) → Lent (List (List ℕ)) → Stepped → Type 0
-SteppedIs limit l ticks at frames bytes contents r =
-    length (l .devices) ≡ 6
-    → StepIs limit l ticks at (rowsOf (before frames) (before bytes) (before contents)) r (rowsOf (after frames) (after bytes) (after contents))
+-- so it is for a link that is ready
+abbrev pub LateStepIs : ℕ → Link → StartTicks → List ℕ → ℕ → Lent (List (List ℕ)) → Lent (List (List ℕ)) → Lent (List (List ℕ)) → Stepped → Type 0
+LateStepIs limit l starts ticks at frames bytes contents r =
+    LateReady starts l
+    → LateStepping limit l starts ticks at (rowsOf (B.before frames) (B.before bytes) (B.before contents)) r
+    (rowsOf (B.after frames) (B.after bytes) (B.after contents))

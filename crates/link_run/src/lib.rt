@@ -1,22 +1,24 @@
-// A run of the link over a lent list of ticks, for which demand 3, the credited answer and the BACKs are promised.
+// A run of the link over a lent list of ticks, in which each master starts at a tick of its own: item 14 is promised of it, and where both start in tick 0 demand 3, the credited answer and the BACKs.
 use base::Refusal;
 use line::Profile;
 use link_start::Setting;
 use link_start::StartAnswer;
 use link_ticks::Most;
 use parties::CallOutcome;
+use parties::Calls;
 use parties::Link;
+use parties::MasterCall;
 use parties::MasterDid;
+use turns::Master;
 ghost use mathlib.Core.Path.{_≡_};
-ghost use Prim.Native.Nat.{_+_, _*_, _≤_};
+ghost use Prim.Native.Nat.{_+_, _-_, _*_, _≤_};
 ghost use lib.ListN.{length};
 ghost use Rattle.base.specs.Events.{RunIs};
 ghost use Rattle.base.specs.Lent.{before, after};
-ghost use Rattle.parties.specs.Stands.{rowsOf, heres};
-ghost use Rattle.link_start.specs.Fresh.{lentFresh};
-ghost use Rattle.tick_list.specs.Ticks.{ticksOf};
-ghost use Rattle.link_run.specs.Run.{numbersOf, RunKeeps, runSteps};
-ghost use Rattle.link_run.specs.Step.{countIn, sendersIn, takenIn, rowNumber, allNumbers, SteppedIs};
+ghost use Rattle.link_start.specs.Fresh.{rowsFresh};
+ghost use Rattle.link_run.specs.Run.{RunKeeps};
+ghost use Rattle.link_run.specs.Late.{LateKeeps};
+ghost use Rattle.link_run.specs.Step.{countIn, sendersIn, takenIn, rowNumber, callTaken, requestsTaken, callsTaken, masterBehind, mastersBehind, linkBehind, startsBehind, LateReady, LateStepIs, lateNumbers, LateRunIs};
 
 // 1 for a party that sends: its number is the character, or 256 for none.
 fn count_of(code: u16) -> u8
@@ -69,7 +71,7 @@ fn master_number(did: MasterDid, code: u16) -> u8
 }
 
 // The number of a tick in which each party sent this and the masters' hosts were answered so.
-pub fn tick_number(row: &[u16; 8], masters: [MasterDid; 2]) -> u8
+fn tick_number(row: &[u16; 8], masters: [MasterDid; 2]) -> u8
     ensures { λ r. ⌜ r ≡ rowNumber (before row) masters ⌝ }
 {
     let senders = senders_of(row);
@@ -78,17 +80,116 @@ pub fn tick_number(row: &[u16; 8], masters: [MasterDid; 2]) -> u8
     senders + 16 * a + 32 * b
 }
 
-// A link behind a tick of a list, the tick's number, and the place behind it.
-pub struct Stepped {
-    pub link: Link,
-    pub number: u8,
-    pub next: usize,
+// In how many ticks each master starts: 0 for one that has started.
+pub struct StartTicks {
+    pub primary: u64,
+    pub secondary: u64,
 }
 
-// The tick that stands at this place of the list.
-fn step_at(
+fn less_one(n: u64) -> u64
+    ensures { λ r. ⌜ r ≡ n - 1 ⌝ }
+{
+    if n == 0 {
+        return 0;
+    }
+    n - 1
+}
+
+// The same a tick later.
+fn starts_behind(s: StartTicks) -> StartTicks
+    ensures { λ r. ⌜ r ≡ startsBehind s ⌝ }
+{
+    StartTicks {
+        primary: less_one(s.primary),
+        secondary: less_one(s.secondary),
+    }
+}
+
+// The call that is taken of a master's host: none before the master has started.
+fn call_taken(start: u64, c: MasterCall) -> MasterCall
+    ensures { λ r. ⌜ r ≡ callTaken start c ⌝ }
+{
+    if start == 0 {
+        return c;
+    }
+    let part = c.part;
+    MasterCall {
+        call: master::MasterHostCall::Nothing,
+        part: part,
+    }
+}
+
+fn requests_taken(s: StartTicks, requests: [MasterCall; 2]) -> [MasterCall; 2]
+    ensures { λ r. ⌜ r ≡ requestsTaken s requests ⌝ }
+{
+    let p = call_taken(s.primary, requests[0]);
+    let q = call_taken(s.secondary, requests[1]);
+    [p, q]
+}
+
+fn calls_taken(s: StartTicks, calls: Calls) -> Calls
+    ensures { λ r. ⌜ r ≡ callsTaken s calls ⌝ }
+{
+    let requests = calls.masters;
+    let devices = calls.devices;
+    let masters = requests_taken(s, requests);
+    Calls {
+        masters: masters,
+        devices: devices,
+    }
+}
+
+// A master behind a tick: the same as before it while it has not started.
+fn master_behind(start: u64, before: Master, ticked: Master) -> Master
+    ensures { λ r. ⌜ r ≡ masterBehind start before ticked ⌝ }
+{
+    if start == 0 {
+        return ticked;
+    }
+    before
+}
+
+fn masters_behind(s: StartTicks, before: [Master; 2], ticked: [Master; 2]) -> [Master; 2]
+    ensures { λ r. ⌜ r ≡ mastersBehind s before ticked ⌝ }
+{
+    let p = master_behind(s.primary, before[0], ticked[0]);
+    let q = master_behind(s.secondary, before[1], ticked[1]);
+    [p, q]
+}
+
+// The link behind a tick.
+fn link_behind(s: StartTicks, l: Link, t: Link) -> Link
+    ensures { λ r. ⌜ r ≡ linkBehind s l t ⌝ }
+{
+    let before = l.masters;
+    let ticked = t.masters;
+    let devices = t.devices;
+    let line = t.line;
+    let masters = masters_behind(s, before, ticked);
+    Link {
+        masters: masters,
+        devices: devices,
+        line: line,
+    }
+}
+
+// A link behind a tick of a list, the tick's number, and the place behind it.
+struct Stepped {
+    link: Link,
+    number: u8,
+    next: usize,
+}
+
+// A link with a data limit whose masters have so many ticks to wait for their start.
+struct Late {
     limit: u8,
-    l: Link,
+    link: Link,
+    starts: StartTicks,
+}
+
+// The tick that stands at this place of the list. All parties are ticked: a master that has not started has no call, sends nothing and is put back as it was.
+fn step_at(
+    x: Late,
     ticks: &[u8],
     at: usize,
     frames: &mut [[u8; 284]; 8],
@@ -96,19 +197,23 @@ fn step_at(
     contents: &mut [[u8; 255]; 6],
     sent: &mut [[u16; 8]; 64],
 ) -> Stepped
-    ensures { λ r. ⌜ SteppedIs limit l (before ticks) at frames bytes contents r ⌝ }
+    ensures { λ r. ⌜ LateStepIs (x .limit) (x .link) (x .starts) (before ticks) at frames bytes contents r ⌝ }
 {
+    let limit = x.limit;
+    let l = x.link;
+    let s = x.starts;
     let read = tick_list::read(ticks, at);
-    let calls = read.calls;
+    let listed = read.calls;
+    let calls = calls_taken(s, listed);
     let most = Most {
         ticks: 1,
         data: limit,
     };
     let t = link_ticks::ticks(most, l, calls, ticks, frames, bytes, contents, sent);
-    let link = t.link;
+    let ticked = t.link;
     let masters = t.masters;
     Stepped {
-        link: link,
+        link: link_behind(s, l, ticked),
         number: tick_number(&sent[0], masters),
         next: read.next,
     }
@@ -118,18 +223,19 @@ fn step_at(
 fn run_from(
     limit: u8,
     start: Link,
+    starts: StartTicks,
     ticks: &[u8],
     events: &mut [u8],
     frames: &mut [[u8; 284]; 8],
     bytes: &mut [[u8; 255]; 8],
     contents: &mut [[u8; 255]; 6],
 ) -> usize
-    requires { ⌜ length (start .devices) ≡ 6 ⌝ }
-    ensures { λ r. ⌜ RunIs (allNumbers limit start (rowsOf (before frames) (before bytes) (before contents)) (before ticks))
-        (before events) r (after events) ⌝ }
+    requires { ⌜ LateReady starts start ⌝ }
+    ensures { λ r. ⌜ LateRunIs limit start starts (before ticks) events frames bytes contents r ⌝ }
 {
     let mut sent = [[256u16; 8]; 64];
     let mut l = start;
+    let mut s = starts;
     let mut at = 0;
     let mut i = 0;
     while i < events.len() {
@@ -138,18 +244,24 @@ fn run_from(
         }
         let place = i;
         i += 1;
-        let s = step_at(limit, l, ticks, at, frames, bytes, contents, &mut sent);
-        events[place] = s.number;
-        at = s.next;
-        l = s.link;
+        let x = Late {
+            limit: limit,
+            link: l,
+            starts: s,
+        };
+        let t = step_at(x, ticks, at, frames, bytes, contents, &mut sent);
+        events[place] = t.number;
+        at = t.next;
+        l = t.link;
+        s = starts_behind(s);
     }
     i
 }
 
 // A run of a link that was started, with rows of its own.
-fn run_started(limit: u8, start: Link, ticks: &[u8], events: &mut [u8]) -> usize
-    requires { ⌜ length (start .devices) ≡ 6 ⌝ }
-    ensures { λ r. ⌜ RunIs (numbersOf (runSteps limit (lentFresh start) (ticksOf (heres (start .devices)) (before ticks)))) (before events) r (after events) ⌝ }
+fn run_started(limit: u8, start: Link, starts: StartTicks, ticks: &[u8], events: &mut [u8]) -> usize
+    requires { ⌜ LateReady starts start ⌝ }
+    ensures { λ r. ⌜ RunIs (lateNumbers limit start starts rowsFresh (before ticks)) (before events) r (after events) ⌝ }
 {
     let mut frames = [[0u8; 284]; 8];
     let mut bytes = [[0u8; 255]; 8];
@@ -157,6 +269,7 @@ fn run_started(limit: u8, start: Link, ticks: &[u8], events: &mut [u8]) -> usize
     run_from(
         limit,
         start,
+        starts,
         ticks,
         events,
         &mut frames,
@@ -171,7 +284,34 @@ pub enum RunEnded {
     Refused(Refusal),
 }
 
-// Starts a link with a data limit and runs it over a lent list of ticks. Each tick's number goes to the front of the lent events, for as many ticks as both hold. What is promised is the run that the definitions give, demand 3, the credited answer and the BACKs of it, and at most one sender in each number.
+// Starts a link with a data limit, whose devices start in tick 0 and whose masters in the ticks that are named, and runs it over a lent list of ticks. Each tick's number goes to the front of the lent events, for as many ticks as both hold. What is promised is the run that the definitions give, and item 14 of it.
+pub fn late_run(
+    limit: usize,
+    profile: Profile,
+    retries: u8,
+    settings: [Setting; 6],
+    starts: StartTicks,
+    ticks: &[u8],
+    events: &mut [u8],
+) -> RunEnded
+    ensures { λ r. ⌜ LateKeeps limit profile retries settings (starts .primary) (starts .secondary) (before ticks) (before events) r (after events) ⌝ }
+{
+    let started = link_start::start_limited(limit, profile, retries, settings);
+    let answer = started.answer;
+    let link = started.link;
+    match answer {
+        StartAnswer::Started => RunEnded::Ran(run_started(
+            limit as u8,
+            link,
+            starts,
+            ticks,
+            events,
+        )),
+        StartAnswer::Refused(why) => RunEnded::Refused(why),
+    }
+}
+
+// The same with both starts in tick 0. What is promised is the run that the definitions give, demand 3, the credited answer and the BACKs of it, and at most one sender in each number.
 pub fn run(
     limit: usize,
     profile: Profile,
@@ -182,11 +322,9 @@ pub fn run(
 ) -> RunEnded
     ensures { λ r. ⌜ RunKeeps limit profile retries settings (before ticks) (before events) r (after events) ⌝ }
 {
-    let started = link_start::start_limited(limit, profile, retries, settings);
-    let answer = started.answer;
-    let link = started.link;
-    match answer {
-        StartAnswer::Started => RunEnded::Ran(run_started(limit as u8, link, ticks, events)),
-        StartAnswer::Refused(why) => RunEnded::Refused(why),
-    }
+    let starts = StartTicks {
+        primary: 0,
+        secondary: 0,
+    };
+    late_run(limit, profile, retries, settings, starts, ticks, events)
 }

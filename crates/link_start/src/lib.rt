@@ -262,7 +262,7 @@ fn refused_link(why: Refusal) -> LinkStarted
     }
 }
 
-// The same with a data limit: the lowest refusal is 2, 3, 4, or 9 for a limit outside 2 to 255. The link does not hold the limit: whoever starts it gives the same number to every `link_ticks::ticks` of it, as the runs of link_run and late_run do.
+// The same with a data limit: the lowest refusal is 2, 3, 4, or 9 for a limit outside 2 to 255. The link does not hold the limit: whoever starts it gives the same number to every `link_ticks::ticks` of it, as the runs of link_run do.
 pub fn start_limited(
     limit: usize,
     profile: Profile,

@@ -12,8 +12,8 @@ use Rattle.parties.specs.declared.Link.{Link}
 use Rattle.link_start.specs.Start.{limitedStarts}
 use Rattle.link_start.specs.declared.Setting.{Setting}
 use Rattle.link_run.specs.Run.{numbersOf, ranAs, ranBy}
+use Rattle.link_run.specs.Late.{lateStepsBy, lateSteps, LateKeeps}
 use Rattle.link_run.specs.declared.RunEnded.{RunEnded}
-use Rattle.late_run.specs.Late.{lateStepsBy, lateSteps, LateKeeps}
 use Rattle.run_c.specs.Settings.{refusalOf, countOf, EndsAs, RunsAs}
 
 -- ---- a run whose start was refused

@@ -11,8 +11,8 @@ use Rattle.line.specs.declared.Profile.{Profile}
 use Rattle.link_start.specs.Start.{limitedStarts}
 use Rattle.link_start.specs.declared.Setting.{Setting}
 use Rattle.link_run.specs.Run.{numbersOf, ranAs}
+use Rattle.link_run.specs.Late.{lateSteps}
 use Rattle.link_run.specs.declared.RunEnded.{RunEnded}
-use Rattle.late_run.specs.Late.{lateSteps}
 
 abbrev pub profileOf : ℕ → ℕ → ℕ → ℕ → ℕ → Profile
 profileOf sto hold rt2 rt1p rt1s = record { sto = sto; hold = hold; rt2 = rt2; rt1p = rt1p; rt1s = rt1s }

@@ -1,7 +1,7 @@
 // A run of the link for programs in C and Rust, in which each master starts at a tick of its own.
-use late_run::StartTicks;
 use line::Profile;
 use link_run::RunEnded;
+use link_run::StartTicks;
 use link_start::Setting;
 ghost use mathlib.Core.Path.{_≡_};
 ghost use lib.ListN.{length};
@@ -91,6 +91,6 @@ pub extern "C" fn nengapiko_run(
         secondary: secondary,
     };
     let settings = settings_of(preambles, pollings, uniques);
-    let ended = late_run::run(limit, profile, retries, settings, starts, ticks, events);
+    let ended = link_run::late_run(limit, profile, retries, settings, starts, ticks, events);
     end_run(ended, refusal)
 }

@@ -1,4 +1,4 @@
-use Rattle.link_run.proofs.Kept.{kept}
+use Rattle.link_run.proofs.LateKept.{common-kept}
 use borrow.Author.Needs.{needs}
 use Rattle.link_run.proofs.run.Statement.{statement}
 use Rattle.link_run.proofs.run.Tie as tie
@@ -9,9 +9,4 @@ run-spec =
     (tie.spec
     (λ c κs. search needs)
     (λ c. search needs)
-    (λ c. search (needs, kept))
-    (λ c κs. search (needs, kept))
-    (λ c. search needs)
-    (λ c. search needs)
-    (λ c. search (needs, kept))
-    (λ c. search (needs, kept)))
+    (λ c. search (needs, common-kept)))

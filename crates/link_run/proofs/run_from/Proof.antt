@@ -2,16 +2,16 @@ use borrow.Author.Needs.{needs}
 use Prim.Native.Nat.{_-_}
 use lib.ListN.{length}
 use Rattle.parties.specs.Stands.{rowsOf, heres}
-use Rattle.link_run.specs.Step.{allNumbers}
+use Rattle.link_run.specs.Step.{lateNumbers}
 use Rattle.link_run.proofs.Going.{Going, goings}
 use Rattle.link_run.proofs.run_from.Statement.{statement}
 use Rattle.link_run.proofs.run_from.Tie as tie
 
 abbrev Inv-loop : tie.InvT-loop
-Inv-loop limit ticks events₀ frames₀ bytes₀ contents₀ sent₀ l₀ at₀ i₀ events frames bytes contents sent l at i = Going limit (heres (l₀ .devices)) (allNumbers limit l₀ (rowsOf frames₀ bytes₀ contents₀) ticks) ticks events₀ l (rowsOf frames bytes contents) events at i
+Inv-loop limit ticks events₀ frames₀ bytes₀ contents₀ sent₀ l₀ s₀ at₀ i₀ events frames bytes contents sent l s at i = Going limit (heres (l₀ .devices)) (lateNumbers limit l₀ s₀ (rowsOf frames₀ bytes₀ contents₀) ticks) ticks events₀ l s (rowsOf frames bytes contents) events at i
 
 abbrev μ-loop : tie.MeasureT-loop
-μ-loop limit ticks events₀ frames₀ bytes₀ contents₀ sent₀ l₀ at₀ i₀ events frames bytes contents sent l at i = length events₀ - i
+μ-loop limit ticks events₀ frames₀ bytes₀ contents₀ sent₀ l₀ s₀ at₀ i₀ events frames bytes contents sent l s at i = length events₀ - i
 
 pub run-from-spec : {M : Type 1} → statement M
 run-from-spec =
@@ -25,6 +25,7 @@ run-from-spec =
     (λ c. search (needs, goings))
     (λ c κs. search (needs, goings))
     (λ c. search (needs, goings))
+    (λ c κs. search (needs, goings))
     (λ c. search (needs, goings))
     (λ c. search (needs, goings))
     (λ c. search (needs, goings))

@@ -1,4 +1,4 @@
-use Rattle.link_run.proofs.Steps.{step-is}
+use Rattle.link_run.proofs.LateSteps.{step-taken}
 use borrow.Author.Needs.{needs}
 use Rattle.link_run.proofs.step_at.Statement.{statement}
 use Rattle.link_run.proofs.step_at.Tie as tie
@@ -9,6 +9,8 @@ step-at-spec =
     (tie.spec
     (λ c κs. search needs)
     (λ c κs. search needs)
+    (λ c κs. search needs)
+    (λ c κs. search needs)
     (λ c. search needs)
     (λ c κs. search needs)
-    (λ c. search (needs, step-is)))
+    (λ c. search (needs, step-taken)))

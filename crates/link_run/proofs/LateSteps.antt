@@ -1,4 +1,4 @@
--- Laws of one tick of such a run: what a fresh master does that is ticked without a call, and that the tick of the code is `lateTick` of turns.
+-- Laws of one tick in which a master may not have started: what a fresh master does that is ticked without a call, and that the tick of the code is `lateTick` of runs.
 use Prim.Native.Nat.{ℕ, zero, suc, _+_, _-_, _*_, _<_}
 use native.Mathlib.Omega.{arith}
 use mathlib.Core.Path.{_≡_, refl, sym, ap, subst, _∙_}
@@ -31,12 +31,11 @@ use Rattle.link_ticks.specs.Ticks as T
 use Rattle.link_ticks.proofs.Answers.{stepWith, one-link}
 use Rattle.tick_list.specs.Read.{tickAt}
 use Rattle.tick_list.specs.declared.TickRead.{TickRead}
 use Rattle.link_run.specs.Run.{taken, tickNumber}
-use Rattle.link_run.specs.Step.{rowNumber}
+use Rattle.link_run.specs.Step.{rowNumber, startsBehind, callTaken, callsTaken, masterBehind, linkBehind, Fresh, LateReady, stepAt, LateStepping}
+use Rattle.link_run.specs.declared.StartTicks.{StartTicks}
 use Rattle.link_run.proofs.Going.{heres-length}
 use Rattle.link_run.proofs.Steps.{number-agrees, calls-read, next-read}
-use Rattle.late_run.specs.Step.{startsBehind, callTaken, callsTaken, masterBehind, linkBehind, Fresh, LateReady, stepAt, LateStepping}
-use Rattle.late_run.specs.declared.StartTicks.{StartTicks}
 
 -- ---- a master
 

@@ -1,7 +1,7 @@
-use Rattle.late_run.proofs.Parts.{parts}
+use Rattle.link_run.proofs.Parts.{parts}
 use borrow.Author.Needs.{needs}
-use Rattle.late_run.proofs.starts_behind.Statement.{statement}
-use Rattle.late_run.proofs.starts_behind.Tie as tie
+use Rattle.link_run.proofs.starts_behind.Statement.{statement}
+use Rattle.link_run.proofs.starts_behind.Tie as tie
 
 pub starts-behind-spec : {M : Type 1} → statement M
 starts-behind-spec =

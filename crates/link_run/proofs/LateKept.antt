@@ -1,4 +1,4 @@
--- Such a run keeps its promise: by whether its start was accepted.
+-- A run with two start ticks keeps its promise: by whether its start was accepted.
 use Prim.Native.Nat.{ℕ, zero, suc, _≤_, _<_}
 use native.Mathlib.Omega.{arith}
 use mathlib.Core.Bool.{Bool, true}
@@ -17,7 +17,7 @@ use Rattle.turns.specs.Link.{DeviceSide, LinkStep}
 use Rattle.turns.specs.Run.{All, none, and, Distinct, DeviceStarts, EachTick, count, senders}
 use Rattle.turns.specs.Ledgers.{blanks, OneFinds}
 use Rattle.turns.specs.Demand3.{masterIn, NoneBurstsIn}
-use Rattle.runs.specs.Late.{lateRun, Started, starts-now, inTick, sendersIn, BeginTogether, InOverlap, LateStart}
+use Rattle.runs.specs.Late.{Started, starts-now, inTick, sendersIn, BeginTogether, InOverlap, LateStart}
 use Rattle.turns.specs.declared.Master.{Master}
 use Rattle.turns.proofs.Fresh.{master-is}
 use Rattle.runs.proofs.Item14.{item-14}
@@ -29,15 +29,15 @@ use Rattle.link_start.specs.Start.{limitedStarts, made, LimitedIs}
 use Rattle.link_start.specs.declared.Setting.{Setting}
 use Rattle.link_start.specs.declared.LinkStarted.{LinkStarted}
 use Rattle.link_start.specs.declared.StartAnswer.{StartAnswer}
-use Rattle.link_start.proofs.Started.{masters-start, all-start, limited-bounds, limited-link}
+use Rattle.link_start.proofs.Started.{masters-start, slots-started, all-start, limited-bounds, limited-link}
 use Rattle.tick_list.specs.Ticks.{ticksOf}
 use Rattle.link_run.specs.Run.{stepsBy, stepsOf, devicesBy, callsBy, numbersOf, ranAs, ranBy, written, RunKeeps}
+use Rattle.link_run.specs.Late.{lateStepsBy, lateSteps, LateRunPremises, Item14Of, LateKeeps}
+use Rattle.link_run.specs.Step.{Fresh, LateReady, lateNumbers}
 use Rattle.link_run.specs.declared.RunEnded.{RunEnded}
-use Rattle.link_run.proofs.Kept.{was-started, six-slots, run-keeps, limit-small}
+use Rattle.link_run.specs.declared.StartTicks.{StartTicks}
+use Rattle.link_run.proofs.Kept.{run-keeps}
 use Rattle.link_run.proofs.Senders.{written-tells}
-use Rattle.late_run.specs.Late.{lateStepsBy, lateSteps, LateRunPremises, Item14Of, LateKeeps}
-use Rattle.late_run.specs.Step.{Fresh, LateReady, lateNumbers}
-use Rattle.late_run.specs.declared.StartTicks.{StartTicks}
 
 -- ---- item 14
 
@@ -118,11 +118,16 @@ fresh : (p : Profile) (primary : Bool) (retries : ℕ) (m : Master) → masterSt
 fresh p primary retries m e = subst Fresh (sym (master-is p primary retries m e)) (record { hears-nothing = refl; no-message = refl })
 
 module _ (limit : ℕ) (p : Profile) (retries : ℕ) (s : List Setting) (starts : StartTicks) (ticks before : List ℕ) (started : LinkStarted) (six : length s ≡ 6) (q : LimitedIs limit p retries s started) where
+  -- what the answer says of the start
+  was-started : started .answer ≡ StartAnswer.Started → limitedStarts limit p retries s ≡ accepted (started .link)
+  was-started e = sym (q .answer-is) ∙ ap (made (started .link)) e
+
   pub start-ready : started .answer ≡ StartAnswer.Started → LateReady starts (started .link)
   start-ready e =
-      let masters = masters-start p retries s six (started .link) (limited-link limit p retries s (started .link) (was-started limit p retries s ticks before started six q e)) in
+      let link = limited-link limit p retries s (started .link) (was-started e) in
+      let masters = masters-start p retries s six (started .link) link in
       record {
-        six = six-slots limit p retries s ticks before started six q e;
+        six = slots-started p retries s (started .link) link ∙ six;
         primary = λ h. fresh p _ retries (getD (started .link .masters) 0 anyMaster) (masters .0);
         secondary = λ h. fresh p _ retries (getD (started .link .masters) 1 anyMaster) (masters .1);
       }
@@ -146,16 +151,21 @@ module _ (limit : ℕ) (p : Profile) (retries : ℕ) (s : List Setting) (starts 
         common-start = λ f g. as-common limit p retries s six a b ticks before r after f g result stores;
       }
 
-  pub limit-fits : started .answer ≡ StartAnswer.Started → limit < 256
-  limit-fits e = limit-small limit p retries s ticks before started six q e
+  -- its limit is a byte
+  pub limit-small : started .answer ≡ StartAnswer.Started → limit < 256
+  limit-small e = omega (arith, limited-bounds limit p retries s (started .link) (was-started e))
 
   pub run-accepted : (n : ℕ) (after : List ℕ) → started .answer ≡ StartAnswer.Started → RunIs (lateNumbers limit (started .link) starts rowsFresh ticks) before n after
       → LateKeeps limit p retries s (starts .primary) (starts .secondary) ticks before (RunEnded.Ran n) after
   run-accepted n after e r =
-      promised (accepted (started .link)) (RunEnded.Ran n) after (was-started limit p retries s ticks before started six q e) (ap (λ (k : ℕ). accepted k) (r .returned)) (r .events)
+      promised (accepted (started .link)) (RunEnded.Ran n) after (was-started e) (ap (λ (k : ℕ). accepted k) (r .returned)) (r .events)
 
   pub run-refused : (why : Refusal) → started .answer ≡ StartAnswer.Refused why → LateKeeps limit p retries s (starts .primary) (starts .secondary) ticks before (RunEnded.Refused why) before
   unfolding numbersOf stored
   run-refused why e = promised (refused (number why)) (RunEnded.Refused why) before (sym (q .answer-is) ∙ ap (made (started .link)) e) refl (sym (ap (λ (l : List ℕ). stored before 0 l) (take-nil (length before))))
 
-pub ruleset kept = (refl, start-ready, limit-fits, run-accepted, run-refused)
+pub ruleset kept = (refl, start-ready, limit-small, run-accepted, run-refused)
+
+-- what is promised where both masters start in tick 0
+pub common-kept : (limit : ℕ) (p : Profile) (retries : ℕ) (s : List Setting) (ticks before : List ℕ) (r : RunEnded) (after : List ℕ) → LateKeeps limit p retries s 0 0 ticks before r after → RunKeeps limit p retries s ticks before r after
+common-kept limit p retries s ticks before r after k = k .common-start refl refl

@@ -13,8 +13,8 @@ use Rattle.parties.specs.declared.Link.{Link}
 use Rattle.parties.specs.declared.MasterCall.{MasterCall}
 use Rattle.parties.specs.declared.Slot.{Slot}
 use Rattle.link_ticks.proofs.Lists.{any-default}
-use Rattle.late_run.specs.Step.{startsBehind, callTaken, masterBehind}
-use Rattle.late_run.specs.declared.StartTicks.{StartTicks}
+use Rattle.link_run.specs.Step.{startsBehind, callTaken, masterBehind}
+use Rattle.link_run.specs.declared.StartTicks.{StartTicks}
 
 pub starts-later : (s : StartTicks) (p q : ℕ) → p ≡ s .primary - 1 → q ≡ s .secondary - 1 → _≡_ {A = StartTicks} (record { primary = p; secondary = q }) (startsBehind s)
 starts-later s p q e f = λ i. record { primary = e i; secondary = f i }

@@ -1,7 +1,7 @@
 use borrow.Author.Needs.{needs}
-use Rattle.late_run.proofs.Parts.{parts}
-use Rattle.late_run.proofs.requests_taken.Statement.{statement}
-use Rattle.late_run.proofs.requests_taken.Tie as tie
+use Rattle.link_run.proofs.Parts.{parts}
+use Rattle.link_run.proofs.requests_taken.Statement.{statement}
+use Rattle.link_run.proofs.requests_taken.Tie as tie
 
 pub requests-taken-spec : {M : Type 1} → statement M
 requests-taken-spec =

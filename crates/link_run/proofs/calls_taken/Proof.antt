@@ -1,7 +1,7 @@
-use Rattle.late_run.proofs.Parts.{parts}
+use Rattle.link_run.proofs.Parts.{parts}
 use borrow.Author.Needs.{needs}
-use Rattle.late_run.proofs.calls_taken.Statement.{statement}
-use Rattle.late_run.proofs.calls_taken.Tie as tie
+use Rattle.link_run.proofs.calls_taken.Statement.{statement}
+use Rattle.link_run.proofs.calls_taken.Tie as tie
 
 pub calls-taken-spec : {M : Type 1} → statement M
 calls-taken-spec =

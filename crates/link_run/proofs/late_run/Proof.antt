@@ -1,10 +1,10 @@
-use Rattle.late_run.proofs.Kept.{kept}
+use Rattle.link_run.proofs.LateKept.{kept}
 use borrow.Author.Needs.{needs}
-use Rattle.late_run.proofs.run.Statement.{statement}
-use Rattle.late_run.proofs.run.Tie as tie
+use Rattle.link_run.proofs.late_run.Statement.{statement}
+use Rattle.link_run.proofs.late_run.Tie as tie
 
-pub run-spec : {M : Type 1} → statement M
-run-spec =
+pub late-run-spec : {M : Type 1} → statement M
+late-run-spec =
     tie.close
     (tie.spec
     (λ c κs. search needs)
