@@ -14,12 +14,12 @@ use Rattle.turns.specs.Link.{MasterCall, requests, MasterSide, MasterStep, mast
 use Rattle.turns.specs.Run.{MasterStarts}
 use Rattle.turns.specs.Demand3 as D
 use Rattle.turns.specs.Demand3.{masterIn, AcceptedIn}
-use Rattle.runs.specs.Late.{lateMaster, lateTick, lateRun}
+use Rattle.runs.specs.Late.{lateMaster, lateTick, lateRun, FirstStxInALateRun}
 use Rattle.turns.specs.Gaps.{IsFrame}
 use Rattle.turns.specs.Attempts as Q
 use Rattle.turns.specs.Attempts.{MessageLog, no-message, in-hand, stxHeader, Reports, no-report, is-answered, is-given-up, is-sent-once, behindReport, Asked, asks-nothing, Sends}
 use Rattle.runs.specs.FirstStx as F
-use Rattle.runs.specs.FirstStx.{callIn, GoesOut, FirstStx, FirstStxIn, FirstStxInARun, FirstStxInALateRun, CharacterIsFirst}
+use Rattle.runs.specs.FirstStx.{callIn, GoesOut, FirstStx, FirstStxIn, FirstStxInARun, CharacterIsFirst}
 use Rattle.turns.specs.declared.Sent.{Sent}
 use Rattle.turns.specs.declared.Master.{Master}
 use Rattle.turns.specs.declared.MasterTold.{MasterTold}

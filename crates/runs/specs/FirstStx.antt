@@ -9,10 +9,9 @@ use Rattle.frame.specs.Frame.{frameBytes}
 use Rattle.line.specs.declared.Profile.{Profile}
 use Rattle.turns.specs.Party.{Request}
 use Rattle.turns.specs.Link.{MasterCall, requests, Link, LinkStep, Calls, run}
-use Rattle.turns.specs.Run.{MasterStarts, Starts}
+use Rattle.turns.specs.Run.{Starts}
 use Rattle.turns.specs.Demand3 as Demand3
 use Rattle.turns.specs.Demand3.{masterIn, AcceptedIn, BeginsWithin}
-use Rattle.runs.specs.Late.{lateRun}
 use Rattle.turns.specs.Attempts.{stxHeader}
 use Rattle.turns.specs.declared.Sent.the-variants.{Silent, Character}
 
@@ -42,14 +41,9 @@ FirstStxIn ticks steps =
     → drop t ticks ≡ c ∷ later → drop t steps ≡ s ∷ after → callIn primary c ≡ requests q put → AcceptedIn primary s
     → FirstStx primary (frameBytes (q .preamble) (stxHeader primary q) put) (s ∷ after)
 
--- in the run of the common start, and in one in which each master starts at a tick of its own; of the premises only the masters' starts are needed
+-- in a run; of demand 3's premises only the start is needed
 abbrev pub FirstStxInARun : ℕ → Type 0
 FirstStxInARun limit = (p : Profile) (retries : ℕ) (l : Link) (ticks : List Calls) → Starts p retries l → FirstStxIn ticks (run limit l ticks)
-
-abbrev pub FirstStxInALateRun : ℕ → Type 0
-FirstStxInALateRun limit =
-    (p : Profile) (retries a b : ℕ) (l : Link) (ticks : List Calls) → MasterStarts p true retries (l .primary)
-    → MasterStarts p false retries (l .secondary) → FirstStxIn ticks (lateRun limit a b l ticks)
 
 -- the character that BeginsWithin speaks of
 abbrev pub characterOf : {primary : Bool} {n : ℕ} {ss : List LinkStep} → BeginsWithin primary n ss → ℕ

@@ -22,6 +22,7 @@ use Rattle.turns.specs.Link.{MasterCall, MasterSide, MasterStep, DeviceCall, De
 use Rattle.turns.specs.Run.{All, Distinct, MasterStarts, DeviceStarts, count, deviceSenders, senders, EachTick}
 use Rattle.turns.specs.Ledgers.{blanks, OneFinds}
 use Rattle.turns.specs.Demand3.{masterIn, AcceptedIn, BeginsWithin, NoneBurstsIn, longestWait}
+use Rattle.runs.specs.FirstStx.{FirstStxIn}
 use Rattle.turns.specs.declared.MasterTold.{MasterTold}
 use Rattle.turns.specs.declared.Sent.{Sent}
 use Rattle.turns.specs.declared.Sent.the-variants.{Silent, Character}
@@ -180,6 +181,12 @@ abbrev pub LateWaitIn : ℕ → Profile → ℕ → ℕ → ℕ → List LinkSte
 LateWaitIn limit p retries a b steps =
     (primary : Bool) (t : ℕ) (s : LinkStep) (after : List LinkStep) → drop t steps ≡ s ∷ after → Claimed a b steps t → AcceptedIn primary s
     → longestWait limit p retries < length (s ∷ after) → BeginsWithin primary (longestWait limit p retries) (s ∷ after)
+
+-- "Its first character is the first of its first STX" here, too, as FirstStx says it of the common start; of the premises only the masters' starts are needed
+abbrev pub FirstStxInALateRun : ℕ → Type 0
+FirstStxInALateRun limit =
+    (p : Profile) (retries a b : ℕ) (l : Link) (ticks : List Calls) → MasterStarts p true retries (l .primary)
+    → MasterStarts p false retries (l .secondary) → FirstStxIn ticks (lateRun limit a b l ticks)
 
 -- ---- item 14
 
