@@ -27,12 +27,21 @@ fn print_converted(size: usize, script: &[u8], out: &mut [u8]) {
     }
 }
 
-// The script on standard input. A good one longer than the room has a tick too large to turn back.
+// A good script that is longer than the room: its stop's tick is too large to turn back, or the result has no room.
+fn print_long(stop: u32) {
+    if 65535 < stop {
+        script_input::print_refusal(Refusal::TickTooLarge);
+        return;
+    }
+    script_input::print_refusal(Refusal::BufferShort);
+}
+
+// The script on standard input.
 fn convert_input(size: usize, form: Form, script: &mut [u8; ROOM], out: &mut [u8; ROOM]) {
     let input = script_input::read(form, script);
     match input {
         Input::Whole(n) => print_converted(size, texts::front(script, n), out),
-        Input::LongGood => script_input::print_refusal(Refusal::TickTooLarge),
+        Input::LongGood(stop) => print_long(stop),
         Input::LongBad => script_input::print_refusal(Refusal::BadScript),
     }
 }

@@ -82,7 +82,7 @@ fn play_input(form: Form, script: &mut [u8; ROOM]) {
     let input = script_input::read(form, script);
     match input {
         Input::Whole(n) => play_form(form, texts::front(script, n)),
-        Input::LongGood => script_input::print_refusal(Refusal::BufferShort),
+        Input::LongGood(_) => script_input::print_refusal(Refusal::BufferShort),
         Input::LongBad => script_input::print_refusal(Refusal::BadScript),
     }
 }

@@ -1,66 +1,27 @@
--- The check of a script, record by record: what is left is as good as the whole.
-use Prim.Native.Nat.{ℕ, _+_, _-_, _%_, _≤_, _<_}
+-- A good script, and that it is good after nothing: the marks of the walk stand for the parties that have calls.
+use Prim.Native.Nat.{ℕ, _+_, _%_, _≤_, _<_}
 use native.Mathlib.Decide.{decLe}
 use native.Mathlib.Omega.{arith}
 use mathlib.Core.Bool.{Bool, true, false}
 use mathlib.Core.Path.{_≡_, refl, sym, ap, _∙_}
 use mathlib.Core.List.{List, [], _∷_}
-use lib.ListN.{length, drop, getD, set, replicate, length-set, getD-replicate}
+use lib.ListN.{length, getD, set, replicate, length-set, getD-replicate}
 use lib.Seq.{getD-set-same, getD-set-other}
-use borrow.Author.Tests.{ltb-false, le-ltb, lt-ltb, eq-eqb, ne-eqb}
+use borrow.Author.Tests.{ltb-false, le-ltb, lt-ltb, eq-eqb, ne-eqb, eqb-true, eqb-false}
 use Rattle.base.specs.Choice.{if_then_else_, _<?_, _=?_}
 use Rattle.base.proofs.Choices.{true-false, if-true, if-false, if-is-true, if-is-false, went-else}
 use Rattle.base.proofs.Tables.{chain-first, chain-second}
 use Rattle.script.specs.Script.{width, recordsIn, isStop, isMasters, isDevices, isCall, isIn, calledBefore, isGood, goodIn}
-use Rattle.script.specs.Walk.{entryIn}
+use Rattle.script.specs.Pieces.{Gone, bad, upTo, nothing, withCall, restGood, goodAfter}
 use Rattle.script.specs.declared.Entry.{Entry}
 use Rattle.script.specs.declared.Form.{Form}
-use Rattle.script.proofs.Records.{width-some, records-more, records-none, records-last}
 
--- ---- the last record
-
-pub end-none : (f : Form) (script : List ℕ) (at last w : ℕ) → w ≡ width f → length script - at < w → false ≡ isGood last [] (recordsIn f (drop at script))
-unfolding isGood
-end-none f script at last w p h = sym (ap (isGood last []) (records-none f script at (omega (arith, p, h, width-some f))))
-
-end-is : (f : Form) (script : List ℕ) (at last : ℕ) (called : List ℕ) → at + width f ≤ length script → length script < at + width f + width f
-    → isGood last called (recordsIn f (drop at script)) ≡ (if entryIn f script at .tick <? last then false else isStop (entryIn f script at))
-unfolding isGood
-end-is f script at last called h k = ap (isGood last called) (records-last f script at h k)
-
--- a record begins here
-pub end-within : (f : Form) (script : List ℕ) (at w : ℕ) → w ≡ width f → w ≤ length script - at → at + width f ≤ length script
-end-within f script at w p h = omega (arith, p, h, width-some f)
-
-pub end-falls : (f : Form) (script : List ℕ) (at last w : ℕ) (e : Entry) → w ≡ width f → e ≡ entryIn f script at → w ≤ length script - at → length script < at + width f + width f → e .tick < last
-    → false ≡ isGood last [] (recordsIn f (drop at script))
-end-falls f script at last w e z p h k l =
-    if-true (e .tick <? last) false false (isStop e) (lt-ltb (e .tick) last l) refl
-    ∙ ap (λ (x : Entry). if x .tick <? last then false else isStop x) p
-    ∙ sym (end-is f script at last [] (end-within f script at w z h) k)
-
-pub end-stop : (f : Form) (script : List ℕ) (at last w : ℕ) (e : Entry) (r : Bool) → w ≡ width f → e ≡ entryIn f script at → w ≤ length script - at → length script < at + width f + width f → last ≤ e .tick → r ≡ isStop e
-    → r ≡ isGood last [] (recordsIn f (drop at script))
-end-stop f script at last w e r z p h k l q =
-    if-false (e .tick <? last) r false (isStop e) (le-ltb (e .tick) last l) q
-    ∙ ap (λ (x : Entry). if x .tick <? last then false else isStop x) p
-    ∙ sym (end-is f script at last [] (end-within f script at w z h) k)
-
-pub ruleset ends = (end-none, end-within, end-falls, end-stop)
-
--- ---- the records before it
+-- ---- one record
 
 abbrev step : ℕ → List ℕ → Entry → List Entry → Bool
 step last called e rest =
     if e .tick <? last then false else
     if isCall e then (if isIn (e .party) (calledBefore last called e) then false else isGood (e .tick) (e .party ∷ calledBefore last called e) rest) else false
-
-good-step : (f : Form) (script : List ℕ) (at last : ℕ) (called : List ℕ) → at + width f + width f ≤ length script → isGood last called (recordsIn f (drop at script)) ≡ step last called (entryIn f script at) (recordsIn f (drop (at + width f) script))
-unfolding isGood
-good-step f script at last called h =
-    ap (isGood last called) (records-more f script at (omega (arith, h)))
-    ∙ ap (λ (es : List Entry). isGood last called (entryIn f script at ∷ es)) (records-more f script (at + width f) h)
-    ∙ ap (λ (es : List Entry). step last called (entryIn f script at) es) (sym (records-more f script (at + width f) h))
 
 -- the code's mark of a party is one more than the tick of its last call: these parties are marked with the tick `last`, and none with a later one
 pub record Marked (seen : List ℕ) (last : ℕ) (called : List ℕ) : Type 0 where
@@ -118,93 +79,125 @@ call-party e r q t = go (decLe 8 (e .party))
         ∙ if-is-false (e .party <? 2) (isMasters (e .action)) (if e .party <? 8 then isDevices (e .action) else false) (le-ltb (e .party) 2 (omega arith))
         ∙ if-is-false (e .party <? 8) (isDevices (e .action)) false (le-ltb (e .party) 8 l)))
 
-pub record Checking (f : Form) (script seen : List ℕ) (last at : ℕ) : Type 0 where
-  pub within : at ≤ length script
-  pub called : List ℕ
-  pub marked : Marked seen last called
-  pub good : isGood last called (recordsIn f (drop at script)) ≡ isGood 0 [] (recordsIn f script)
-
-pub check-start : (f : Form) (script : List ℕ) → Checking f script (replicate 8 0) 0 0
+no-marks : Marked (replicate 8 0) 0 []
 unfolding isIn
-check-start f script = record {
-  within = omega arith;
-  called = [];
-  marked = record {
-    slots = refl;
-    marks = λ p h. ne-eqb (getD (replicate 8 0) p 0) 1 (λ q. omega (arith, getD-replicate {A = ℕ} 8 p 0 0 h));
-    past = λ p h. omega (arith, getD-replicate {A = ℕ} 8 p 0 0 h);
-  };
-  good = refl;
+no-marks = record {
+  slots = refl;
+  marks = λ p h. ne-eqb (getD (replicate 8 0) p 0) 1 (λ q. omega (arith, getD-replicate {A = ℕ} 8 p 0 0 h));
+  past = λ p h. omega (arith, getD-replicate {A = ℕ} 8 p 0 0 h);
 }
 
-module _ (f : Form) (script seen : List ℕ) (last at w : ℕ) (e : Entry) (same : w ≡ width f) (v : Checking f script seen last at) (p : e ≡ entryIn f script at) (h : w + w ≤ length script - at) where
-  two-left : at + width f + width f ≤ length script
-  two-left = omega (arith, same, h, width-some f)
+-- ---- a record more, after such marks
 
-  left-is : isGood 0 [] (recordsIn f script) ≡ step last (v .called) e (recordsIn f (drop (at + width f) script))
-  left-is = sym (v .good) ∙ good-step f script at last (v .called) two-left ∙ ap (λ (x : Entry). step last (v .called) x (recordsIn f (drop (at + width f) script))) (sym p)
+abbrev onCall : List ℕ → Entry → Gone
+onCall marks e = if getD marks (e .party) 0 =? (e .tick + 1) then bad else upTo (e .tick) (set marks (e .party) (e .tick + 1))
 
-  pub check-falls : e .tick < last → false ≡ isGood 0 [] (recordsIn f script)
-  check-falls l = sym (left-is ∙ if-is-true (e .tick <? last) _ _ (lt-ltb (e .tick) last l))
+module _ (last : ℕ) (marks : List ℕ) (e : Entry) where
+  call-is : withCall last marks e ≡ (if e .tick <? last then bad else if isCall e then onCall marks e else bad)
+  unfolding withCall
+  call-is = refl
 
-  rising-is : last ≤ e .tick → isGood 0 [] (recordsIn f script) ≡ (if isCall e then (if isIn (e .party) (calledBefore last (v .called) e) then false else isGood (e .tick) (e .party ∷ calledBefore last (v .called) e) (recordsIn f (drop (at + width f) script))) else false)
-  rising-is l = left-is ∙ if-is-false (e .tick <? last) _ _ (le-ltb (e .tick) last l)
+  pub call-falls : e .tick < last → withCall last marks e ≡ bad
+  call-falls l = call-is ∙ if-is-true (e .tick <? last) _ _ (lt-ltb (e .tick) last l)
 
-  pub check-no-call : (r : Bool) → last ≤ e .tick → r ≡ isCall e → r ≡ false → false ≡ isGood 0 [] (recordsIn f script)
-  check-no-call r l q f = sym (rising-is l ∙ if-is-false (isCall e) _ _ (sym q ∙ f))
+  rises-is : last ≤ e .tick → withCall last marks e ≡ (if isCall e then onCall marks e else bad)
+  rises-is l = call-is ∙ if-is-false (e .tick <? last) _ _ (le-ltb (e .tick) last l)
 
-  call-is : (r : Bool) → last ≤ e .tick → r ≡ isCall e → r ≡ true
-      → isGood 0 [] (recordsIn f script) ≡ (if isIn (e .party) (calledBefore last (v .called) e) then false else isGood (e .tick) (e .party ∷ calledBefore last (v .called) e) (recordsIn f (drop (at + width f) script)))
-  call-is r l q t = rising-is l ∙ if-is-true (isCall e) _ _ (sym q ∙ t)
+  pub call-none : last ≤ e .tick → isCall e ≡ false → withCall last marks e ≡ bad
+  call-none l q = rises-is l ∙ if-is-false (isCall e) _ _ q
 
-  pub check-twice : (r : Bool) → last ≤ e .tick → r ≡ isCall e → r ≡ true → getD seen (e .party) 0 ≡ e .tick + 1 → false ≡ isGood 0 [] (recordsIn f script)
-  check-twice r l q t s =
-      sym (call-is r l q t
-      ∙ if-is-true _ _ _ (sym (marked-before seen last (v .called) (v .marked) e l (e .party) (call-party e r q t)) ∙ eq-eqb _ _ s))
+  pub call-twice : last ≤ e .tick → isCall e ≡ true → getD marks (e .party) 0 ≡ e .tick + 1 → withCall last marks e ≡ bad
+  call-twice l q s = rises-is l ∙ if-is-true (isCall e) _ _ q ∙ if-is-true (getD marks (e .party) 0 =? (e .tick + 1)) _ _ (eq-eqb _ _ s)
 
-  pub check-more : (r : Bool) → last ≤ e .tick → r ≡ isCall e → r ≡ true → (getD seen (e .party) 0 ≡ e .tick + 1 → ⊥) → Checking f script (set seen (e .party) (e .tick + 1)) (e .tick) (at + w)
-  check-more r l q t s = record {
-    within = omega (arith, h, same, width-some f);
-    called = e .party ∷ calledBefore last (v .called) e;
-    marked = marked-more seen last (v .called) (v .marked) e l (call-party e r q t);
-    good = ap (λ (n : ℕ). isGood (e .tick) (e .party ∷ calledBefore last (v .called) e) (recordsIn f (drop (at + n) script))) same
-        ∙ sym (call-is r l q t
-        ∙ if-is-false _ _ _ (sym (marked-before seen last (v .called) (v .marked) e l (e .party) (call-party e r q t)) ∙ ne-eqb _ _ s));
-  }
+  pub call-more : last ≤ e .tick → isCall e ≡ true → (getD marks (e .party) 0 ≡ e .tick + 1 → ⊥) → withCall last marks e ≡ upTo (e .tick) (set marks (e .party) (e .tick + 1))
+  call-more l q s = rises-is l ∙ if-is-true (isCall e) _ _ q ∙ if-is-false (getD marks (e .party) 0 =? (e .tick + 1)) _ _ (ne-eqb _ _ s)
 
--- at the last record it does not matter which parties have calls
-end-called : (f : Form) (script : List ℕ) (at last : ℕ) (called : List ℕ) → length script < at + width f + width f → isGood last [] (recordsIn f (drop at script)) ≡ isGood last called (recordsIn f (drop at script))
-unfolding isGood
-end-called f script at last called h = go (decLe (at + width f) (length script))
+-- ---- records are good just if they are after marks that stand for the same calls
+
+abbrev Same : ℕ → List ℕ → List ℕ → List Entry → Type 0
+Same last called marks es = isGood last called es ≡ restGood (upTo last marks) es
+
+bad-rest : (es : List Entry) → restGood bad es ≡ false
+unfolding restGood
+bad-rest [] = refl
+bad-rest (e ∷ []) = refl
+bad-rest (e ∷ f ∷ es) = bad-rest (f ∷ es)
+
+-- nothing is good after a bad record
+pub bad-after : (f : Form) (rest : List ℕ) → goodAfter f bad rest ≡ false
+unfolding goodAfter if_then_else_
+bad-after f rest = by (length rest % width f =? 0)
   where
-    go : Dec (at + width f ≤ length script) → isGood last [] (recordsIn f (drop at script)) ≡ isGood last called (recordsIn f (drop at script))
-    go (yes l) = end-is f script at last [] l h ∙ sym (end-is f script at last called l h)
-    go (no l) = ap (isGood last []) (records-none f script at (omega (arith, l))) ∙ sym (ap (isGood last called) (records-none f script at (omega (arith, l))))
+    by : (t : Bool) → (if t then restGood bad (recordsIn f rest) else false) ≡ false
+    by true = bad-rest (recordsIn f rest)
+    by false = refl
 
-pub check-end : (f : Form) (script seen : List ℕ) (last at w : ℕ) (r : Bool) → w ≡ width f → Checking f script seen last at → length script - at < w + w → r ≡ isGood last [] (recordsIn f (drop at script)) → r ≡ isGood 0 [] (recordsIn f script)
-check-end f script seen last at w r p v h q = q ∙ end-called f script at last (v .called) (omega (arith, p, h, width-some f)) ∙ v .good
+module _ (last : ℕ) (called marks : List ℕ) (m : Marked marks last called) (e f : Entry) (es : List Entry) where
+  good-is : isGood last called (e ∷ f ∷ es) ≡ step last called e (f ∷ es)
+  unfolding isGood
+  good-is = refl
 
--- what the last record needs
-pub check-left : (f : Form) (script seen : List ℕ) (last at w : ℕ) → w ≡ width f → Checking f script seen last at → length script - at < w + w → (at ≤ length script) × (length script < at + width f + width f)
-check-left f script seen last at w p v h = (v .within, omega (arith, p, h, v .within, width-some f))
+  rising-good : last ≤ e .tick → isGood last called (e ∷ f ∷ es) ≡ (if isCall e then (if isIn (e .party) (calledBefore last called e) then false else isGood (e .tick) (e .party ∷ calledBefore last called e) (f ∷ es)) else false)
+  rising-good l = good-is ∙ if-is-false (e .tick <? last) _ _ (le-ltb (e .tick) last l)
 
--- and one before it
-pub check-within : (f : Form) (script : List ℕ) (at w : ℕ) → w ≡ width f → w + w ≤ length script - at → at + width f ≤ length script
-check-within f script at w p h = omega (arith, p, h, width-some f)
+  call-good : last ≤ e .tick → isCall e ≡ true
+      → isGood last called (e ∷ f ∷ es) ≡ (if isIn (e .party) (calledBefore last called e) then false else isGood (e .tick) (e .party ∷ calledBefore last called e) (f ∷ es))
+  call-good l q = rising-good l ∙ if-is-true (isCall e) _ _ q
 
-pub ruleset checks = (refl, call-party, check-start, check-falls, check-no-call, check-twice, check-more, check-end, check-left, check-within)
+  both-bad : isGood last called (e ∷ f ∷ es) ≡ false → withCall last marks e ≡ bad → Same last called marks (e ∷ f ∷ es)
+  unfolding restGood
+  both-bad g w = g ∙ sym (ap (λ (x : Gone). restGood x (f ∷ es)) w ∙ bad-rest (f ∷ es))
+
+  same-twice : last ≤ e .tick → isCall e ≡ true → getD marks (e .party) 0 ≡ e .tick + 1 → Same last called marks (e ∷ f ∷ es)
+  same-twice l q s =
+      both-bad
+      (call-good l q ∙ if-is-true _ _ _ (sym (marked-before marks last called m e l (e .party) (call-party e (isCall e) refl q)) ∙ eq-eqb _ _ s))
+      (call-twice last marks e l q s)
+
+  same-more : (Marked (set marks (e .party) (e .tick + 1)) (e .tick) (e .party ∷ calledBefore last called e) → Same (e .tick) (e .party ∷ calledBefore last called e) (set marks (e .party) (e .tick + 1)) (f ∷ es))
+      → last ≤ e .tick → isCall e ≡ true → (getD marks (e .party) 0 ≡ e .tick + 1 → ⊥) → Same last called marks (e ∷ f ∷ es)
+  unfolding restGood
+  same-more rest l q s =
+      call-good l q
+      ∙ if-is-false _ _ _ (sym (marked-before marks last called m e l (e .party) (call-party e (isCall e) refl q)) ∙ ne-eqb _ _ s)
+      ∙ rest (marked-more marks last called m e l (call-party e (isCall e) refl q))
+      ∙ sym (ap (λ (x : Gone). restGood x (f ∷ es)) (call-more last marks e l q s))
+
+  same-on : (Marked (set marks (e .party) (e .tick + 1)) (e .tick) (e .party ∷ calledBefore last called e) → Same (e .tick) (e .party ∷ calledBefore last called e) (set marks (e .party) (e .tick + 1)) (f ∷ es))
+      → Dec (last ≤ e .tick) → (c : Bool) → isCall e ≡ c → (t : Bool) → (getD marks (e .party) 0 =? (e .tick + 1)) ≡ t → Same last called marks (e ∷ f ∷ es)
+  same-on rest (no l) c q t s = both-bad (good-is ∙ if-is-true (e .tick <? last) _ _ (lt-ltb (e .tick) last (omega arith))) (call-falls last marks e (omega arith))
+  same-on rest (yes l) false q t s = both-bad (rising-good l ∙ if-is-false (isCall e) _ _ q) (call-none last marks e l q)
+  same-on rest (yes l) true q true s = same-twice l q (eqb-true (getD marks (e .party) 0) (e .tick + 1) s)
+  same-on rest (yes l) true q false s = same-more rest l q (eqb-false (getD marks (e .party) 0) (e .tick + 1) s)
+
+good-marked : (last : ℕ) (called marks : List ℕ) (es : List Entry) → Marked marks last called → Same last called marks es
+unfolding isGood restGood
+good-marked last called marks [] m = refl
+good-marked last called marks (e ∷ []) m = refl
+good-marked last called marks (e ∷ f ∷ es) m =
+    same-on last called marks m e f es
+    (λ k. good-marked (e .tick) (e .party ∷ calledBefore last called e) (set marks (e .party) (e .tick + 1)) (f ∷ es) k)
+    (decLe last (e .tick)) (isCall e) refl (getD marks (e .party) 0 =? (e .tick + 1)) refl
 
 -- ---- the whole script
 
-pub whole-good : (f : Form) (script : List ℕ) (w : ℕ) (r : Bool) → w ≡ width f → length script % w ≡ 0 → r ≡ isGood 0 [] (recordsIn f script) → r ≡ goodIn f script
-unfolding goodIn
-whole-good f script w r p e q = if-true (length script % width f =? 0) r (isGood 0 [] (recordsIn f script)) false (eq-eqb (length script % width f) 0 (ap (λ (n : ℕ). length script % n) (sym p) ∙ e)) q
+pub good-whole : (f : Form) (script : List ℕ) (r : Bool) → r ≡ goodAfter f nothing script → r ≡ goodIn f script
+unfolding goodIn goodAfter
+good-whole f script r q = q ∙ ap (λ (b : Bool). if length script % width f =? 0 then b else false) (sym (good-marked 0 [] (replicate 8 0) (recordsIn f script) no-marks))
 
-pub left-over-bad : (f : Form) (script : List ℕ) (w : ℕ) → w ≡ width f → (length script % w ≡ 0 → ⊥) → false ≡ goodIn f script
-unfolding goodIn
-left-over-bad f script w p n = if-false (length script % width f =? 0) false (isGood 0 [] (recordsIn f script)) false (ne-eqb (length script % width f) 0 (λ k. n (ap (λ (m : ℕ). length script % m) p ∙ k))) refl
+pub after-whole : (f : Form) (gone : Gone) (rest : List ℕ) (w : ℕ) (r : Bool) → w ≡ width f → length rest % w ≡ 0 → r ≡ restGood gone (recordsIn f rest) → r ≡ goodAfter f gone rest
+unfolding goodAfter
+after-whole f gone rest w r p e q = if-true (length rest % width f =? 0) r (restGood gone (recordsIn f rest)) false (eq-eqb (length rest % width f) 0 (ap (λ (n : ℕ). length rest % n) (sym p) ∙ e)) q
 
-pub ruleset whole = (whole-good, left-over-bad)
+pub left-over-bad : (f : Form) (gone : Gone) (rest : List ℕ) (w : ℕ) → w ≡ width f → (length rest % w ≡ 0 → ⊥) → false ≡ goodAfter f gone rest
+unfolding goodAfter
+left-over-bad f gone rest w p n = if-false (length rest % width f =? 0) false (restGood gone (recordsIn f rest)) false (ne-eqb (length rest % width f) 0 (λ k. n (ap (λ (m : ℕ). length rest % m) p ∙ k))) refl
+
+-- what the records that are left ask
+pub left-whole : (f : Form) (n w : ℕ) → w ≡ width f → n % w ≡ 0 → n % width f ≡ 0
+left-whole f n w p e = ap (λ (m : ℕ). n % m) (sym p) ∙ e
+
+pub ruleset whole = (refl, good-whole, after-whole, left-over-bad, left-whole)
 
 -- ---- what holds of a good script's call
 

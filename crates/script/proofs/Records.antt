@@ -3,10 +3,10 @@ use Prim.Native.Nat.{ℕ, zero, suc, _+_, _-_, _*_, _/_, _%_, _≤_, _<_}
 use native.Mathlib.Numerals.{add-one, add-two, add-three, add-four}
 use native.Mathlib.Omega.{arith}
 use mathlib.Core.Path.{_≡_, refl, sym, ap, subst, _∙_}
-use mathlib.Core.List.{List, [], _∷_}
+use mathlib.Core.List.{List, [], _∷_, _++_}
 use lib.ListN.{length, drop, getD, length-drop}
 use lib.Seq.{drop-cons}
-use Rattle.script.specs.Script.{width, recordsOf, longRecordsOf, recordsIn, stopOf}
+use Rattle.script.specs.Script.{entryOf, longEntryOf, width, recordsOf, longRecordsOf, recordsIn, stopOf}
 use Rattle.script.specs.Walk.{entryAt, longEntryAt, entryIn}
 use Rattle.script.specs.declared.Entry.{Entry}
 use Rattle.script.specs.declared.Form.{Form}
@@ -96,6 +96,31 @@ records-none f script at h = short-none f (drop at script) (omega (arith, length
 
 pub records-last : (f : Form) (script : List ℕ) (at : ℕ) → at + width f ≤ length script → length script < at + width f + width f → recordsIn f (drop at script) ≡ entryIn f script at ∷ []
 records-last f script at h k = records-more f script at h ∙ ap (λ (es : List Entry). entryIn f script at ∷ es) (records-none f script (at + width f) k)
+
+-- ---- the records of two parts, the first of whole records
+
+old-append : (a b : List ℕ) → length a % 4 ≡ 0 → recordsOf (a ++ b) ≡ recordsOf a ++ recordsOf b
+unfolding recordsOf
+old-append [] b h = refl
+old-append (p ∷ []) b h = absurd (omega arith)
+old-append (p ∷ q ∷ []) b h = absurd (omega arith)
+old-append (p ∷ q ∷ r ∷ []) b h = absurd (omega arith)
+old-append (p ∷ q ∷ r ∷ s ∷ a) b h = ap (λ (es : List Entry). entryOf p q r s ∷ es) (old-append a b (omega arith))
+
+new-append : (a b : List ℕ) → length a % 6 ≡ 0 → longRecordsOf (a ++ b) ≡ longRecordsOf a ++ longRecordsOf b
+unfolding longRecordsOf
+new-append [] b h = refl
+new-append (p ∷ []) b h = absurd (omega arith)
+new-append (p ∷ q ∷ []) b h = absurd (omega arith)
+new-append (p ∷ q ∷ r ∷ []) b h = absurd (omega arith)
+new-append (p ∷ q ∷ r ∷ s ∷ []) b h = absurd (omega arith)
+new-append (p ∷ q ∷ r ∷ s ∷ t ∷ []) b h = absurd (omega arith)
+new-append (p ∷ q ∷ r ∷ s ∷ t ∷ u ∷ a) b h = ap (λ (es : List Entry). longEntryOf p q r s t u ∷ es) (new-append a b (omega arith))
+
+pub records-append : (f : Form) (a b : List ℕ) → length a % width f ≡ 0 → recordsIn f (a ++ b) ≡ recordsIn f a ++ recordsIn f b
+unfolding recordsIn width
+records-append Old a b h = old-append a b h
+records-append New a b h = new-append a b h
 
 -- ---- the last record: so many records behind a place
 

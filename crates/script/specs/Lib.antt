@@ -2,3 +2,4 @@
 pub mod Script
 pub mod Walk
 pub mod Reads
+pub mod Pieces

@@ -1,11 +1,12 @@
 // The player's script: whether it is good, its stop's tick, and the calls of each tick.
 use base::Refusal;
 ghost use mathlib.Core.Path.{_≡_};
-ghost use mathlib.Core.List.{[]};
-ghost use Prim.Native.Nat.{_+_, _-_, _<_, _≤_};
+ghost use Prim.Native.Nat.{_+_, _-_, _%_, _<_, _≤_};
 ghost use Rattle.base.specs.Choice.{if_then_else_, _<?_};
-ghost use lib.ListN.{length, drop};
-ghost use Rattle.script.specs.Script.{entryOf, longEntryOf, width, recordsIn, isStop, isMasters, isDevices, isCall, isGood, goodIn, stopOf, tickAt, formOf, sizedAs, digitSize, sizeIn};
+ghost use Rattle.base.specs.Lent.{before, after};
+ghost use lib.ListN.{length};
+ghost use Rattle.script.specs.Script.{entryOf, longEntryOf, width, recordsIn, isStop, isMasters, isDevices, isCall, goodIn, stopOf, tickAt, formOf, sizedAs, digitSize, sizeIn};
+ghost use Rattle.script.specs.Pieces.{upTo, walkedBy, walkedAs, stopsAfter, restGood, goodAfter};
 ghost use Rattle.script.specs.Walk.{entryAt, longEntryAt, entryIn, wantedBy, kept, withRecord, noCalls, freeTicks};
 
 // A script's form: old records have 4 bytes, new ones 6, with a tick of 32 bits.
@@ -26,6 +27,12 @@ pub struct Entry {
     pub party: usize,
     pub action: u8,
     pub argument: u8,
+}
+
+// Where a walk over a script's calls stands: one is bad, or the last call's tick.
+pub enum Walked {
+    Bad,
+    UpTo(usize),
 }
 
 // What a script wants of a party in a tick.
@@ -194,60 +201,78 @@ fn is_stop(e: Entry) -> bool
     false
 }
 
-// Whether the last record, at this place, is a stop of a tick that does not fall.
-fn ends_good(form: Form, script: &[u8], at: usize, last: usize) -> bool
-    requires { ⌜ (at ≤ length (now script)) × (length (now script) < at + width form + width form) ⌝ }
-    ensures { λ r. ⌜ r ≡ isGood last [] (recordsIn form (drop at (now (script .entry)))) ⌝ }
+// Walks on over records that must be calls, after calls up to this tick. Of each party, marks holds one more than the tick of its last call, and 0 before the first.
+pub fn walk(form: Form, piece: &[u8], since: usize, marks: &mut [usize; 8]) -> Walked
+    ensures { λ r. ⌜ walkedAs r (after marks) ≡ walkedBy (upTo since (before marks)) (recordsIn form (before piece)) ⌝ }
 {
     let w = width(form);
-    if script.len() - at < w {
-        return false;
+    let mut last = since;
+    let mut at = 0;
+    while piece.len() - at >= w {
+        let e = entry_at(form, piece, at);
+        let tick = e.tick;
+        let party = e.party;
+        if tick < last {
+            return Walked::Bad;
+        }
+        if is_call(e) {
+            if marks[party] == tick + 1 {
+                return Walked::Bad;
+            }
+            marks[party] = tick + 1;
+            last = tick;
+            at += w;
+        } else {
+            return Walked::Bad;
+        }
     }
-    let e = entry_at(form, script, at);
+    Walked::UpTo(last)
+}
+
+// Whether a record is the stop, after calls up to this tick.
+fn stops_after(last: usize, e: Entry) -> bool
+    ensures { λ r. ⌜ r ≡ stopsAfter last e ⌝ }
+{
     if e.tick < last {
         return false;
     }
     is_stop(e)
 }
 
-// Whether the whole records of a script are good. Of each party, seen holds one more than the tick of its last call, and 0 before the first.
-fn records_good(form: Form, script: &[u8]) -> bool
-    ensures { λ r. ⌜ r ≡ isGood 0 [] (recordsIn form (now (script .entry))) ⌝ }
+// Whether the records that are left are good: calls, and the stop.
+fn rest_good(form: Form, rest: &[u8], since: usize, marks: &mut [usize; 8]) -> bool
+    requires { ⌜ length (now rest) % width form ≡ 0 ⌝ }
+    ensures { λ r. ⌜ r ≡ restGood (upTo since (before marks)) (recordsIn form (before rest)) ⌝ }
 {
     let w = width(form);
-    let mut seen = [0usize; 8];
-    let mut last = 0;
-    let mut at = 0;
-    while script.len() - at >= w + w {
-        let e = entry_at(form, script, at);
-        let tick = e.tick;
-        let party = e.party;
-        if tick < last {
-            return false;
-        }
-        if is_call(e) {
-            if seen[party] == tick + 1 {
-                return false;
-            }
-            seen[party] = tick + 1;
-            last = tick;
-            at += w;
-        } else {
-            return false;
-        }
+    if rest.len() < w {
+        return false;
     }
-    ends_good(form, script, at, last)
+    let at = rest.len() - w;
+    let walked = walk(form, &rest[..at], since, marks);
+    match walked {
+        Walked::Bad => false,
+        Walked::UpTo(last) => stops_after(last, entry_at(form, rest, at)),
+    }
+}
+
+// Whether what is left of a script is good, after calls that were walked.
+pub fn good_after(form: Form, rest: &[u8], since: usize, marks: &mut [usize; 8]) -> bool
+    ensures { λ r. ⌜ r ≡ goodAfter form (upTo since (before marks)) (before rest) ⌝ }
+{
+    let w = width(form);
+    if rest.len() % w == 0 {
+        return rest_good(form, rest, since, marks);
+    }
+    false
 }
 
 // Whether a script is good.
 pub fn is_good(form: Form, script: &[u8]) -> bool
     ensures { λ r. ⌜ r ≡ goodIn form (now (script .entry)) ⌝ }
 {
-    let w = width(form);
-    if script.len() % w == 0 {
-        return records_good(form, script);
-    }
-    false
+    let mut marks = [0usize; 8];
+    good_after(form, script, 0, &mut marks)
 }
 
 // The stop's tick: that of the last whole record, and 0 where there is none.

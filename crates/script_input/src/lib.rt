@@ -3,16 +3,25 @@ use base::Refusal;
 use libc::STDIN_FILENO;
 use libc::STDOUT_FILENO;
 use script::Form;
+use script::Walked;
+ghost use mathlib.Core.Path.{_≡_};
 ghost use Prim.Native.Nat.{_<_};
-ghost use Rattle.script_input.specs.Input.{heldIn};
+ghost use lib.ListN.{length};
+ghost use Rattle.base.specs.Lent.{before, after};
+ghost use Rattle.script.specs.Script.{recordsIn};
+ghost use Rattle.script.specs.Pieces.{upTo, walkedBy, walkedAs};
+ghost use Rattle.script_input.specs.Input.{heldIn, pieceOf, endKept, EndStays, endOf};
 
 // Room for 524,290 records of the new form: one more than the longest good old script has.
 pub const ROOM: usize = 3_145_740;
 
-// A script on standard input: so many bytes, or longer than the room, and then good or bad.
+// The bytes of a full room that are walked before more is read: whole records of either form.
+const PIECE: usize = 3_145_728;
+
+// A script on standard input: so many bytes; or longer than the room, and then good, with its stop's tick, or bad.
 pub enum Input {
     Whole(usize),
-    LongGood,
+    LongGood(u32),
     LongBad,
 }
 
@@ -24,83 +33,66 @@ pub fn print_refusal(why: Refusal) {
     io::write_all(STDOUT_FILENO, texts::front(&text, b));
 }
 
-// The record at the end of a full room.
-fn last_record(script: &[u8; ROOM]) -> [u8; 6] {
-    [
-        script[3_145_734],
-        script[3_145_735],
-        script[3_145_736],
-        script[3_145_737],
-        script[3_145_738],
-        script[3_145_739],
-    ]
+// A full room's first bytes are walked as calls before more is read.
+fn walk_piece(form: Form, room: &[u8], last: usize, marks: &mut [usize; 8]) -> Walked
+    ensures { λ r. ⌜ walkedAs r (after marks) ≡ walkedBy (upTo last (before marks)) (recordsIn form (pieceOf (before room))) ⌝ }
+{
+    script::walk(form, texts::front(room, PIECE), last, marks)
 }
 
-// A stop in its place, at the tick of the record before it.
-fn put_stop(script: &mut [u8; ROOM]) {
-    script[3_145_734] = script[3_145_728];
-    script[3_145_735] = script[3_145_729];
-    script[3_145_736] = script[3_145_730];
-    script[3_145_737] = script[3_145_731];
-    script[3_145_738] = 0;
-    script[3_145_739] = 0;
-}
-
-// The eight records before it at the front.
-fn move_eight(script: &mut [u8; ROOM]) {
+// Its other bytes, at least one record, go to the front.
+fn keep_end(room: &mut [u8])
+    requires { ⌜ length (now room) ≡ 3145740 ⌝ }
+    ensures { λ _. ⌜ after room ≡ endKept (before room) ⌝ }
+{
     let mut i = 0;
-    while i < 48 {
-        script[i] = script[3_145_686 + i];
+    while i < 12 {
+        room[i] = room[PIECE + i];
         i += 1;
     }
 }
 
-// The same, and this record behind them.
-fn put_front(script: &mut [u8; ROOM], last: [u8; 6]) {
-    move_eight(script);
-    script[48] = last[0];
-    script[49] = last[1];
-    script[50] = last[2];
-    script[51] = last[3];
-    script[52] = last[4];
-    script[53] = last[5];
+// More of the script, after them; how many bytes were read.
+fn read_more(room: &mut [u8]) -> usize
+    requires { ⌜ length (now room) ≡ 3145740 ⌝ }
+    ensures { λ _. ⌜ EndStays (before room) (after room) ⌝ }
+{
+    keep_end(room);
+    io::read_full(STDIN_FILENO, &mut room[12..])
 }
 
-// Whether the records of a full room are good calls, but for the last; it and eight of them go to the front. A tick has at most eight calls, so no later record is bad by an earlier one than these.
-fn room_good(script: &mut [u8; ROOM]) -> bool {
-    let last = last_record(script);
-    put_stop(script);
-    let good = script::is_good(Form::New, script);
-    put_front(script, last);
-    good
-}
-
-// More of the script, behind nine records; how many bytes were read.
-fn read_more(script: &mut [u8]) -> usize {
-    if script.len() < 54 {
-        return 0;
+// What the last bytes of a script tell of it, after the pieces that were walked.
+fn end_of(form: Form, rest: &[u8], last: usize, marks: &mut [usize; 8]) -> Input
+    ensures { λ r. ⌜ r ≡ endOf form (upTo last (before marks)) (before rest) ⌝ }
+{
+    if script::good_after(form, rest, last, marks) {
+        return Input::LongGood(script::stop_tick(form, rest));
     }
-    io::read_full(STDIN_FILENO, &mut script[54..])
+    Input::LongBad
 }
 
-// Whether a script of the new form that fills the room is good. It is read to its end, or to a record that is bad; with more than 65,538 rooms full it has more records than 2^32 ticks of eight calls.
-fn long_good(script: &mut [u8; ROOM]) -> bool {
-    let mut rooms: usize = 0;
-    while rooms < 65_538 {
-        if room_good(script) {
-            let n = read_more(script);
-            if n < ROOM - 54 {
-                return script::is_good(Form::New, texts::front(script, 54 + n));
-            }
-        } else {
-            return false;
+// A script that fills the room, read to its end or to a bad record. No tick is above 32 bits, so the loop is left by a return.
+fn read_long(form: Form, room: &mut [u8]) -> Input
+    requires { ⌜ length (now room) ≡ 3145740 ⌝ }
+    ensures { λ r. ⌜ heldIn r < 3145740 ⌝ }
+{
+    let mut marks = [0usize; 8];
+    let mut last = 0;
+    while last < 4_294_967_296 {
+        let walked = walk_piece(form, room, last, &mut marks);
+        match walked {
+            Walked::Bad => return Input::LongBad,
+            Walked::UpTo(tick) => last = tick,
         }
-        rooms += 1;
+        let n = read_more(room);
+        if n < PIECE {
+            return end_of(form, texts::front(room, 12 + n), last, &mut marks);
+        }
     }
-    false
+    Input::LongBad
 }
 
-// The script on standard input. In the old form one that fills the room has more records than a good one.
+// The script on standard input.
 pub fn read(form: Form, script: &mut [u8; ROOM]) -> Input
     ensures { λ r. ⌜ heldIn r < 3145740 ⌝ }
 {
@@ -108,13 +100,5 @@ pub fn read(form: Form, script: &mut [u8; ROOM]) -> Input
     if n < ROOM {
         return Input::Whole(n);
     }
-    match form {
-        Form::Old => Input::LongBad,
-        Form::New => {
-            if long_good(script) {
-                return Input::LongGood;
-            }
-            Input::LongBad
-        }
-    }
+    read_long(form, script)
 }

@@ -1,5 +1,5 @@
-use Rattle.script.proofs.Good.{whole}
 use borrow.Author.Needs.{needs}
+use Rattle.script.proofs.Good.{whole}
 use Rattle.script.proofs.is_good.Statement.{statement}
 use Rattle.script.proofs.is_good.Tie as tie
 
@@ -7,8 +7,5 @@ pub is-good-spec : {M : Type 1} → statement M
 is-good-spec =
     tie.close
     (tie.spec
-    (λ c κs. search needs)
-    (λ c. search needs)
-    (λ c κs. search needs)
-    (λ c. search (needs, whole))
+    (λ c κs. search (needs, whole))
     (λ c. search (needs, whole)))
