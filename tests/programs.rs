@@ -134,11 +134,20 @@ fn main() -> ExitCode {
             );
             check("a long script, bad", run("convert", &["6"], bad), b"16\n");
         }
-        let twice = [&good[..60], &good[54..]].concat();
-        check("a call twice", run("play", &["6"], twice), b"16\n");
+        // early, and where the programs' first piece of 524,288 records ends
+        for record in [9, HELD as usize - 2, HELD as usize - 1] {
+            let (gone, left) = good.split_at(6 * record);
+            let twice = [gone, &left[..6], left].concat();
+            check("a call twice", run("play", &["6"], twice), b"16\n");
+            let stopped = [gone, &left[..4], &[0, 0][..], left].concat();
+            check("a stop between", run("play", &["6"], stopped), b"16\n");
+        }
         let cut = good[..good.len() - 6].to_vec();
         check("no stop", run("play", &["6"], cut), b"16\n");
     }
+    let old = vec![0; 6 * HELD as usize + 10];
+    check("a long old script", run("play", &[], old.clone()), b"16\n");
+    check("a long old script", run("convert", &["4"], old), b"16\n");
     println!("programs: {runs} runs, {differences} differences");
     if differences == 0 {
         ExitCode::SUCCESS
