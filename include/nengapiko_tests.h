@@ -75,7 +75,7 @@ uint32_t nengapiko_convert(size_t record, const uint8_t *NENGAPIKO_RESTRICT scri
  *   preambles, pollings, uniques
  *                         six numbers each, one for each slot: its device's preamble, polling and
  *                         unique address; a preamble of 0 is a slot without a device
- *   ticks, size           the list, encoded as crates/tick_list/specs/Ticks.antt says
+ *   ticks, size           the list, encoded as crates/link_list/specs/Ticks.antt says
  *   events, room          for each tick how many send, plus 16 for a request of the primary that was
  *                         taken and 32 for one of the secondary, plus 64 if the primary sends and 128
  *                         if the secondary does

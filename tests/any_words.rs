@@ -1,6 +1,6 @@
 //! Every content of the words of a master, a device and a tick reader is some state: a tick of the
 //! archive on any words is that on the words that are written for the same state, by the fields of
-//! crates/words/specs/Fields.antt, crates/master_c/specs/Words.antt and crates/device_c/specs/Words.antt.
+//! crates/state_words/specs/Fields.antt, crates/master_c/specs/Words.antt and crates/device_c/specs/Words.antt.
 //! Compared are the words behind the tick, what it returns and tells, and the lent buffers.
 
 mod calls;

@@ -30,7 +30,7 @@ pub const C8PSK: Profile = Profile {
 };
 
 impl Profile {
-    /// In the order of `profileWords` in crates/words/specs/Reader.antt.
+    /// In the order of `profileWords` in crates/state_words/specs/Reader.antt.
     pub fn words(&self) -> [u64; 5] {
         let Profile {
             sto,

@@ -1,4 +1,4 @@
-//! Lists of ticks as bytes, as crates/tick_list/specs/Ticks.antt says: eight calls to a tick.
+//! Lists of ticks as bytes, as crates/link_list/specs/Ticks.antt says: eight calls to a tick.
 
 const PARTIES: usize = 8;
 

@@ -31,7 +31,7 @@ pub struct Frame {
 }
 
 impl Frame {
-    /// In the order of `headerWords` in crates/words/specs/Reader.antt.
+    /// In the order of `headerWords` in crates/state_words/specs/Reader.antt.
     pub fn header(&self) -> [u64; 6] {
         [
             self.frame_type.into(),
@@ -135,7 +135,7 @@ impl Reader {
         }
     }
 
-    /// Where it stands, by the numbers of `placeWord` in crates/words/specs/Reader.antt.
+    /// Where it stands, by the numbers of `placeWord` in crates/state_words/specs/Reader.antt.
     fn place(&self) -> u64 {
         let (number, held) = match self.next {
             Next::PassedOver => (0, 0),
@@ -152,7 +152,7 @@ impl Reader {
         number + 16 * u64::from(held)
     }
 
-    /// What it holds, in the order of `receiverWords` in crates/words/specs/Reader.antt. Of a frame it
+    /// What it holds, in the order of `receiverWords` in crates/state_words/specs/Reader.antt. Of a frame it
     /// holds what was heard so far; before a delimiter it holds nothing of one.
     pub fn words(&self) -> [u64; 16] {
         let in_frame = !matches!(self.next, Next::PassedOver | Next::Preamble { .. });

@@ -16,7 +16,7 @@ use Rattle.turns.specs.declared.DeviceSent.{DeviceSent}
 use Rattle.turns.specs.declared.DeviceTaken.{DeviceTaken}
 use Rattle.turns.specs.declared.Turn.{Turn}
 use Rattle.turns.specs.declared.Wish.{Wish}
-use Rattle.device_heard.specs.Hearing.{HeardIs}
+use Rattle.device_rules.specs.Hearing.{HeardIs}
 use Rattle.device.specs.declared.DeviceCalled.{DeviceCalled}
 use Rattle.device.specs.Calls.{calledAs, bufferBehind}
 use Rattle.device.specs.Promises.{DeviceTakeIs, AnswerIs, SendIs}

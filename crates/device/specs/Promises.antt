@@ -15,7 +15,7 @@ use Rattle.turns.specs.declared.DeviceTaken.{DeviceTaken}
 use Rattle.turns.specs.declared.Sent.the-variants.{Silent}
 use Rattle.turns.specs.declared.Turn.{Turn}
 use Rattle.turns.specs.declared.Wish.{Wish}
-use Rattle.device_heard.specs.Hearing.{lent}
+use Rattle.device_rules.specs.Hearing.{lent}
 use Rattle.device.specs.declared.DeviceCalled.{DeviceCalled}
 use Rattle.device.specs.Calls.{calledAs, bufferBehind}
 

@@ -21,7 +21,7 @@ ghost use lib.ListN.{length, take};
 ghost use Rattle.frame.specs.Limits.{mostData};
 ghost use Rattle.frame.specs.Write.{writeBuffer};
 ghost use Rattle.turns.specs.Device.{deviceWith, errorStatus, errorData, answerHeader, errorFrame, hasNoWish, wishRefused, answersAt, answeredBy, answered, answerFrame, backHeader, begunFrame, freshDevice, deviceStarts};
-ghost use Rattle.device_heard.specs.Hearing.{lengthBy};
+ghost use Rattle.device_rules.specs.Hearing.{lengthBy};
 ghost use Rattle.device.specs.Calls.{startedAs, calledAs};
 ghost use Rattle.device.specs.Promises.{DeviceTakeIs, AnswerIs, SendIs};
 
@@ -89,7 +89,7 @@ fn put_error(d: Device, w: Whole, m: FrameDamage, frame: &mut [u8; 284])
     ensures { λ _. ⌜ now (frame .exit) ≡ errorFrame d (Event.Damaged w m) (now (frame .entry)) ⌝ }
 {
     let h = w.header;
-    if device_heard::has_error(d, w, m) {
+    if device_rules::has_error(d, w, m) {
         let bytes = error_data(m);
         put_frame(d.preamble, answer_header(h, d.burst), &bytes, frame);
     }
@@ -112,7 +112,7 @@ fn put_error_answer(d: Device, event: Event, frame: &mut [u8; 284])
 pub fn take(d: Device, heard: Heard, bytes: &mut [u8; 255], frame: &mut [u8; 284]) -> DeviceTaken
     ensures { λ t. ⌜ DeviceTakeIs d heard (now (bytes .entry)) (now (frame .entry)) t (now (bytes .exit)) (now (frame .exit)) ⌝ }
 {
-    let taken = device_heard::take(d, heard, bytes);
+    let taken = device_rules::take(d, heard, bytes);
     let event = taken.event;
     put_error_answer(d, event, frame);
     taken
@@ -171,8 +171,8 @@ fn answering(d: Device, wish: Wish, count: u8, left: u16) -> Device
 {
     let receiver = d.receiver;
     let request = d.request;
-    let length = device_heard::frame_length(d.preamble, request.long, count);
-    device_heard::with_parts(
+    let length = device_rules::frame_length(d.preamble, request.long, count);
+    device_rules::with_parts(
         d,
         receiver,
         answers_at(d, left),
@@ -289,7 +289,7 @@ pub fn send(d: Device, contents: &[u8; 255], frame: &mut [u8; 284]) -> DeviceSen
 pub fn fresh(profile: Profile, preamble: u8, polling: u8, unique: u64) -> Device
     ensures { λ r. ⌜ r ≡ freshDevice profile preamble polling unique ⌝ }
 {
-    let receiver = tick_reader::passing_reader();
+    let receiver = line_reader::passing_reader();
     let request = Header {
         frame: 0,
         long: false,

@@ -84,7 +84,7 @@ fn sends_character(
 ) -> DeviceSent
     ensures { λ s. ⌜ s ≡ sends d true turn length burst primary due passing (Sent.Character c) ⌝ }
 {
-    let receiver = tick_reader::passing_reader();
+    let receiver = line_reader::passing_reader();
     let device = behind(d, true, turn, length, burst, primary, due, receiver);
     DeviceSent {
         device: device,
@@ -149,7 +149,7 @@ fn back_length(d: Device) -> u16
     ensures { λ r. ⌜ r ≡ backLength d ⌝ }
 {
     let content = d.content;
-    device_heard::frame_length(d.preamble, true, content.count)
+    device_rules::frame_length(d.preamble, true, content.count)
 }
 
 // The other master.

@@ -8,7 +8,7 @@ use Rattle.turns.specs.declared.Turn.{Turn}
 use Rattle.turns.specs.declared.Turn.the-variants.{Listens, Asked, AnswerWaits, Begins, Answers, Follows, Bursts}
 use Rattle.turns.specs.declared.Wish.{Wish}
 use Rattle.turns.specs.declared.Wish.the-variants.{Same, On, Off}
-use Rattle.words.proofs.Kept.{flag-kept, number-kept, case-kept, header-kept, profile-kept, receiver-kept}
+use Rattle.state_words.proofs.Kept.{flag-kept, number-kept, case-kept, header-kept, profile-kept, receiver-kept}
 use Rattle.device_c.specs.Words.{turnWord, turnBy, turnOf, wishWord, wishOf, packed, unpacked, limitAt}
 use Rattle.device_c.specs.Fits.{TurnFits, DeviceFits}
 

@@ -6,8 +6,8 @@ use lib.ListN.{length}
 use Rattle.base.specs.Store.{stored}
 use Rattle.line.specs.declared.Receiver.{Receiver}
 use Rattle.turns.specs.declared.Device.{Device}
-use Rattle.words.specs.Reader.{receiverWords, receiverAt}
-use Rattle.words.proofs.Puts.{part-behind, all-put}
+use Rattle.state_words.specs.Reader.{receiverWords, receiverAt}
+use Rattle.state_words.proofs.Puts.{part-behind, all-put}
 use Rattle.device_c.specs.Words.{settingsWords, settingsAt, answeringWords, answeringAt, burstingWords, burstingAt, packed, joined, unpacked}
 use Rattle.device_c.specs.declared.Settings.{Settings}
 use Rattle.device_c.specs.declared.Answering.{Answering}

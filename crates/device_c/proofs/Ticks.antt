@@ -11,7 +11,7 @@ use Rattle.party.specs.Calls.{resultOf}
 use Rattle.device_tick.specs.Tick.{callOf, sideOf, DeviceTickIs}
 use Rattle.device_tick.specs.declared.DeviceHostCall.{DeviceHostCall}
 use Rattle.device_tick.specs.declared.DeviceTicked.{DeviceTicked}
-use Rattle.words.specs.Numbers.{tickNumbers, sentNumber, callNumber}
+use Rattle.state_words.specs.Numbers.{tickNumbers, sentNumber, callNumber}
 use Rattle.device_c.specs.Words.{packed, unpacked, limitAt}
 use Rattle.device_c.specs.Fits.{DeviceFits}
 use Rattle.device_c.specs.Tick.{StepIs}

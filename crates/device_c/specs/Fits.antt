@@ -5,7 +5,7 @@ use Rattle.turns.specs.declared.Content.{Content}
 use Rattle.turns.specs.declared.Device.{Device}
 use Rattle.turns.specs.declared.Turn.{Turn}
 use Rattle.turns.specs.declared.Turn.the-variants.{Listens, Asked, AnswerWaits, Begins, Answers, Follows, Bursts}
-use Rattle.words.specs.Fits.{HeaderFits, ProfileFits, ReceiverFits}
+use Rattle.state_words.specs.Fits.{HeaderFits, ProfileFits, ReceiverFits}
 
 abbrev pub TurnFits : Turn → Type 0
 TurnFits Listens = Unit {0}

@@ -14,7 +14,7 @@ use Rattle.turns.specs.declared.DeviceTold.{DeviceTold}
 use Rattle.turns.specs.declared.DeviceTold.the-variants.{Nothing, Request, Broadcast}
 use Rattle.device_tick.specs.Tick.{callOf, sideOf}
 use Rattle.device_tick.specs.declared.DeviceHostCall.{DeviceHostCall}
-use Rattle.words.specs.Numbers.{tickNumbers, sentNumber, callNumber}
+use Rattle.state_words.specs.Numbers.{tickNumbers, sentNumber, callNumber}
 use Rattle.device_c.specs.Words.{packed, unpacked, limitAt}
 
 -- what a call leaves after a tick: the words and the three lent buffers, the results and what it returns

@@ -11,8 +11,8 @@ use Rattle.turns.specs.declared.Turn.{Turn}
 use Rattle.turns.specs.declared.Turn.the-variants.{Listens, Asked, AnswerWaits, Begins, Answers, Follows, Bursts}
 use Rattle.turns.specs.declared.Wish.{Wish}
 use Rattle.turns.specs.declared.Wish.the-variants.{Same, On, Off}
-use Rattle.words.specs.Fields.{wordAt, numberAt, flagWord, flagAt}
-use Rattle.words.specs.Reader.{headerWords, headerAt, profileWords, profileAt, receiverWords, receiverAt}
+use Rattle.state_words.specs.Fields.{wordAt, numberAt, flagWord, flagAt}
+use Rattle.state_words.specs.Reader.{headerWords, headerAt, profileWords, profileAt, receiverWords, receiverAt}
 use Rattle.device_c.specs.declared.Settings.{Settings}
 use Rattle.device_c.specs.declared.Answering.{Answering}
 use Rattle.device_c.specs.declared.Bursting.{Bursting}

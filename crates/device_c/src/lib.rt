@@ -114,26 +114,26 @@ fn wish_of(word: u64) -> Wish
 fn settings_at(words: &[u64; 41]) -> Settings
     ensures { λ r. ⌜ r ≡ settingsAt (before words) ⌝ }
 {
-    let profile = words::profile_at(words, 0);
+    let profile = state_words::profile_at(words, 0);
     Settings {
         profile: profile,
-        preamble: words::u8_at(words, 5),
-        polling: words::u8_at(words, 6),
-        unique: words::word_at(words, 7),
+        preamble: state_words::u8_at(words, 5),
+        polling: state_words::u8_at(words, 6),
+        unique: state_words::word_at(words, 7),
     }
 }
 
 fn answering_at(words: &[u64; 41]) -> Answering
     ensures { λ r. ⌜ r ≡ answeringAt (before words) ⌝ }
 {
-    let turn = turn_of(words::word_at(words, 25));
-    let wish = wish_of(words::word_at(words, 26));
-    let request = words::header_at(words, 28);
+    let turn = turn_of(state_words::word_at(words, 25));
+    let wish = wish_of(state_words::word_at(words, 26));
+    let request = state_words::header_at(words, 28);
     Answering {
-        deaf: words::flag_at(words, 24),
+        deaf: state_words::flag_at(words, 24),
         turn: turn,
         wish: wish,
-        length: words::u16_at(words, 27),
+        length: state_words::u16_at(words, 27),
         request: request,
     }
 }
@@ -143,9 +143,9 @@ fn content_at(words: &[u64], place: u16) -> Content
 {
     let i = place as usize;
     Content {
-        given: words::flag_at(words, i),
-        command: words::u8_at(words, i + 1),
-        count: words::u8_at(words, i + 2),
+        given: state_words::flag_at(words, i),
+        command: state_words::u8_at(words, i + 1),
+        count: state_words::u8_at(words, i + 2),
     }
 }
 
@@ -154,9 +154,9 @@ fn bursting_at(words: &[u64; 41]) -> Bursting
 {
     let content = content_at(words, 37);
     Bursting {
-        burst: words::flag_at(words, 34),
-        primary: words::flag_at(words, 35),
-        due: words::u32_at(words, 36),
+        burst: state_words::flag_at(words, 34),
+        primary: state_words::flag_at(words, 35),
+        due: state_words::u32_at(words, 36),
         content: content,
     }
 }
@@ -192,7 +192,7 @@ pub fn unpack(words: &[u64; 41]) -> Device
     ensures { λ d. ⌜ d ≡ unpacked (before words) ⌝ }
 {
     let settings = settings_at(words);
-    let receiver = words::receiver_at(words, 8);
+    let receiver = state_words::receiver_at(words, 8);
     let answering = answering_at(words);
     let bursting = bursting_at(words);
     join(settings, receiver, answering, bursting)
@@ -255,20 +255,20 @@ pub fn pack(words: &mut [u64; 41], limit: u8, d: Device)
     let p = d.profile;
     let r = d.receiver;
     let settings = settings_words(p, d.preamble, d.polling, d.unique);
-    let reader = words::receiver_words(r);
+    let reader = state_words::receiver_words(r);
     let answering = answering_words(d);
     let bursting = bursting_words(limit, d);
-    words::put(words, 0, &settings);
-    words::put(words, 8, &reader);
-    words::put(words, 24, &answering);
-    words::put(words, 34, &bursting);
+    state_words::put(words, 0, &settings);
+    state_words::put(words, 8, &reader);
+    state_words::put(words, 24, &answering);
+    state_words::put(words, 34, &bursting);
 }
 
 // The data limit that some words hold.
 pub fn limit_at(words: &[u64; 41]) -> u8
     ensures { λ r. ⌜ r ≡ limitAt (before words) ⌝ }
 {
-    words::u8_at(words, 40)
+    state_words::u8_at(words, 40)
 }
 
 // The next six do nothing. The contract of each says that the numbers of a value are within their types, which the prover knows of a parameter; `device-kept` needs it.
@@ -310,10 +310,10 @@ pub fn device_fits(d: Device)
     let turn = d.turn;
     let request = d.request;
     let content = d.content;
-    words::profile_fits(profile);
-    words::receiver_fits(receiver);
+    state_words::profile_fits(profile);
+    state_words::receiver_fits(receiver);
     turn_fits(turn);
-    words::header_fits(request);
+    state_words::header_fits(request);
     content_fits(content);
     numbers_fit(d.preamble, d.polling, d.length, d.due);
 }
@@ -352,8 +352,13 @@ fn tick(
     device_fits(next);
     limit_fits(limit);
     pack(words, limit, next);
-    *results = words::tick_numbers(words::sent_number(sent), told_number(told), 0, event);
-    words::call_number(result)
+    *results = state_words::tick_numbers(
+        state_words::sent_number(sent),
+        told_number(told),
+        0,
+        event,
+    );
+    state_words::call_number(result)
 }
 
 // A tick of a device; returns 0, or the number with which its host's answer or burst content is refused.

@@ -66,7 +66,7 @@ fn print_check(bytes: &[u8], out: &mut [u8]) {
     let mut place = put_bytes(b"check", out, 0);
     place = put_all_spaced(bytes, out, place);
     place = put_bytes(b":", out, place);
-    place = put_spaced(check_words::xor_from(0, bytes), out, place);
+    place = put_spaced(frame_check::xor_from(0, bytes), out, place);
     print_line(out, place);
 }
 

@@ -102,7 +102,7 @@ fn with_count(
     }
     let last = place + 2 + count;
     let check = body[last];
-    if check_words::xor_from(0, &body[..last]) == check {
+    if frame_check::xor_from(0, &body[..last]) == check {
         let header = header_of(frame, long, place, body);
         let found = Found {
             preamble: preamble,

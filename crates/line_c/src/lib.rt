@@ -24,14 +24,14 @@ fn stepped(r: Receiver, first: u8, c: u8, bytes: &mut [u8; 255]) -> Taken
     ensures { λ t. ⌜ t ≡ step r first c ⌝ }
 {
     let heard = recording::heard_of(first / 32, c);
-    tick_reader::take(r, heard, bytes)
+    line_reader::take(r, heard, bytes)
 }
 
 // The reader over a recording, from its start on; bytes holds the data of the frame being heard.
 fn run(recording: &[u8], events: &mut [u8], bytes: &mut [u8; 255]) -> usize
     ensures { λ r. ⌜ RunIs (told (now (recording .entry))) (now (events .entry)) r (now (events .exit)) ⌝ }
 {
-    let mut r = tick_reader::passing_reader();
+    let mut r = line_reader::passing_reader();
     let mut at = 0;
     let mut i = 0;
     while i < events.len() {

@@ -20,13 +20,13 @@ use Rattle.turns.specs.declared.Device.{Device}
 use Rattle.turns.specs.declared.Master.{Master}
 use Rattle.turns.specs.declared.Timer.{Timer}
 use Rattle.turns.specs.declared.Turn.the-variants.{Listens}
-use Rattle.parties.specs.Stands.{anyMaster, noMasterCall, noDeviceCall}
-use Rattle.parties.specs.Ways.{deviceWay, masterWay}
-use Rattle.parties.specs.declared.DeviceCall.{DeviceCall}
-use Rattle.parties.specs.declared.Link.{Link}
-use Rattle.parties.specs.declared.MasterCall.{MasterCall}
-use Rattle.parties.specs.declared.Slot.{Slot}
-use Rattle.parties.specs.declared.Way.{Way}
+use Rattle.link_parties.specs.Stands.{anyMaster, noMasterCall, noDeviceCall}
+use Rattle.link_parties.specs.Ways.{deviceWay, masterWay}
+use Rattle.link_parties.specs.declared.DeviceCall.{DeviceCall}
+use Rattle.link_parties.specs.declared.Link.{Link}
+use Rattle.link_parties.specs.declared.MasterCall.{MasterCall}
+use Rattle.link_parties.specs.declared.Slot.{Slot}
+use Rattle.link_parties.specs.declared.Way.{Way}
 use Rattle.link_rests.specs.Rests.{onlyCounts, deviceRests, masterRests, slotRests, slotsRest, mastersRest, deviceRested, timerRested, masterRested, slotRested, mastersRested}
 
 -- ---- who rests

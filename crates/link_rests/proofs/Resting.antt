@@ -15,10 +15,10 @@ use Rattle.turns.specs.declared.Master.{Master}
 use Rattle.turns.specs.declared.Turn.the-variants.{Listens}
 use Rattle.master.specs.declared.MasterHostCall as MasterHost
 use Rattle.device_tick.specs.declared.DeviceHostCall as DeviceHost
-use Rattle.parties.specs.Ways.{countsIf, isListening, isFree, deviceWay, masterWay}
-use Rattle.parties.specs.declared.Way.{Way}
-use Rattle.parties.specs.declared.Way.the-variants.{Counts, Hears, Acts}
-use Rattle.parties.proofs.Ways.{quietDevice, withDevice, device-counts, quietMaster, withMaster, master-counts}
+use Rattle.link_parties.specs.Ways.{countsIf, isListening, isFree, deviceWay, masterWay}
+use Rattle.link_parties.specs.declared.Way.{Way}
+use Rattle.link_parties.specs.declared.Way.the-variants.{Counts, Hears, Acts}
+use Rattle.link_parties.proofs.Ways.{quietDevice, withDevice, device-counts, quietMaster, withMaster, master-counts}
 use Rattle.link_rests.specs.Rests.{onlyCounts, deviceRested, timerRested, masterRested}
 
 -- what the test tells

@@ -14,10 +14,10 @@ use Rattle.turns.specs.Link.{DeviceSide, DeviceStep, deviceTicks, linkTick, sid
 use Rattle.turns.specs.Link as L
 use Rattle.turns.specs.Run.{All, none, and, deviceSenders, senders}
 use Rattle.party.specs.Hears.{isSilence}
-use Rattle.parties.specs.Stands.{Rows, anyMaster, deviceAt, ifHere, devicesFrom, linkOf}
-use Rattle.parties.specs.declared.Link.{Link}
-use Rattle.parties.specs.declared.Slot.{Slot}
-use Rattle.parties.proofs.Ways.{quietDevice, quietMaster}
+use Rattle.link_parties.specs.Stands.{Rows, anyMaster, deviceAt, ifHere, devicesFrom, linkOf}
+use Rattle.link_parties.specs.declared.Link.{Link}
+use Rattle.link_parties.specs.declared.Slot.{Slot}
+use Rattle.link_parties.proofs.Ways.{quietDevice, quietMaster}
 use Rattle.link_rests.specs.Uncalled.{uncalledTick, afterTicks}
 use Rattle.link_rests.specs.Rests.{deviceRests, masterRests, slotRests, slotsRest, mastersRest, linkRests, timerRested, slotRested, linkRested}
 use Rattle.link_rests.proofs.Resting.{counts-is, DeviceRests, deviceSide, device-tick, device-rests-on, device-one-more, MasterRests, masterSide, master-tick, master-rests-on}

@@ -18,12 +18,12 @@ use Rattle.turns.specs.declared.Turn.the-variants.{Listens}
 use Rattle.party.specs.Hears.{isSilence}
 use Rattle.master.specs.declared.MasterHostCall as MasterHost
 use Rattle.device_tick.specs.declared.DeviceHostCall as DeviceHost
-use Rattle.parties.specs.Stands.{anyMaster}
-use Rattle.parties.specs.Ways.{deviceWay, masterWay}
-use Rattle.parties.specs.declared.Link.{Link}
-use Rattle.parties.specs.declared.Slot.{Slot}
-use Rattle.parties.specs.declared.Way.{Way}
-use Rattle.parties.specs.declared.Way.the-variants.{Counts, Hears, Acts}
+use Rattle.link_parties.specs.Stands.{anyMaster}
+use Rattle.link_parties.specs.Ways.{deviceWay, masterWay}
+use Rattle.link_parties.specs.declared.Link.{Link}
+use Rattle.link_parties.specs.declared.Slot.{Slot}
+use Rattle.link_parties.specs.declared.Way.{Way}
+use Rattle.link_parties.specs.declared.Way.the-variants.{Counts, Hears, Acts}
 
 -- ---- who rests
 

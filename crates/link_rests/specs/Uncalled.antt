@@ -4,7 +4,7 @@ use Prim.Native.Nat.{ℕ, zero, suc}
 use Rattle.frame.specs.Limits.{mostData}
 use Rattle.turns.specs.Link.{LinkStep, linkTick, linkAfter}
 use Rattle.turns.specs.Link as L
-use Rattle.parties.specs.Stands.{uncalled}
+use Rattle.link_parties.specs.Stands.{uncalled}
 
 abbrev pub uncalledTick : L.Link → LinkStep
 uncalledTick l = linkTick mostData l uncalled

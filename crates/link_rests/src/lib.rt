@@ -1,9 +1,9 @@
 // A link that rests: the line is silent, and every party only counts. Until a host calls, nothing but timers changes. What it is after any number of ticks is worked out party by party.
 use line::Heard;
 use line::Profile;
-use parties::Link;
-use parties::Slot;
-use parties::Way;
+use link_parties::Link;
+use link_parties::Slot;
+use link_parties::Way;
 use turns::Device;
 use turns::Master;
 use turns::Timer;
@@ -28,17 +28,17 @@ fn only_counts(way: Way) -> bool
 fn device_rests(d: Device) -> bool
     ensures { λ r. ⌜ r ≡ deviceRests d ⌝ }
 {
-    let none = parties::no_device_call();
+    let none = link_parties::no_device_call();
     let own = d.receiver;
-    only_counts(parties::device_way(d, Heard::Silence, none, false, false, own))
+    only_counts(link_parties::device_way(d, Heard::Silence, none, false, false, own))
 }
 
 fn master_rests(m: Master) -> bool
     ensures { λ r. ⌜ r ≡ masterRests m ⌝ }
 {
-    let none = parties::no_master_call();
+    let none = link_parties::no_master_call();
     let own = m.receiver;
-    only_counts(parties::master_way(m, Heard::Silence, none, false, false, own))
+    only_counts(link_parties::master_way(m, Heard::Silence, none, false, false, own))
 }
 
 fn slot_rests(s: Slot) -> bool
@@ -105,10 +105,10 @@ fn less(n: u32, by: u32) -> u32
 fn device_rested(d: Device, ticks: u32) -> Device
     ensures { λ r. ⌜ r ≡ deviceRested ticks d ⌝ }
 {
-    let idle = tick_reader::idle_reader();
+    let idle = line_reader::idle_reader();
     let request = d.request;
     let wish = d.wish;
-    device_heard::with_parts(
+    device_rules::with_parts(
         d,
         idle,
         Turn::Listens,
@@ -135,7 +135,7 @@ fn timer_rested(p: Profile, start: Timer, ticks: u32) -> Timer
 fn master_rested(m: Master, ticks: u32) -> Master
     ensures { λ r. ⌜ r ≡ masterRested ticks m ⌝ }
 {
-    let idle = tick_reader::idle_reader();
+    let idle = line_reader::idle_reader();
     let noted = m.noted;
     let message = m.message;
     let profile = m.profile;

@@ -6,16 +6,16 @@ use mathlib.Core.List.{List}
 use Rattle.base.specs.Refusal.{accepted}
 use Rattle.line.specs.declared.Profile.{Profile}
 use Rattle.turns.specs.Link.{Calls}
-use Rattle.parties.specs.Stands.{heres}
-use Rattle.parties.specs.declared.Link.{Link}
+use Rattle.link_parties.specs.Stands.{heres}
+use Rattle.link_parties.specs.declared.Link.{Link}
 use Rattle.link_start.specs.Fresh.{rowsFresh, lentFresh}
 use Rattle.link_start.specs.Start.{limitedStarts}
 use Rattle.link_start.proofs.Started.{limited-bounds}
 use Rattle.link_start.specs.declared.Setting.{Setting}
-use Rattle.tick_list.specs.Encode.{ticksBytes, Bytes}
-use Rattle.tick_list.specs.Nearest.{nearestTicks, TicksGive}
-use Rattle.tick_list.proofs.Encode.{every-list}
-use Rattle.tick_list.proofs.Nearest.{nearest-codable, every-run}
+use Rattle.link_list.specs.Encode.{ticksBytes, Bytes}
+use Rattle.link_list.specs.Nearest.{nearestTicks, TicksGive}
+use Rattle.link_list.proofs.Encode.{every-list}
+use Rattle.link_list.proofs.Nearest.{nearest-codable, every-run}
 use Rattle.link_run.specs.Run.{runSteps, stepsBy, stepsOf}
 use Rattle.link_run.proofs.Steps.{devices-here}
 

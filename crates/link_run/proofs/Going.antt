@@ -9,11 +9,11 @@ use Rattle.base.proofs.Filling.{Filling, filling-begun, filling-more, filling-e
 use Rattle.turns.specs.Link.{Calls, linkAfter}
 use Rattle.turns.specs.Link as L
 use Rattle.runs.specs.Late.{lateTick, lateRun}
-use Rattle.parties.specs.Stands.{Rows, linkOf, heres}
-use Rattle.parties.specs.declared.Link.{Link}
-use Rattle.parties.specs.declared.Slot.{Slot}
-use Rattle.tick_list.specs.Ticks.{Here, behind, callsIn, ticksOf}
-use Rattle.tick_list.proofs.Whole.{ticks-more, ticks-none}
+use Rattle.link_parties.specs.Stands.{Rows, linkOf, heres}
+use Rattle.link_parties.specs.declared.Link.{Link}
+use Rattle.link_parties.specs.declared.Slot.{Slot}
+use Rattle.link_list.specs.Ticks.{Here, behind, callsIn, ticksOf}
+use Rattle.link_list.proofs.Whole.{ticks-more, ticks-none}
 use Rattle.link_run.specs.Run.{tickNumber, numbersOf}
 use Rattle.link_run.specs.Step.{startsBehind, LateReady, lateNumbers, stepAt, LateStepping}
 use Rattle.link_run.specs.declared.StartTicks.{StartTicks}

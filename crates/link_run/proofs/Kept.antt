@@ -13,13 +13,13 @@ use Rattle.turns.specs.Demand3.{Premises, WaitIn}
 use Rattle.runs.proofs.Wait as W
 use Rattle.runs.proofs.Credit.{credit-in-a-run}
 use Rattle.runs.proofs.Backs.{backs-in-a-run}
-use Rattle.parties.specs.Stands.{heres}
-use Rattle.parties.specs.declared.Link.{Link}
+use Rattle.link_parties.specs.Stands.{heres}
+use Rattle.link_parties.specs.declared.Link.{Link}
 use Rattle.link_start.specs.Fresh.{lentFresh}
 use Rattle.link_start.specs.Start.{limitedStarts}
 use Rattle.link_start.specs.declared.Setting.{Setting}
 use Rattle.link_start.proofs.Started.{all-start, limited-bounds, limited-link}
-use Rattle.tick_list.specs.Ticks.{ticksOf}
+use Rattle.link_list.specs.Ticks.{ticksOf}
 use Rattle.link_run.specs.Run.{stepsBy, stepsOf, devicesBy, FindsBy, ranAs, ranBy, OneSender, RunPremises, Demand3Of, CreditOf, BacksOf, written, RunKeeps}
 use Rattle.link_run.specs.declared.RunEnded.{RunEnded}
 use Rattle.link_run.proofs.Senders.{none-in-tick, written-tells}

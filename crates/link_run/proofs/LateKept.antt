@@ -22,15 +22,15 @@ use Rattle.turns.specs.declared.Master.{Master}
 use Rattle.turns.proofs.Fresh.{master-is}
 use Rattle.runs.proofs.Item14.{item-14}
 use Rattle.runs.proofs.Late.{common-start}
-use Rattle.parties.specs.Stands.{anyMaster, heres}
-use Rattle.parties.specs.declared.Link.{Link}
+use Rattle.link_parties.specs.Stands.{anyMaster, heres}
+use Rattle.link_parties.specs.declared.Link.{Link}
 use Rattle.link_start.specs.Fresh.{rowsFresh, lentFresh}
 use Rattle.link_start.specs.Start.{limitedStarts, made, LimitedIs}
 use Rattle.link_start.specs.declared.Setting.{Setting}
 use Rattle.link_start.specs.declared.LinkStarted.{LinkStarted}
 use Rattle.link_start.specs.declared.StartAnswer.{StartAnswer}
 use Rattle.link_start.proofs.Started.{masters-start, slots-started, all-start, limited-bounds, limited-link}
-use Rattle.tick_list.specs.Ticks.{ticksOf}
+use Rattle.link_list.specs.Ticks.{ticksOf}
 use Rattle.link_run.specs.Run.{stepsBy, stepsOf, devicesBy, callsBy, numbersOf, ranAs, ranBy, written, RunKeeps}
 use Rattle.link_run.specs.Late.{lateStepsBy, lateSteps, LateRunPremises, Item14Of, LateKeeps}
 use Rattle.link_run.specs.Step.{Fresh, LateReady, lateNumbers}

@@ -22,15 +22,15 @@ use Rattle.turns.specs.declared.Sent.the-variants.{Silent}
 use Rattle.turns.specs.declared.Stage.{Stage}
 use Rattle.master.specs.Tick as M
 use Rattle.master.specs.declared.MasterHostCall.{MasterHostCall}
-use Rattle.parties.specs.Stands.{Rows, anyMaster, linkOf, heres, noMasterCall, masterCallOf, callsOf}
-use Rattle.parties.specs.declared.Calls.{Calls}
-use Rattle.parties.specs.declared.Link.{Link}
-use Rattle.parties.specs.declared.MasterCall.{MasterCall}
-use Rattle.parties.specs.declared.Ticked.{Ticked}
+use Rattle.link_parties.specs.Stands.{Rows, anyMaster, linkOf, heres, noMasterCall, masterCallOf, callsOf}
+use Rattle.link_parties.specs.declared.Calls.{Calls}
+use Rattle.link_parties.specs.declared.Link.{Link}
+use Rattle.link_parties.specs.declared.MasterCall.{MasterCall}
+use Rattle.link_parties.specs.declared.Ticked.{Ticked}
 use Rattle.link_ticks.specs.Ticks as T
 use Rattle.link_ticks.proofs.Answers.{stepWith, one-link}
-use Rattle.tick_list.specs.Read.{tickAt}
-use Rattle.tick_list.specs.declared.TickRead.{TickRead}
+use Rattle.link_list.specs.Read.{tickAt}
+use Rattle.link_list.specs.declared.TickRead.{TickRead}
 use Rattle.link_run.specs.Run.{taken, tickNumber}
 use Rattle.link_run.specs.Step.{rowNumber, startsBehind, callTaken, callsTaken, masterBehind, linkBehind, Fresh, LateReady, stepAt, LateStepping}
 use Rattle.link_run.specs.declared.StartTicks.{StartTicks}

@@ -6,12 +6,12 @@ use mathlib.Core.Path.{_≡_, ap, _∙_}
 use lib.ListN.{length, getD}
 use Rattle.line.specs.declared.Heard.{Heard}
 use Rattle.turns.specs.declared.Master.{Master}
-use Rattle.parties.specs.Stands.{anyMaster, noMasterCall}
-use Rattle.parties.specs.declared.Calls.{Calls}
-use Rattle.parties.specs.declared.DeviceCall.{DeviceCall}
-use Rattle.parties.specs.declared.Link.{Link}
-use Rattle.parties.specs.declared.MasterCall.{MasterCall}
-use Rattle.parties.specs.declared.Slot.{Slot}
+use Rattle.link_parties.specs.Stands.{anyMaster, noMasterCall}
+use Rattle.link_parties.specs.declared.Calls.{Calls}
+use Rattle.link_parties.specs.declared.DeviceCall.{DeviceCall}
+use Rattle.link_parties.specs.declared.Link.{Link}
+use Rattle.link_parties.specs.declared.MasterCall.{MasterCall}
+use Rattle.link_parties.specs.declared.Slot.{Slot}
 use Rattle.link_ticks.proofs.Lists.{any-default}
 use Rattle.link_run.specs.Step.{startsBehind, callTaken, masterBehind}
 use Rattle.link_run.specs.declared.StartTicks.{StartTicks}

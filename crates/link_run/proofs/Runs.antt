@@ -25,12 +25,12 @@ use Rattle.runs.specs.Backs.{noContents, foundBy, EachBack}
 use Rattle.turns.specs.declared.MasterTold.the-variants.{Answered}
 use Rattle.runs.proofs.CreditRuns.{linkBehind}
 use Rattle.runs.proofs.Premises.{short, short-taken, lone, lone-finds}
-use Rattle.parties.specs.Stands.{devicesFrom}
-use Rattle.parties.specs.declared.Link.{Link}
+use Rattle.link_parties.specs.Stands.{devicesFrom}
+use Rattle.link_parties.specs.declared.Link.{Link}
 use Rattle.link_start.specs.Fresh.{lentFresh}
 use Rattle.link_start.specs.Start.{absent, devicesStart, limitedStarts}
 use Rattle.link_start.specs.declared.Setting.{Setting}
-use Rattle.tick_list.specs.Ticks.{behindCall, behind, slotsIn, callsIn, ticksFrom}
+use Rattle.link_list.specs.Ticks.{behindCall, behind, slotsIn, callsIn, ticksFrom}
 use Rattle.link_run.specs.Run.{numbersOf, stepsOf, devicesBy, callsBy, RunPremises}
 use Rattle.link_run.proofs.Kept.{credit-kept, backs-kept}
 

@@ -16,22 +16,22 @@ use Rattle.turns.specs.Link as L
 use Rattle.turns.specs.Run.{count, deviceSenders}
 use Rattle.turns.specs.declared.Sent.{Sent}
 use Rattle.turns.specs.declared.Sent.the-variants.{Silent, Character}
-use Rattle.parties.specs.Stands.{Rows, ifHere, deviceAt, devicesFrom, heres, callsOf, codeOf}
-use Rattle.parties.specs.declared.CallOutcome.{CallOutcome}
-use Rattle.parties.specs.declared.Calls.{Calls}
-use Rattle.parties.specs.declared.Link.{Link}
-use Rattle.parties.specs.declared.MasterDid.{MasterDid}
-use Rattle.parties.specs.declared.Slot.{Slot}
-use Rattle.parties.specs.declared.Ticked.{Ticked}
+use Rattle.link_parties.specs.Stands.{Rows, ifHere, deviceAt, devicesFrom, heres, callsOf, codeOf}
+use Rattle.link_parties.specs.declared.CallOutcome.{CallOutcome}
+use Rattle.link_parties.specs.declared.Calls.{Calls}
+use Rattle.link_parties.specs.declared.Link.{Link}
+use Rattle.link_parties.specs.declared.MasterDid.{MasterDid}
+use Rattle.link_parties.specs.declared.Slot.{Slot}
+use Rattle.link_parties.specs.declared.Ticked.{Ticked}
 use Rattle.link_ticks.specs.Ticks.{onHere, deviceCode, codes, SendsByte, sends-none, sends-byte, DevicesSendBytes, no-device, device-and, SendBytes, answerKept, masterNothing, mastersDo}
 use Rattle.link_ticks.specs.Ticks as T
 use Rattle.link_ticks.proofs.Lists.{any-default}
 use Rattle.link_ticks.proofs.Answers.{ticked-each, stepWith, one-row, one-bytes, one-masters}
-use Rattle.tick_list.specs.Ticks.{Here, behind, callsIn}
-use Rattle.tick_list.specs.Read.{tickAt}
-use Rattle.tick_list.specs.Nearest.{present}
-use Rattle.tick_list.proofs.Readings.{calls-are, rest-is}
-use Rattle.tick_list.specs.declared.TickRead.{TickRead}
+use Rattle.link_list.specs.Ticks.{Here, behind, callsIn}
+use Rattle.link_list.specs.Read.{tickAt}
+use Rattle.link_list.specs.Nearest.{present}
+use Rattle.link_list.proofs.Readings.{calls-are, rest-is}
+use Rattle.link_list.specs.declared.TickRead.{TickRead}
 use Rattle.link_run.specs.Run.{taken, tickNumber}
 use Rattle.link_run.specs.Step.{countIn, sendersIn, takenIn, rowNumber}
 use Rattle.link_run.proofs.Going.{heres-length}

@@ -13,12 +13,12 @@ use Rattle.turns.specs.Run.{Distinct, EachTick}
 use Rattle.turns.specs.Ledgers.{blanks, OneFinds}
 use Rattle.turns.specs.Demand3.{NoneBurstsIn}
 use Rattle.runs.specs.Late.{lateRun, InOverlap, LateStart}
-use Rattle.parties.specs.Stands.{heres}
-use Rattle.parties.specs.declared.Link.{Link}
+use Rattle.link_parties.specs.Stands.{heres}
+use Rattle.link_parties.specs.declared.Link.{Link}
 use Rattle.link_start.specs.Fresh.{lentFresh}
 use Rattle.link_start.specs.Start.{limitedStarts}
 use Rattle.link_start.specs.declared.Setting.{Setting}
-use Rattle.tick_list.specs.Ticks.{ticksOf}
+use Rattle.link_list.specs.Ticks.{ticksOf}
 use Rattle.link_run.specs.Run.{devicesBy, callsBy, ranAs, ranBy, OneSender, written, RunKeeps}
 use Rattle.link_run.specs.declared.RunEnded.{RunEnded}
 

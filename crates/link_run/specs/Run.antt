@@ -16,12 +16,12 @@ use Rattle.turns.specs.Ledgers.{blanks, OneFinds}
 use Rattle.turns.specs.Demand3.{WaitIn}
 use Rattle.runs.specs.Credit.{noneAsked, EachCredited}
 use Rattle.runs.specs.Backs.{noContents, EachBack}
-use Rattle.parties.specs.Stands.{heres}
-use Rattle.parties.specs.declared.Link.{Link}
+use Rattle.link_parties.specs.Stands.{heres}
+use Rattle.link_parties.specs.declared.Link.{Link}
 use Rattle.link_start.specs.Fresh.{lentFresh}
 use Rattle.link_start.specs.Start.{limitedStarts}
 use Rattle.link_start.specs.declared.Setting.{Setting}
-use Rattle.tick_list.specs.Ticks.{ticksOf}
+use Rattle.link_list.specs.Ticks.{ticksOf}
 use Rattle.link_run.specs.declared.RunEnded.{RunEnded}
 
 -- ---- the run, with a data limit (document 02, item 12)

@@ -14,14 +14,14 @@ use Rattle.runs.specs.Late.{lateTick, lateRun}
 use Rattle.turns.specs.declared.Master.{Master}
 use Rattle.turns.specs.declared.Stage.the-variants.{Free}
 use Rattle.master.specs.declared.MasterHostCall.{MasterHostCall}
-use Rattle.parties.specs.Stands.{Rows, rowsOf, anyMaster, linkOf, heres, noMasterCall}
-use Rattle.parties.specs.declared.CallOutcome.{CallOutcome}
-use Rattle.parties.specs.declared.Calls.{Calls}
-use Rattle.parties.specs.declared.Link.{Link}
-use Rattle.parties.specs.declared.MasterCall.{MasterCall}
-use Rattle.parties.specs.declared.MasterDid.{MasterDid}
+use Rattle.link_parties.specs.Stands.{Rows, rowsOf, anyMaster, linkOf, heres, noMasterCall}
+use Rattle.link_parties.specs.declared.CallOutcome.{CallOutcome}
+use Rattle.link_parties.specs.declared.Calls.{Calls}
+use Rattle.link_parties.specs.declared.Link.{Link}
+use Rattle.link_parties.specs.declared.MasterCall.{MasterCall}
+use Rattle.link_parties.specs.declared.MasterDid.{MasterDid}
 use Rattle.link_ticks.specs.Ticks.{masterNothing}
-use Rattle.tick_list.specs.Ticks.{behind, callsIn, ticksOf}
+use Rattle.link_list.specs.Ticks.{behind, callsIn, ticksOf}
 use Rattle.link_run.specs.Run.{tickNumber, numbersOf}
 use Rattle.link_run.specs.declared.StartTicks.{StartTicks}
 use Rattle.link_run.specs.declared.Stepped.{Stepped}

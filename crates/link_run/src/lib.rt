@@ -1,14 +1,14 @@
 // A run of the link over a lent list of ticks, in which each master starts at a tick of its own: item 14 is promised of it, and where both start in tick 0 demand 3, the credited answer and the BACKs.
 use base::Refusal;
 use line::Profile;
+use link_parties::CallOutcome;
+use link_parties::Calls;
+use link_parties::Link;
+use link_parties::MasterCall;
+use link_parties::MasterDid;
 use link_start::Setting;
 use link_start::StartAnswer;
 use link_ticks::Most;
-use parties::CallOutcome;
-use parties::Calls;
-use parties::Link;
-use parties::MasterCall;
-use parties::MasterDid;
 use turns::Master;
 ghost use mathlib.Core.Path.{_≡_};
 ghost use Prim.Native.Nat.{_+_, _-_, _*_, _≤_};
@@ -202,7 +202,7 @@ fn step_at(
     let limit = x.limit;
     let l = x.link;
     let s = x.starts;
-    let read = tick_list::read(ticks, at);
+    let read = link_list::read(ticks, at);
     let listed = read.calls;
     let calls = calls_taken(s, listed);
     let most = Most {

@@ -15,9 +15,9 @@ use Rattle.turns.specs.Device.{deviceStarts}
 use Rattle.turns.specs.Run.{All, none, and, DeviceStarts, Distinct, Starts}
 use Rattle.turns.specs.declared.Device.{Device}
 use Rattle.turns.specs.declared.Master.{Master}
-use Rattle.parties.specs.Stands.{anyMaster, devicesFrom}
-use Rattle.parties.specs.declared.Link.{Link}
-use Rattle.parties.specs.declared.Slot.{Slot}
+use Rattle.link_parties.specs.Stands.{anyMaster, devicesFrom}
+use Rattle.link_parties.specs.declared.Link.{Link}
+use Rattle.link_parties.specs.declared.Slot.{Slot}
 use Rattle.link_start.specs.Fresh.{rowsFresh, lentFresh}
 use Rattle.link_start.specs.Start.{absent, lower, both, inSlot, deviceSlot, slotStarts, inFront, devicesStart, primaryFirst, mastersStart, freshLink, linkStarts, limitTaken, theLink, limitedStarts}
 use Rattle.link_start.specs.declared.Setting.{Setting}

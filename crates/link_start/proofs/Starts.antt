@@ -20,9 +20,9 @@ use Rattle.device.specs.Calls.{startedAs}
 use Rattle.device.specs.declared.DeviceStarted.{DeviceStarted}
 use Rattle.master.specs.Answers.{started}
 use Rattle.master.specs.declared.MasterStarted.{MasterStarted}
-use Rattle.parties.specs.Stands.{anyMaster}
-use Rattle.parties.specs.declared.Link.{Link}
-use Rattle.parties.specs.declared.Slot.{Slot}
+use Rattle.link_parties.specs.Stands.{anyMaster}
+use Rattle.link_parties.specs.declared.Link.{Link}
+use Rattle.link_parties.specs.declared.Slot.{Slot}
 use Rattle.link_start.specs.Start.{noProfile, anyDevice, absent, lower, both, inSlot, deviceSlot, slotStarts, inFront, devicesStart, primaryFirst, mastersStart, freshLink, linkStarts, made, answerAs, lowest, emptyLink, linkOr, StartedIs, limitTaken, theLink, limitedStarts, refusedLink, LimitedIs}
 use Rattle.link_start.specs.declared.LinkStarted.{LinkStarted}
 use Rattle.link_start.specs.declared.Setting.{Setting}

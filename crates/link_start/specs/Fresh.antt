@@ -5,8 +5,8 @@ use mathlib.Core.List.{List}
 use lib.ListN.{replicate}
 use Rattle.frame.specs.Limits.{mostData, longestFrame}
 use Rattle.turns.specs.Link as L
-use Rattle.parties.specs.Stands.{Rows, rowsOf, linkOf}
-use Rattle.parties.specs.declared.Link.{Link}
+use Rattle.link_parties.specs.Stands.{Rows, rowsOf, linkOf}
+use Rattle.link_parties.specs.declared.Link.{Link}
 
 abbrev pub rowsFresh : Rows
 rowsFresh = rowsOf (replicate 8 (replicate (longestFrame mostData) 0)) (replicate 8 (replicate mostData 0)) (replicate 6 (replicate mostData 0))

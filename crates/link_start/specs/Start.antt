@@ -15,9 +15,9 @@ use Rattle.turns.specs.Master.{masterStarts}
 use Rattle.turns.specs.Device.{freshDevice, deviceStarts}
 use Rattle.turns.specs.declared.Device.{Device}
 use Rattle.turns.specs.declared.Master.{Master}
-use Rattle.parties.specs.Stands.{anyMaster}
-use Rattle.parties.specs.declared.Link.{Link}
-use Rattle.parties.specs.declared.Slot.{Slot}
+use Rattle.link_parties.specs.Stands.{anyMaster}
+use Rattle.link_parties.specs.declared.Link.{Link}
+use Rattle.link_parties.specs.declared.Slot.{Slot}
 use Rattle.link_start.specs.declared.LinkStarted.{LinkStarted}
 use Rattle.link_start.specs.declared.Setting.{Setting}
 use Rattle.link_start.specs.declared.StartAnswer.{StartAnswer}

@@ -2,15 +2,15 @@
 use base::Refusal;
 use line::Heard;
 use line::Profile;
+use link_parties::Link;
+use link_parties::Slot;
 use master::MasterStarted;
-use parties::Link;
-use parties::Slot;
 use turns::Device;
 use turns::Master;
 ghost use mathlib.Core.Path.{_≡_};
 ghost use Rattle.base.specs.Refusal.{number, accepted, refused};
 ghost use Rattle.turns.specs.Master.{masterStarts};
-ghost use Rattle.parties.specs.Stands.{anyMaster};
+ghost use Rattle.link_parties.specs.Stands.{anyMaster};
 ghost use Rattle.link_start.specs.Start.{noProfile, anyDevice, absent, emptyLink, lower, both, deviceSlot, slotStarts, devicesStart, mastersStart, made, answerAs, lowest, StartedIs, refusedLink, LimitedIs};
 
 // What a device is started with, where the slot has one.

@@ -15,13 +15,13 @@ use Rattle.turns.specs.Link as L
 use Rattle.turns.specs.Run.{EachTick, no-tick, tick-and}
 use Rattle.turns.specs.declared.DeviceTold.{DeviceTold}
 use Rattle.turns.specs.declared.MasterTold.{MasterTold}
-use Rattle.parties.specs.Stands.{Rows, linkOf, heres, callsOf, uncalled}
-use Rattle.parties.specs.declared.CallOutcome.{CallOutcome}
-use Rattle.parties.specs.declared.Calls.{Calls}
-use Rattle.parties.specs.declared.Link.{Link}
-use Rattle.parties.specs.declared.DeviceDid.{DeviceDid}
-use Rattle.parties.specs.declared.MasterDid.{MasterDid}
-use Rattle.parties.specs.declared.Ticked.{Ticked}
+use Rattle.link_parties.specs.Stands.{Rows, linkOf, heres, callsOf, uncalled}
+use Rattle.link_parties.specs.declared.CallOutcome.{CallOutcome}
+use Rattle.link_parties.specs.declared.Calls.{Calls}
+use Rattle.link_parties.specs.declared.Link.{Link}
+use Rattle.link_parties.specs.declared.DeviceDid.{DeviceDid}
+use Rattle.link_parties.specs.declared.MasterDid.{MasterDid}
+use Rattle.link_parties.specs.declared.Ticked.{Ticked}
 use Rattle.link_ticks.specs.Ticks.{masterTells, deviceTells, devicesTell, tells, upToTold, callsFirst, atMost, stepsOf, linkBehind, onHere, codes, codesOf, SendBytes, answerKept, masterToldKept, deviceToldKept, masterDid, deviceDid, masterNothing, deviceNothing, mastersDo, mastersDid, devicesDid, RunIs}
 
 -- ---- of one tick

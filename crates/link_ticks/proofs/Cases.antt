@@ -11,12 +11,12 @@ use Rattle.turns.specs.declared.DeviceTold.{DeviceTold}
 use Rattle.turns.specs.declared.MasterTold.{MasterTold}
 use Rattle.turns.specs.declared.Sent.{Sent}
 use Rattle.turns.specs.declared.Sent.the-variants.{Silent}
-use Rattle.parties.specs.Stands.{noMasterCall, noDeviceCall}
-use Rattle.parties.specs.declared.CallOutcome.{CallOutcome}
-use Rattle.parties.specs.declared.DeviceCall.{DeviceCall}
-use Rattle.parties.specs.declared.DeviceDid.{DeviceDid}
-use Rattle.parties.specs.declared.MasterCall.{MasterCall}
-use Rattle.parties.specs.declared.MasterDid.{MasterDid}
+use Rattle.link_parties.specs.Stands.{noMasterCall, noDeviceCall}
+use Rattle.link_parties.specs.declared.CallOutcome.{CallOutcome}
+use Rattle.link_parties.specs.declared.DeviceCall.{DeviceCall}
+use Rattle.link_parties.specs.declared.DeviceDid.{DeviceDid}
+use Rattle.link_parties.specs.declared.MasterCall.{MasterCall}
+use Rattle.link_parties.specs.declared.MasterDid.{MasterDid}
 use Rattle.link_ticks.specs.Ticks.{masterCallIn, deviceCallIn, SendsByte, sends-none, sends-byte, CodeIs, masterTells, deviceTells, answerKept, masterToldKept, deviceToldKept, masterDidBy, deviceDidBy}
 
 pub master-tells-at : (p q : MasterTold) (b r : Bool) → p ≡ q → r ≡ masterTells q b → r ≡ masterTells p b

@@ -18,15 +18,15 @@ use Rattle.turns.specs.Link as L
 use Rattle.turns.specs.declared.Device.{Device}
 use Rattle.device_tick.specs.Tick as D
 use Rattle.device_tick.specs.declared.DeviceTicked.{DeviceTicked}
-use Rattle.parties.specs.Stands.{Rows, rowsOf, deviceAt, ifHere, devicesFrom, heres, deviceCallOf, deviceCallsFrom, noDeviceCall, codeOf}
-use Rattle.parties.specs.Part.{dataOf}
-use Rattle.parties.specs.Ways.{deviceWay, countedDevice, heardDevice, inSlot}
-use Rattle.parties.proofs.Ways.{quietDevice, withDevice, device-counts, device-hears}
-use Rattle.parties.specs.declared.DeviceCall.{DeviceCall}
-use Rattle.parties.specs.declared.DeviceDid.{DeviceDid}
-use Rattle.parties.specs.declared.Slot.{Slot}
-use Rattle.parties.specs.declared.Way.{Way}
-use Rattle.parties.specs.declared.Way.the-variants.{Counts, Hears}
+use Rattle.link_parties.specs.Stands.{Rows, rowsOf, deviceAt, ifHere, devicesFrom, heres, deviceCallOf, deviceCallsFrom, noDeviceCall, codeOf}
+use Rattle.link_parties.specs.Part.{dataOf}
+use Rattle.link_parties.specs.Ways.{deviceWay, countedDevice, heardDevice, inSlot}
+use Rattle.link_parties.proofs.Ways.{quietDevice, withDevice, device-counts, device-hears}
+use Rattle.link_parties.specs.declared.DeviceCall.{DeviceCall}
+use Rattle.link_parties.specs.declared.DeviceDid.{DeviceDid}
+use Rattle.link_parties.specs.declared.Slot.{Slot}
+use Rattle.link_parties.specs.declared.Way.{Way}
+use Rattle.link_parties.specs.declared.Way.the-variants.{Counts, Hears}
 use Rattle.link_ticks.specs.Ticks.{deviceTells, devicesTell, onHere, deviceCode, SendsByte, sends-none, DevicesSendBytes, no-device, device-and, CodeIs, deviceDidBy, deviceDid, deviceNothing}
 use Rattle.link_ticks.proofs.Lists.{Same, same-set, same-less, drop-set, any-default, on-here, on-none, on-end}
 

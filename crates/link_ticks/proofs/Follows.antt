@@ -14,10 +14,10 @@ use Rattle.line.specs.declared.Event.the-variants.{Nothing}
 use Rattle.line.specs.declared.Heard.{Heard}
 use Rattle.line.specs.declared.Receiver.{Receiver}
 use Rattle.turns.specs.declared.Master.{Master}
-use Rattle.parties.specs.Readers.{stepOf}
-use Rattle.parties.proofs.Readers.{quiet-step}
-use Rattle.parties.specs.declared.LineStep.{LineStep}
-use Rattle.parties.specs.declared.Slot.{Slot}
+use Rattle.link_parties.specs.Readers.{stepOf}
+use Rattle.link_parties.proofs.Readers.{quiet-step}
+use Rattle.link_parties.specs.declared.LineStep.{LineStep}
+use Rattle.link_parties.specs.declared.Slot.{Slot}
 use Rattle.link_ticks.proofs.Lists.{any-default}
 
 module _ {X : Type 0} (here : X → Bool) (reader-of : X → Receiver) (size : ℕ) where

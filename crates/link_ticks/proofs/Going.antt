@@ -18,15 +18,15 @@ use Rattle.turns.specs.Link as L
 use Rattle.turns.specs.Run.{EachTick, no-tick, tick-and}
 use Rattle.turns.specs.declared.Master.{Master}
 use Rattle.master.specs.Tick as M
-use Rattle.parties.specs.Stands.{Rows, rowsOf, masterAt, anyMaster, deviceAt, ifHere, devicesFrom, linkOf, heres, masterCallOf, deviceCallOf, deviceCallsFrom, callsOf, uncalled, noMasterCall, noDeviceCall, codeOf}
-use Rattle.parties.specs.declared.Calls.{Calls}
-use Rattle.parties.specs.declared.DeviceCall.{DeviceCall}
-use Rattle.parties.specs.declared.DeviceDid.{DeviceDid}
-use Rattle.parties.specs.declared.Link.{Link}
-use Rattle.parties.specs.declared.MasterCall.{MasterCall}
-use Rattle.parties.specs.declared.MasterDid.{MasterDid}
-use Rattle.parties.specs.declared.Slot.{Slot}
-use Rattle.parties.specs.declared.Ticked.{Ticked}
+use Rattle.link_parties.specs.Stands.{Rows, rowsOf, masterAt, anyMaster, deviceAt, ifHere, devicesFrom, linkOf, heres, masterCallOf, deviceCallOf, deviceCallsFrom, callsOf, uncalled, noMasterCall, noDeviceCall, codeOf}
+use Rattle.link_parties.specs.declared.Calls.{Calls}
+use Rattle.link_parties.specs.declared.DeviceCall.{DeviceCall}
+use Rattle.link_parties.specs.declared.DeviceDid.{DeviceDid}
+use Rattle.link_parties.specs.declared.Link.{Link}
+use Rattle.link_parties.specs.declared.MasterCall.{MasterCall}
+use Rattle.link_parties.specs.declared.MasterDid.{MasterDid}
+use Rattle.link_parties.specs.declared.Slot.{Slot}
+use Rattle.link_parties.specs.declared.Ticked.{Ticked}
 use Rattle.link_ticks.specs.Ticks.{masterTells, tells, devicesTell, upToTold, callsFirst, masterCallIn, deviceCallIn, goesOn, atMost, stepsOf, linkBehind, onHere, deviceCode, deviceDid, codes, codesOf, SendsByte, SendBytes, masterDid, masterNothing, deviceNothing, mastersDo, devicesDo, mastersDid, devicesDid, linkWith, callsWith, RunIs}
 use Rattle.link_ticks.proofs.Lists.{Same, any-default}
 use Rattle.link_ticks.proofs.Devices.{At, stepAt, stepsFrom, Ticking, ticking-none}

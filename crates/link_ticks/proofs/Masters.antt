@@ -17,15 +17,15 @@ use Rattle.turns.specs.declared.Master.{Master}
 use Rattle.master.specs.Tick as M
 use Rattle.master.specs.declared.MasterTicked.{MasterTicked}
 use Rattle.device_tick.specs.Tick as D
-use Rattle.parties.specs.Stands.{Rows, rowsOf, masterAt, anyMaster, deviceAt, ifHere, devicesFrom, masterCallOf, codeOf}
-use Rattle.parties.specs.Part.{dataOf}
-use Rattle.parties.specs.Ways.{masterWay, countedMaster, heardMaster}
-use Rattle.parties.proofs.Ways.{quietMaster, withMaster, master-counts, master-hears}
-use Rattle.parties.specs.declared.MasterCall.{MasterCall}
-use Rattle.parties.specs.declared.MasterDid.{MasterDid}
-use Rattle.parties.specs.declared.Slot.{Slot}
-use Rattle.parties.specs.declared.Way.{Way}
-use Rattle.parties.specs.declared.Way.the-variants.{Counts, Hears}
+use Rattle.link_parties.specs.Stands.{Rows, rowsOf, masterAt, anyMaster, deviceAt, ifHere, devicesFrom, masterCallOf, codeOf}
+use Rattle.link_parties.specs.Part.{dataOf}
+use Rattle.link_parties.specs.Ways.{masterWay, countedMaster, heardMaster}
+use Rattle.link_parties.proofs.Ways.{quietMaster, withMaster, master-counts, master-hears}
+use Rattle.link_parties.specs.declared.MasterCall.{MasterCall}
+use Rattle.link_parties.specs.declared.MasterDid.{MasterDid}
+use Rattle.link_parties.specs.declared.Slot.{Slot}
+use Rattle.link_parties.specs.declared.Way.{Way}
+use Rattle.link_parties.specs.declared.Way.the-variants.{Counts, Hears}
 use Rattle.link_ticks.specs.Ticks.{masterTells, SendsByte, sends-none, CodeIs, masterDidBy, masterDid, masterNothing}
 use Rattle.link_ticks.proofs.Lists.{Same, same-set, any-default}
 

@@ -17,16 +17,16 @@ use Rattle.turns.specs.declared.Master.{Master}
 use Rattle.turns.specs.declared.MasterTold.{MasterTold}
 use Rattle.turns.specs.declared.Sent.{Sent}
 use Rattle.turns.specs.declared.Sent.the-variants.{Silent, Character}
-use Rattle.parties.specs.Stands.{Rows, rowsOf, linkOf, heres, callsOf, noMasterCall, noDeviceCall, uncalled, codeOf}
-use Rattle.parties.specs.declared.CallOutcome.{CallOutcome}
-use Rattle.parties.specs.declared.Calls.{Calls}
-use Rattle.parties.specs.declared.DeviceCall.{DeviceCall}
-use Rattle.parties.specs.declared.DeviceDid.{DeviceDid}
-use Rattle.parties.specs.declared.Link.{Link}
-use Rattle.parties.specs.declared.MasterCall.{MasterCall}
-use Rattle.parties.specs.declared.MasterDid.{MasterDid}
-use Rattle.parties.specs.declared.Slot.{Slot}
-use Rattle.parties.specs.declared.Ticked.{Ticked}
+use Rattle.link_parties.specs.Stands.{Rows, rowsOf, linkOf, heres, callsOf, noMasterCall, noDeviceCall, uncalled, codeOf}
+use Rattle.link_parties.specs.declared.CallOutcome.{CallOutcome}
+use Rattle.link_parties.specs.declared.Calls.{Calls}
+use Rattle.link_parties.specs.declared.DeviceCall.{DeviceCall}
+use Rattle.link_parties.specs.declared.DeviceDid.{DeviceDid}
+use Rattle.link_parties.specs.declared.Link.{Link}
+use Rattle.link_parties.specs.declared.MasterCall.{MasterCall}
+use Rattle.link_parties.specs.declared.MasterDid.{MasterDid}
+use Rattle.link_parties.specs.declared.Slot.{Slot}
+use Rattle.link_parties.specs.declared.Ticked.{Ticked}
 
 -- ---- whether a host is told something in a tick
 

@@ -1,15 +1,15 @@
 // Ticks of a link: two masters and six slots for devices on one line. All parties tick in one function, so that no state is copied from tick to tick: docs/BENCHMARKS.md, "The link".
 use line::Heard;
-use parties::CallOutcome;
-use parties::Calls;
-use parties::DeviceCall;
-use parties::DeviceDid;
-use parties::Link;
-use parties::MasterCall;
-use parties::MasterDid;
-use parties::Slot;
-use parties::Ticked;
-use parties::Way;
+use link_parties::CallOutcome;
+use link_parties::Calls;
+use link_parties::DeviceCall;
+use link_parties::DeviceDid;
+use link_parties::Link;
+use link_parties::MasterCall;
+use link_parties::MasterDid;
+use link_parties::Slot;
+use link_parties::Ticked;
+use link_parties::Way;
 use party::CallStatus;
 use turns::Device;
 use turns::DeviceTold;
@@ -20,7 +20,7 @@ ghost use mathlib.Core.Path.{_≡_};
 ghost use lib.ListN.{length};
 ghost use Rattle.base.specs.Lent.{before};
 ghost use Rattle.party.specs.Calls.{resultOf};
-ghost use Rattle.parties.specs.Ways.{inSlot};
+ghost use Rattle.link_parties.specs.Ways.{inSlot};
 ghost use Rattle.link_ticks.specs.Ticks.{masterTells, deviceTells, masterCallIn, deviceCallIn, goesOn, linkWith, callsWith, CodeIs, TicksAre};
 ghost use Rattle.link_ticks.specs.Ticks.{answerKept, masterToldKept, deviceToldKept, masterDidBy, deviceDidBy, masterNothing, deviceNothing};
 
@@ -40,7 +40,7 @@ fn master_call(call: MasterCall, t: u16) -> MasterCall
     if t == 0 {
         return call;
     }
-    parties::no_master_call()
+    link_parties::no_master_call()
 }
 
 fn device_call(call: DeviceCall, t: u16) -> DeviceCall
@@ -49,7 +49,7 @@ fn device_call(call: DeviceCall, t: u16) -> DeviceCall
     if t == 0 {
         return call;
     }
-    parties::no_device_call()
+    link_parties::no_device_call()
 }
 
 // Whether a host is told something, this included.
@@ -210,7 +210,7 @@ fn ticks_of(
     while goes_on(t, most, told) {
         let mut row: [u16; 8] = [256; 8];
         let mut next = Heard::Silence;
-        let step = parties::line_step(reader, line);
+        let step = link_parties::line_step(reader, line);
         let stepped = step.reader;
         let quiet = step.quiet;
         let mut n = 6;
@@ -221,27 +221,27 @@ fn ticks_of(
             if slot.here {
                 let d = slot.device;
                 let call = device_call(calls[i], t);
-                let way = parties::device_way(d, line, call, ds_follow[i], quiet, reader);
+                let way = link_parties::device_way(d, line, call, ds_follow[i], quiet, reader);
                 match way {
                     Way::Counts => {
                         let at = ds[i];
                         let same = at.device;
-                        ds[i] = parties::counted_device(same);
+                        ds[i] = link_parties::counted_device(same);
                         ds_follow[i] = false;
                     }
                     Way::Hears => {
                         let at = ds[i];
                         let same = at.device;
                         let own = same.receiver;
-                        parties::keep(own, line, &mut bytes[i + 2]);
-                        ds[i] = parties::heard_device(same, stepped);
+                        link_parties::keep(own, line, &mut bytes[i + 2]);
+                        ds[i] = link_parties::heard_device(same, stepped);
                         ds_follow[i] = true;
                     }
                     Way::Acts => {
                         let at = ds[i];
                         let same = at.device;
                         let did = ds_did[i];
-                        let s = parties::device_tick(
+                        let s = link_parties::device_tick(
                             limit,
                             same,
                             line,
@@ -260,7 +260,7 @@ fn ticks_of(
                         row[i + 2] = code(c);
                         ds_did[i] = device_did(did, x, a);
                         told = device_tells(x, told);
-                        next = parties::join(c, next);
+                        next = link_parties::join(c, next);
                     }
                 }
             }
@@ -271,24 +271,24 @@ fn ticks_of(
             k = i;
             let m = ms[i];
             let call = master_call(requests[i], t);
-            let way = parties::master_way(m, line, call, ms_follow[i], quiet, reader);
+            let way = link_parties::master_way(m, line, call, ms_follow[i], quiet, reader);
             match way {
                 Way::Counts => {
                     let same = ms[i];
-                    ms[i] = parties::counted_master(same);
+                    ms[i] = link_parties::counted_master(same);
                     ms_follow[i] = false;
                 }
                 Way::Hears => {
                     let same = ms[i];
                     let own = same.receiver;
-                    parties::keep(own, line, &mut bytes[i]);
-                    ms[i] = parties::heard_master(same, stepped);
+                    link_parties::keep(own, line, &mut bytes[i]);
+                    ms[i] = link_parties::heard_master(same, stepped);
                     ms_follow[i] = true;
                 }
                 Way::Acts => {
                     let same = ms[i];
                     let did = ms_did[i];
-                    let s = parties::master_tick(
+                    let s = link_parties::master_tick(
                         limit,
                         same,
                         line,
@@ -306,7 +306,7 @@ fn ticks_of(
                     row[i] = code(c);
                     ms_did[i] = master_did(did, x, a);
                     told = master_tells(x, told);
-                    next = parties::join(c, next);
+                    next = link_parties::join(c, next);
                 }
             }
         }

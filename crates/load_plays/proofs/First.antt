@@ -8,10 +8,10 @@ use Rattle.base.specs.Choice.{if_then_else_, _=?_}
 use Rattle.base.proofs.Choices.{if-is-false}
 use Rattle.frame.specs.Limits.{mostData}
 use Rattle.turns.specs.Link.{DeviceCall, gives-content, Link, LinkStep, Calls, linkTick, linkAfter, run}
-use Rattle.script.specs.Script.{isOf, wantedAt, masterCall, deviceCall, callsAt, stopOf, callsFrom}
-use Rattle.script.specs.declared.Entry.{Entry}
-use Rattle.script.specs.declared.ScriptCall.{ScriptCall}
-use Rattle.script.specs.declared.ScriptCall.the-variants.{Nothing, Call}
+use Rattle.player_script.specs.Script.{isOf, wantedAt, masterCall, deviceCall, callsAt, stopOf, callsFrom}
+use Rattle.player_script.specs.declared.Entry.{Entry}
+use Rattle.player_script.specs.declared.ScriptCall.{ScriptCall}
+use Rattle.player_script.specs.declared.ScriptCall.the-variants.{Nothing, Call}
 use Rattle.player.specs.Play.{readyLink}
 use Rattle.load_writer.specs.Load.{opening, mark, pairTick, lower, upper, draw, drawnFrom, laid, load}
 use Rattle.load_writer.proofs.Records.{lower-tick, Each, and, each-and, each-drawn}

@@ -9,9 +9,9 @@ use lib.ListN.{length}
 use Rattle.base.specs.Choice.{_<?_}
 use Rattle.base.specs.Refusal.{accepted, refused}
 use Rattle.base.proofs.Choices.{if-is-true, if-is-false}
-use Rattle.script.specs.Script.{recordsIn, width, goodScript, goodIn}
-use Rattle.script.specs.declared.Entry.{Entry}
-use Rattle.script.specs.declared.Form.the-variants.{Old, New}
+use Rattle.player_script.specs.Script.{recordsIn, width, goodScript, goodIn}
+use Rattle.player_script.specs.declared.Entry.{Entry}
+use Rattle.player_script.specs.declared.Form.the-variants.{Old, New}
 use Rattle.player_convert.specs.Turn.{turned, anyAbove, byRoom, converted, Sayable}
 use Rattle.player_convert.proofs.Fits.{none-above}
 use Rattle.player.specs.Play.{listing, outputOf, play}

@@ -21,7 +21,7 @@ use Rattle.turns.specs.Attempts.{stxHeader}
 use Rattle.turns.specs.declared.DeviceTold.{DeviceTold}
 use Rattle.turns.specs.declared.MasterTold.the-variants.{GivenUp}
 use Rattle.turns.specs.declared.Wish.the-variants.{Same}
-use Rattle.script.specs.Script.{wantedAt, stopOf, callsFrom}
+use Rattle.player_script.specs.Script.{wantedAt, stopOf, callsFrom}
 use Rattle.player.specs.Play.{readyLink}
 use Rattle.load_writer.specs.Load.{opening}
 use Rattle.load_plays.specs.Occur.{shownAt, asked, askedResult, masterTold, gave, gaveResult, deviceTold, bursts, between, untouched, characters, times}

@@ -23,10 +23,10 @@ use Rattle.turns.proofs.Masters.{if-cases}
 use Rattle.turns.proofs.Fresh.{valid}
 use Rattle.runs.proofs.NoTwoSend.{no-two-send}
 use Rattle.runs.proofs.Wait.{wait}
-use Rattle.script.specs.Script.{isOf, wantedAt, masterCall, deviceCall, deviceCallAt, stopOf, callsFrom}
-use Rattle.script.specs.declared.Entry.{Entry}
-use Rattle.script.specs.declared.ScriptCall.{ScriptCall}
-use Rattle.script.specs.declared.ScriptCall.the-variants.{Nothing, Call}
+use Rattle.player_script.specs.Script.{isOf, wantedAt, masterCall, deviceCall, deviceCallAt, stopOf, callsFrom}
+use Rattle.player_script.specs.declared.Entry.{Entry}
+use Rattle.player_script.specs.declared.ScriptCall.{ScriptCall}
+use Rattle.player_script.specs.declared.ScriptCall.the-variants.{Nothing, Call}
 use Rattle.player.specs.Play.{ready, readyLink}
 use Rattle.load_writer.specs.Load.{call, opening, mark, pairTick, lengthOf, lower, upperParty, upper, stopAt, draw, load}
 use Rattle.load_writer.proofs.Records.{lower-either, Each, and, tests, each-front, each-load}

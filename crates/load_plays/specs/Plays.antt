@@ -10,11 +10,11 @@ use Rattle.turns.specs.Link.{LinkStep, Calls, run}
 use Rattle.turns.specs.Run.{EachTick, NoTwoSend}
 use Rattle.turns.specs.Demand3.{Premises, WaitIn}
 use Rattle.base.specs.Refusal.{accepted}
-use Rattle.script.specs.declared.Form.the-variants.{Old, New}
-use Rattle.script.specs.Script.{stopOf, callsFrom}
-use Rattle.listing.specs.Lines.{quietMonitor, linesFrom}
-use Rattle.listing.specs.Text.{headLine, linesText}
-use Rattle.listing.specs.Sents.{sentIn}
+use Rattle.player_script.specs.declared.Form.the-variants.{Old, New}
+use Rattle.player_script.specs.Script.{stopOf, callsFrom}
+use Rattle.player_listing.specs.Lines.{quietMonitor, linesFrom}
+use Rattle.player_listing.specs.Text.{headLine, linesText}
+use Rattle.player_listing.specs.Sents.{sentIn}
 use Rattle.player_convert.specs.Turn.{turned, converted}
 use Rattle.player.specs.Play.{readyLink, play}
 use Rattle.load_writer.specs.Load.{load, scriptBytes}

@@ -13,8 +13,8 @@ use Rattle.base.specs.Choice.{if_then_else_, _<?_, _=?_}
 use Rattle.base.proofs.Choices.{if-is-true}
 use Rattle.base.proofs.Tables.{chain-first, chain-second}
 use Rattle.turns.proofs.Bursting.{if-both}
-use Rattle.script.specs.Script.{entryOf, recordsOf, isGood, goodScript}
-use Rattle.script.specs.declared.Entry.{Entry}
+use Rattle.player_script.specs.Script.{entryOf, recordsOf, isGood, goodScript}
+use Rattle.player_script.specs.declared.Entry.{Entry}
 use Rattle.load_writer.specs.Load.{call, opening, mark, front, pairTick, askedOf, wishOf, lengthOf, lower, upperParty, upper, stopAt, draw, load, scriptBytes}
 use Rattle.load_writer.specs.Fits.{Fits}
 use Rattle.load_writer.specs.Claims.{AlwaysTaken, ReadsBack}

@@ -10,8 +10,8 @@ use borrow.Author.Tests.{lt-ltb, le-ltb, eq-eqb, ne-eqb}
 use Rattle.base.specs.Choice.{if_then_else_, _<?_, _=?_}
 use Rattle.base.proofs.Choices.{true-false, if-is-true, if-is-false}
 use Rattle.turns.proofs.Bursting.{if-both}
-use Rattle.script.specs.Script.{isMasters, isDevices, isCall, isIn, calledBefore, isGood}
-use Rattle.script.specs.declared.Entry.{Entry}
+use Rattle.player_script.specs.Script.{isMasters, isDevices, isCall, isIn, calledBefore, isGood}
+use Rattle.player_script.specs.declared.Entry.{Entry}
 use Rattle.load_writer.proofs.Records.{lower-either, lower-tick}
 use Rattle.load_writer.specs.Load.{call, opening, front, pairTick, wishOf, lengthOf, lower, upperParty, upper, stopAt, draw, drawnFrom, laid, load}
 

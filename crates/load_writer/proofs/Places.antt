@@ -9,7 +9,7 @@ use borrow.Author.Tests.{eqb-true}
 use Rattle.base.specs.Choice.{if_then_else_, _=?_}
 use Rattle.base.proofs.Choices.{if-is-false}
 use Rattle.base.proofs.Tables.{holds-below, holds-at, among, None, not-among}
-use Rattle.script.specs.declared.Entry.{Entry}
+use Rattle.player_script.specs.declared.Entry.{Entry}
 use Rattle.load_writer.specs.Load.{call, opening, mark, front, lower, upper, stopAt}
 use Rattle.load_writer.specs.Fits.{Fits}
 use Rattle.load_writer.proofs.Records.{each-at}

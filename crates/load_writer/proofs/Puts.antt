@@ -8,7 +8,7 @@ use lib.Seq.{drop-cons, take-length, length-take-le}
 use borrow.Rule.Slice.PartMut.{putMid}
 use Rattle.base.specs.Store.{stored}
 use Rattle.base.proofs.Stores.{length-stored, stored-parts}
-use Rattle.script.specs.declared.Entry.{Entry}
+use Rattle.player_script.specs.declared.Entry.{Entry}
 use Rattle.load_writer.specs.Load.{draw, call, front, pairTick, lower, upper, stopAt, drawnFrom, laid, load, entryBytes, scriptBytes}
 use Rattle.load_writer.proofs.Bytes.{bytes-length}
 use Rattle.load_writer.proofs.Places.{front-length}

@@ -8,7 +8,7 @@ use lib.ListN.{length, getD}
 use Rattle.base.specs.Choice.{if_then_else_, _<?_, _=?_}
 use Rattle.base.proofs.Tables.{chain-first, chain-second}
 use Rattle.turns.proofs.Bursting.{if-both}
-use Rattle.script.specs.declared.Entry.{Entry}
+use Rattle.player_script.specs.declared.Entry.{Entry}
 use Rattle.load_writer.specs.Load.{call, opening, mark, front, pairTick, askedOf, wishOf, lengthOf, lower, upper, stopAt, draw, drawnFrom, laid, load}
 
 -- ---- the four forms of the first of a pair

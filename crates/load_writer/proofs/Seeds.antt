@@ -6,8 +6,8 @@ use native.Mathlib.Nat.{mod-eq-of-lt, mod-one}
 use lib.ListN.{getD}
 use lib.Pow.{mod-pow-add}
 use native.Mathlib.Omega.{arith}
-use Rattle.script.specs.Script.{recordsOf}
-use Rattle.script.specs.declared.Entry.{Entry}
+use Rattle.player_script.specs.Script.{recordsOf}
+use Rattle.player_script.specs.declared.Entry.{Entry}
 use Rattle.load_writer.specs.Load.{call, opening, draw, laid, load}
 use Rattle.load_writer.specs.Claims.{SeedsDiffer}
 use Rattle.load_writer.proofs.Bytes.{reads-back}

@@ -3,7 +3,7 @@
 use Prim.Native.Nat.{ℕ, _^_, _≤_, _<_}
 use mathlib.Core.Path.{_≡_}
 use mathlib.Core.Bool.{true}
-use Rattle.script.specs.Script.{recordsOf, goodScript}
+use Rattle.player_script.specs.Script.{recordsOf, goodScript}
 use Rattle.load_writer.specs.Load.{load, scriptBytes}
 use Rattle.load_writer.specs.Write.{mostRecords}
 

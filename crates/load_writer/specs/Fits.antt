@@ -1,7 +1,7 @@
 -- Inner contracts: nothing that is to be believed rests on them.
 -- A record whose fields fit its four bytes.
 use Prim.Native.Nat.{_<_}
-use Rattle.script.specs.declared.Entry.{Entry}
+use Rattle.player_script.specs.declared.Entry.{Entry}
 
 pub record Fits (e : Entry) : Type 0 where
   pub tick : e .tick < 65536

@@ -4,7 +4,7 @@ use Prim.Native.Nat.{ℕ, zero, suc, _+_, _-_, _*_, _/_, _%_, _^_}
 use mathlib.Core.List.{List, [], _∷_, _++_}
 use lib.Bits.{bitXor}
 use Rattle.base.specs.Choice.{if_then_else_, _<?_, _=?_}
-use Rattle.script.specs.declared.Entry.{Entry}
+use Rattle.player_script.specs.declared.Entry.{Entry}
 
 -- ---- the numbers: "Marsaglia's xorshift32 (left 13, right 17, left 5)"
 

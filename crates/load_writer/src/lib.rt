@@ -1,6 +1,6 @@
 // The load from a seed number: a player script, written into a lent buffer.
 use base::Refusal;
-use script::Entry;
+use player_script::Entry;
 ghost use mathlib.Core.Path.{_≡_};
 ghost use mathlib.Core.List.{[]};
 ghost use Prim.Native.Nat.{_+_, _*_, _≤_, _<_};

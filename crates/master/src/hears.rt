@@ -202,7 +202,7 @@ fn with_reader(m: Master, r: Receiver) -> Master
 fn silent_outside(m: Master) -> MasterTaken
     ensures { λ t. ⌜ t ≡ counts (withReader m idle) MasterTold.Nothing Event.Nothing ⌝ }
 {
-    let r = tick_reader::idle_reader();
+    let r = line_reader::idle_reader();
     count(with_reader(m, r), MasterTold::Nothing, Event::Nothing)
 }
 
@@ -211,7 +211,7 @@ fn passed_over(m: Master) -> MasterTaken
     ensures { λ t. ⌜ t ≡ tells (withReader m (gapped (m .receiver))) MasterTold.Nothing Event.Nothing ⌝ }
 {
     let reader = m.receiver;
-    let r = tick_reader::gapped_reader(reader);
+    let r = line_reader::gapped_reader(reader);
     let master = with_reader(m, r);
     MasterTaken {
         master: master,
@@ -236,7 +236,7 @@ fn timer_ticked(m: Master) -> Master
 fn second_silent(m: Master) -> MasterTaken
     ensures { λ t. ⌜ t ≡ countsTwice (afterBreak m idle Event.Broken .master) (afterBreak m idle Event.Broken .told) Event.Broken ⌝ }
 {
-    let r = tick_reader::idle_reader();
+    let r = line_reader::idle_reader();
     let b = after_break(m, r, Event::Broken);
     let broken = b.master;
     let told = b.told;
@@ -265,7 +265,7 @@ fn hears_silence(m: Master) -> MasterTaken
 {
     let reader = m.receiver;
     let place = reader.place;
-    if tick_reader::is_inside(place) {
+    if line_reader::is_inside(place) {
         if reader.gap {
             return second_silent(m);
         }
@@ -285,7 +285,7 @@ pub fn take(m: Master, heard: Heard, bytes: &mut [u8; 255]) -> MasterTaken
         return hears_silence(m);
     }
     let reader = m.receiver;
-    let t = tick_reader::take(reader, heard, bytes);
+    let t = line_reader::take(reader, heard, bytes);
     let r = t.receiver;
     let event = t.event;
     on_character(m, r, event, bytes)

@@ -256,7 +256,7 @@ fn sends_character(m: Master, t: Timer, stage: Stage, attempts: u16, c: u8) -> M
         true,
         t,
         message,
-        tick_reader::passing_reader(),
+        line_reader::passing_reader(),
         Sent::Character(c),
     )
 }
@@ -335,7 +335,7 @@ fn no_message() -> Message
 pub fn fresh_master(p: Profile, primary: bool, retries: u8) -> Master
     ensures { λ m. ⌜ m ≡ freshMaster p primary retries ⌝ }
 {
-    let receiver = tick_reader::passing_reader();
+    let receiver = line_reader::passing_reader();
     let timer = master_rules::timer_of(master_rules::rt1_of(p, primary) as u32);
     let message = no_message();
     let noted = Noted {
@@ -426,7 +426,7 @@ fn same_message(g: Message) -> Message
 {
     let stage = g.stage;
     let h = g.header;
-    let header = tick_reader::same_header(h);
+    let header = line_reader::same_header(h);
     Message {
         stage: stage,
         header: header,
@@ -443,7 +443,7 @@ fn same_master(m: Master) -> Master
     let n = m.noted;
     let g = m.message;
     let timer = m.timer;
-    let receiver = tick_reader::same_receiver(r);
+    let receiver = line_reader::same_receiver(r);
     let noted = same_noted(n);
     let message = same_message(g);
     Master {

@@ -15,10 +15,10 @@ use Rattle.turns.specs.declared.Noted.{Noted}
 use Rattle.turns.specs.declared.Stage.{Stage}
 use Rattle.turns.specs.declared.Stage.the-variants.{Free, Waiting, Sending, Awaiting}
 use Rattle.turns.specs.declared.Timer.{Timer}
-use Rattle.words.specs.Fields.{numberAt, flagAt}
-use Rattle.words.specs.Reader.{profileAt, receiverWords, receiverAt}
-use Rattle.words.proofs.Puts.{part-behind, all-put}
-use Rattle.words.proofs.Kept.{flag-kept, number-kept, case-kept, header-kept, profile-kept, receiver-kept}
+use Rattle.state_words.specs.Fields.{numberAt, flagAt}
+use Rattle.state_words.specs.Reader.{profileAt, receiverWords, receiverAt}
+use Rattle.state_words.proofs.Puts.{part-behind, all-put}
+use Rattle.state_words.proofs.Kept.{flag-kept, number-kept, case-kept, header-kept, profile-kept, receiver-kept}
 use Rattle.master_c.specs.Words.{stageWord, stageBy, stageOf, messageWords, messageAt, timerAt, notedAt, frontWords, endWords, packed, unpacked, limitAt, StageFits, MessageFits, TimerFits, MasterFits}
 
 pub stage-kept : (s : Stage) → StageFits s → stageOf (stageWord s) ≡ s

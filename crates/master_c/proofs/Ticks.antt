@@ -11,7 +11,7 @@ use Rattle.party.specs.Calls.{resultOf}
 use Rattle.master.specs.Tick.{callOf, sideOf, MasterTickIs}
 use Rattle.master.specs.declared.MasterHostCall.{MasterHostCall}
 use Rattle.master.specs.declared.MasterTicked.{MasterTicked}
-use Rattle.words.specs.Numbers.{tickNumbers, sentNumber, callNumber}
+use Rattle.state_words.specs.Numbers.{tickNumbers, sentNumber, callNumber}
 use Rattle.master_c.specs.Words.{packed, unpacked, limitAt, MasterFits}
 use Rattle.master_c.specs.Tick.{toldAttempts, StepIs}
 use Rattle.master_c.proofs.Kept.{master-kept, limit-kept}

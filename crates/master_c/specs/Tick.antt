@@ -16,7 +16,7 @@ use Rattle.turns.specs.declared.MasterTold.{MasterTold}
 use Rattle.turns.specs.declared.MasterTold.the-variants.{Nothing, Answered, GivenUp, BroadcastSent}
 use Rattle.master.specs.Tick.{callOf, sideOf}
 use Rattle.master.specs.declared.MasterHostCall.{MasterHostCall}
-use Rattle.words.specs.Numbers.{tickNumbers, sentNumber, callNumber}
+use Rattle.state_words.specs.Numbers.{tickNumbers, sentNumber, callNumber}
 use Rattle.master_c.specs.Words.{packed, unpacked, limitAt}
 
 -- the host's request, field by field, or none

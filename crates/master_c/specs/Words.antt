@@ -9,9 +9,9 @@ use Rattle.turns.specs.declared.Noted.{Noted}
 use Rattle.turns.specs.declared.Stage.{Stage}
 use Rattle.turns.specs.declared.Stage.the-variants.{Free, Waiting, Sending, Awaiting}
 use Rattle.turns.specs.declared.Timer.{Timer}
-use Rattle.words.specs.Fields.{wordAt, numberAt, flagWord, flagAt}
-use Rattle.words.specs.Reader.{headerWords, headerAt, profileWords, profileAt, receiverWords, receiverAt}
-use Rattle.words.specs.Fits.{HeaderFits, ProfileFits, ReceiverFits}
+use Rattle.state_words.specs.Fields.{wordAt, numberAt, flagWord, flagAt}
+use Rattle.state_words.specs.Reader.{headerWords, headerAt, profileWords, profileAt, receiverWords, receiverAt}
+use Rattle.state_words.specs.Fits.{HeaderFits, ProfileFits, ReceiverFits}
 
 -- a stage: its number and 16 times the number that it holds; the numbers 4 to 15 stand for the stage with number 0
 abbrev pub stageWord : Stage → ℕ

@@ -53,13 +53,13 @@ fn message_at(words: &[u64], place: u16) -> Message
     ensures { λ r. ⌜ r ≡ messageAt (before words) place ⌝ }
 {
     let i = place as usize;
-    let header = words::header_at(words, place);
-    let stage = stage_of(words::word_at(words, i + 6));
+    let header = state_words::header_at(words, place);
+    let stage = stage_of(state_words::word_at(words, i + 6));
     Message {
         header: header,
         stage: stage,
-        length: words::u16_at(words, i + 7),
-        attempts: words::u16_at(words, i + 8),
+        length: state_words::u16_at(words, i + 7),
+        attempts: state_words::u16_at(words, i + 8),
     }
 }
 
@@ -68,9 +68,9 @@ fn timer_at(words: &[u64], place: u16) -> Timer
 {
     let i = place as usize;
     Timer {
-        next: words::u32_at(words, i),
-        window: words::u32_at(words, i + 1),
-        quiet: words::u32_at(words, i + 2),
+        next: state_words::u32_at(words, i),
+        window: state_words::u32_at(words, i + 1),
+        quiet: state_words::u32_at(words, i + 2),
     }
 }
 
@@ -79,8 +79,8 @@ fn noted_at(words: &[u64], place: u16) -> Noted
 {
     let i = place as usize;
     Noted {
-        long: words::flag_at(words, i),
-        address: words::word_at(words, i + 1),
+        long: state_words::flag_at(words, i),
+        address: state_words::word_at(words, i + 1),
     }
 }
 
@@ -88,17 +88,17 @@ fn noted_at(words: &[u64], place: u16) -> Noted
 pub fn unpack(words: &[u64; 40]) -> Master
     ensures { λ m. ⌜ m ≡ unpacked (before words) ⌝ }
 {
-    let profile = words::profile_at(words, 1);
+    let profile = state_words::profile_at(words, 1);
     let timer = timer_at(words, 9);
-    let receiver = words::receiver_at(words, 12);
+    let receiver = state_words::receiver_at(words, 12);
     let noted = noted_at(words, 28);
     let message = message_at(words, 30);
     Master {
-        primary: words::flag_at(words, 0),
+        primary: state_words::flag_at(words, 0),
         profile: profile,
-        retries: words::u8_at(words, 6),
-        deaf: words::flag_at(words, 7),
-        burst: words::flag_at(words, 8),
+        retries: state_words::u8_at(words, 6),
+        deaf: state_words::flag_at(words, 7),
+        burst: state_words::flag_at(words, 8),
         timer: timer,
         receiver: receiver,
         noted: noted,
@@ -156,18 +156,18 @@ pub fn pack(words: &mut [u64; 40], limit: u8, m: Master)
 {
     let r = m.receiver;
     let front = front_words(m);
-    let reader = words::receiver_words(r);
+    let reader = state_words::receiver_words(r);
     let end = end_words(limit, m);
-    words::put(words, 0, &front);
-    words::put(words, 12, &reader);
-    words::put(words, 28, &end);
+    state_words::put(words, 0, &front);
+    state_words::put(words, 12, &reader);
+    state_words::put(words, 28, &end);
 }
 
 // The data limit that some words hold.
 pub fn limit_at(words: &[u64; 40]) -> u8
     ensures { λ r. ⌜ r ≡ limitAt (before words) ⌝ }
 {
-    words::u8_at(words, 39)
+    state_words::u8_at(words, 39)
 }
 
 // The next six do nothing. The contract of each says that the numbers of a value are within their types, which the prover knows of a parameter; `master-kept` needs it.
@@ -199,7 +199,7 @@ fn message_fits(g: Message)
 {
     let header = g.header;
     let stage = g.stage;
-    words::header_fits(header);
+    state_words::header_fits(header);
     stage_fits(stage);
 }
 
@@ -210,9 +210,9 @@ pub fn master_fits(m: Master)
     let timer = m.timer;
     let receiver = m.receiver;
     let message = m.message;
-    words::profile_fits(profile);
+    state_words::profile_fits(profile);
     timer_fits(timer);
-    words::receiver_fits(receiver);
+    state_words::receiver_fits(receiver);
     message_fits(message);
 }
 
@@ -261,13 +261,13 @@ fn tick(
     master_fits(next);
     limit_fits(limit);
     pack(words, limit, next);
-    *results = words::tick_numbers(
-        words::sent_number(sent),
+    *results = state_words::tick_numbers(
+        state_words::sent_number(sent),
         told_number(told),
         told_attempts(told),
         event,
     );
-    words::call_number(result)
+    state_words::call_number(result)
 }
 
 pub fn request_of(

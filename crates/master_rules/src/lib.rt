@@ -66,7 +66,7 @@ pub fn at_stage(g: Message, stage: Stage) -> Message
     ensures { λ r. ⌜ r ≡ messageAt g stage ⌝ }
 {
     let h = g.header;
-    let header = tick_reader::same_header(h);
+    let header = line_reader::same_header(h);
     Message {
         stage: stage,
         header: header,

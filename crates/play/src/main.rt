@@ -3,16 +3,16 @@ use base::Refusal;
 use libc::STDOUT_FILENO;
 use player::Playing;
 use player::Told;
-use script::Form;
-use script::SizedForm;
-use script_input::Input;
-use script_input::ROOM;
+use player_input::Input;
+use player_input::ROOM;
+use player_script::Form;
+use player_script::SizedForm;
 
 // The size that the argument says.
 fn argument() -> usize {
     let mut word = io::buffer();
     let n = os::arg(1, &mut word);
-    script::size_in(&word[..n])
+    player_script::size_in(&word[..n])
 }
 
 // The size of a record: 4 without an argument, and none with more than one.
@@ -69,29 +69,29 @@ fn print_play(told: Told, script: &[u8]) {
 
 // A script of this form.
 fn play_form(form: Form, script: &[u8]) {
-    if script::is_good(form, script) {
+    if player_script::is_good(form, script) {
         let told = player::told_of(form, script);
         print_play(told, script);
         return;
     }
-    script_input::print_refusal(Refusal::BadScript);
+    player_input::print_refusal(Refusal::BadScript);
 }
 
 // The script on standard input; one longer than the room is refused with 16 or 15.
 fn play_input(form: Form, script: &mut [u8; ROOM]) {
-    let input = script_input::read(form, script);
+    let input = player_input::read(form, script);
     match input {
         Input::Whole(n) => play_form(form, texts::front(script, n)),
-        Input::LongGood(_) => script_input::print_refusal(Refusal::BufferShort),
-        Input::LongBad => script_input::print_refusal(Refusal::BadScript),
+        Input::LongGood(_) => player_input::print_refusal(Refusal::BufferShort),
+        Input::LongBad => player_input::print_refusal(Refusal::BadScript),
     }
 }
 
 fn main() {
     let mut script = [0u8; ROOM];
-    let sized = script::form_of(record_size());
+    let sized = player_script::form_of(record_size());
     match sized {
         SizedForm::Is(form) => play_input(form, &mut script),
-        SizedForm::Refused(why) => script_input::print_refusal(why),
+        SizedForm::Refused(why) => player_input::print_refusal(why),
     }
 }

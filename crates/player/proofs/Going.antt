@@ -7,13 +7,13 @@ use lib.ListN.{length}
 use Rattle.texts.specs.Put.{Out, outOf, put, PutIs}
 use Rattle.texts.proofs.Puts.{put-append}
 use Rattle.turns.specs.Link.{run}
-use Rattle.script.specs.declared.Form.{Form}
-use Rattle.script.specs.Script.{recordsIn, callsFrom}
-use Rattle.listing.specs.Sents.{sentIn}
-use Rattle.listing.specs.Lines.{linesFrom}
-use Rattle.listing.specs.Rows.{allHeard}
-use Rattle.listing.specs.Text.{linesText}
-use Rattle.parties.specs.Stands.{Rows, linkOf}
+use Rattle.player_script.specs.declared.Form.{Form}
+use Rattle.player_script.specs.Script.{recordsIn, callsFrom}
+use Rattle.player_listing.specs.Sents.{sentIn}
+use Rattle.player_listing.specs.Lines.{linesFrom}
+use Rattle.player_listing.specs.Rows.{allHeard}
+use Rattle.player_listing.specs.Text.{linesText}
+use Rattle.link_parties.specs.Stands.{Rows, linkOf}
 use Rattle.player.specs.Ticks.{textFrom, textLeft, linesOf, Stands, PlaysOn, Onward}
 use Rattle.player.specs.declared.Playing.{Playing}
 use Rattle.player.specs.declared.Told.{Told}

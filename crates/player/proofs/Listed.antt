@@ -19,11 +19,11 @@ use Rattle.turns.specs.Run.{All, none, and, MasterStarts, DeviceStarts}
 use Rattle.turns.specs.declared.Sent.{Sent}
 use Rattle.turns.specs.declared.Sent.the-variants.{Silent}
 use Rattle.turns.proofs.NoGaps.{master-leaves-no-gap, device-leaves-no-gap}
-use Rattle.script.specs.Script.{stopOf, callsFrom}
-use Rattle.listing.specs.Lines.{isLone}
-use Rattle.listing.specs.FrameLines.{sentBy, Ticks, no-more, one-more}
-use Rattle.listing.proofs.OutputLines.{output-listed}
-use Rattle.listing.specs.Sents.{devicesSent, sentOf, sentIn}
+use Rattle.player_script.specs.Script.{stopOf, callsFrom}
+use Rattle.player_listing.specs.Lines.{isLone}
+use Rattle.player_listing.specs.FrameLines.{sentBy, Ticks, no-more, one-more}
+use Rattle.player_listing.proofs.OutputLines.{output-listed}
+use Rattle.player_listing.specs.Sents.{devicesSent, sentOf, sentIn}
 use Rattle.player.specs.Play.{ready, readyLink}
 use Rattle.player.specs.Listed.{loneIn, ListsFrames, RunListed, PlayListed}
 

@@ -12,10 +12,10 @@ use Rattle.base.proofs.Choices.{true-false, went-else}
 use Rattle.base.proofs.Stores.{stored-front, stored-none}
 use Rattle.texts.specs.Put.{Out, outOf, put, PutIs}
 use Rattle.texts.proofs.Puts.{put-then, put-front}
-use Rattle.script.specs.Script.{recordsIn, goodIn}
-use Rattle.script.specs.declared.Form.{Form}
-use Rattle.listing.specs.Text.{headLine, linesText}
-use Rattle.parties.specs.Stands.{Rows}
+use Rattle.player_script.specs.Script.{recordsIn, goodIn}
+use Rattle.player_script.specs.declared.Form.{Form}
+use Rattle.player_listing.specs.Text.{headLine, linesText}
+use Rattle.link_parties.specs.Stands.{Rows}
 use Rattle.player.specs.Ticks.{textLeft, linesOf, Stands, PlaysOn, Onward, atFront, hasRoom, linesRoom}
 use Rattle.player.specs.Pieces.{toldOf, firstPlay, Piece, PieceIs, Written, over, next, PiecesJoin}
 use Rattle.player.specs.declared.Playing.{Playing}

@@ -12,29 +12,29 @@ use Rattle.turns.specs.Link as L
 use Rattle.turns.specs.Run.{EachTick}
 use Rattle.turns.specs.declared.Sent.{Sent}
 use Rattle.turns.specs.declared.Sent.the-variants.{Silent}
-use Rattle.script.specs.declared.Form.{Form}
-use Rattle.script.specs.Script.{recordsIn, callsAt, callsFrom, tickAt}
-use Rattle.script.specs.Reads.{Reads}
-use Rattle.script.specs.Walk.{freeTicks}
-use Rattle.script.specs.declared.Entry.{Entry}
-use Rattle.script.specs.declared.ScriptTick.{ScriptTick}
-use Rattle.script.proofs.Free.{Free, free-is, free-most}
-use Rattle.script.proofs.Ticks.{reads-tick, reads-next}
-use Rattle.listing.specs.Sents.{sentIn}
-use Rattle.listing.specs.Lines.{quietMonitor, linesFrom}
-use Rattle.listing.specs.Text.{linesText}
-use Rattle.listing.specs.Promises.{TickLinesAre}
-use Rattle.listing.specs.Rows.{rowsSent, rowsListed, heardSoFar, allHeard, ticksLines, rowsLines}
-use Rattle.listing.specs.declared.Monitor.{Monitor}
-use Rattle.listing.proofs.Listens.{ticks-silent}
-use Rattle.listing.proofs.Lengths.{text-most}
+use Rattle.player_script.specs.declared.Form.{Form}
+use Rattle.player_script.specs.Script.{recordsIn, callsAt, callsFrom, tickAt}
+use Rattle.player_script.specs.Reads.{Reads}
+use Rattle.player_script.specs.Walk.{freeTicks}
+use Rattle.player_script.specs.declared.Entry.{Entry}
+use Rattle.player_script.specs.declared.ScriptTick.{ScriptTick}
+use Rattle.player_script.proofs.Free.{Free, free-is, free-most}
+use Rattle.player_script.proofs.Ticks.{reads-tick, reads-next}
+use Rattle.player_listing.specs.Sents.{sentIn}
+use Rattle.player_listing.specs.Lines.{quietMonitor, linesFrom}
+use Rattle.player_listing.specs.Text.{linesText}
+use Rattle.player_listing.specs.Promises.{TickLinesAre}
+use Rattle.player_listing.specs.Rows.{rowsSent, rowsListed, heardSoFar, allHeard, ticksLines, rowsLines}
+use Rattle.player_listing.specs.declared.Monitor.{Monitor}
+use Rattle.player_listing.proofs.Listens.{ticks-silent}
+use Rattle.player_listing.proofs.Lengths.{text-most}
 use Rattle.texts.specs.Put.{Out, outOf, put, PutIs}
 use Rattle.texts.proofs.Puts.{put-length, put-front}
-use Rattle.parties.specs.Stands.{Rows, linkOf, heres, callsOf, uncalled}
-use Rattle.parties.specs.declared.Calls.{Calls}
-use Rattle.parties.specs.declared.Link.{Link}
-use Rattle.parties.specs.declared.Slot.{Slot}
-use Rattle.parties.specs.declared.Ticked.{Ticked}
+use Rattle.link_parties.specs.Stands.{Rows, linkOf, heres, callsOf, uncalled}
+use Rattle.link_parties.specs.declared.Calls.{Calls}
+use Rattle.link_parties.specs.declared.Link.{Link}
+use Rattle.link_parties.specs.declared.Slot.{Slot}
+use Rattle.link_parties.specs.declared.Ticked.{Ticked}
 use Rattle.link_ticks.specs.Ticks.{upToTold, callsFirst, atMost, stepsOf, linkBehind, RunIs}
 use Rattle.link_rests.specs.Rests.{slotRested, linkRests, linkRested}
 use Rattle.link_rests.proofs.RestingLink.{rested-agrees, rested-sent}

@@ -12,15 +12,15 @@ use Rattle.line.specs.declared.Heard.{Heard}
 use Rattle.turns.specs.Link.{no-call, DeviceSide, DeviceStep, Calls, LinkStep, deviceTick, deviceTicks, linkTick, linkAfter, run}
 use Rattle.turns.specs.Link as L
 use Rattle.turns.specs.declared.Sent.{Sent}
-use Rattle.script.specs.Script.{wantedAt, masterCall, deviceCall, deviceCallAt, callsAt, callsFrom}
-use Rattle.script.specs.declared.Entry.{Entry}
-use Rattle.script.specs.declared.ScriptCall.the-variants.{Nothing}
-use Rattle.listing.specs.Sents.{sentOf, sentIn}
-use Rattle.listing.specs.Lines.{linesFrom, monitorsFrom}
-use Rattle.listing.specs.Text.{linesText}
-use Rattle.listing.specs.declared.Monitor.{Monitor}
-use Rattle.listing.proofs.Listens.{ticks-text}
-use Rattle.parties.specs.Stands.{uncalled}
+use Rattle.player_script.specs.Script.{wantedAt, masterCall, deviceCall, deviceCallAt, callsAt, callsFrom}
+use Rattle.player_script.specs.declared.Entry.{Entry}
+use Rattle.player_script.specs.declared.ScriptCall.the-variants.{Nothing}
+use Rattle.player_listing.specs.Sents.{sentOf, sentIn}
+use Rattle.player_listing.specs.Lines.{linesFrom, monitorsFrom}
+use Rattle.player_listing.specs.Text.{linesText}
+use Rattle.player_listing.specs.declared.Monitor.{Monitor}
+use Rattle.player_listing.proofs.Listens.{ticks-text}
+use Rattle.link_parties.specs.Stands.{uncalled}
 use Rattle.link_ticks.specs.Ticks.{tells, upToTold, callsFirst, linkBehind}
 use Rattle.link_rests.specs.Uncalled.{uncalledTick, afterTicks}
 use Rattle.player.specs.Ticks.{textFrom}

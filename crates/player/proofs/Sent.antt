@@ -15,10 +15,10 @@ use Rattle.turns.specs.Link as L
 use Rattle.turns.specs.Run.{EachTick, no-tick, tick-and, count, deviceSenders, senders}
 use Rattle.turns.specs.declared.Sent.{Sent}
 use Rattle.turns.specs.declared.Sent.the-variants.{Silent, Character}
-use Rattle.listing.specs.Sents.{devicesSent, sentOf, sentIn}
-use Rattle.listing.specs.Rows.{sentFor, rowSent, rowsSent, lesser, rowsListed}
-use Rattle.parties.specs.Stands.{Rows, deviceAt, ifHere, devicesFrom, heres, codeOf, uncalled}
-use Rattle.parties.specs.declared.Slot.{Slot}
+use Rattle.player_listing.specs.Sents.{devicesSent, sentOf, sentIn}
+use Rattle.player_listing.specs.Rows.{sentFor, rowSent, rowsSent, lesser, rowsListed}
+use Rattle.link_parties.specs.Stands.{Rows, deviceAt, ifHere, devicesFrom, heres, codeOf, uncalled}
+use Rattle.link_parties.specs.declared.Slot.{Slot}
 use Rattle.link_ticks.specs.Ticks.{onHere, deviceCode, codes, codesOf, SendsByte, sends-none, sends-byte, DevicesSendBytes, no-device, device-and, SendBytes}
 use Rattle.link_rests.specs.Uncalled.{uncalledTick, afterTicks}
 use Rattle.player.proofs.Runs.{rests-later}

@@ -12,15 +12,15 @@ use Rattle.texts.proofs.Puts.{put-then}
 use Rattle.line.specs.Profile.{fskProfile}
 use Rattle.line.specs.declared.Profile.{Profile}
 use Rattle.turns.specs.Link as L
-use Rattle.script.specs.declared.Form.{Form}
-use Rattle.script.specs.Script.{recordsIn, goodIn, stopOf}
-use Rattle.script.proofs.Ticks.{reads-start}
-use Rattle.listing.specs.Lines.{quietMonitor}
-use Rattle.listing.specs.Rows.{allHeard}
-use Rattle.listing.specs.Text.{headLine}
-use Rattle.listing.specs.declared.Monitor.{Monitor}
-use Rattle.parties.specs.Stands.{devicesFrom, heres}
-use Rattle.parties.specs.declared.Link.{Link}
+use Rattle.player_script.specs.declared.Form.{Form}
+use Rattle.player_script.specs.Script.{recordsIn, goodIn, stopOf}
+use Rattle.player_script.proofs.Ticks.{reads-start}
+use Rattle.player_listing.specs.Lines.{quietMonitor}
+use Rattle.player_listing.specs.Rows.{allHeard}
+use Rattle.player_listing.specs.Text.{headLine}
+use Rattle.player_listing.specs.declared.Monitor.{Monitor}
+use Rattle.link_parties.specs.Stands.{devicesFrom, heres}
+use Rattle.link_parties.specs.declared.Link.{Link}
 use Rattle.link_start.specs.Fresh.{rowsFresh, lentFresh}
 use Rattle.link_start.specs.Start.{devicesStart, linkStarts, linkOr, StartedIs}
 use Rattle.link_start.specs.declared.LinkStarted.{LinkStarted}

@@ -5,8 +5,8 @@ use mathlib.Core.Path.{_≡_, sym, ap, _∙_}
 use Prim.Native.Nat.{ℕ}
 use Rattle.base.specs.Refusal.{accepted, refused}
 use Rattle.base.proofs.Choices.{if-is-true}
-use Rattle.script.specs.Script.{recordsIn, goodIn}
-use Rattle.script.specs.declared.Form.{Form}
+use Rattle.player_script.specs.Script.{recordsIn, goodIn}
+use Rattle.player_script.specs.declared.Form.{Form}
 use Rattle.player_convert.specs.Turn.{other}
 use Rattle.player_convert.proofs.Turns.{result-of, turn-keeps}
 use Rattle.player.specs.Play.{listing, outputOf, play}

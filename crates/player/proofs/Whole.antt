@@ -11,11 +11,11 @@ use Rattle.base.proofs.Choices.{if-is-false, went-else}
 use Rattle.texts.specs.Decimal.{decimalOf}
 use Rattle.texts.specs.Put.{PutIs}
 use Rattle.texts.proofs.Puts.{put-same}
-use Rattle.script.specs.Script.{formOf, sizedAs, recordsIn, goodIn}
-use Rattle.script.specs.declared.Entry.{Entry}
-use Rattle.script.specs.declared.Form.{Form}
-use Rattle.script.specs.declared.SizedForm.{SizedForm}
-use Rattle.script.specs.declared.SizedForm.the-variants.{Is, Refused}
+use Rattle.player_script.specs.Script.{formOf, sizedAs, recordsIn, goodIn}
+use Rattle.player_script.specs.declared.Entry.{Entry}
+use Rattle.player_script.specs.declared.Form.{Form}
+use Rattle.player_script.specs.declared.SizedForm.{SizedForm}
+use Rattle.player_script.specs.declared.SizedForm.the-variants.{Is, Refused}
 use Rattle.player.specs.Play.{listing, outputOf, play, sizedTaken, playSized}
 use Rattle.player.proofs.Turned.{play-good}
 

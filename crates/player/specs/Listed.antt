@@ -12,11 +12,11 @@ use Rattle.line.specs.declared.Profile.{Profile}
 use Rattle.turns.specs.Link.{Link, Calls, run}
 use Rattle.turns.specs.Run.{Starts}
 use Rattle.turns.specs.declared.Sent.{Sent}
-use Rattle.script.specs.Script.{stopOf, callsFrom}
-use Rattle.script.specs.declared.Entry.{Entry}
-use Rattle.listing.specs.Lines.{quietMonitor, isLone, linesFrom}
-use Rattle.listing.specs.FrameLines.{Frames, linesBy, sentBy}
-use Rattle.listing.specs.Sents.{sentIn}
+use Rattle.player_script.specs.Script.{stopOf, callsFrom}
+use Rattle.player_script.specs.declared.Entry.{Entry}
+use Rattle.player_listing.specs.Lines.{quietMonitor, isLone, linesFrom}
+use Rattle.player_listing.specs.FrameLines.{Frames, linesBy, sentBy}
+use Rattle.player_listing.specs.Sents.{sentIn}
 use Rattle.player.specs.Play.{readyLink}
 
 -- whether at most one party sends in a tick

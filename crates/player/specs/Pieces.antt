@@ -8,11 +8,11 @@ use lib.ListN.{length, take, replicate}
 use Rattle.base.specs.Lent.{Lent, before, after}
 use Rattle.base.specs.Store.{stored}
 use Rattle.texts.specs.Put.{PutIs}
-use Rattle.script.specs.Script.{recordsIn, goodIn, stopOf}
-use Rattle.script.specs.declared.Form.{Form}
-use Rattle.listing.specs.Lines.{quietMonitor}
-use Rattle.listing.specs.Text.{headLine}
-use Rattle.parties.specs.Stands.{Rows, rowsOf}
+use Rattle.player_script.specs.Script.{recordsIn, goodIn, stopOf}
+use Rattle.player_script.specs.declared.Form.{Form}
+use Rattle.player_listing.specs.Lines.{quietMonitor}
+use Rattle.player_listing.specs.Text.{headLine}
+use Rattle.link_parties.specs.Stands.{Rows, rowsOf}
 use Rattle.link_start.specs.Fresh.{rowsFresh}
 use Rattle.player.specs.Play.{play}
 use Rattle.player.specs.Ready.{readyStart}

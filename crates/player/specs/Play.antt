@@ -12,12 +12,12 @@ use Rattle.line.specs.declared.Heard.the-variants.{Silence}
 use Rattle.turns.specs.Master.{freshMaster}
 use Rattle.turns.specs.Device.{freshDevice}
 use Rattle.turns.specs.Link.{DeviceSide, Link, run}
-use Rattle.script.specs.Script.{formOf, recordsIn, goodIn, stopOf, callsFrom}
-use Rattle.script.specs.declared.Entry.{Entry}
-use Rattle.script.specs.declared.Form.{Form}
-use Rattle.listing.specs.Lines.{quietMonitor, linesFrom}
-use Rattle.listing.specs.Text.{decimal, headLine, linesText}
-use Rattle.listing.specs.Sents.{sentIn}
+use Rattle.player_script.specs.Script.{formOf, recordsIn, goodIn, stopOf, callsFrom}
+use Rattle.player_script.specs.declared.Entry.{Entry}
+use Rattle.player_script.specs.declared.Form.{Form}
+use Rattle.player_listing.specs.Lines.{quietMonitor, linesFrom}
+use Rattle.player_listing.specs.Text.{decimal, headLine, linesText}
+use Rattle.player_listing.specs.Sents.{sentIn}
 
 -- "2 to 7 devices with polling address party − 2 and unique address equal to the party"; "FSK, R 3, preamble 5"
 abbrev pub ready : ℕ → DeviceSide

@@ -7,9 +7,9 @@ use Rattle.line.specs.Profile.{fskProfile}
 use Rattle.line.specs.declared.Heard.the-variants.{Silence}
 use Rattle.turns.specs.Master.{freshMaster}
 use Rattle.turns.specs.Device.{freshDevice}
-use Rattle.parties.specs.Ways.{inSlot}
-use Rattle.parties.specs.declared.Link.{Link}
-use Rattle.parties.specs.declared.Slot.{Slot}
+use Rattle.link_parties.specs.Ways.{inSlot}
+use Rattle.link_parties.specs.declared.Link.{Link}
+use Rattle.link_parties.specs.declared.Slot.{Slot}
 use Rattle.link_start.specs.declared.Setting.{Setting}
 
 -- "2 to 7 devices with polling address party − 2 and unique address equal to the party"; "preamble 5"

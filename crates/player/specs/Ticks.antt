@@ -11,17 +11,17 @@ use Rattle.texts.specs.Put.{PutIs}
 use Rattle.frame.specs.Limits.{mostData}
 use Rattle.turns.specs.Link.{LinkStep, run}
 use Rattle.turns.specs.Link as L
-use Rattle.script.specs.declared.Form.{Form}
-use Rattle.script.specs.Script.{recordsIn, callsFrom}
-use Rattle.script.specs.declared.Entry.{Entry}
-use Rattle.script.specs.Reads.{Reads}
-use Rattle.listing.specs.Sents.{sentIn}
-use Rattle.listing.specs.Lines.{quietMonitor, TickLines, linesFrom}
-use Rattle.listing.specs.Promises.{TickLinesAre}
-use Rattle.listing.specs.Rows.{allHeard, ticksLines}
-use Rattle.listing.specs.Text.{linesText}
-use Rattle.listing.specs.declared.Monitor.{Monitor}
-use Rattle.parties.specs.Stands.{Rows, rowsOf, linkOf, heres}
+use Rattle.player_script.specs.declared.Form.{Form}
+use Rattle.player_script.specs.Script.{recordsIn, callsFrom}
+use Rattle.player_script.specs.declared.Entry.{Entry}
+use Rattle.player_script.specs.Reads.{Reads}
+use Rattle.player_listing.specs.Sents.{sentIn}
+use Rattle.player_listing.specs.Lines.{quietMonitor, TickLines, linesFrom}
+use Rattle.player_listing.specs.Promises.{TickLinesAre}
+use Rattle.player_listing.specs.Rows.{allHeard, ticksLines}
+use Rattle.player_listing.specs.Text.{linesText}
+use Rattle.player_listing.specs.declared.Monitor.{Monitor}
+use Rattle.link_parties.specs.Stands.{Rows, rowsOf, linkOf, heres}
 use Rattle.link_ticks.specs.Ticks.{linkBehind}
 use Rattle.link_rests.specs.Rests.{linkRested}
 use Rattle.player.specs.declared.Playing.{Playing}

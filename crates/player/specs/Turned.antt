@@ -4,7 +4,7 @@ use Prim.Native.Nat.{ℕ}
 use mathlib.Core.List.{List}
 use mathlib.Core.Path.{_≡_}
 use Rattle.base.specs.Refusal.{accepted}
-use Rattle.script.specs.declared.Form.{Form}
+use Rattle.player_script.specs.declared.Form.{Form}
 use Rattle.player_convert.specs.Turn.{other, converted}
 use Rattle.player.specs.Play.{play}
 

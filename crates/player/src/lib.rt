@@ -1,18 +1,18 @@
 // The player: it plays a script on a link and lists the frames that were sent to the end.
 use line::Profile;
+use link_parties::Link;
 use link_start::Setting;
 use link_ticks::Most;
-use listing::Monitors;
-use parties::Link;
-use script::Form;
-use script::SizedForm;
+use player_listing::Monitors;
+use player_script::Form;
+use player_script::SizedForm;
 ghost use mathlib.Core.Path.{_≡_};
 ghost use mathlib.Core.Bool.{true};
 ghost use Prim.Native.Nat.{_+_, _≤_, _<_};
 ghost use lib.ListN.{length};
 ghost use Rattle.base.specs.Lent.{before, after};
 ghost use Rattle.texts.specs.Put.{PutIs};
-ghost use Rattle.script.specs.Script.{recordsIn, goodIn};
+ghost use Rattle.player_script.specs.Script.{recordsIn, goodIn};
 ghost use Rattle.player.specs.Play.{listing, play, playSized};
 ghost use Rattle.player.specs.Ready.{settingOf, settings, readyStart};
 ghost use Rattle.player.specs.Ticks.{restedFor, atFront, hasRoom, Stands, OnwardIs, PlaysAll};
@@ -52,7 +52,7 @@ fn rest_on(p: Playing, ticks: u32) -> Playing
     let heard = p.monitors;
     monitor_each(heard);
     let link = link_rests::link_rested(l, ticks);
-    let monitors = listing::quiet_monitors();
+    let monitors = player_listing::quiet_monitors();
     Playing {
         link: link,
         monitors: monitors,
@@ -92,16 +92,16 @@ fn tick_on(
     let form = told.form;
     let stop = told.stop;
     tick_fits(stop);
-    let wanted = script::calls_at(form, script, p.next, p.tick as usize);
+    let wanted = player_script::calls_at(form, script, p.next, p.tick as usize);
     let calls = player_calls::calls_of(p.tick as usize, wanted);
-    let free = script::free_ticks(form, script, wanted.next, p.tick + 1, stop);
+    let free = player_script::free_ticks(form, script, wanted.next, p.tick + 1, stop);
     let few = few_of(free);
     let most = Most {
         ticks: few + 1,
         data: 255,
     };
     let t = link_ticks::ticks(most, l, calls, &put, frames, bytes, contents, sent);
-    let h = listing::list_ticks(monitors, p.tick, t.count, sent, out, p.at);
+    let h = player_listing::list_ticks(monitors, p.tick, t.count, sent, out, p.at);
     let link = t.link;
     let heard = h.monitors;
     Playing {
@@ -131,7 +131,7 @@ fn onward(
     let form = told.form;
     let stop = told.stop;
     tick_fits(stop);
-    let free = script::free_ticks(form, script, p.next, p.tick, stop);
+    let free = player_script::free_ticks(form, script, p.next, p.tick, stop);
     if 0 < free {
         if link_rests::link_rests(l) {
             return rest_on(p, free);
@@ -254,7 +254,7 @@ pub fn told_of(form: Form, script: &[u8]) -> Told
 {
     Told {
         form: form,
-        stop: script::stop_tick(form, script),
+        stop: player_script::stop_tick(form, script),
     }
 }
 
@@ -263,8 +263,8 @@ pub fn play_begin(out: &mut [u8]) -> Playing
     ensures { λ r. ⌜ Begun (before out) r (after out) ⌝ }
 {
     let link = ready_link();
-    let monitors = listing::quiet_monitors();
-    let at = listing::put_head(out, 0);
+    let monitors = player_listing::quiet_monitors();
+    let at = player_listing::put_head(out, 0);
     Playing {
         link: link,
         monitors: monitors,
@@ -291,7 +291,7 @@ fn play_good(form: Form, script: &[u8], out: &mut [u8]) -> usize
 fn play_form(form: Form, script: &[u8], out: &mut [u8]) -> usize
     ensures { λ r. ⌜ PutIs (play form (before script)) (before out) 0 r (after out) ⌝ }
 {
-    if script::is_good(form, script) {
+    if player_script::is_good(form, script) {
         return play_good(form, script, out);
     }
     texts::put_bytes(b"16\n", out, 0)
@@ -301,7 +301,7 @@ fn play_form(form: Form, script: &[u8], out: &mut [u8]) -> usize
 pub fn play_into(size: usize, script: &[u8], out: &mut [u8]) -> usize
     ensures { λ r. ⌜ PutIs (playSized size (before script)) (before out) 0 r (after out) ⌝ }
 {
-    let sized = script::form_of(size);
+    let sized = player_script::form_of(size);
     match sized {
         SizedForm::Is(form) => play_form(form, script, out),
         SizedForm::Refused(_) => texts::put_bytes(b"24\n", out, 0),

@@ -12,18 +12,18 @@ use Rattle.turns.specs.declared.Wish.the-variants.{Same, On, Off}
 use Rattle.turns.proofs.Bursting.{if-both}
 use Rattle.master.specs.declared.MasterHostCall as MasterHost
 use Rattle.device_tick.specs.declared.DeviceHostCall as DeviceHost
-use Rattle.parties.specs.Stands.{masterCallOf, deviceCallOf, deviceCallsFrom, callsOf}
-use Rattle.parties.specs.declared.Calls.{Calls}
-use Rattle.parties.specs.declared.DeviceCall.{DeviceCall}
-use Rattle.parties.specs.declared.MasterCall.{MasterCall}
-use Rattle.parties.specs.declared.Part.{Part}
-use Rattle.script.specs.declared.Form.{Form}
-use Rattle.script.specs.declared.Form.the-variants.{Old, New}
-use Rattle.script.specs.Script.{entryOf, longEntryOf, recordsOf, longRecordsOf, recordsIn, isOf, wantedAt, masterCall, deviceCall, deviceCallAt, callsAt, tickOf}
-use Rattle.script.specs.declared.Entry.{Entry}
-use Rattle.script.specs.declared.ScriptCall.{ScriptCall}
-use Rattle.script.specs.declared.ScriptCall.the-variants.{Nothing, Call}
-use Rattle.script.specs.declared.ScriptTick.{ScriptTick}
+use Rattle.link_parties.specs.Stands.{masterCallOf, deviceCallOf, deviceCallsFrom, callsOf}
+use Rattle.link_parties.specs.declared.Calls.{Calls}
+use Rattle.link_parties.specs.declared.DeviceCall.{DeviceCall}
+use Rattle.link_parties.specs.declared.MasterCall.{MasterCall}
+use Rattle.link_parties.specs.declared.Part.{Part}
+use Rattle.player_script.specs.declared.Form.{Form}
+use Rattle.player_script.specs.declared.Form.the-variants.{Old, New}
+use Rattle.player_script.specs.Script.{entryOf, longEntryOf, recordsOf, longRecordsOf, recordsIn, isOf, wantedAt, masterCall, deviceCall, deviceCallAt, callsAt, tickOf}
+use Rattle.player_script.specs.declared.Entry.{Entry}
+use Rattle.player_script.specs.declared.ScriptCall.{ScriptCall}
+use Rattle.player_script.specs.declared.ScriptCall.the-variants.{Nothing, Call}
+use Rattle.player_script.specs.declared.ScriptTick.{ScriptTick}
 use Rattle.player_calls.specs.Calls.{zeroBytes, zeros, requestWith, masterCallFor, answerWith, deviceCallFor, deviceCallIn, callsFor}
 
 -- ---- equal parts make equal calls

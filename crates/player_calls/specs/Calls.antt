@@ -10,14 +10,14 @@ use Rattle.turns.specs.declared.Wish.{Wish}
 use Rattle.turns.specs.declared.Wish.the-variants.{Same, On, Off}
 use Rattle.master.specs.declared.MasterHostCall as MasterHost
 use Rattle.device_tick.specs.declared.DeviceHostCall as DeviceHost
-use Rattle.parties.specs.Stands.{noMasterCall, noDeviceCall}
-use Rattle.parties.specs.declared.Calls.{Calls}
-use Rattle.parties.specs.declared.DeviceCall.{DeviceCall}
-use Rattle.parties.specs.declared.MasterCall.{MasterCall}
-use Rattle.parties.specs.declared.Part.{Part}
-use Rattle.script.specs.declared.ScriptTick.{ScriptTick}
-use Rattle.script.specs.declared.ScriptCall.{ScriptCall}
-use Rattle.script.specs.declared.ScriptCall.the-variants.{Nothing, Call}
+use Rattle.link_parties.specs.Stands.{noMasterCall, noDeviceCall}
+use Rattle.link_parties.specs.declared.Calls.{Calls}
+use Rattle.link_parties.specs.declared.DeviceCall.{DeviceCall}
+use Rattle.link_parties.specs.declared.MasterCall.{MasterCall}
+use Rattle.link_parties.specs.declared.Part.{Part}
+use Rattle.player_script.specs.declared.ScriptTick.{ScriptTick}
+use Rattle.player_script.specs.declared.ScriptCall.{ScriptCall}
+use Rattle.player_script.specs.declared.ScriptCall.the-variants.{Nothing, Call}
 
 -- what is put beside every tick's calls
 unfoldable pub zeroBytes : List ℕ

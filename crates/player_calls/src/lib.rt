@@ -1,11 +1,11 @@
 // The calls of a tick that a script wants, for the link. Their data are the first of so many zero bytes.
 use device_tick::DeviceHostCall;
-use parties::Calls;
-use parties::DeviceCall;
-use parties::MasterCall;
-use parties::Part;
-use script::ScriptCall;
-use script::ScriptTick;
+use link_parties::Calls;
+use link_parties::DeviceCall;
+use link_parties::MasterCall;
+use link_parties::Part;
+use player_script::ScriptCall;
+use player_script::ScriptTick;
 use turns::Wish;
 ghost use mathlib.Core.Path.{_≡_};
 ghost use Rattle.player_calls.specs.Calls.{zeros, masterCallFor, requestWith, deviceCallFor, answerWith, deviceCallIn, callsFor};
@@ -52,7 +52,7 @@ fn master_call(w: ScriptCall) -> MasterCall
     ensures { λ r. ⌜ r ≡ masterCallFor w ⌝ }
 {
     match w {
-        ScriptCall::Nothing => parties::no_master_call(),
+        ScriptCall::Nothing => link_parties::no_master_call(),
         ScriptCall::Call(action, argument) => request_for(action, argument),
     }
 }
@@ -85,7 +85,7 @@ fn device_call(w: ScriptCall) -> DeviceCall
     ensures { λ r. ⌜ r ≡ deviceCallFor w ⌝ }
 {
     match w {
-        ScriptCall::Nothing => parties::no_device_call(),
+        ScriptCall::Nothing => link_parties::no_device_call(),
         ScriptCall::Call(action, argument) => answer_for(action, argument),
     }
 }

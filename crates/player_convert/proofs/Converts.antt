@@ -11,12 +11,12 @@ use Rattle.base.specs.Refusal.{number, Called, accepted, refused}
 use Rattle.base.specs.declared.Refusal.{Refusal}
 use Rattle.base.specs.declared.Refusal.the-variants.{BufferShort, BadScript, TickTooLarge}
 use Rattle.base.proofs.Choices.{if-is-true, if-is-false}
-use Rattle.script.specs.Script.{width, recordsOf, longRecordsOf, recordsIn, goodIn, stopOf, formOf, sizedAs}
-use Rattle.script.specs.declared.Entry.{Entry}
-use Rattle.script.specs.declared.Form.{Form}
-use Rattle.script.specs.declared.Form.the-variants.{Old, New}
-use Rattle.script.specs.declared.SizedForm.{SizedForm}
-use Rattle.script.specs.declared.SizedForm.the-variants.{Is, Refused}
+use Rattle.player_script.specs.Script.{width, recordsOf, longRecordsOf, recordsIn, goodIn, stopOf, formOf, sizedAs}
+use Rattle.player_script.specs.declared.Entry.{Entry}
+use Rattle.player_script.specs.declared.Form.{Form}
+use Rattle.player_script.specs.declared.Form.the-variants.{Old, New}
+use Rattle.player_script.specs.declared.SizedForm.{SizedForm}
+use Rattle.player_script.specs.declared.SizedForm.the-variants.{Is, Refused}
 use Rattle.player_convert.specs.declared.Converted.{Converted}
 use Rattle.player_convert.specs.declared.Converted.the-variants.{To}
 use Rattle.player_convert.specs.declared.Converted.the-variants as C

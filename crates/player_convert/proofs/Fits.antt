@@ -7,12 +7,12 @@ use mathlib.Core.List.{List, [], _∷_}
 use mathlib.Core.Path.{_≡_, refl, sym, _∙_}
 use Rattle.base.specs.Choice.{if_then_else_, _<?_}
 use Rattle.base.proofs.Choices.{true-false, if-is-false, went-else}
-use Rattle.script.specs.Script.{recordsOf, longRecordsOf, recordsIn, goodIn, stopOf}
-use Rattle.script.specs.Reads.{Rising, Reads}
-use Rattle.script.proofs.Ticks.{reads-start}
-use Rattle.script.specs.declared.Entry.{Entry}
-use Rattle.script.specs.declared.Form.{Form}
-use Rattle.script.specs.declared.Form.the-variants.{Old, New}
+use Rattle.player_script.specs.Script.{recordsOf, longRecordsOf, recordsIn, goodIn, stopOf}
+use Rattle.player_script.specs.Reads.{Rising, Reads}
+use Rattle.player_script.proofs.Ticks.{reads-start}
+use Rattle.player_script.specs.declared.Entry.{Entry}
+use Rattle.player_script.specs.declared.Form.{Form}
+use Rattle.player_script.specs.declared.Form.the-variants.{Old, New}
 use Rattle.player_convert.specs.Turn.{mostTick, anyAbove, Sayable, none, more}
 use Rattle.player_convert.specs.Kept.{Bytes, StopDecides}
 

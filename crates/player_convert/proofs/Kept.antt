@@ -9,10 +9,10 @@ use borrow.Author.Tests.{eq-eqb, eqb-true}
 use Rattle.base.specs.Choice.{if_then_else_, _=?_}
 use Rattle.base.proofs.Choices.{if-is-true}
 use Rattle.base.proofs.Tables.{chain-first, chain-second}
-use Rattle.script.specs.Script.{entryOf, longEntryOf, width, recordsOf, longRecordsOf, recordsIn, isGood, goodIn}
-use Rattle.script.specs.declared.Entry.{Entry}
-use Rattle.script.specs.declared.Form.{Form}
-use Rattle.script.specs.declared.Form.the-variants.{Old, New}
+use Rattle.player_script.specs.Script.{entryOf, longEntryOf, width, recordsOf, longRecordsOf, recordsIn, isGood, goodIn}
+use Rattle.player_script.specs.declared.Entry.{Entry}
+use Rattle.player_script.specs.declared.Form.{Form}
+use Rattle.player_script.specs.declared.Form.the-variants.{Old, New}
 use Rattle.player_convert.specs.Turn.{entryBytes, turned, Sayable, none, more}
 use Rattle.player_convert.specs.Kept.{Bytes}
 

@@ -5,11 +5,11 @@ use mathlib.Core.List.{List, [], _∷_, _++_}
 use mathlib.Core.Path.{_≡_, refl, sym, ap, subst, _∙_}
 use lib.ListN.{length, getD, set, drop, length-set, length-drop}
 use Rattle.base.specs.Store.{stored}
-use Rattle.script.specs.Script.{width, longEntryOf, recordsIn}
-use Rattle.script.specs.Walk.{longEntryAt, entryIn}
-use Rattle.script.proofs.Records.{records-more, records-none}
-use Rattle.script.specs.declared.Entry.{Entry}
-use Rattle.script.specs.declared.Form.the-variants.{Old, New}
+use Rattle.player_script.specs.Script.{width, longEntryOf, recordsIn}
+use Rattle.player_script.specs.Walk.{longEntryAt, entryIn}
+use Rattle.player_script.proofs.Records.{records-more, records-none}
+use Rattle.player_script.specs.declared.Entry.{Entry}
+use Rattle.player_script.specs.declared.Form.the-variants.{Old, New}
 use Rattle.player_convert.specs.Turn.{entryBytes, turned, Sayable, more}
 
 pub record Narrowing (script xs ys : List ℕ) (at to : ℕ) : Type 0 where

@@ -9,10 +9,10 @@ use lib.ListN.{length}
 use Rattle.base.specs.Choice.{if_then_else_, _<?_}
 use Rattle.base.specs.Refusal.{Called, accepted, refused}
 use Rattle.base.proofs.Choices.{if-is-true, if-is-false, went-then, went-else}
-use Rattle.script.specs.Script.{width, recordsOf, longRecordsOf, recordsIn, isIn, isGood, goodIn}
-use Rattle.script.specs.declared.Entry.{Entry}
-use Rattle.script.specs.declared.Form.{Form}
-use Rattle.script.specs.declared.Form.the-variants.{Old, New}
+use Rattle.player_script.specs.Script.{width, recordsOf, longRecordsOf, recordsIn, isIn, isGood, goodIn}
+use Rattle.player_script.specs.declared.Entry.{Entry}
+use Rattle.player_script.specs.declared.Form.{Form}
+use Rattle.player_script.specs.declared.Form.the-variants.{Old, New}
 use Rattle.player_convert.specs.Turn.{turned, other, mostTick, anyAbove, byRoom, byTicks, converted, Sayable}
 use Rattle.player_convert.specs.Kept.{KeptBy, TurnKeeps, Bytes, ThereAndBack}
 use Rattle.player_convert.proofs.Kept.{old-bytes, new-bytes, good-turns, good-whole}

@@ -7,8 +7,8 @@ use mathlib.Core.Path.{_≡_}
 use lib.ListN.{length, getD}
 use Rattle.base.specs.Choice.{_<?_}
 use Rattle.base.specs.Refusal.{Called, accepted}
-use Rattle.script.specs.Script.{recordsIn, goodIn, stopOf}
-use Rattle.script.specs.declared.Form.{Form}
+use Rattle.player_script.specs.Script.{recordsIn, goodIn, stopOf}
+use Rattle.player_script.specs.declared.Form.{Form}
 use Rattle.player_convert.specs.Turn.{other, anyAbove, converted}
 
 -- the result is a good script of the other form, with the same records

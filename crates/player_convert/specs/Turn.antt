@@ -8,10 +8,10 @@ use lib.ListN.{length}
 use Rattle.base.specs.Choice.{if_then_else_, _<?_}
 use Rattle.base.specs.Store.{stored}
 use Rattle.base.specs.Refusal.{number, Called, accepted, refused}
-use Rattle.script.specs.Script.{formOf, recordsIn, goodIn}
-use Rattle.script.specs.declared.Entry.{Entry}
-use Rattle.script.specs.declared.Form.{Form}
-use Rattle.script.specs.declared.Form.the-variants.{Old, New}
+use Rattle.player_script.specs.Script.{formOf, recordsIn, goodIn}
+use Rattle.player_script.specs.declared.Entry.{Entry}
+use Rattle.player_script.specs.declared.Form.{Form}
+use Rattle.player_script.specs.declared.Form.the-variants.{Old, New}
 use Rattle.player_convert.specs.declared.Converted.{Converted}
 use Rattle.player_convert.specs.declared.Converted.the-variants.{To, Refused}
 

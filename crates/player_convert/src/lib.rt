@@ -1,14 +1,14 @@
 // Scripts turned from one form into the other.
 use base::Refusal;
-use script::Form;
-use script::SizedForm;
+use player_script::Form;
+use player_script::SizedForm;
 ghost use mathlib.Core.Path.{_≡_};
 ghost use mathlib.Core.Bool.{true};
 ghost use Prim.Native.Nat.{_*_, _%_, _≤_};
 ghost use lib.ListN.{length};
 ghost use Rattle.base.specs.Lent.{before, after};
-ghost use Rattle.script.specs.Script.{recordsIn, goodIn};
-ghost use Rattle.script.specs.declared.Form.the-variants.{Old, New};
+ghost use Rattle.player_script.specs.Script.{recordsIn, goodIn};
+ghost use Rattle.player_script.specs.declared.Form.the-variants.{Old, New};
 ghost use Rattle.player_convert.specs.Turn.{turned, byRoom, byTicks, converted, conversion, ConvertIs, Sayable, PutsRecords};
 
 // What a conversion answers: how many bytes the result has, or a refusal.
@@ -84,7 +84,7 @@ fn turn_back(script: &[u8], out: &mut [u8]) -> Converted
     requires { ⌜ goodIn New (now script) ≡ true ⌝ }
     ensures { λ r. ⌜ ConvertIs (byTicks New (before script) (length (before out))) (before out) r (after out) ⌝ }
 {
-    let stop = script::stop_tick(Form::New, script);
+    let stop = player_script::stop_tick(Form::New, script);
     if 65535 < stop {
         return Converted::Refused(Refusal::TickTooLarge);
     }
@@ -105,7 +105,7 @@ fn convert_good(form: Form, script: &[u8], out: &mut [u8]) -> Converted
 fn convert_from(form: Form, script: &[u8], out: &mut [u8]) -> Converted
     ensures { λ r. ⌜ ConvertIs (converted form (before script) (length (before out))) (before out) r (after out) ⌝ }
 {
-    if script::is_good(form, script) {
+    if player_script::is_good(form, script) {
         return convert_good(form, script, out);
     }
     Converted::Refused(Refusal::BadScript)
@@ -115,7 +115,7 @@ fn convert_from(form: Form, script: &[u8], out: &mut [u8]) -> Converted
 pub fn convert(size: usize, script: &[u8], out: &mut [u8]) -> Converted
     ensures { λ r. ⌜ ConvertIs (conversion size (before script) (length (before out))) (before out) r (after out) ⌝ }
 {
-    let sized = script::form_of(size);
+    let sized = player_script::form_of(size);
     match sized {
         SizedForm::Is(form) => convert_from(form, script, out),
         SizedForm::Refused(why) => Converted::Refused(why),

@@ -12,11 +12,11 @@ use Rattle.line.specs.Reader.{taken, takenData, atIdle, atPreamble, atFirst, at
 use Rattle.turns.specs.Master.{requested, requestedUpTo, masterTakes, masterSends}
 use Rattle.turns.specs.Device.{deviceTakes, deviceSends, answered, contentGiven}
 use Rattle.turns.specs.Link.{masterTick, deviceTick, deviceTicks, sides, carried, linkTick, run}
-use Rattle.listing.specs.Lines.{frameEnds, endsWith, listens, linesOf, senders, tickLines, linesFrom}
-use Rattle.listing.specs.Text.{lineText, linesText, headLine}
-use Rattle.script.specs.declared.Form.the-variants.{Old}
-use Rattle.script.specs.Script.{recordsOf, recordsIn, width, isIn, isGood, goodIn, wantedAt, stopOf, callsFrom}
-use Rattle.listing.specs.Sents.{devicesSent, sentIn}
+use Rattle.player_listing.specs.Lines.{frameEnds, endsWith, listens, linesOf, senders, tickLines, linesFrom}
+use Rattle.player_listing.specs.Text.{lineText, linesText, headLine}
+use Rattle.player_script.specs.declared.Form.the-variants.{Old}
+use Rattle.player_script.specs.Script.{recordsOf, recordsIn, width, isIn, isGood, goodIn, wantedAt, stopOf, callsFrom}
+use Rattle.player_listing.specs.Sents.{devicesSent, sentIn}
 use Rattle.player.specs.Play.{readyLink, play}
 
 -- 42 0 STX 0 10, and 55 2 ACK 0 12

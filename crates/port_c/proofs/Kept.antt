@@ -13,8 +13,8 @@ use Rattle.line.specs.declared.Heard.the-variants.{Silence, Character, Damaged}
 use Rattle.recording.specs.Recording.{heardOf}
 use Rattle.turns.specs.declared.Device.{Device}
 use Rattle.turns.specs.declared.Master.{Master}
-use Rattle.words.specs.Fields.{wordAt, numberAt}
-use Rattle.words.proofs.Kept.{number-kept}
+use Rattle.state_words.specs.Fields.{wordAt, numberAt}
+use Rattle.state_words.proofs.Kept.{number-kept}
 use Rattle.master_c.specs.Words as MasterWords
 use Rattle.master_c.proofs.Kept.{master-kept}
 use Rattle.device_c.specs.Words as DeviceWords

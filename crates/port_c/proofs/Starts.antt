@@ -13,8 +13,8 @@ use Rattle.master_c.specs.Words as MasterWords
 use Rattle.master_c.proofs.Kept as MasterKept
 use Rattle.device_c.specs.Words as DeviceWords
 use Rattle.device_c.proofs.Kept as DeviceKept
-use Rattle.start_c.specs.Start.{limited}
-use Rattle.start_c.proofs.Starts.{limit-byte}
+use Rattle.state_start_c.specs.Start.{limited}
+use Rattle.state_start_c.proofs.Starts.{limit-byte}
 use Rattle.port.specs.Device.{portDeviceStarts}
 use Rattle.port.specs.Master.{portMasterStarts}
 use Rattle.port.specs.declared.PortDevice.{PortDevice}

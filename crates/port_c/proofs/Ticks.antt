@@ -5,7 +5,7 @@ use mathlib.Core.Path.{_≡_, refl, ap, subst, _∙_}
 use Rattle.line.specs.declared.Heard.{Heard}
 use Rattle.turns.specs.Told.{masterTells, deviceTells}
 use Rattle.party.specs.Calls.{resultOf}
-use Rattle.words.specs.Numbers.{tickNumbers, sentNumber, callNumber}
+use Rattle.state_words.specs.Numbers.{tickNumbers, sentNumber, callNumber}
 use Rattle.master.specs.Tick.{callOf}
 use Rattle.master.specs.declared.MasterHostCall.{MasterHostCall}
 use Rattle.master_c.specs.Tick.{toldAttempts}

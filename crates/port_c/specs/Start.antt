@@ -1,11 +1,11 @@
 -- How the code stands for what is to be believed.
--- The starts of the port's master and of a device of the port, over both arrays of words; those of the pair are over one (crates/start_c/specs/Start.antt). The data limit is that of document 02, item 12.
+-- The starts of the port's master and of a device of the port, over both arrays of words; those of the pair are over one (crates/state_start_c/specs/Start.antt). The data limit is that of document 02, item 12.
 use Prim.Native.Nat.{ℕ}
 use mathlib.Core.List.{List}
 use mathlib.Core.Path.{_≡_}
 use Rattle.base.specs.Lent.{Lent, before, after}
 use Rattle.base.specs.Refusal.{Called, accepted, refused}
-use Rattle.start_c.specs.Start.{startNumber, startWords, LimitIs, limited}
+use Rattle.state_start_c.specs.Start.{startNumber, startWords, LimitIs, limited}
 use Rattle.master_c.specs.Words as MasterWords
 use Rattle.device_c.specs.Words as DeviceWords
 use Rattle.port.specs.declared.PortDevice.{PortDevice}

@@ -8,7 +8,7 @@ use Rattle.base.specs.Lent.{Lent, before, after}
 use Rattle.line.specs.declared.Heard.{Heard}
 use Rattle.turns.specs.Told.{masterTells, deviceTells}
 use Rattle.turns.specs.declared.Wish.the-variants.{Same, On, Off}
-use Rattle.words.specs.Numbers.{tickNumbers, sentNumber, callNumber}
+use Rattle.state_words.specs.Numbers.{tickNumbers, sentNumber, callNumber}
 use Rattle.master.specs.Tick.{callOf}
 use Rattle.master.specs.declared.MasterHostCall.{MasterHostCall}
 use Rattle.master_c.specs.Tick.{toldAttempts}

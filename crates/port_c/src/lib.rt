@@ -114,8 +114,8 @@ fn unpack_master(state: &[u64; 40], port: &[u64; 2]) -> PortMaster
     ensures { λ x. ⌜ x ≡ unpackedMaster (before state) (before port) ⌝ }
 {
     let m = master_c::unpack(state);
-    let since = words::u16_at(port, 0);
-    let wake = wake_of(words::word_at(port, 1));
+    let since = state_words::u16_at(port, 0);
+    let wake = wake_of(state_words::word_at(port, 1));
     PortMaster {
         master: m,
         since: since,
@@ -157,13 +157,13 @@ fn tick_master(
     master_c::limit_fits(limit);
     master_c::pack(state, limit, m);
     *port = master_words(next);
-    *results = words::tick_numbers(
-        words::sent_number(sent),
+    *results = state_words::tick_numbers(
+        state_words::sent_number(sent),
         master_c::told_number(told),
         master_c::told_attempts(told),
         event,
     );
-    words::call_number(result)
+    state_words::call_number(result)
 }
 
 // A tick of the port's master; returns 0, or the number of the request's refusal.
@@ -326,10 +326,10 @@ fn unpack_device(state: &[u64; 41], port: &[u64; 6]) -> PortDevice
     ensures { λ y. ⌜ y ≡ unpackedDevice (before state) (before port) ⌝ }
 {
     let d = device_c::unpack(state);
-    let a = recording::heard_of(words::u8_at(port, 1), words::u8_at(port, 2));
-    let b = recording::heard_of(words::u8_at(port, 3), words::u8_at(port, 4));
-    let ear = ear_by(words::word_at(port, 0), a, b);
-    let quiet = words::u16_at(port, 5);
+    let a = recording::heard_of(state_words::u8_at(port, 1), state_words::u8_at(port, 2));
+    let b = recording::heard_of(state_words::u8_at(port, 3), state_words::u8_at(port, 4));
+    let ear = ear_by(state_words::word_at(port, 0), a, b);
+    let quiet = state_words::u16_at(port, 5);
     PortDevice {
         device: d,
         ear: ear,
@@ -396,13 +396,13 @@ fn tick_device(
     device_c::limit_fits(limit);
     device_c::pack(state, limit, d);
     *port = device_words(next);
-    *results = words::tick_numbers(
-        words::sent_number(sent),
+    *results = state_words::tick_numbers(
+        state_words::sent_number(sent),
         device_c::told_number(told),
         0,
         event,
     );
-    words::call_number(result)
+    state_words::call_number(result)
 }
 
 // A tick of a device of the port; returns 0, or the number with which its host's answer is refused.

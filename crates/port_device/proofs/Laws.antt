@@ -30,7 +30,7 @@ use Rattle.turns.specs.declared.Wish.{Wish}
 use Rattle.turns.specs.declared.Wish.the-variants.{Same}
 use Rattle.party.specs.Calls.{resultOf}
 use Rattle.party.specs.declared.CallStatus.{CallStatus}
-use Rattle.device_heard.specs.Hearing.{lent}
+use Rattle.device_rules.specs.Hearing.{lent}
 use Rattle.device.specs.Calls as C
 use Rattle.device.specs.Calls.{calledAs, bufferBehind}
 use Rattle.device.specs.Promises.{DeviceTakeIs, AnswerIs}

@@ -10,7 +10,7 @@ use Rattle.turns.specs.Device.{deviceTakes, errorFrame}
 use Rattle.turns.specs.declared.DeviceTold.{DeviceTold}
 use Rattle.party.specs.Calls.{resultOf}
 use Rattle.party.specs.declared.CallStatus.{CallStatus}
-use Rattle.device_heard.specs.Hearing.{lent}
+use Rattle.device_rules.specs.Hearing.{lent}
 use Rattle.turns.specs.Link as L
 use Rattle.port.specs.Device.{awake, hearsWakeUp, portDeviceTakes, portDeviceSends}
 use Rattle.port.specs.Ticks.{deviceData, heardFrame, deviceSent, deviceCalls}

@@ -215,7 +215,7 @@ fn passed_over(heard: Heard) -> Event
 fn behind_two(d: Device) -> Device
     ensures { λ r. ⌜ r ≡ withReceiver d (blank (Place.Preamble 2)) ⌝ }
 {
-    let idle = tick_reader::idle_reader();
+    let idle = line_reader::idle_reader();
     let header = idle.header;
     let damage = idle.damage;
     let receiver = Receiver {
@@ -230,7 +230,7 @@ fn behind_two(d: Device) -> Device
     let turn = d.turn;
     let request = d.request;
     let wish = d.wish;
-    device_heard::with_parts(d, receiver, turn, request, wish, d.length, d.due)
+    device_rules::with_parts(d, receiver, turn, request, wish, d.length, d.due)
 }
 
 // A device that passes over characters.
@@ -358,7 +358,7 @@ fn drop_request(d: Device) -> Device
 {
     let receiver = d.receiver;
     let request = d.request;
-    device_heard::with_parts(
+    device_rules::with_parts(
         d,
         receiver,
         Turn::Listens,

@@ -4,7 +4,7 @@ ghost use mathlib.Core.Path.{_≡_};
 ghost use Rattle.base.specs.Lent.{before, after};
 ghost use Rattle.readings.specs.Table.{cleared, lookedUp, shownByte};
 ghost use Rattle.readings.specs.Stores.{EnterIs};
-ghost use Rattle.words.specs.Numbers.{eventAt};
+ghost use Rattle.state_words.specs.Numbers.{eventAt};
 
 // Empties every row; the byte area stays as it is.
 #[no_mangle]
@@ -30,7 +30,7 @@ pub extern "C" fn nengapiko_readings_enter(
 ) -> u32
     ensures { λ r. ⌜ EnterIs (before rows) (after rows) (before area) (after area) tick (eventAt (before results)) (before bytes) r ⌝ }
 {
-    let event = words::event_at(results);
+    let event = state_words::event_at(results);
     let k = readings::told_key(event);
     let s = readings_rows::search(rows, k);
     let p = readings::store(area, rows.len(), s, tick, event, bytes);

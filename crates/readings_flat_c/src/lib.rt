@@ -3,7 +3,7 @@ use readings::Row;
 ghost use mathlib.Core.Path.{_≡_};
 ghost use Rattle.base.specs.Lent.{before, after};
 ghost use Rattle.readings.specs.Search.{rowNumbers};
-ghost use Rattle.words.specs.Numbers.{eventAt};
+ghost use Rattle.state_words.specs.Numbers.{eventAt};
 ghost use Rattle.readings_flat_c.specs.Flat.{RowIsPut, FlatIs};
 
 fn row_numbers(row: Row) -> [u64; 7]
@@ -29,7 +29,7 @@ fn put(numbers: &mut [u64], at: usize, row: Row)
     }
     let i = 7 * at;
     let part = row_numbers(row);
-    words::put(&mut numbers[i..], 0, &part);
+    state_words::put(&mut numbers[i..], 0, &part);
 }
 
 // Enters what a tick's numbers tell, or refuses it, as nengapiko_readings_enter does.
@@ -43,7 +43,7 @@ pub extern "C" fn nengapiko_readings_flat(
 ) -> u32
     ensures { λ r. ⌜ FlatIs (before numbers) (after numbers) (before area) (after area) tick (eventAt (before results)) (before bytes) r ⌝ }
 {
-    let event = words::event_at(results);
+    let event = state_words::event_at(results);
     let k = readings::told_key(event);
     let s = readings::search(numbers, k);
     let p = readings::store(area, numbers.len() / 7, s, tick, event, bytes);

@@ -19,8 +19,8 @@ use Rattle.line.specs.declared.Place.{Place}
 use Rattle.line.specs.declared.Place.the-variants.{Passing, Idle, Preamble, First, Address, Expansion, Command, Count, Data, Check}
 use Rattle.line.specs.declared.Receiver.{Receiver}
 use Rattle.line.specs.declared.Whole.{Whole}
-use Rattle.listing.specs.Text.{typeName, masterDigit, word}
-use Rattle.listing.proofs.Lengths.{if-most, decimal-most, type-most, word-length}
+use Rattle.player_listing.specs.Text.{typeName, masterDigit, word}
+use Rattle.player_listing.proofs.Lengths.{if-most, decimal-most, type-most, word-length}
 use Rattle.texts.specs.Digits.{decimal, hexadecimal, spaced}
 use Rattle.texts.specs.Put.{Out, outOf, put}
 use Rattle.texts.proofs.Puts.{put-front}

@@ -17,7 +17,7 @@ use Rattle.line.specs.declared.Heard.{Heard}
 use Rattle.line.specs.declared.Receiver.{Receiver}
 use Rattle.line.specs.declared.Taken.{Taken}
 use Rattle.line.specs.declared.Whole.{Whole}
-use Rattle.listing.specs.Text.{typeName, masterDigit, word}
+use Rattle.player_listing.specs.Text.{typeName, masterDigit, word}
 use Rattle.texts.specs.Digits.{decimal, spaced}
 use Rattle.texts.specs.Put.{PutIs}
 use Rattle.texts.proofs.Puts.{put-then, put-none, put-length}

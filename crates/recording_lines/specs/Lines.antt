@@ -13,7 +13,7 @@ use Rattle.line.specs.declared.Heard.{Heard}
 use Rattle.line.specs.declared.Place.{Place}
 use Rattle.line.specs.declared.Place.the-variants.{Passing, Idle, Preamble, First, Address, Expansion, Command, Count, Data, Check}
 use Rattle.line.specs.declared.Whole.{Whole}
-use Rattle.listing.specs.Text.{typeName, masterDigit, word}
+use Rattle.player_listing.specs.Text.{typeName, masterDigit, word}
 use Rattle.texts.specs.Digits.{decimal, spaced}
 use Rattle.recording_lines.specs.declared.Progress.{Progress}
 

@@ -14,7 +14,7 @@ ghost use Rattle.line.specs.Reader.{ReaderTakeIs};
 ghost use Rattle.texts.specs.Digits.{decimal};
 ghost use Rattle.texts.specs.Put.{PutIs};
 ghost use Rattle.recording.specs.Form.{heardOf, ticksOf, tickRefused};
-ghost use Rattle.listing.specs.Text.{word};
+ghost use Rattle.player_listing.specs.Text.{word};
 ghost use Rattle.recording_lines.specs.Lines.{ticksText, brokenLine, damagedLine, fieldsText, wholeLine, lineBy, isIdle, firstOf, nextTick, startOf};
 ghost use Rattle.recording_lines.specs.Bad.{firstBad};
 ghost use Rattle.recording_lines.specs.Promises.{TickIs, LinesAre};
@@ -36,7 +36,7 @@ pub struct Printed {
 pub fn start() -> Progress
     ensures { λ r. ⌜ r ≡ startOf ⌝ }
 {
-    let r = tick_reader::passing_reader();
+    let r = line_reader::passing_reader();
     Progress {
         receiver: r,
         tick: 0,
@@ -82,8 +82,8 @@ fn put_fields(header: Header, count: u8, out: &mut [u8], at: usize) -> usize
     let primary = header.primary;
     let address = header.address;
     let command = header.command;
-    let a = listing::put_type_word(frame, out, at);
-    let b = listing::put_master_word(primary, out, a);
+    let a = player_listing::put_type_word(frame, out, at);
+    let b = player_listing::put_master_word(primary, out, a);
     let c = put_word(address, out, b);
     let d = put_word(command as u64, out, c);
     put_decimal(count as u64, out, d)
@@ -162,7 +162,7 @@ fn hear(r: Receiver, first: u8, c: u8, bytes: &mut [u8; 255]) -> Taken
     ensures { λ t. ⌜ ReaderTakeIs r (heardOf (first / 32) c) (now (bytes .entry)) t (now (bytes .exit)) ⌝ }
 {
     let heard = recording::heard_of(first / 32, c);
-    tick_reader::take(r, heard, bytes)
+    line_reader::take(r, heard, bytes)
 }
 
 // A tick of the recording: its line from a place on.

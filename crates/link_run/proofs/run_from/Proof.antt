@@ -1,7 +1,7 @@
 use borrow.Author.Needs.{needs}
 use Prim.Native.Nat.{_-_}
 use lib.ListN.{length}
-use Rattle.parties.specs.Stands.{rowsOf, heres}
+use Rattle.link_parties.specs.Stands.{rowsOf, heres}
 use Rattle.link_run.specs.Step.{lateNumbers}
 use Rattle.link_run.proofs.Going.{Going, goings}
 use Rattle.link_run.proofs.run_from.Statement.{statement}

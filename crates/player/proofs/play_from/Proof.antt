@@ -1,6 +1,6 @@
 use Prim.Native.Nat.{_-_}
 use borrow.Author.Needs.{needs}
-use Rattle.parties.specs.Stands.{rowsOf}
+use Rattle.link_parties.specs.Stands.{rowsOf}
 use Rattle.player.proofs.Going.{Going, goings}
 use Rattle.player.proofs.play_from.Statement.{statement}
 use Rattle.player.proofs.play_from.Tie as tie

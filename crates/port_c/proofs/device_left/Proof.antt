@@ -1,5 +1,5 @@
 use Rattle.port_c.proofs.Starts.{devices}
-use Rattle.start_c.proofs.Starts.{limit-byte}
+use Rattle.state_start_c.proofs.Starts.{limit-byte}
 use borrow.Author.Needs.{needs}
 use Rattle.port_c.proofs.device_left.Statement.{statement}
 use Rattle.port_c.proofs.device_left.Tie as tie

@@ -1,4 +1,4 @@
--- `readings_c::nengapiko_readings_enter` meets its contract: a walk of its MIR, by hand. `words::event_at` gives what the numbers tell, and `readings::told_key` its key; the rows are lent as `&` to `search` for a lifetime of that call, and come back (`Shared.antt`); the area goes to `readings::store` for good, and then the rows to `put`.
+-- `readings_c::nengapiko_readings_enter` meets its contract: a walk of its MIR, by hand. `state_words::event_at` gives what the numbers tell, and `readings::told_key` its key; the rows are lent as `&` to `search` for a lifetime of that call, and come back (`Shared.antt`); the area goes to `readings::store` for good, and then the rows to `put`.
 -- All that the proof knows of the five is that they meet their contracts; that the parts make a frame entered is `is-entered` of crates/readings/proofs/Enters.antt.
 use mathlib.Core.Path.{_≡_, refl, sym, ap, subst, _∙_}
 use Prim.Native.Nat.{ℕ, _<_, _^_}
@@ -59,11 +59,11 @@ use Rattle.readings.proofs.Sought as S
 use Rattle.readings.proofs.Sought.Laws as S′
 use Rattle.readings.proofs.Put as P
 use Rattle.readings.proofs.Put.Laws as P′
-use Rattle.words.specs.Numbers.{eventAt}
-use Rattle.words.proofs.event_at as event-at
-use Rattle.words.proofs.event_at.Symbol as event-at-def
-use Rattle.words.proofs.event_at.Symbol.{name as #words·event-at}
-use Rattle.words.proofs.event_at.Met as event-at-thm
+use Rattle.state_words.specs.Numbers.{eventAt}
+use Rattle.state_words.proofs.event_at as event-at
+use Rattle.state_words.proofs.event_at.Symbol as event-at-def
+use Rattle.state_words.proofs.event_at.Symbol.{name as #words·event-at}
+use Rattle.state_words.proofs.event_at.Met as event-at-thm
 use Rattle.readings.proofs.told_key as told-key
 use Rattle.readings.proofs.told_key.Symbol as told-key-def
 use Rattle.readings.proofs.told_key.Symbol.{name as #readings·told-key}

@@ -1,5 +1,5 @@
 use borrow.Author.Needs.{needs}
-use Rattle.device_heard.proofs.Parts.{profile-same}
+use Rattle.device_rules.proofs.Parts.{profile-same}
 use Rattle.device.proofs.sends.behind.Statement.{statement}
 use Rattle.device.proofs.sends.behind.Tie as tie
 

@@ -1,0 +1,13 @@
+use borrow.Author.Needs.{needs}
+use Rattle.line_reader.proofs.Steps.{headers}
+use Rattle.line_reader.proofs.with_count.Statement.{statement}
+use Rattle.line_reader.proofs.with_count.Tie as tie
+
+pub with-count-spec : {M : Type 1} → statement M
+with-count-spec =
+    tie.close
+    (tie.spec
+    (λ c κs. search needs)
+    (λ c κs. search needs)
+    (λ c κs. search needs)
+    (λ c. search (needs, headers)))

@@ -1,0 +1,12 @@
+use Rattle.link_list.proofs.Readings.{readings}
+use borrow.Author.Needs.{needs}
+use Rattle.link_list.proofs.device_call.Statement.{statement}
+use Rattle.link_list.proofs.device_call.Tie as tie
+
+pub device-call-spec : {M : Type 1} → statement M
+device-call-spec =
+    tie.close
+    (tie.spec
+    (λ c κs. search needs)
+    (λ c κs. search needs)
+    (λ c. search (needs, readings)))

@@ -1,0 +1,12 @@
+use Rattle.link_list.proofs.Places.{calls}
+use borrow.Author.Needs.{needs}
+use Rattle.link_list.proofs.request_in.Statement.{statement}
+use Rattle.link_list.proofs.request_in.Tie as tie
+
+pub request-in-spec : {M : Type 1} → statement M
+request-in-spec =
+    tie.close
+    (tie.spec
+    (λ c κs. search needs)
+    (λ c κs. search needs)
+    (λ c. search (needs, calls)))

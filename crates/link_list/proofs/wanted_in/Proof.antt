@@ -1,0 +1,15 @@
+use Rattle.link_list.proofs.Places.{calls}
+use borrow.Author.Needs.{needs}
+use Rattle.link_list.proofs.wanted_in.Statement.{statement}
+use Rattle.link_list.proofs.wanted_in.Tie as tie
+
+pub wanted-in-spec : {M : Type 1} → statement M
+wanted-in-spec =
+    tie.close
+    (tie.spec
+    (λ c κs. search needs)
+    (λ c κs. search needs)
+    (λ c κs. search needs)
+    (λ c κs. search needs)
+    (λ c. search needs)
+    (λ c. search (needs, calls)))

@@ -1,0 +1,12 @@
+use Rattle.link_parties.proofs.Readers.{line-steps}
+use borrow.Author.Needs.{needs}
+use Rattle.link_parties.proofs.step_apart.Statement.{statement}
+use Rattle.link_parties.proofs.step_apart.Tie as tie
+
+pub step-apart-spec : {M : Type 1} → statement M
+step-apart-spec =
+    tie.close
+    (tie.spec
+    (λ c κs. search needs)
+    (λ c κs. search needs)
+    (λ c. search (needs, line-steps)))

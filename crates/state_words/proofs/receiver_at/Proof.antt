@@ -1,0 +1,23 @@
+use borrow.Author.Needs.{needs}
+use Rattle.state_words.proofs.receiver_at.Statement.{statement}
+use Rattle.state_words.proofs.receiver_at.Tie as tie
+
+pub receiver-at-spec : {M : Type 1} → statement M
+receiver-at-spec =
+    tie.close
+    (tie.spec
+    (λ c κs. search needs)
+    (λ c. search needs)
+    (λ c κs. search needs)
+    (λ c κs. search needs)
+    (λ c. search needs)
+    (λ c κs. search needs)
+    (λ c. search needs)
+    (λ c κs. search needs)
+    (λ c. search needs)
+    (λ c κs. search needs)
+    (λ c. search needs)
+    (λ c κs. search needs)
+    (λ c. search needs)
+    (λ c κs. search needs)
+    (λ c. cc))
