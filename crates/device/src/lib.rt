@@ -18,6 +18,7 @@ use turns::Wish;
 ghost use mathlib.Core.Path.{_≡_};
 ghost use Prim.Native.Nat.{_≤_};
 ghost use lib.ListN.{length, take};
+ghost use Rattle.base.specs.Lent.{before, after};
 ghost use Rattle.frame.specs.Limits.{mostData};
 ghost use Rattle.frame.specs.Write.{writeBuffer};
 ghost use Rattle.turns.specs.Device.{deviceWith, errorStatus, errorData, answerHeader, errorFrame, hasNoWish, wishRefused, answersAt, answeredBy, answered, answerFrame, backHeader, begunFrame, freshDevice, deviceStarts};
@@ -70,7 +71,7 @@ fn answer_header(h: Header, burst: bool) -> Header
 
 // Puts an ACK or BACK into the lent frame buffer, where the frame writer takes it.
 fn put_frame(preamble: u8, h: Header, bytes: &[u8], frame: &mut [u8; 284])
-    ensures { λ _. ⌜ now (frame .exit) ≡ writeBuffer preamble h (now (bytes .entry)) (now (frame .entry)) 0 ⌝ }
+    ensures { λ _. ⌜ after frame ≡ writeBuffer preamble h (before bytes) (before frame) 0 ⌝ }
 {
     frame_write::write(preamble as usize, h, bytes, frame, 0);
 }
@@ -78,7 +79,7 @@ fn put_frame(preamble: u8, h: Header, bytes: &[u8], frame: &mut [u8; 284])
 // The same with the first bytes of a burst content.
 fn put_part(preamble: u8, h: Header, count: u8, contents: &[u8], frame: &mut [u8; 284])
     requires { ⌜ mostData ≤ length (now contents) ⌝ }
-    ensures { λ _. ⌜ now (frame .exit) ≡ writeBuffer preamble h (take count (now (contents .entry))) (now (frame .entry)) 0 ⌝ }
+    ensures { λ _. ⌜ after frame ≡ writeBuffer preamble h (take count (before contents)) (before frame) 0 ⌝ }
 {
     let end = count as usize;
     put_frame(preamble, h, &contents[..end], frame);
@@ -86,7 +87,7 @@ fn put_part(preamble: u8, h: Header, count: u8, contents: &[u8], frame: &mut [u8
 
 // Puts the error answer to a damaged frame into the lent frame buffer.
 fn put_error(d: Device, w: Whole, m: FrameDamage, frame: &mut [u8; 284])
-    ensures { λ _. ⌜ now (frame .exit) ≡ errorFrame d (Event.Damaged w m) (now (frame .entry)) ⌝ }
+    ensures { λ _. ⌜ after frame ≡ errorFrame d (Event.Damaged w m) (before frame) ⌝ }
 {
     let h = w.header;
     if device_rules::has_error(d, w, m) {
@@ -97,7 +98,7 @@ fn put_error(d: Device, w: Whole, m: FrameDamage, frame: &mut [u8; 284])
 
 // The error answer, by what the reader tells.
 fn put_error_answer(d: Device, event: Event, frame: &mut [u8; 284])
-    ensures { λ _. ⌜ now (frame .exit) ≡ errorFrame d event (now (frame .entry)) ⌝ }
+    ensures { λ _. ⌜ after frame ≡ errorFrame d event (before frame) ⌝ }
 {
     match event {
         Event::Nothing => {}
@@ -110,7 +111,7 @@ fn put_error_answer(d: Device, event: Event, frame: &mut [u8; 284])
 
 // Takes what was heard: returns the device after it, and what it tells its host. The data of the frame being heard are in the lent data buffer, and an error answer is put into the lent frame buffer.
 pub fn take(d: Device, heard: Heard, bytes: &mut [u8; 255], frame: &mut [u8; 284]) -> DeviceTaken
-    ensures { λ t. ⌜ DeviceTakeIs d heard (now (bytes .entry)) (now (frame .entry)) t (now (bytes .exit)) (now (frame .exit)) ⌝ }
+    ensures { λ t. ⌜ DeviceTakeIs d heard (before bytes) (before frame) t (after bytes) (after frame) ⌝ }
 {
     let taken = device_rules::take(d, heard, bytes);
     let event = taken.event;
@@ -213,7 +214,7 @@ fn answer_by(limit: u8, d: Device, wish: Wish, count: usize) -> DeviceCalled
 
 // Puts the host's answer into the lent frame buffer.
 fn put_answer(d: Device, wish: Wish, bytes: &[u8], frame: &mut [u8; 284])
-    ensures { λ _. ⌜ now (frame .exit) ≡ answerFrame d wish (now (bytes .entry)) (now (frame .entry)) ⌝ }
+    ensures { λ _. ⌜ after frame ≡ answerFrame d wish (before bytes) (before frame) ⌝ }
 {
     let request = d.request;
     put_frame(
@@ -226,7 +227,7 @@ fn put_answer(d: Device, wish: Wish, bytes: &[u8], frame: &mut [u8; 284])
 
 // Takes the host's answer to the request in hand, on a link with this data limit, or refuses it with 8, 9 or 10 and leaves the lent frame buffer as it was.
 pub fn answer(limit: u8, d: Device, wish: Wish, bytes: &[u8], frame: &mut [u8; 284]) -> DeviceCalled
-    ensures { λ r. ⌜ AnswerIs limit d wish (now (bytes .entry)) (now (frame .entry)) r (now (frame .exit)) ⌝ }
+    ensures { λ r. ⌜ AnswerIs limit d wish (before bytes) (before frame) r (after frame) ⌝ }
 {
     let called = answer_by(limit, d, wish, bytes.len());
     match called {
@@ -255,7 +256,7 @@ fn back_header(d: Device) -> Header
 
 // Puts the next BACK into the lent frame buffer.
 fn put_back(d: Device, contents: &[u8; 255], frame: &mut [u8; 284])
-    ensures { λ _. ⌜ now (frame .exit) ≡ begunFrame d Turn.Follows (now (contents .entry)) (now (frame .entry)) ⌝ }
+    ensures { λ _. ⌜ after frame ≡ begunFrame d Turn.Follows (before contents) (before frame) ⌝ }
 {
     let content = d.content;
     put_part(d.preamble, back_header(d), content.count, contents, frame);
@@ -263,7 +264,7 @@ fn put_back(d: Device, contents: &[u8; 255], frame: &mut [u8; 284])
 
 // Puts the BACK that begins in this tick, if one does.
 fn put_begun(d: Device, contents: &[u8; 255], frame: &mut [u8; 284])
-    ensures { λ _. ⌜ now (frame .exit) ≡ begunFrame d (d .turn) (now (contents .entry)) (now (frame .entry)) ⌝ }
+    ensures { λ _. ⌜ after frame ≡ begunFrame d (d .turn) (before contents) (before frame) ⌝ }
 {
     let turn = d.turn;
     match turn {
@@ -279,7 +280,7 @@ fn put_begun(d: Device, contents: &[u8; 255], frame: &mut [u8; 284])
 
 // Sends a character of the frame in the lent frame buffer, or nothing. A BACK that begins is put there first, with what the host gave last.
 pub fn send(d: Device, contents: &[u8; 255], frame: &mut [u8; 284]) -> DeviceSent
-    ensures { λ s. ⌜ SendIs d (now (contents .entry)) (now (frame .entry)) s (now (frame .exit)) ⌝ }
+    ensures { λ s. ⌜ SendIs d (before contents) (before frame) s (after frame) ⌝ }
 {
     put_begun(d, contents, frame);
     sends::sends_by(d, frame)

@@ -7,6 +7,7 @@ use turns::Turn;
 use turns::Wish;
 ghost use mathlib.Core.Path.{_≡_};
 ghost use mathlib.Core.Bool.{true, false};
+ghost use Rattle.base.specs.Lent.{before};
 ghost use Rattle.base.specs.Choice.{if_then_else_};
 ghost use Rattle.line.specs.Reader.{passing};
 ghost use Rattle.turns.specs.Device.{wished, sends, firstFor, behindAck, answersFrom, burstsFrom, backLength, sendsBy, deviceSends};
@@ -114,7 +115,7 @@ fn behind_ack(burst: bool) -> Turn
 
 // One character of an ACK.
 fn answers_from(d: Device, frame: &[u8; 284], n: u16, burst: bool, primary: bool) -> DeviceSent
-    ensures { λ s. ⌜ s ≡ answersFrom d (now (frame .entry)) n burst primary ⌝ }
+    ensures { λ s. ⌜ s ≡ answersFrom d (before frame) n burst primary ⌝ }
 {
     let c = party::character_at(frame, n);
     let length = d.length;
@@ -126,7 +127,7 @@ fn answers_from(d: Device, frame: &[u8; 284], n: u16, burst: bool, primary: bool
 
 // One character of a BACK of this length.
 fn bursts_from(d: Device, frame: &[u8; 284], n: u16, length: u16, primary: bool) -> DeviceSent
-    ensures { λ s. ⌜ s ≡ burstsFrom d (now (frame .entry)) n length primary ⌝ }
+    ensures { λ s. ⌜ s ≡ burstsFrom d (before frame) n length primary ⌝ }
 {
     let c = party::character_at(frame, n);
     let profile = d.profile;
@@ -164,14 +165,14 @@ fn other(primary: bool) -> bool
 
 // The first character of a BACK.
 fn begins_back(d: Device, frame: &[u8; 284]) -> DeviceSent
-    ensures { λ s. ⌜ s ≡ sendsBy d (now (frame .entry)) Turn.Follows ⌝ }
+    ensures { λ s. ⌜ s ≡ sendsBy d (before frame) Turn.Follows ⌝ }
 {
     bursts_from(d, frame, 0, back_length(d), other(d.primary))
 }
 
 // The first character of an ACK.
 fn begins_answer(d: Device, frame: &[u8; 284]) -> DeviceSent
-    ensures { λ s. ⌜ s ≡ sendsBy d (now (frame .entry)) Turn.Begins ⌝ }
+    ensures { λ s. ⌜ s ≡ sendsBy d (before frame) Turn.Begins ⌝ }
 {
     let wish = d.wish;
     answers_from(d, frame, 0, wished_burst(d.burst, wish), first_for(d))
@@ -179,7 +180,7 @@ fn begins_answer(d: Device, frame: &[u8; 284]) -> DeviceSent
 
 // A character or none, by the device's turn.
 pub fn sends_by(d: Device, frame: &[u8; 284]) -> DeviceSent
-    ensures { λ s. ⌜ s ≡ deviceSends d (now (frame .entry)) ⌝ }
+    ensures { λ s. ⌜ s ≡ deviceSends d (before frame) ⌝ }
 {
     let turn = d.turn;
     match turn {

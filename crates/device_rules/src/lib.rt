@@ -13,6 +13,7 @@ use turns::Turn;
 use turns::Wish;
 ghost use mathlib.Core.Path.{_≡_};
 ghost use mathlib.Core.Bool.{false};
+ghost use Rattle.base.specs.Lent.{before, after};
 ghost use Rattle.base.specs.Choice.{if_then_else_};
 ghost use Rattle.line.specs.Reader.{gapped, taken};
 ghost use Rattle.line.specs.declared.Heard.the-variants.{Silence};
@@ -360,7 +361,7 @@ fn same_device(d: Device) -> Device
 
 // Takes what was heard: returns the device after it, and what it tells its host. The data of the frame being heard are in the lent data buffer.
 pub fn take(d: Device, heard: Heard, bytes: &mut [u8; 255]) -> DeviceTaken
-    ensures { λ t. ⌜ HeardIs d heard (now (bytes .entry)) t (now (bytes .exit)) ⌝ }
+    ensures { λ t. ⌜ HeardIs d heard (before bytes) t (after bytes) ⌝ }
 {
     let own = same_device(d);
     if own.deaf {

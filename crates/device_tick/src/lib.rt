@@ -111,7 +111,7 @@ fn content_by(limit: u8, d: Device, command: u8, count: usize) -> DeviceCalled
 // Puts the data at the front of the lent content.
 fn put_content(bytes: &[u8], contents: &mut [u8])
     requires { ⌜ (length (now bytes) ≤ mostData) × (mostData ≤ length (now contents)) ⌝ }
-    ensures { λ _. ⌜ now (contents .exit) ≡ stored (now (contents .entry)) 0 (now (bytes .entry)) ⌝ }
+    ensures { λ _. ⌜ after contents ≡ stored (before contents) 0 (before bytes) ⌝ }
 {
     let mut i = 0;
     while i < bytes.len() {
@@ -128,7 +128,7 @@ fn content(
     bytes: &[u8],
     contents: &mut [u8; 255],
 ) -> DeviceCalled
-    ensures { λ r. ⌜ ContentIs limit d command (now (bytes .entry)) (now (contents .entry)) r (now (contents .exit)) ⌝ }
+    ensures { λ r. ⌜ ContentIs limit d command (before bytes) (before contents) r (after contents) ⌝ }
 {
     let called = content_by(limit, d, command, bytes.len());
     match called {
@@ -173,8 +173,8 @@ fn take_call(
     contents: &mut [u8; 255],
     frame: &mut [u8; 284],
 ) -> DeviceCallTaken
-    ensures { λ r. ⌜ DeviceCalledIs limit d call (now (put .entry)) (now (frame .entry)) (now (contents .entry)) r
-        (now (frame .exit)) (now (contents .exit)) ⌝ }
+    ensures { λ r. ⌜ DeviceCalledIs limit d call (before put) (before frame) (before contents) r
+        (after frame) (after contents) ⌝ }
 {
     match call {
         DeviceHostCall::Nothing => no_call(d),

@@ -4,20 +4,21 @@ use libc::STDOUT_FILENO;
 use texts::bit;
 use texts::put_field;
 ghost use mathlib.Core.List.{_++_};
+ghost use Rattle.base.specs.Lent.{before, after};
 ghost use Rattle.texts.specs.Digits.{decimal, bitOf};
 ghost use Rattle.texts.specs.Put.{PutIs};
 ghost use Rattle.example_texts.specs.Header.{headerText};
 
 // A name and a flag.
 fn put_flag(name: &[u8], on: bool, out: &mut [u8], at: usize) -> usize
-    ensures { λ r. ⌜ PutIs (now (name .entry) ++ decimal (bitOf on)) (now (out .entry)) at r (now (out .exit)) ⌝ }
+    ensures { λ r. ⌜ PutIs (before name ++ decimal (bitOf on)) (before out) at r (after out) ⌝ }
 {
     put_field(name, bit(on), out, at)
 }
 
 // The fields of a header, but for its command.
 pub fn put_header(h: Header, out: &mut [u8], at: usize) -> usize
-    ensures { λ r. ⌜ PutIs (headerText h) (now (out .entry)) at r (now (out .exit)) ⌝ }
+    ensures { λ r. ⌜ PutIs (headerText h) (before out) at r (after out) ⌝ }
 {
     let mut place = put_field(b" type ", h.frame as u64, out, at);
     place = put_flag(b" long ", h.long, out, place);

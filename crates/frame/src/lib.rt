@@ -1,6 +1,7 @@
 // The HART frame: what it says, the answers of its writer and its reader, and what both of them work out.
 use base::Refusal;
 ghost use mathlib.Core.Path.{_≡_};
+ghost use Rattle.base.specs.Lent.{before};
 ghost use Rattle.frame.specs.Delimiter.{delimiterOf, fromDevice, isType};
 ghost use Rattle.frame.specs.Check.{xorFrom};
 ghost use Rattle.frame.specs.Frame.{tooFew};
@@ -120,7 +121,7 @@ pub fn too_few(frame: u8, count: usize) -> bool
 
 // The exclusive-or of x and some bytes, byte by byte.
 pub fn xor_bytes(x: u8, bytes: &[u8]) -> u8
-    ensures { λ r. ⌜ r ≡ xorFrom x (now (bytes .entry)) ⌝ }
+    ensures { λ r. ⌜ r ≡ xorFrom x (before bytes) ⌝ }
 {
     let mut sum = x;
     let mut i = 0;

@@ -2,6 +2,7 @@
 ghost use mathlib.Core.Path.{_≡_};
 ghost use Prim.Native.Nat.{_+_, _*_, _/_, _%_, _≤_, _<_};
 ghost use lib.ListN.{length, take, drop};
+ghost use Rattle.base.specs.Lent.{before};
 ghost use Rattle.frame.specs.Check.{xorFrom, exclusiveOr};
 ghost use Rattle.frame_check.specs.Words.{NumberIs, folded, everyOther, everyOtherOf16, xorOnto, inBlocks, inWords};
 
@@ -15,7 +16,7 @@ fn wide(x: u8) -> u64
 // Two bytes as one number, the first the least significant.
 fn pair(p: &[u8], i: usize) -> u64
     requires { ⌜ i + 2 ≤ length (now p) ⌝ }
-    ensures { λ r. ⌜ NumberIs (now (p .entry)) i 2 r × (r < 65536) ⌝ }
+    ensures { λ r. ⌜ NumberIs (before p) i 2 r × (r < 65536) ⌝ }
 {
     wide(p[i]) + wide(p[i + 1]) * 256
 }
@@ -23,7 +24,7 @@ fn pair(p: &[u8], i: usize) -> u64
 // Four bytes.
 fn quad(p: &[u8], i: usize) -> u64
     requires { ⌜ i + 4 ≤ length (now p) ⌝ }
-    ensures { λ r. ⌜ NumberIs (now (p .entry)) i 4 r × (r < 4294967296) ⌝ }
+    ensures { λ r. ⌜ NumberIs (before p) i 4 r × (r < 4294967296) ⌝ }
 {
     pair(p, i) + pair(p, i + 2) * 65536
 }
@@ -31,7 +32,7 @@ fn quad(p: &[u8], i: usize) -> u64
 // Eight bytes, a word. It is compiled to one load.
 fn word(p: &[u8], i: usize) -> u64
     requires { ⌜ i + 8 ≤ length (now p) ⌝ }
-    ensures { λ r. ⌜ NumberIs (now (p .entry)) i 8 r ⌝ }
+    ensures { λ r. ⌜ NumberIs (before p) i 8 r ⌝ }
 {
     quad(p, i) + quad(p, i + 4) * 4294967296
 }
@@ -49,7 +50,7 @@ fn fold(w: u64) -> u8
 // The exclusive-or of every second word of the eight from i on.
 fn every_other(p: &[u8], i: usize) -> u64
     requires { ⌜ i + 56 ≤ length (now p) ⌝ }
-    ensures { λ r. ⌜ folded r ≡ everyOther (now (p .entry)) i ⌝ }
+    ensures { λ r. ⌜ folded r ≡ everyOther (before p) i ⌝ }
 {
     (word(p, i) ^ word(p, i + 16)) ^ (word(p, i + 32) ^ word(p, i + 48))
 }
@@ -57,7 +58,7 @@ fn every_other(p: &[u8], i: usize) -> u64
 // The exclusive-or of every second word of the sixteen from i on.
 fn every_other_of_16(p: &[u8], i: usize) -> u64
     requires { ⌜ i + 120 ≤ length (now p) ⌝ }
-    ensures { λ r. ⌜ folded r ≡ everyOtherOf16 (now (p .entry)) i ⌝ }
+    ensures { λ r. ⌜ folded r ≡ everyOtherOf16 (before p) i ⌝ }
 {
     every_other(p, i) ^ every_other(p, i + 64)
 }
@@ -65,7 +66,7 @@ fn every_other_of_16(p: &[u8], i: usize) -> u64
 // The exclusive-or of x and the first n blocks of sixteen words, as a word. The two sums are compiled to one vector.
 fn xor_blocks(x: u8, bytes: &[u8], n: usize) -> u64
     requires { ⌜ n * 128 ≤ length (now bytes) ⌝ }
-    ensures { λ r. ⌜ folded r ≡ xorFrom x (take (n * 128) (now (bytes .entry))) ⌝ }
+    ensures { λ r. ⌜ folded r ≡ xorFrom x (take (n * 128) (before bytes)) ⌝ }
 {
     let mut a = wide(x);
     let mut b: u64 = 0;
@@ -80,7 +81,7 @@ fn xor_blocks(x: u8, bytes: &[u8], n: usize) -> u64
 
 // The exclusive-or of a word and the half block after the blocks, where there is one, as a word.
 fn xor_half_block(first: u64, bytes: &[u8]) -> u64
-    ensures { λ r. ⌜ folded r ≡ xorOnto first (now (bytes .entry)) (inBlocks (now (bytes .entry))) (length (now (bytes .entry)) % 128 / 64 * 64) ⌝ }
+    ensures { λ r. ⌜ folded r ≡ xorOnto first (before bytes) (inBlocks (before bytes)) (length (before bytes) % 128 / 64 * 64) ⌝ }
 {
     let n = bytes.len();
     if n % 128 < 64 {
@@ -93,7 +94,7 @@ fn xor_half_block(first: u64, bytes: &[u8]) -> u64
 // The exclusive-or of a word and so many words from a start on, as a word.
 fn xor_words(first: u64, bytes: &[u8], start: usize, count: usize) -> u64
     requires { ⌜ start + count * 8 ≤ length (now bytes) ⌝ }
-    ensures { λ r. ⌜ folded r ≡ xorOnto first (now (bytes .entry)) start (count * 8) ⌝ }
+    ensures { λ r. ⌜ folded r ≡ xorOnto first (before bytes) start (count * 8) ⌝ }
 {
     let mut sum = first;
     let mut i = 0;
@@ -106,7 +107,7 @@ fn xor_words(first: u64, bytes: &[u8], start: usize, count: usize) -> u64
 
 // The exclusive-or of x and all whole words, as a word. After the longest frame's blocks there are none left.
 fn xor_long(x: u8, bytes: &[u8]) -> u64
-    ensures { λ r. ⌜ folded r ≡ xorFrom x (take (inWords (now (bytes .entry))) (now (bytes .entry))) ⌝ }
+    ensures { λ r. ⌜ folded r ≡ xorFrom x (take (inWords (before bytes)) (before bytes)) ⌝ }
 {
     let n = bytes.len();
     let blocks = xor_blocks(x, bytes, n / 128);
@@ -120,7 +121,7 @@ fn xor_long(x: u8, bytes: &[u8]) -> u64
 // The bytes after the whole words, as a word: they are the high ones of the last eight bytes.
 fn last_bytes(bytes: &[u8]) -> u64
     requires { ⌜ 8 ≤ length (now bytes) ⌝ }
-    ensures { λ r. ⌜ folded r ≡ exclusiveOr (drop (inWords (now (bytes .entry))) (now (bytes .entry))) ⌝ }
+    ensures { λ r. ⌜ folded r ≡ exclusiveOr (drop (inWords (before bytes)) (before bytes)) ⌝ }
 {
     let n = bytes.len();
     word(bytes, n - 8) >> 8 >> (56 - n % 8 * 8)
@@ -129,7 +130,7 @@ fn last_bytes(bytes: &[u8]) -> u64
 // The exclusive-or of a word and the bytes after the whole words.
 fn with_last(sum: u64, bytes: &[u8]) -> u8
     requires { ⌜ 8 ≤ length (now bytes) ⌝ }
-    ensures { λ r. ⌜ r ≡ xorFrom (folded sum) (drop (inWords (now (bytes .entry))) (now (bytes .entry))) ⌝ }
+    ensures { λ r. ⌜ r ≡ xorFrom (folded sum) (drop (inWords (before bytes)) (before bytes)) ⌝ }
 {
     fold(sum ^ last_bytes(bytes))
 }
@@ -137,7 +138,7 @@ fn with_last(sum: u64, bytes: &[u8]) -> u8
 // The exclusive-or of x and fewer than sixteen bytes, as short frames have: one word at most.
 fn xor_short(x: u8, bytes: &[u8]) -> u8
     requires { ⌜ length (now bytes) < 16 ⌝ }
-    ensures { λ r. ⌜ r ≡ xorFrom x (now (bytes .entry)) ⌝ }
+    ensures { λ r. ⌜ r ≡ xorFrom x (before bytes) ⌝ }
 {
     if 8 <= bytes.len() {
         return with_last(wide(x) ^ word(bytes, 0), bytes);
@@ -147,7 +148,7 @@ fn xor_short(x: u8, bytes: &[u8]) -> u8
 
 // The exclusive-or of x and some bytes: by words, where there are at least eight bytes. Fewer than eight words are compiled without a loop.
 pub fn xor_from(x: u8, bytes: &[u8]) -> u8
-    ensures { λ r. ⌜ r ≡ xorFrom x (now (bytes .entry)) ⌝ }
+    ensures { λ r. ⌜ r ≡ xorFrom x (before bytes) ⌝ }
 {
     if bytes.len() < 16 {
         return xor_short(x, bytes);

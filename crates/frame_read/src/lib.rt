@@ -7,13 +7,14 @@ use frame::Read;
 ghost use mathlib.Core.Path.{_≡_};
 ghost use Prim.Native.Nat.{_+_, _^_, _≤_, _<_};
 ghost use lib.ListN.{length};
+ghost use Rattle.base.specs.Lent.{before};
 ghost use Rattle.frame.specs.Limits.{mostData};
 ghost use Rattle.frame.specs.Address.{addressOf, uniqueAddress};
 ghost use Rattle.frame.specs.Read.{preambles, commandPlace, headerOf, withCount, withCommand, readBody, readFrame, readAs, partOf};
 
 // How many 0xFF the bytes begin with.
 fn count_preambles(bytes: &[u8]) -> usize
-    ensures { λ r. ⌜ (r ≡ preambles (now (bytes .entry))) × (r ≤ length (now (bytes .entry))) ⌝ }
+    ensures { λ r. ⌜ (r ≡ preambles (before bytes)) × (r ≤ length (before bytes)) ⌝ }
 {
     let mut i = 0;
     while i < bytes.len() {
@@ -35,7 +36,7 @@ fn wide(x: u8) -> u64
 // The unique address in a body that is long enough to hold one.
 fn unique_address(body: &[u8]) -> u64
     requires { ⌜ 6 ≤ length (now body) ⌝ }
-    ensures { λ r. ⌜ r ≡ uniqueAddress (now (body .entry)) ⌝ }
+    ensures { λ r. ⌜ r ≡ uniqueAddress (before body) ⌝ }
 {
     wide(body[1] % 64) * 4294967296
         + wide(body[2]) * 16777216
@@ -47,7 +48,7 @@ fn unique_address(body: &[u8]) -> u64
 // The address in a body whose command stands at place.
 fn address_of(body: &[u8], long: bool, place: usize) -> u64
     requires { ⌜ (commandPlace long 0 ≤ place) × (place < length (now body)) ⌝ }
-    ensures { λ r. ⌜ r ≡ addressOf long (now (body .entry)) ⌝ }
+    ensures { λ r. ⌜ r ≡ addressOf long (before body) ⌝ }
 {
     if long {
         return unique_address(body);
@@ -58,7 +59,7 @@ fn address_of(body: &[u8], long: bool, place: usize) -> u64
 // The header in a body whose command stands at place.
 fn header_of(frame: u8, long: bool, place: usize, body: &[u8]) -> Header
     requires { ⌜ (commandPlace long 0 ≤ place) × (place < length (now body)) ⌝ }
-    ensures { λ r. ⌜ r ≡ headerOf frame long place (now (body .entry)) ⌝ }
+    ensures { λ r. ⌜ r ≡ headerOf frame long place (before body) ⌝ }
 {
     let first = body[1];
     Header {
@@ -92,7 +93,7 @@ fn with_count(
     count: usize,
 ) -> Read
     requires { ⌜ (commandPlace long 0 ≤ place) × (place ≤ 261) × (count ≤ mostData) × (preamble + length (now body) < 2 ^ 64) ⌝ }
-    ensures { λ r. ⌜ readAs r ≡ withCount preamble (now (body .entry)) frame long expansion place count ⌝ }
+    ensures { λ r. ⌜ readAs r ≡ withCount preamble (before body) frame long expansion place count ⌝ }
 {
     if body.len() <= place + 2 + count {
         return Read::Refused(Refusal::EndsEarly);
@@ -127,7 +128,7 @@ fn with_command(
     place: usize,
 ) -> Read
     requires { ⌜ (commandPlace long 0 ≤ place) × (place ≤ 261) × (preamble + length (now body) < 2 ^ 64) ⌝ }
-    ensures { λ r. ⌜ readAs r ≡ withCommand preamble (now (body .entry)) frame long expansion place ⌝ }
+    ensures { λ r. ⌜ readAs r ≡ withCommand preamble (before body) frame long expansion place ⌝ }
 {
     if body.len() <= place + 1 {
         return Read::Refused(Refusal::EndsEarly);
@@ -139,7 +140,7 @@ fn with_command(
 // The frame whose delimiter is the first byte of a body, after so many preamble characters.
 fn read_body(preamble: usize, body: &[u8]) -> Read
     requires { ⌜ preamble + length (now body) < 2 ^ 64 ⌝ }
-    ensures { λ r. ⌜ readAs r ≡ readBody preamble (now (body .entry)) ⌝ }
+    ensures { λ r. ⌜ readAs r ≡ readBody preamble (before body) ⌝ }
 {
     if body.len() == 0 {
         return Read::Refused(Refusal::EndsEarly);
@@ -156,7 +157,7 @@ fn read_body(preamble: usize, body: &[u8]) -> Read
 
 // The frame at the front of some bytes.
 pub fn read(bytes: &[u8]) -> Read
-    ensures { λ r. ⌜ readAs r ≡ readFrame (now (bytes .entry)) ⌝ }
+    ensures { λ r. ⌜ readAs r ≡ readFrame (before bytes) ⌝ }
 {
     let preamble = count_preambles(bytes);
     if preamble < 2 {
@@ -167,7 +168,7 @@ pub fn read(bytes: &[u8]) -> Read
 
 // The part of some bytes that begins at start and has count bytes; none where it would run past the end.
 pub fn part(bytes: &[u8], start: usize, count: usize) -> &[u8]
-    ensures { λ r. ⌜ now r ≡ partOf (now (bytes .entry)) start count ⌝ }
+    ensures { λ r. ⌜ now r ≡ partOf (before bytes) start count ⌝ }
 {
     if start <= bytes.len() {
         if count <= bytes.len() - start {

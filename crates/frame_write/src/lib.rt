@@ -6,6 +6,7 @@ ghost use mathlib.Core.Path.{_≡_};
 ghost use mathlib.Core.List.{[], _∷_};
 ghost use Prim.Native.Nat.{_+_, _^_, _≤_, _<_};
 ghost use lib.ListN.{length};
+ghost use Rattle.base.specs.Lent.{before, after};
 ghost use Rattle.base.specs.Choice.{if_then_else_};
 ghost use Rattle.base.specs.Store.{stored};
 ghost use Rattle.frame.specs.Limits.{mostPreambles, mostData, longestFrame};
@@ -17,7 +18,7 @@ ghost use Rattle.frame_write.specs.Puts.{PartIs, WithinLimits};
 
 // The preamble: every byte of its part is 0xFF.
 fn put_preamble(part: &mut [u8])
-    ensures { λ _. ⌜ now (part .exit) ≡ preambleBytes (length (now (part .entry))) ⌝ }
+    ensures { λ _. ⌜ after part ≡ preambleBytes (length (before part)) ⌝ }
 {
     let mut i = 0;
     while i < part.len() {
@@ -55,7 +56,7 @@ fn delimiter_byte(h: Header) -> u8
 // Puts a field of one byte. Like each function that puts a field, it returns the exclusive-or of x and what it put.
 fn put_byte(part: &mut [u8], x: u8, byte: u8) -> u8
     requires { ⌜ length (now part) ≡ 1 ⌝ }
-    ensures { λ r. ⌜ PartIs x (byte ∷ []) (now (part .exit)) r ⌝ }
+    ensures { λ r. ⌜ PartIs x (byte ∷ []) (after part) r ⌝ }
 {
     part[0] = byte;
     x ^ byte
@@ -64,7 +65,7 @@ fn put_byte(part: &mut [u8], x: u8, byte: u8) -> u8
 // Puts a unique address.
 fn put_long_address(part: &mut [u8], x: u8, h: Header) -> u8
     requires { ⌜ (length (now part) ≡ 5) × (h .address < 2 ^ 38) ⌝ }
-    ensures { λ r. ⌜ PartIs x (longAddress h) (now (part .exit)) r ⌝ }
+    ensures { λ r. ⌜ PartIs x (longAddress h) (after part) r ⌝ }
 {
     let a = h.address;
     let first = first_byte(h, (a / 4294967296) as u8);
@@ -83,7 +84,7 @@ fn put_long_address(part: &mut [u8], x: u8, h: Header) -> u8
 // Puts the address.
 fn put_address(part: &mut [u8], x: u8, h: Header) -> u8
     requires { ⌜ (length (now part) ≡ addressLength (h .long)) × (h .address ≤ largestAddress (h .long)) ⌝ }
-    ensures { λ r. ⌜ PartIs x (addressBytes h) (now (part .exit)) r ⌝ }
+    ensures { λ r. ⌜ PartIs x (addressBytes h) (after part) r ⌝ }
 {
     if h.long {
         return put_long_address(part, x, h);
@@ -94,7 +95,7 @@ fn put_address(part: &mut [u8], x: u8, h: Header) -> u8
 // Puts delimiter, address, command and byte count.
 fn put_header(part: &mut [u8], h: Header, count: u8) -> u8
     requires { ⌜ (length (now part) ≡ headerLength h) × (h .frame ≤ 6) × (h .address ≤ largestAddress (h .long)) ⌝ }
-    ensures { λ r. ⌜ PartIs 0 (headerBytes h count) (now (part .exit)) r ⌝ }
+    ensures { λ r. ⌜ PartIs 0 (headerBytes h count) (after part) r ⌝ }
 {
     let address_end = part.len() - 2;
     let command_end = part.len() - 1;
@@ -107,7 +108,7 @@ fn put_header(part: &mut [u8], h: Header, count: u8) -> u8
 // Puts the data.
 fn put_data(part: &mut [u8], x: u8, bytes: &[u8]) -> u8
     requires { ⌜ length (now part) ≡ length (now bytes) ⌝ }
-    ensures { λ r. ⌜ PartIs x (now (bytes .entry)) (now (part .exit)) r ⌝ }
+    ensures { λ r. ⌜ PartIs x (before bytes) (after part) r ⌝ }
 {
     let mut sum = x;
     let mut i = 0;
@@ -133,7 +134,7 @@ fn header_length(h: Header) -> usize
 // Puts delimiter to check byte at the front of part.
 fn put_body(part: &mut [u8], h: Header, bytes: &[u8])
     requires { ⌜ (headerLength h + length (now bytes) + 1 ≤ length (now part)) × WithinLimits h (length (now bytes)) ⌝ }
-    ensures { λ _. ⌜ now (part .exit) ≡ stored (now (part .entry)) 0 (bodyBytes h (now (bytes .entry))) ⌝ }
+    ensures { λ _. ⌜ after part ≡ stored (before part) 0 (bodyBytes h (before bytes)) ⌝ }
 {
     let start = header_length(h);
     let end = start + bytes.len();
@@ -145,7 +146,7 @@ fn put_body(part: &mut [u8], h: Header, bytes: &[u8])
 // Puts the whole frame at the front of part.
 fn put_frame(part: &mut [u8], preamble: usize, h: Header, bytes: &[u8])
     requires { ⌜ (frameLength preamble h (length (now bytes)) ≤ length (now part)) × WithinLimits h (length (now bytes)) ⌝ }
-    ensures { λ _. ⌜ now (part .exit) ≡ stored (now (part .entry)) 0 (frameBytes preamble h (now (bytes .entry))) ⌝ }
+    ensures { λ _. ⌜ after part ≡ stored (before part) 0 (frameBytes preamble h (before bytes)) ⌝ }
 {
     put_preamble(&mut part[0..preamble]);
     put_body(&mut part[preamble..], h, bytes);
@@ -206,7 +207,7 @@ fn answer(preamble: usize, h: Header, count: usize, room: usize, place: usize) -
 
 // Writes a frame into the buffer from a place on, or refuses and leaves the buffer as it was.
 pub fn write(preamble: usize, h: Header, bytes: &[u8], buffer: &mut [u8], place: usize) -> Written
-    ensures { λ r. ⌜ WriteIs preamble h (now (bytes .entry)) (now (buffer .entry)) place r (now (buffer .exit)) ⌝ }
+    ensures { λ r. ⌜ WriteIs preamble h (before bytes) (before buffer) place r (after buffer) ⌝ }
 {
     let written = answer(preamble, h, bytes.len(), buffer.len(), place);
     match written {

@@ -3,6 +3,7 @@ use line::Event;
 use line::Receiver;
 use line::Taken;
 ghost use mathlib.Core.Path.{_≡_};
+ghost use Rattle.base.specs.Lent.{before, after};
 ghost use Rattle.recording.specs.Recording.{RunIs};
 ghost use Rattle.line_c.specs.Told.{eventNumber, step, told};
 
@@ -29,7 +30,7 @@ fn stepped(r: Receiver, first: u8, c: u8, bytes: &mut [u8; 255]) -> Taken
 
 // The reader over a recording, from its start on; bytes holds the data of the frame being heard.
 fn run(recording: &[u8], events: &mut [u8], bytes: &mut [u8; 255]) -> usize
-    ensures { λ r. ⌜ RunIs (told (now (recording .entry))) (now (events .entry)) r (now (events .exit)) ⌝ }
+    ensures { λ r. ⌜ RunIs (told (before recording)) (before events) r (after events) ⌝ }
 {
     let mut r = line_reader::passing_reader();
     let mut at = 0;
@@ -51,7 +52,7 @@ fn run(recording: &[u8], events: &mut [u8], bytes: &mut [u8; 255]) -> usize
 // What the reader tells in each tick of a recording, from its start on: at the front of events, for as many ticks as both have room for. Returns their number.
 #[no_mangle]
 pub extern "C" fn nengapiko_ticks(recording: &[u8], events: &mut [u8]) -> usize
-    ensures { λ r. ⌜ RunIs (told (now (recording .entry))) (now (events .entry)) r (now (events .exit)) ⌝ }
+    ensures { λ r. ⌜ RunIs (told (before recording)) (before events) r (after events) ⌝ }
 {
     let mut bytes = [0u8; 255];
     run(recording, events, &mut bytes)

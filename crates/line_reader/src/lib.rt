@@ -11,6 +11,7 @@ use line::Taken;
 use line::Whole;
 ghost use mathlib.Core.Path.{_≡_};
 ghost use mathlib.Core.Bool.{true, false};
+ghost use Rattle.base.specs.Lent.{before, after};
 ghost use Rattle.base.specs.Choice.{if_then_else_, _=?_};
 ghost use Rattle.line.specs.Reader.{noDamage, blank, idle, passing, breaks, gapped, silentInside, insideFrame, silence, tells, next, atIdle, begins, atPreamble, behindAddress, firstHeader, atFirst, addressHeader, atAddress, atExpansion, commandHeader, atCommand, counted, atCount, atData, isDamaged, ended, atCheck, character, addressDamaged, kindDamaged, marked, damaged, keptByte, kept, ReaderTakeIs};
 
@@ -574,7 +575,7 @@ fn heard_damage(r: Receiver, c: u8, kind: Damage) -> Taken
 
 // Keeps a data byte at its number in the lent buffer.
 fn keep_byte(n: u8, c: u8, bytes: &mut [u8; 255])
-    ensures { λ _. ⌜ now (bytes .exit) ≡ keptByte n c (now (bytes .entry)) ⌝ }
+    ensures { λ _. ⌜ after bytes ≡ keptByte n c (before bytes) ⌝ }
 {
     if n < 255 {
         let at = n as usize;
@@ -584,7 +585,7 @@ fn keep_byte(n: u8, c: u8, bytes: &mut [u8; 255])
 
 // The data buffer after a character.
 pub fn keep(place: Place, c: u8, bytes: &mut [u8; 255])
-    ensures { λ _. ⌜ now (bytes .exit) ≡ kept place c (now (bytes .entry)) ⌝ }
+    ensures { λ _. ⌜ after bytes ≡ kept place c (before bytes) ⌝ }
 {
     match place {
         Place::Passing => {}
@@ -602,7 +603,7 @@ pub fn keep(place: Place, c: u8, bytes: &mut [u8; 255])
 
 // A tick: it takes what was heard, and the buffer that holds the data of the frame being heard.
 pub fn take(r: Receiver, heard: Heard, bytes: &mut [u8; 255]) -> Taken
-    ensures { λ t. ⌜ ReaderTakeIs r heard (now (bytes .entry)) t (now (bytes .exit)) ⌝ }
+    ensures { λ t. ⌜ ReaderTakeIs r heard (before bytes) t (after bytes) ⌝ }
 {
     let place = r.place;
     match heard {

@@ -4,6 +4,7 @@ use load_writer::Loaded;
 ghost use mathlib.Core.Path.{_≡_};
 ghost use Prim.Native.Nat.{_≤_};
 ghost use lib.ListN.{length};
+ghost use Rattle.base.specs.Lent.{before};
 ghost use Rattle.load.specs.Arguments.{numberFrom};
 
 // Room for the longest script.
@@ -24,7 +25,7 @@ fn wide(x: u8) -> usize
 
 // A number in decimal, or 0.
 fn number_of(text: &[u8]) -> u32
-    ensures { λ r. ⌜ r ≡ numberFrom 0 (now (text .entry)) ⌝ }
+    ensures { λ r. ⌜ r ≡ numberFrom 0 (before text) ⌝ }
 {
     let mut n: usize = 0;
     let mut i = 0;

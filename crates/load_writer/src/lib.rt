@@ -5,6 +5,7 @@ ghost use mathlib.Core.Path.{_≡_};
 ghost use mathlib.Core.List.{[]};
 ghost use Prim.Native.Nat.{_+_, _*_, _≤_, _<_};
 ghost use lib.ListN.{length, getD, take};
+ghost use Rattle.base.specs.Lent.{before, after};
 ghost use Rattle.base.specs.Store.{stored};
 ghost use Rattle.load_writer.specs.Load.{draw, call, opening, mark, front, pairTick, askedOf, asks, wishOf, lengthOf, lower, upperParty, upper};
 ghost use Rattle.load_writer.specs.Load.{stopAt, drawnFrom, load, entryBytes, scriptBytes};
@@ -169,7 +170,7 @@ fn upper(tick: usize, x: u32) -> Entry
 // A record's four bytes.
 fn put_record(out: &mut [u8], at: usize, e: Entry)
     requires { ⌜ (at + 4 ≤ length (now out)) × Fits e ⌝ }
-    ensures { λ _. ⌜ now (out .exit) ≡ stored (now (out .entry)) at (entryBytes e []) ⌝ }
+    ensures { λ _. ⌜ after out ≡ stored (before out) at (entryBytes e []) ⌝ }
 {
     let tick = e.tick;
     let party = e.party;
@@ -182,7 +183,7 @@ fn put_record(out: &mut [u8], at: usize, e: Entry)
 // Puts the first n records of the opening and the mark at the front.
 fn put_front(out: &mut [u8], x: u32, n: usize)
     requires { ⌜ (n ≤ 12) × (4 * n ≤ length (now out)) ⌝ }
-    ensures { λ _. ⌜ now (out .exit) ≡ stored (now (out .entry)) 0 (scriptBytes (take n (front x))) ⌝ }
+    ensures { λ _. ⌜ after out ≡ stored (before out) 0 (scriptBytes (take n (front x))) ⌝ }
 {
     let mut i = 0;
     while i < n {
@@ -195,7 +196,7 @@ fn put_front(out: &mut [u8], x: u32, n: usize)
 // Puts the last record or two, from pair k on.
 fn put_last(out: &mut [u8], at: usize, k: usize, x: u32, n: usize)
     requires { ⌜ (1 ≤ n) × (n ≤ 2) × (k ≤ 32762) × (at + 4 * n ≤ length (now out)) ⌝ }
-    ensures { λ _. ⌜ now (out .exit) ≡ stored (now (out .entry)) at (scriptBytes (drawnFrom k x n)) ⌝ }
+    ensures { λ _. ⌜ after out ≡ stored (before out) at (scriptBytes (drawnFrom k x n)) ⌝ }
 {
     let tick = pair_tick(k);
     let stop = call(tick, 0, 0, 0);
@@ -211,7 +212,7 @@ fn put_last(out: &mut [u8], at: usize, k: usize, x: u32, n: usize)
 // Puts so many drawn records, the stop among them, at the front.
 fn put_drawn(out: &mut [u8], first: u32, count: usize)
     requires { ⌜ (1 ≤ count) × (count ≤ 65524) × (4 * count ≤ length (now out)) ⌝ }
-    ensures { λ _. ⌜ now (out .exit) ≡ stored (now (out .entry)) 0 (scriptBytes (drawnFrom 0 first count)) ⌝ }
+    ensures { λ _. ⌜ after out ≡ stored (before out) 0 (scriptBytes (drawnFrom 0 first count)) ⌝ }
 {
     let mut k = 0;
     let mut x = first;
@@ -235,7 +236,7 @@ fn put_drawn(out: &mut [u8], first: u32, count: usize)
 // Puts a script of so many records at the front.
 fn put_script(out: &mut [u8], seed: u32, count: usize)
     requires { ⌜ (1 ≤ count) × (count ≤ mostRecords) × (4 * count ≤ length (now out)) ⌝ }
-    ensures { λ _. ⌜ now (out .exit) ≡ stored (now (out .entry)) 0 (scriptBytes (load seed count)) ⌝ }
+    ensures { λ _. ⌜ after out ≡ stored (before out) 0 (scriptBytes (load seed count)) ⌝ }
 {
     let x = draw(seed);
     if count <= 12 {
@@ -277,7 +278,7 @@ fn answer(seed: u32, count: usize, room: usize) -> Loaded
 
 // Writes the script of a seed, so many records with the stop among them, at the front of the buffer; or refuses and leaves the buffer as it was.
 pub fn write(seed: u32, count: u32, out: &mut [u8]) -> Loaded
-    ensures { λ r. ⌜ LoadIs seed count (now (out .entry)) r (now (out .exit)) ⌝ }
+    ensures { λ r. ⌜ LoadIs seed count (before out) r (after out) ⌝ }
 {
     let records = count as usize;
     let loaded = answer(seed, records, out.len());

@@ -11,6 +11,7 @@ use turns::Stage;
 use turns::Timer;
 ghost use mathlib.Core.Path.{_≡_};
 ghost use Prim.Native.Nat.{_-_};
+ghost use Rattle.base.specs.Lent.{before, after};
 ghost use Rattle.line.specs.Reader.{idle, gapped, taken};
 ghost use Rattle.line.specs.declared.Heard.the-variants.{Silence};
 ghost use Rattle.turns.specs.Master.{tells, afterFrame, afterBreak, frameGoesOn, onCharacter, waited, rt1Ends, unlessEnded, counts, countsTwice, withReader, onSilence};
@@ -18,7 +19,7 @@ ghost use Rattle.master.specs.Takes.{countedMessage, countedTimer, timer
 
 // After a whole frame: BURST, then the timer, and the message.
 fn after_frame(m: Master, r: Receiver, w: Whole, bytes: &[u8; 255]) -> MasterTaken
-    ensures { λ t. ⌜ t ≡ afterFrame m r w (now (bytes .entry)) ⌝ }
+    ensures { λ t. ⌜ t ≡ afterFrame m r w (before bytes) ⌝ }
 {
     let h = w.header;
     let g = m.message;
@@ -74,7 +75,7 @@ fn inside_frame(m: Master, r: Receiver) -> MasterTaken
 
 // After a character, by what the reader tells.
 fn on_character(m: Master, r: Receiver, event: Event, bytes: &[u8; 255]) -> MasterTaken
-    ensures { λ t. ⌜ t ≡ onCharacter m r event (now (bytes .entry)) ⌝ }
+    ensures { λ t. ⌜ t ≡ onCharacter m r event (before bytes) ⌝ }
 {
     match event {
         Event::Nothing => inside_frame(m, r),
@@ -276,7 +277,7 @@ fn hears_silence(m: Master) -> MasterTaken
 
 // Takes what was heard. The data of the frame being heard are kept in the lent bytes.
 pub fn take(m: Master, heard: Heard, bytes: &mut [u8; 255]) -> MasterTaken
-    ensures { λ t. ⌜ MasterTakeIs m heard (now (bytes .entry)) t (now (bytes .exit)) ⌝ }
+    ensures { λ t. ⌜ MasterTakeIs m heard (before bytes) t (after bytes) ⌝ }
 {
     if m.deaf {
         return hears_nothing(m);

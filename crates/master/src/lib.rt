@@ -22,6 +22,7 @@ use turns::Timer;
 ghost use mathlib.Core.Path.{_≡_};
 ghost use mathlib.Core.Bool.{true, false};
 ghost use lib.ListN.{length};
+ghost use Rattle.base.specs.Lent.{before, after};
 ghost use Rattle.base.specs.Choice.{if_then_else_, _=?_};
 ghost use Prim.Native.Nat.{_≤_};
 ghost use Rattle.frame.specs.Limits.{largestPolling, reservedCommand};
@@ -120,7 +121,7 @@ fn with_message(m: Master, h: Header, length: u16) -> Master
 // Puts an STX that can be written into the lent frame buffer; returns how many characters it has.
 fn put_stx(preamble: usize, h: Header, bytes: &[u8], frame: &mut [u8; 284]) -> u16
     requires { ⌜ Fits preamble h (length (now bytes)) ⌝ }
-    ensures { λ r. ⌜ FramePutIs preamble h (now (bytes .entry)) (now (frame .entry)) r (now (frame .exit)) ⌝ }
+    ensures { λ r. ⌜ FramePutIs preamble h (before bytes) (before frame) r (after frame) ⌝ }
 {
     let written = frame_write::write(preamble, h, bytes, frame, 0);
     match written {
@@ -149,7 +150,7 @@ fn request_up_to(
     frame: &mut [u8; 284],
 ) -> MasterRequested
     requires { ⌜ Fitting polling (q .preamble) ⌝ }
-    ensures { λ r. ⌜ UpToIs limit polling m (asks q) (now (bytes .entry)) (now (frame .entry)) r (now (frame .exit)) ⌝ }
+    ensures { λ r. ⌜ UpToIs limit polling m (asks q) (before bytes) (before frame) r (after frame) ⌝ }
 {
     let g = m.message;
     let stage = g.stage;
@@ -185,7 +186,7 @@ pub fn request(
     bytes: &[u8],
     frame: &mut [u8; 284],
 ) -> MasterRequested
-    ensures { λ r. ⌜ RequestIs limit m (asks q) (now (bytes .entry)) (now (frame .entry)) r (now (frame .exit)) ⌝ }
+    ensures { λ r. ⌜ RequestIs limit m (asks q) (before bytes) (before frame) r (after frame) ⌝ }
 {
     if base::outside(q.preamble, 5, 20) {
         return MasterRequested::Refused(Refusal::PreambleLength);
@@ -263,7 +264,7 @@ fn sends_character(m: Master, t: Timer, stage: Stage, attempts: u16, c: u8) -> M
 
 // The character with this number of the STX.
 fn sends_at(m: Master, frame: &[u8; 284], n: u16, attempts: u16) -> MasterSent
-    ensures { λ x. ⌜ x ≡ sendsAt m (now (frame .entry)) n attempts ⌝ }
+    ensures { λ x. ⌜ x ≡ sendsAt m (before frame) n attempts ⌝ }
 {
     let g = m.message;
     let c = party::character_at(frame, n);
@@ -288,7 +289,7 @@ fn sends_at(m: Master, frame: &[u8; 284], n: u16, attempts: u16) -> MasterSent
 
 // A waiting message begins where a window is open.
 fn sends_waiting(m: Master, frame: &[u8; 284]) -> MasterSent
-    ensures { λ x. ⌜ x ≡ sendsBy m (now (frame .entry)) Stage.Waiting ⌝ }
+    ensures { λ x. ⌜ x ≡ sendsBy m (before frame) Stage.Waiting ⌝ }
 {
     let t = m.timer;
     let g = m.message;
@@ -300,7 +301,7 @@ fn sends_waiting(m: Master, frame: &[u8; 284]) -> MasterSent
 
 // Sends a character of the STX that stands in the lent frame buffer, or none.
 pub fn send(m: Master, frame: &[u8; 284]) -> MasterSent
-    ensures { λ x. ⌜ x ≡ masterSends m (now (frame .entry)) ⌝ }
+    ensures { λ x. ⌜ x ≡ masterSends m (before frame) ⌝ }
 {
     let g = m.message;
     let stage = g.stage;
@@ -372,7 +373,7 @@ fn request_by(
     put: &[u8],
     frame: &mut [u8; 284],
 ) -> MasterCallTaken
-    ensures { λ r. ⌜ MasterCalledIs limit m (MasterHostCall.Requests q) (now (put .entry)) (now (frame .entry)) r (now (frame .exit)) ⌝ }
+    ensures { λ r. ⌜ MasterCalledIs limit m (MasterHostCall.Requests q) (before put) (before frame) r (after frame) ⌝ }
 {
     let r = request(limit, m, q, put, frame);
     match r {
@@ -403,7 +404,7 @@ fn take_call(
     put: &[u8],
     frame: &mut [u8; 284],
 ) -> MasterCallTaken
-    ensures { λ r. ⌜ MasterCalledIs limit m call (now (put .entry)) (now (frame .entry)) r (now (frame .exit)) ⌝ }
+    ensures { λ r. ⌜ MasterCalledIs limit m call (before put) (before frame) r (after frame) ⌝ }
 {
     match call {
         MasterHostCall::Nothing => no_call(m),
@@ -469,7 +470,7 @@ pub fn tick(
     frame: &mut [u8; 284],
     bytes: &mut [u8; 255],
 ) -> MasterTicked
-    ensures { λ r. ⌜ MasterTickIs limit m heard call (now (put .entry)) (now (frame .entry)) (now (bytes .entry)) r (now (frame .exit)) (now (bytes .exit)) ⌝ }
+    ensures { λ r. ⌜ MasterTickIs limit m heard call (before put) (before frame) (before bytes) r (after frame) (after bytes) ⌝ }
 {
     let own = same_master(m);
     let t = hears::take(own, heard, bytes);

@@ -11,6 +11,7 @@ use turns::Noted;
 use turns::Stage;
 use turns::Timer;
 ghost use mathlib.Core.Path.{_≡_};
+ghost use Rattle.base.specs.Lent.{before};
 ghost use Rattle.turns.specs.Master.{ownRt1, quietTime, masterWith, messageAt, timer, burstTimer, opened, countClear, countBurst, timerCounted, burstCounted, namesDevice, addressOf, isNoted, burstAfter, notedAfter, toItself, broken, endedBy, timerAfter, ends, fails, sameBit, isAnswer, atBreak, answersMessage, atFrame, ifAwaiting};
 ghost use Rattle.master_rules.specs.Parts.{sameRequest, unended};
 
@@ -373,7 +374,7 @@ fn answers_message(m: Master, h: Header) -> bool
 
 // What a whole frame does to a message whose ACK is awaited.
 pub fn at_frame(m: Master, w: Whole, bytes: &[u8; 255]) -> Ending
-    ensures { λ e. ⌜ e ≡ atFrame m w (now (bytes .entry)) ⌝ }
+    ensures { λ e. ⌜ e ≡ atFrame m w (before bytes) ⌝ }
 {
     let g = m.message;
     let h = w.header;

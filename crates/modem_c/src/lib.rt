@@ -5,6 +5,7 @@ use modem::Mark;
 use modem::RegisterRead;
 use modem::RegisterWritten;
 ghost use mathlib.Core.Path.{_≡_};
+ghost use Rattle.base.specs.Lent.{before, after};
 ghost use Rattle.recording.specs.Recording.{RunIs};
 ghost use Rattle.modem.specs.Chip.{goesOut, chipAfter};
 ghost use Rattle.modem.specs.Accesses.{registerRead, registerWritten};
@@ -197,7 +198,7 @@ fn access(x: Chip, first: u8, v: u8) -> Accessed
 // What each access of a script gives, from a fresh chip on: at the front of events, for as many accesses as both have room for. Returns their number.
 #[no_mangle]
 pub extern "C" fn nengapiko_modem(script: &[u8], events: &mut [u8]) -> usize
-    ensures { λ r. ⌜ RunIs (answers (now (script .entry))) (now (events .entry)) r (now (events .exit)) ⌝ }
+    ensures { λ r. ⌜ RunIs (answers (before script)) (before events) r (after events) ⌝ }
 {
     let mut x = modem::fresh();
     let mut at = 0;

@@ -5,6 +5,7 @@ use line::Heard;
 use line::Profile;
 ghost use mathlib.Core.Path.{_≡_};
 ghost use Prim.Native.Nat.{_-_};
+ghost use Rattle.base.specs.Lent.{before};
 ghost use Rattle.frame.specs.Address.{byteAt};
 ghost use Rattle.turns.specs.Party.{isBroadcast, seeksTag};
 ghost use Rattle.party.specs.Hears.{isSilence};
@@ -40,7 +41,7 @@ pub fn one_less(n: u32) -> u32
 
 // The byte at a place, or 0 past the last.
 fn byte_at(bytes: &[u8], place: usize) -> u8
-    ensures { λ r. ⌜ r ≡ byteAt (now (bytes .entry)) place ⌝ }
+    ensures { λ r. ⌜ r ≡ byteAt (before bytes) place ⌝ }
 {
     if place < bytes.len() {
         return bytes[place];
@@ -50,7 +51,7 @@ fn byte_at(bytes: &[u8], place: usize) -> u8
 
 // The character with this number in a frame that is sent, or 0 past the buffer's end.
 pub fn character_at(frame: &[u8; 284], n: u16) -> u8
-    ensures { λ r. ⌜ r ≡ byteAt (now (frame .entry)) n ⌝ }
+    ensures { λ r. ⌜ r ≡ byteAt (before frame) n ⌝ }
 {
     byte_at(frame, n as usize)
 }

@@ -250,7 +250,7 @@ fn ready_link() -> Link
 
 // What a play is told of a script of this form.
 pub fn told_of(form: Form, script: &[u8]) -> Told
-    ensures { λ r. ⌜ r ≡ toldOf form (now (script .entry)) ⌝ }
+    ensures { λ r. ⌜ r ≡ toldOf form (before script) ⌝ }
 {
     Told {
         form: form,

@@ -1,6 +1,7 @@
 // What plays and what is played, for programs in C and Rust: the player, the conversion of scripts and the writer of loads.
 use load_writer::Loaded;
 use player_convert::Converted;
+ghost use Rattle.base.specs.Lent.{before, after};
 ghost use Rattle.texts.specs.Put.{PutIs};
 ghost use Rattle.player.specs.Play.{playSized};
 ghost use Rattle.player_c.specs.Call.{ConvertCall, LoadCall};
@@ -8,7 +9,7 @@ ghost use Rattle.player_c.specs.Call.{ConvertCall, LoadCall};
 // Plays a script whose records have so many bytes: what it prints at the front of out, as much as there is room for, and how much that is.
 #[no_mangle]
 pub extern "C" fn nengapiko_play(size: usize, script: &[u8], out: &mut [u8]) -> usize
-    ensures { λ r. ⌜ PutIs (playSized size (now (script .entry))) (now (out .entry)) 0 r (now (out .exit)) ⌝ }
+    ensures { λ r. ⌜ PutIs (playSized size (before script)) (before out) 0 r (after out) ⌝ }
 {
     player::play_into(size, script, out)
 }

@@ -11,7 +11,7 @@ ghost use mathlib.Core.Path.{_≡_};
 ghost use mathlib.Core.List.{[], _∷_};
 ghost use lib.ListN.{length, replicate};
 ghost use Prim.Native.Nat.{_<_, _+_};
-ghost use Rattle.base.specs.Lent.{before};
+ghost use Rattle.base.specs.Lent.{before, after};
 ghost use Rattle.texts.specs.Put.{PutIs};
 ghost use Rattle.player_listing.specs.Lines.{lineOf, quietMonitor, frameEnds, endsWith, oneMore, listens};
 ghost use Rattle.player_listing.specs.Text.{decimal, headLine, typeName, masterDigit, word, lineText};
@@ -44,21 +44,21 @@ struct MonitorHeard {
 
 // A number in decimal.
 fn put_decimal(n: u32, out: &mut [u8], at: usize) -> usize
-    ensures { λ r. ⌜ PutIs (decimal n) (now (out .entry)) at r (now (out .exit)) ⌝ }
+    ensures { λ r. ⌜ PutIs (decimal n) (before out) at r (after out) ⌝ }
 {
     put_digits(10, n as u64, out, at)
 }
 
 // The header line.
 pub fn put_head(out: &mut [u8], at: usize) -> usize
-    ensures { λ r. ⌜ PutIs headLine (now (out .entry)) at r (now (out .exit)) ⌝ }
+    ensures { λ r. ⌜ PutIs headLine (before out) at r (after out) ⌝ }
 {
     put_bytes(b"tick party type master length\n", out, at)
 }
 
 // The name of a frame type.
 fn put_type(frame: u8, out: &mut [u8], at: usize) -> usize
-    ensures { λ r. ⌜ PutIs (typeName frame) (now (out .entry)) at r (now (out .exit)) ⌝ }
+    ensures { λ r. ⌜ PutIs (typeName frame) (before out) at r (after out) ⌝ }
 {
     if frame == frame::STX {
         return put_bytes(b"STX", out, at);
@@ -81,21 +81,21 @@ fn master_digit(primary: bool) -> u8
 
 // The words of a line, each with a space after it.
 fn put_number_word(n: u32, out: &mut [u8], at: usize) -> usize
-    ensures { λ r. ⌜ PutIs (word (decimal n)) (now (out .entry)) at r (now (out .exit)) ⌝ }
+    ensures { λ r. ⌜ PutIs (word (decimal n)) (before out) at r (after out) ⌝ }
 {
     let place = put_decimal(n, out, at);
     put_byte(b' ', out, place)
 }
 
 pub fn put_type_word(frame: u8, out: &mut [u8], at: usize) -> usize
-    ensures { λ r. ⌜ PutIs (word (typeName frame)) (now (out .entry)) at r (now (out .exit)) ⌝ }
+    ensures { λ r. ⌜ PutIs (word (typeName frame)) (before out) at r (after out) ⌝ }
 {
     let place = put_type(frame, out, at);
     put_byte(b' ', out, place)
 }
 
 pub fn put_master_word(primary: bool, out: &mut [u8], at: usize) -> usize
-    ensures { λ r. ⌜ PutIs (word (masterDigit primary ∷ [])) (now (out .entry)) at r (now (out .exit)) ⌝ }
+    ensures { λ r. ⌜ PutIs (word (masterDigit primary ∷ [])) (before out) at r (after out) ⌝ }
 {
     let digit = master_digit(primary);
     let place = put_byte(digit, out, at);
@@ -104,7 +104,7 @@ pub fn put_master_word(primary: bool, out: &mut [u8], at: usize) -> usize
 
 // The line of a frame: the tick of its last character, its sender, its type, its master, and its length in characters.
 fn put_line(tick: u32, party: u16, header: Header, length: u16, out: &mut [u8], at: usize) -> usize
-    ensures { λ r. ⌜ PutIs (lineText (lineOf tick party header length)) (now (out .entry)) at r (now (out .exit)) ⌝ }
+    ensures { λ r. ⌜ PutIs (lineText (lineOf tick party header length)) (before out) at r (after out) ⌝ }
 {
     let frame = header.frame;
     let primary = header.primary;
@@ -156,7 +156,7 @@ fn frame_ends(
     out: &mut [u8],
     at: usize,
 ) -> MonitorHeard
-    ensures { λ h. ⌜ PartyIs (frameEnds (lineOf tick party header length) alone) (now (out .entry)) at (h .monitor) (h .at) (now (out .exit)) ⌝ }
+    ensures { λ h. ⌜ PartyIs (frameEnds (lineOf tick party header length) alone) (before out) at (h .monitor) (h .at) (after out) ⌝ }
 {
     let monitor = quiet_monitor();
     if alone {
@@ -182,7 +182,7 @@ fn ends_with(
     out: &mut [u8],
     at: usize,
 ) -> MonitorHeard
-    ensures { λ h. ⌜ PartyIs (endsWith tick party count alone t) (now (out .entry)) at (h .monitor) (h .at) (now (out .exit)) ⌝ }
+    ensures { λ h. ⌜ PartyIs (endsWith tick party count alone t) (before out) at (h .monitor) (h .at) (after out) ⌝ }
 {
     let r = t.receiver;
     let event = t.event;
@@ -217,7 +217,7 @@ fn hear(
     out: &mut [u8],
     at: usize,
 ) -> MonitorHeard
-    ensures { λ h. ⌜ PartyIs (listens tick party lone monitor (Sent.Character c)) (now (out .entry)) at (h .monitor) (h .at) (now (out .exit)) ⌝ }
+    ensures { λ h. ⌜ PartyIs (listens tick party lone monitor (Sent.Character c)) (before out) at (h .monitor) (h .at) (after out) ⌝ }
 {
     let r = monitor.receiver;
     let t = line_reader::heard_character(r, c);

@@ -2,8 +2,8 @@
 use base::Refusal;
 ghost use mathlib.Core.Path.{_≡_};
 ghost use Prim.Native.Nat.{_+_, _-_, _%_, _<_, _≤_};
-ghost use Rattle.base.specs.Choice.{if_then_else_, _<?_};
 ghost use Rattle.base.specs.Lent.{before, after};
+ghost use Rattle.base.specs.Choice.{if_then_else_, _<?_};
 ghost use lib.ListN.{length};
 ghost use Rattle.player_script.specs.Script.{entryOf, longEntryOf, width, recordsIn, isStop, isMasters, isDevices, isCall, goodIn, stopOf, tickAt, formOf, sizedAs, digitSize, sizeIn};
 ghost use Rattle.player_script.specs.Pieces.{upTo, walkedBy, walkedAs, stopsAfter, restGood, goodAfter};
@@ -82,7 +82,7 @@ fn digit_size(c: u8) -> usize
 
 // The record size that a word says, for programs that are told it; 0 for a word that says none.
 pub fn size_in(word: &[u8]) -> usize
-    ensures { λ r. ⌜ r ≡ sizeIn (now (word .entry)) ⌝ }
+    ensures { λ r. ⌜ r ≡ sizeIn (before word) ⌝ }
 {
     if word.len() == 1 {
         return digit_size(word[0]);
@@ -126,14 +126,14 @@ fn long_entry_of(a: u8, b: u8, c: u8, d: u8, e: u8, f: u8) -> Entry
 
 fn old_at(script: &[u8], at: usize) -> Entry
     requires { ⌜ at + 4 ≤ length (now script) ⌝ }
-    ensures { λ r. ⌜ (r ≡ entryAt (now (script .entry)) at) × (r .tick < 4294967296) × (r .party < 16) ⌝ }
+    ensures { λ r. ⌜ (r ≡ entryAt (before script) at) × (r .tick < 4294967296) × (r .party < 16) ⌝ }
 {
     entry_of(script[at], script[at + 1], script[at + 2], script[at + 3])
 }
 
 fn new_at(script: &[u8], at: usize) -> Entry
     requires { ⌜ at + 6 ≤ length (now script) ⌝ }
-    ensures { λ r. ⌜ (r ≡ longEntryAt (now (script .entry)) at) × (r .tick < 4294967296) × (r .party < 16) ⌝ }
+    ensures { λ r. ⌜ (r ≡ longEntryAt (before script) at) × (r .tick < 4294967296) × (r .party < 16) ⌝ }
 {
     long_entry_of(
         script[at],
@@ -148,7 +148,7 @@ fn new_at(script: &[u8], at: usize) -> Entry
 // The record at a place.
 fn entry_at(form: Form, script: &[u8], at: usize) -> Entry
     requires { ⌜ at + width form ≤ length (now script) ⌝ }
-    ensures { λ r. ⌜ (r ≡ entryIn form (now (script .entry)) at) × (r .tick < 4294967296) × (r .party < 16) ⌝ }
+    ensures { λ r. ⌜ (r ≡ entryIn form (before script) at) × (r .tick < 4294967296) × (r .party < 16) ⌝ }
 {
     match form {
         Form::Old => old_at(script, at),
@@ -269,7 +269,7 @@ pub fn good_after(form: Form, rest: &[u8], since: usize, marks: &mut [usize; 8])
 
 // Whether a script is good.
 pub fn is_good(form: Form, script: &[u8]) -> bool
-    ensures { λ r. ⌜ r ≡ goodIn form (now (script .entry)) ⌝ }
+    ensures { λ r. ⌜ r ≡ goodIn form (before script) ⌝ }
 {
     let mut marks = [0usize; 8];
     good_after(form, script, 0, &mut marks)
@@ -277,7 +277,7 @@ pub fn is_good(form: Form, script: &[u8]) -> bool
 
 // The stop's tick: that of the last whole record, and 0 where there is none.
 pub fn stop_tick(form: Form, script: &[u8]) -> u32
-    ensures { λ r. ⌜ r ≡ stopOf (recordsIn form (now (script .entry))) ⌝ }
+    ensures { λ r. ⌜ r ≡ stopOf (recordsIn form (before script)) ⌝ }
 {
     let w = width(form);
     let left = script.len() % w;
@@ -359,7 +359,7 @@ fn no_calls(at: usize) -> ScriptTick
 
 // What a script wants of each party in a tick, read from a place on, and the place behind that tick's records.
 pub fn calls_at(form: Form, script: &[u8], at: usize, tick: usize) -> ScriptTick
-    ensures { λ r. ⌜ r ≡ tickAt form (now (script .entry)) at tick ⌝ }
+    ensures { λ r. ⌜ r ≡ tickAt form (before script) at tick ⌝ }
 {
     let w = width(form);
     let mut t = no_calls(at);
@@ -399,7 +399,7 @@ fn ticks_to(end: u32, tick: u32) -> u32
 
 // How many ticks from this one on have no record, before the stop. The next record stands at this place.
 pub fn free_ticks(form: Form, script: &[u8], at: usize, tick: u32, stop: u32) -> u32
-    ensures { λ r. ⌜ r ≡ freeTicks form (now (script .entry)) at tick stop ⌝ }
+    ensures { λ r. ⌜ r ≡ freeTicks form (before script) at tick stop ⌝ }
 {
     let w = width(form);
     if tick == 0 {

@@ -22,6 +22,7 @@ use turns::Turn;
 use turns::Wish;
 ghost use mathlib.Core.Path.{_≡_};
 ghost use mathlib.Core.Bool.{true, false};
+ghost use Rattle.base.specs.Lent.{before, after};
 ghost use Rattle.line.specs.Reader.{noDamage, blank};
 ghost use Rattle.port.specs.Numbers.{stoOf};
 ghost use Rattle.port.specs.Device.{isUndamaged, isOther, bothUndamaged, alternate, wakes, quietAfter, unlessQuiet, deviceTook, listensOn, unread, passedOver, withReceiver, passesOn, dozesOn, isIdle, hearsWakeUp, countedAs, reads, dropsRequest, pastSto, tooLate, quietSending, portDeviceSends, deviceStarted, portDeviceStarts};
@@ -376,7 +377,7 @@ fn take_awake(
     bytes: &mut [u8; 255],
     frame: &mut [u8; 284],
 ) -> PortDeviceTaken
-    ensures { λ t. ⌜ AwakeIs y heard (now (bytes .entry)) (now (frame .entry)) t (now (bytes .exit)) (now (frame .exit)) ⌝ }
+    ensures { λ t. ⌜ AwakeIs y heard (before bytes) (before frame) t (after bytes) (after frame) ⌝ }
 {
     let d = y.device;
     if hears_wake_up(d, heard) {
@@ -410,7 +411,7 @@ fn take(
     bytes: &mut [u8; 255],
     frame: &mut [u8; 284],
 ) -> PortDeviceTaken
-    ensures { λ t. ⌜ PortTakeIs y heard (now (bytes .entry)) (now (frame .entry)) t (now (bytes .exit)) (now (frame .exit)) ⌝ }
+    ensures { λ t. ⌜ PortTakeIs y heard (before bytes) (before frame) t (after bytes) (after frame) ⌝ }
 {
     let d = y.device;
     let ear = y.ear;
@@ -471,7 +472,7 @@ fn too_late(d: Device) -> bool
 
 // Takes the host's answer to the request in hand, or refuses it with 8, 9 or 10 and leaves the lent frame buffer as it was.
 fn answer(limit: u8, d: Device, wish: Wish, bytes: &[u8], frame: &mut [u8; 284]) -> DeviceCalled
-    ensures { λ r. ⌜ PortAnswerIs limit d wish (now (bytes .entry)) (now (frame .entry)) r (now (frame .exit)) ⌝ }
+    ensures { λ r. ⌜ PortAnswerIs limit d wish (before bytes) (before frame) r (after frame) ⌝ }
 {
     if too_late(d) {
         return DeviceCalled::Refused(Refusal::NoRequest);
@@ -498,7 +499,7 @@ fn answer_by(
     put: &[u8],
     frame: &mut [u8; 284],
 ) -> PortCallTaken
-    ensures { λ r. ⌜ PortCalledIs limit y (PortHostCall.Answers wish) (now (put .entry)) (now (frame .entry)) r (now (frame .exit)) ⌝ }
+    ensures { λ r. ⌜ PortCalledIs limit y (PortHostCall.Answers wish) (before put) (before frame) r (after frame) ⌝ }
 {
     let d = y.device;
     let r = answer(limit, d, wish, put, frame);
@@ -530,7 +531,7 @@ fn take_call(
     put: &[u8],
     frame: &mut [u8; 284],
 ) -> PortCallTaken
-    ensures { λ r. ⌜ PortCalledIs limit y call (now (put .entry)) (now (frame .entry)) r (now (frame .exit)) ⌝ }
+    ensures { λ r. ⌜ PortCalledIs limit y call (before put) (before frame) r (after frame) ⌝ }
 {
     match call {
         PortHostCall::Nothing => no_call(y),
@@ -550,7 +551,7 @@ fn quiet_sending(n: u16, sent: Sent) -> u16
 
 // Sends a character of the ACK in the lent frame buffer, or none.
 fn send(y: PortDevice, frame: &[u8; 284]) -> PortDeviceSent
-    ensures { λ s. ⌜ s ≡ portDeviceSends y (now (frame .entry)) ⌝ }
+    ensures { λ s. ⌜ s ≡ portDeviceSends y (before frame) ⌝ }
 {
     let d = y.device;
     let ear = y.ear;
@@ -602,8 +603,8 @@ pub fn tick(
     frame: &mut [u8; 284],
     bytes: &mut [u8; 255],
 ) -> PortDeviceTicked
-    ensures { λ r. ⌜ PortDeviceTickIs limit y heard call (now (put .entry)) (now (frame .entry)) (now (bytes .entry)) r
-        (now (frame .exit)) (now (bytes .exit)) ⌝ }
+    ensures { λ r. ⌜ PortDeviceTickIs limit y heard call (before put) (before frame) (before bytes) r
+        (after frame) (after bytes) ⌝ }
 {
     let t = take(y, heard, bytes, frame);
     let taken = t.device;

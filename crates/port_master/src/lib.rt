@@ -22,6 +22,7 @@ use turns::Sent;
 use turns::Stage;
 ghost use mathlib.Core.Path.{_≡_};
 ghost use Prim.Native.Nat.{_-_};
+ghost use Rattle.base.specs.Lent.{before, after};
 ghost use Rattle.line.specs.Reader.{noDamage};
 ghost use Rattle.port.specs.Master.{afterPortFrame, byFound, endsAnswer, sinceAfter, begins, wakesFirst, wakeUpCharacter, deafened, sendsWakeUp, sendsPlain, portMasterSends, portMasterStarts};
 ghost use Rattle.port.specs.Master as P;
@@ -65,7 +66,7 @@ fn no_damage() -> FrameDamage
 
 // After a frame that is no BACK: BURST stays as it is.
 fn after_other(m: Master, r: Receiver, w: Whole, bytes: &[u8; 255]) -> MasterTaken
-    ensures { λ t. ⌜ t ≡ afterOther m r w (now (bytes .entry)) ⌝ }
+    ensures { λ t. ⌜ t ≡ afterOther m r w (before bytes) ⌝ }
 {
     let h = w.header;
     let noted = m.noted;
@@ -85,7 +86,7 @@ fn after_other(m: Master, r: Receiver, w: Whole, bytes: &[u8; 255]) -> MasterTak
 
 // After a whole frame without damage: a BACK counts as a damaged frame.
 fn after_port_frame(m: Master, r: Receiver, w: Whole, bytes: &[u8; 255]) -> MasterTaken
-    ensures { λ t. ⌜ t ≡ afterPortFrame m r w (now (bytes .entry)) ⌝ }
+    ensures { λ t. ⌜ t ≡ afterPortFrame m r w (before bytes) ⌝ }
 {
     let h = w.header;
     if h.frame == frame::BACK {
@@ -96,7 +97,7 @@ fn after_port_frame(m: Master, r: Receiver, w: Whole, bytes: &[u8; 255]) -> Mast
 
 // By what the pair's master m finds in this tick.
 fn by_found(m: Master, t: MasterTaken, bytes: &[u8; 255]) -> MasterTaken
-    ensures { λ r. ⌜ r ≡ byFound m (now (bytes .entry)) t (t .event) ⌝ }
+    ensures { λ r. ⌜ r ≡ byFound m (before bytes) t (t .event) ⌝ }
 {
     let event = t.event;
     let n = t.master;
@@ -145,7 +146,7 @@ fn since_after(n: u16, event: Event) -> u16
 
 // Takes what was heard. The data of the frame being heard are kept in the lent bytes.
 fn take(x: PortMaster, heard: Heard, bytes: &mut [u8; 255]) -> PortMasterTaken
-    ensures { λ t. ⌜ PortTakeIs x heard (now (bytes .entry)) t (now (bytes .exit)) ⌝ }
+    ensures { λ t. ⌜ PortTakeIs x heard (before bytes) t (after bytes) ⌝ }
 {
     let m = x.master;
     let wake = x.wake;
@@ -174,7 +175,7 @@ fn request(
     bytes: &[u8],
     frame: &mut [u8; 284],
 ) -> MasterRequested
-    ensures { λ r. ⌜ PortRequestIs limit m q (now (bytes .entry)) (now (frame .entry)) r (now (frame .exit)) ⌝ }
+    ensures { λ r. ⌜ PortRequestIs limit m q (before bytes) (before frame) r (after frame) ⌝ }
 {
     if q.preamble == port::PREAMBLE {
         return master::request(limit, m, q, bytes, frame);
@@ -201,7 +202,7 @@ fn request_by(
     put: &[u8],
     frame: &mut [u8; 284],
 ) -> PortCallTaken
-    ensures { λ r. ⌜ PortCalledIs limit x (MasterHostCall.Requests q) (now (put .entry)) (now (frame .entry)) r (now (frame .exit)) ⌝ }
+    ensures { λ r. ⌜ PortCalledIs limit x (MasterHostCall.Requests q) (before put) (before frame) r (after frame) ⌝ }
 {
     let m = x.master;
     let r = request(limit, m, q, put, frame);
@@ -233,7 +234,7 @@ fn take_call(
     put: &[u8],
     frame: &mut [u8; 284],
 ) -> PortCallTaken
-    ensures { λ r. ⌜ PortCalledIs limit x call (now (put .entry)) (now (frame .entry)) r (now (frame .exit)) ⌝ }
+    ensures { λ r. ⌜ PortCalledIs limit x call (before put) (before frame) r (after frame) ⌝ }
 {
     match call {
         MasterHostCall::Nothing => no_call(x),
@@ -329,7 +330,7 @@ fn send_wake_up(x: PortMaster, n: u16) -> PortMasterSent
 
 // What document 01's master sends.
 fn send_plain(x: PortMaster, frame: &[u8; 284]) -> PortMasterSent
-    ensures { λ s. ⌜ s ≡ sendsPlain x (now (frame .entry)) ⌝ }
+    ensures { λ s. ⌜ s ≡ sendsPlain x (before frame) ⌝ }
 {
     let m = x.master;
     let s = master::send(m, frame);
@@ -348,7 +349,7 @@ fn send_plain(x: PortMaster, frame: &[u8; 284]) -> PortMasterSent
 
 // No wake-up is being sent.
 fn send_off(x: PortMaster, frame: &[u8; 284]) -> PortMasterSent
-    ensures { λ s. ⌜ s ≡ P.sendsBy x (now (frame .entry)) WakeUp.Off ⌝ }
+    ensures { λ s. ⌜ s ≡ P.sendsBy x (before frame) WakeUp.Off ⌝ }
 {
     if wakes_first(x) {
         return send_wake_up(x, port::WAKE_UP_LENGTH);
@@ -358,7 +359,7 @@ fn send_off(x: PortMaster, frame: &[u8; 284]) -> PortMasterSent
 
 // So many characters of the wake-up are still to be sent.
 fn send_left(x: PortMaster, n: u16, frame: &[u8; 284]) -> PortMasterSent
-    ensures { λ s. ⌜ s ≡ P.sendsBy x (now (frame .entry)) (WakeUp.Left n) ⌝ }
+    ensures { λ s. ⌜ s ≡ P.sendsBy x (before frame) (WakeUp.Left n) ⌝ }
 {
     if n == 0 {
         return send_plain(x, frame);
@@ -368,7 +369,7 @@ fn send_left(x: PortMaster, n: u16, frame: &[u8; 284]) -> PortMasterSent
 
 // Sends a character of the wake-up or of the STX that stands in the lent frame buffer, or none.
 fn send(x: PortMaster, frame: &[u8; 284]) -> PortMasterSent
-    ensures { λ s. ⌜ s ≡ portMasterSends x (now (frame .entry)) ⌝ }
+    ensures { λ s. ⌜ s ≡ portMasterSends x (before frame) ⌝ }
 {
     let wake = x.wake;
     match wake {
@@ -402,8 +403,8 @@ pub fn tick(
     frame: &mut [u8; 284],
     bytes: &mut [u8; 255],
 ) -> PortMasterTicked
-    ensures { λ r. ⌜ PortMasterTickIs limit x heard call (now (put .entry)) (now (frame .entry)) (now (bytes .entry)) r
-        (now (frame .exit)) (now (bytes .exit)) ⌝ }
+    ensures { λ r. ⌜ PortMasterTickIs limit x heard call (before put) (before frame) (before bytes) r
+        (after frame) (after bytes) ⌝ }
 {
     let t = take(x, heard, bytes);
     let taken = t.master;

@@ -3,6 +3,7 @@ use line::Damage;
 use line::Heard;
 ghost use mathlib.Core.Path.{_≡_};
 ghost use Prim.Native.Nat.{_≤_};
+ghost use Rattle.base.specs.Lent.{before};
 ghost use Rattle.base.specs.Choice.{if_then_else_, _=?_, _<?_};
 ghost use Rattle.recording.specs.Form.{heardOf, badRecording};
 ghost use Rattle.recording.specs.Marks.{isMarked, orMarked, BadnessIs};
@@ -36,7 +37,7 @@ fn wide(x: u8) -> u16
 
 // The two bytes of a tick as one number, the character the high byte; 0 where there is no such tick. It is compiled to one load, and a loop over ticks to vectors.
 pub fn tick_at(recording: &[u8], t: usize) -> u16
-    ensures { λ r. ⌜ TickAt (now (recording .entry)) t r ⌝ }
+    ensures { λ r. ⌜ TickAt (before recording) t r ⌝ }
 {
     if t < recording.len() / 2 {
         return wide(recording[2 * t]) + 256 * wide(recording[2 * t + 1]);
@@ -81,7 +82,7 @@ fn either(a: u16, b: u16) -> u16
 
 // Whether no recording has these bytes. It goes on to the end, whatever it meets: a loop that can stop is not compiled to vectors.
 pub fn is_bad(recording: &[u8]) -> bool
-    ensures { λ r. ⌜ r ≡ badRecording (now (recording .entry)) ⌝ }
+    ensures { λ r. ⌜ r ≡ badRecording (before recording) ⌝ }
 {
     let ticks = recording.len() / 2;
     let mut bad = 0u16;

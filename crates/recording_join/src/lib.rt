@@ -4,6 +4,7 @@ ghost use mathlib.Core.Path.{_≡_};
 ghost use Prim.Native.Nat.{_+_, _/_, _%_, _≤_};
 ghost use mathlib.Core.Bool.{true, false};
 ghost use lib.ListN.{length};
+ghost use Rattle.base.specs.Lent.{before, after};
 ghost use Rattle.base.specs.Choice.{if_then_else_, _<?_};
 ghost use Rattle.base.specs.Store.{stored};
 ghost use Rattle.recording.specs.Form.{badRecording};
@@ -66,7 +67,7 @@ fn differ(v: u16, w: u16) -> bool
 // How many ticks two recordings of equal length have: the lower number. By it the compiler sees that each place is within both, and compiles a loop over ticks to vectors.
 fn ticks_of_both(first: &[u8], second: &[u8]) -> usize
     requires { ⌜ length (now first) ≡ length (now second) ⌝ }
-    ensures { λ r. ⌜ r ≡ length (now (first .entry)) / 2 ⌝ }
+    ensures { λ r. ⌜ r ≡ length (before first) / 2 ⌝ }
 {
     let ticks = first.len() / 2;
     let others = second.len() / 2;
@@ -80,7 +81,7 @@ fn ticks_of_both(first: &[u8], second: &[u8]) -> usize
 fn first_difference(first: &[u8], second: &[u8]) -> Difference
     requires { ⌜ (badRecording (now first) ≡ false) × (badRecording (now second) ≡ false) ⌝ }
     requires { ⌜ length (now first) ≡ length (now second) ⌝ }
-    ensures { λ r. ⌜ r ≡ differenceOf (now (first .entry)) (now (second .entry)) ⌝ }
+    ensures { λ r. ⌜ r ≡ differenceOf (before first) (before second) ⌝ }
 {
     let ticks = ticks_of_both(first, second);
     let mut t = 0;
@@ -99,7 +100,7 @@ fn join_into(first: &[u8], second: &[u8], out: &mut [u8])
     requires { ⌜ length (now first) ≡ length (now second) ⌝ }
     requires { ⌜ length (now first) ≤ length (now out) ⌝ }
     requires { ⌜ differenceOf (now first) (now second) ≡ Difference.Nowhere ⌝ }
-    ensures { λ _. ⌜ now (out .exit) ≡ stored (now (out .entry)) 0 (joinedOf (now (first .entry)) (now (second .entry))) ⌝ }
+    ensures { λ _. ⌜ after out ≡ stored (before out) 0 (joinedOf (before first) (before second)) ⌝ }
 {
     let ticks = ticks_of_both(first, second);
     let mut t = 0;
@@ -116,7 +117,7 @@ fn by_difference(first: &[u8], second: &[u8], out: &mut [u8]) -> JoinAnswer
     requires { ⌜ (badRecording (now first) ≡ false) × (badRecording (now second) ≡ false) ⌝ }
     requires { ⌜ length (now first) ≡ length (now second) ⌝ }
     requires { ⌜ length (now first) ≤ length (now out) ⌝ }
-    ensures { λ r. ⌜ DifferenceJoinIs (now (first .entry)) (now (second .entry)) (now (out .entry)) r (now (out .exit)) ⌝ }
+    ensures { λ r. ⌜ DifferenceJoinIs (before first) (before second) (before out) r (after out) ⌝ }
 {
     let found = first_difference(first, second);
     match found {
@@ -130,7 +131,7 @@ fn by_difference(first: &[u8], second: &[u8], out: &mut [u8]) -> JoinAnswer
 
 // Joins two recordings of one pair that begin in the same tick, at the front of a buffer. A refusal leaves the buffer as it was.
 pub fn join(first: &[u8], second: &[u8], out: &mut [u8]) -> JoinAnswer
-    ensures { λ r. ⌜ JoinIs (now (first .entry)) (now (second .entry)) (now (out .entry)) r (now (out .exit)) ⌝ }
+    ensures { λ r. ⌜ JoinIs (before first) (before second) (before out) r (after out) ⌝ }
 {
     if recording::is_bad(first) {
         return JoinAnswer::Refused(Refusal::BadRecording);

@@ -10,6 +10,7 @@ use texts::put_bytes;
 use texts::put_decimal;
 ghost use mathlib.Core.Path.{_≡_};
 ghost use Prim.Native.Nat.{_/_};
+ghost use Rattle.base.specs.Lent.{before, after};
 ghost use Rattle.line.specs.Reader.{ReaderTakeIs};
 ghost use Rattle.texts.specs.Digits.{decimal};
 ghost use Rattle.texts.specs.Put.{PutIs};
@@ -46,7 +47,7 @@ pub fn start() -> Progress
 
 // A number, with a space after it.
 fn put_word(n: u64, out: &mut [u8], at: usize) -> usize
-    ensures { λ r. ⌜ PutIs (word (decimal n)) (now (out .entry)) at r (now (out .exit)) ⌝ }
+    ensures { λ r. ⌜ PutIs (word (decimal n)) (before out) at r (after out) ⌝ }
 {
     let place = put_decimal(n, out, at);
     put_byte(b' ', out, place)
@@ -54,21 +55,21 @@ fn put_word(n: u64, out: &mut [u8], at: usize) -> usize
 
 // The first and the last tick.
 fn put_ticks(first: u64, last: u64, out: &mut [u8], at: usize) -> usize
-    ensures { λ r. ⌜ PutIs (ticksText first last) (now (out .entry)) at r (now (out .exit)) ⌝ }
+    ensures { λ r. ⌜ PutIs (ticksText first last) (before out) at r (after out) ⌝ }
 {
     let place = put_word(first, out, at);
     put_word(last, out, place)
 }
 
 fn put_broken(first: u64, last: u64, out: &mut [u8], at: usize) -> usize
-    ensures { λ r. ⌜ PutIs (brokenLine first last) (now (out .entry)) at r (now (out .exit)) ⌝ }
+    ensures { λ r. ⌜ PutIs (brokenLine first last) (before out) at r (after out) ⌝ }
 {
     let place = put_ticks(first, last, out, at);
     put_bytes(b"broken\n", out, place)
 }
 
 fn put_damaged(first: u64, last: u64, out: &mut [u8], at: usize) -> usize
-    ensures { λ r. ⌜ PutIs (damagedLine first last) (now (out .entry)) at r (now (out .exit)) ⌝ }
+    ensures { λ r. ⌜ PutIs (damagedLine first last) (before out) at r (after out) ⌝ }
 {
     let place = put_ticks(first, last, out, at);
     put_bytes(b"damaged\n", out, place)
@@ -76,7 +77,7 @@ fn put_damaged(first: u64, last: u64, out: &mut [u8], at: usize) -> usize
 
 // Type, master, address, command and byte count.
 fn put_fields(header: Header, count: u8, out: &mut [u8], at: usize) -> usize
-    ensures { λ r. ⌜ PutIs (fieldsText header count) (now (out .entry)) at r (now (out .exit)) ⌝ }
+    ensures { λ r. ⌜ PutIs (fieldsText header count) (before out) at r (after out) ⌝ }
 {
     let frame = header.frame;
     let primary = header.primary;
@@ -90,7 +91,7 @@ fn put_fields(header: Header, count: u8, out: &mut [u8], at: usize) -> usize
 }
 
 fn put_whole(first: u64, last: u64, w: Whole, bytes: &[u8], out: &mut [u8], at: usize) -> usize
-    ensures { λ r. ⌜ PutIs (wholeLine first last w (now (bytes .entry))) (now (out .entry)) at r (now (out .exit)) ⌝ }
+    ensures { λ r. ⌜ PutIs (wholeLine first last w (before bytes)) (before out) at r (after out) ⌝ }
 {
     let header = w.header;
     let count = w.count;
@@ -103,7 +104,7 @@ fn put_whole(first: u64, last: u64, w: Whole, bytes: &[u8], out: &mut [u8], at: 
 
 // The line of a tick, by what the reader tells in it.
 fn put_event(first: u64, last: u64, event: Event, bytes: &[u8], out: &mut [u8], at: usize) -> usize
-    ensures { λ r. ⌜ PutIs (lineBy first last event (now (bytes .entry))) (now (out .entry)) at r (now (out .exit)) ⌝ }
+    ensures { λ r. ⌜ PutIs (lineBy first last event (before bytes)) (before out) at r (after out) ⌝ }
 {
     match event {
         Event::Nothing => at,
@@ -159,7 +160,7 @@ fn next_tick(t: u64) -> u64
 
 // A tick of the reader, made from the two bytes of a recording.
 fn hear(r: Receiver, first: u8, c: u8, bytes: &mut [u8; 255]) -> Taken
-    ensures { λ t. ⌜ ReaderTakeIs r (heardOf (first / 32) c) (now (bytes .entry)) t (now (bytes .exit)) ⌝ }
+    ensures { λ t. ⌜ ReaderTakeIs r (heardOf (first / 32) c) (before bytes) t (after bytes) ⌝ }
 {
     let heard = recording::heard_of(first / 32, c);
     line_reader::take(r, heard, bytes)
@@ -167,7 +168,7 @@ fn hear(r: Receiver, first: u8, c: u8, bytes: &mut [u8; 255]) -> Taken
 
 // A tick of the recording: its line from a place on.
 fn tick(p: Progress, first: u8, c: u8, bytes: &mut [u8; 255], out: &mut [u8], at: usize) -> Printed
-    ensures { λ r. ⌜ TickIs p (heardOf (first / 32) c) (now (bytes .entry)) (now (bytes .exit)) (now (out .entry)) at r (now (out .exit)) ⌝ }
+    ensures { λ r. ⌜ TickIs p (heardOf (first / 32) c) (before bytes) (after bytes) (before out) at r (after out) ⌝ }
 {
     let r = p.receiver;
     let begun = first_of(p);
@@ -189,7 +190,7 @@ fn tick(p: Progress, first: u8, c: u8, bytes: &mut [u8; 255], out: &mut [u8], at
 
 // The lines of a piece of a recording, at the front of the output, and what is kept after it. An odd last byte is no tick.
 pub fn lines(p: Progress, piece: &[u8], bytes: &mut [u8; 255], out: &mut [u8]) -> Printed
-    ensures { λ r. ⌜ LinesAre p (ticksOf (now (piece .entry))) (now (bytes .entry)) (now (bytes .exit)) (now (out .entry)) r (now (out .exit)) ⌝ }
+    ensures { λ r. ⌜ LinesAre p (ticksOf (before piece)) (before bytes) (after bytes) (before out) r (after out) ⌝ }
 {
     let ticks = piece.len() / 2;
     let mut kept = p;
@@ -234,7 +235,7 @@ fn is_refused(first: u8, c: u8) -> bool
 
 // The first bad tick.
 pub fn first_bad(recording: &[u8]) -> FirstBad
-    ensures { λ r. ⌜ r ≡ firstBad 0 (now (recording .entry)) ⌝ }
+    ensures { λ r. ⌜ r ≡ firstBad 0 (before recording) ⌝ }
 {
     let ticks = recording.len() / 2;
     let mut t = 0;

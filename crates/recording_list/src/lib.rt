@@ -8,6 +8,7 @@ ghost use mathlib.Core.List.{_++_};
 ghost use Prim.Native.Nat.{_+_, _-_, _*_, _/_, _%_, _≤_, _<_};
 ghost use lib.Bits.{bitXor};
 ghost use lib.ListN.{length};
+ghost use Rattle.base.specs.Lent.{before, after};
 ghost use Rattle.base.specs.Choice.{if_then_else_, _=?_, _≤?_};
 ghost use Rattle.base.specs.Store.{stored};
 ghost use Rattle.line.specs.Reader.{idle, passing, begins, blank};
@@ -65,7 +66,7 @@ fn wide(x: u8) -> u16
 // The two bytes of a tick as one number, the character the high byte. It is compiled to one load, and a loop over ticks to vectors.
 fn tick_at(recording: &[u8], t: usize) -> u16
     requires { ⌜ 2 * t + 2 ≤ length (now recording) ⌝ }
-    ensures { λ r. ⌜ TickIs (now (recording .entry)) t r ⌝ }
+    ensures { λ r. ⌜ TickIs (before recording) t r ⌝ }
 {
     wide(recording[2 * t]) + 256 * wide(recording[2 * t + 1])
 }
@@ -73,7 +74,7 @@ fn tick_at(recording: &[u8], t: usize) -> u16
 // The next character inside a frame. One silent tick is passed over.
 fn next_character(recording: &[u8], t: usize) -> Next
     requires { ⌜ badRecording (now recording) ≡ false ⌝ }
-    ensures { λ r. ⌜ NextIs (now (recording .entry)) t r ⌝ }
+    ensures { λ r. ⌜ NextIs (before recording) t r ⌝ }
 {
     let ticks = recording.len() / 2;
     if ticks <= t {
@@ -109,13 +110,13 @@ fn harmed(harm: bool, v: u16) -> bool
 }
 
 // So many characters from a tick on, one by one.
-fn one_by_one(recording: &[u8], from: usize, need: usize, before: u8, hurt: bool) -> Run
+fn one_by_one(recording: &[u8], from: usize, need: usize, so_far: u8, hurt: bool) -> Run
     requires { ⌜ badRecording (now recording) ≡ false ⌝ }
-    ensures { λ r. ⌜ RunIs (now (recording .entry)) from need before hurt r ⌝ }
+    ensures { λ r. ⌜ RunIs (before recording) from need so_far hurt r ⌝ }
 {
     let mut t = from;
     let mut count = 0;
-    let mut sum = before;
+    let mut sum = so_far;
     let mut harm = hurt;
     while count < need {
         let next = next_character(recording, t);
@@ -148,12 +149,12 @@ struct Plain {
 }
 
 // It goes on to the end, whatever it finds: so the loop is compiled to vectors.
-fn plain_run(recording: &[u8], t: usize, need: usize, before: u8) -> Plain
+fn plain_run(recording: &[u8], t: usize, need: usize, so_far: u8) -> Plain
     requires { ⌜ 2 * (t + need) ≤ length (now recording) ⌝ }
-    ensures { λ r. ⌜ PlainIs (now (recording .entry)) t need before r ⌝ }
+    ensures { λ r. ⌜ PlainIs (before recording) t need so_far r ⌝ }
 {
     let mut other = 0u16;
-    let mut sum = 256 * wide(before);
+    let mut sum = 256 * wide(so_far);
     let mut i = 0;
     while i < need {
         let v = tick_at(recording, t + i);
@@ -168,18 +169,18 @@ fn plain_run(recording: &[u8], t: usize, need: usize, before: u8) -> Plain
 }
 
 // So many characters from a tick on: at once, where no tick among them is silent or damaged.
-fn characters(recording: &[u8], t: usize, need: usize, before: u8, hurt: bool) -> Run
+fn characters(recording: &[u8], t: usize, need: usize, so_far: u8, hurt: bool) -> Run
     requires { ⌜ (badRecording (now recording) ≡ false) × (2 * t ≤ length (now recording)) ⌝ }
-    ensures { λ r. ⌜ RunIs (now (recording .entry)) t need before hurt r ⌝ }
+    ensures { λ r. ⌜ RunIs (before recording) t need so_far hurt r ⌝ }
 {
     if need <= recording.len() / 2 - t {
-        let p = plain_run(recording, t, need, before);
+        let p = plain_run(recording, t, need, so_far);
         if p.plain {
             return Run::To(t + need, p.sum, hurt);
         }
-        return one_by_one(recording, t, need, before, hurt);
+        return one_by_one(recording, t, need, so_far, hurt);
     }
-    one_by_one(recording, t, need, before, hurt)
+    one_by_one(recording, t, need, so_far, hurt)
 }
 
 // The verdict at a frame's last character: 1 whole, 2 damaged.
@@ -198,7 +199,7 @@ fn verdict_of(sum: u8, harm: bool) -> u8
 // The data and the check byte.
 fn tail_from(recording: &[u8], t: usize, count: usize, sum: u8, harm: bool) -> Outcome
     requires { ⌜ (badRecording (now recording) ≡ false) × (2 * t ≤ length (now recording)) × (count < 256) ⌝ }
-    ensures { λ r. ⌜ TailIs (now (recording .entry)) t count sum harm r ⌝ }
+    ensures { λ r. ⌜ TailIs (before recording) t count sum harm r ⌝ }
 {
     let run = characters(recording, t, count + 1, sum, harm);
     match run {
@@ -211,7 +212,7 @@ fn tail_from(recording: &[u8], t: usize, count: usize, sum: u8, harm: bool) -> O
 // The byte count, at a tick with a character.
 fn count_at(recording: &[u8], u: usize, v: u16, frame: u8, sum: u8, harm: bool) -> Outcome
     requires { ⌜ (badRecording (now recording) ≡ false) × (2 * u + 2 ≤ length (now recording)) × TickIs (now recording) u v × (v ≡ 0 → ⊥) ⌝ }
-    ensures { λ r. ⌜ CountIs (now (recording .entry)) u frame sum harm r ⌝ }
+    ensures { λ r. ⌜ CountIs (before recording) u frame sum harm r ⌝ }
 {
     if v % 256 == 32 {
         let c = character_of(v);
@@ -225,7 +226,7 @@ fn count_at(recording: &[u8], u: usize, v: u16, frame: u8, sum: u8, harm: bool) 
 
 fn count_from(recording: &[u8], t: usize, frame: u8, sum: u8, harm: bool) -> Outcome
     requires { ⌜ badRecording (now recording) ≡ false ⌝ }
-    ensures { λ r. ⌜ CountIs (now (recording .entry)) t frame sum harm r ⌝ }
+    ensures { λ r. ⌜ CountIs (before recording) t frame sum harm r ⌝ }
 {
     let next = next_character(recording, t);
     match next {
@@ -248,7 +249,7 @@ fn head_length(long: bool, expansion: u8) -> usize
 // Address, expansion bytes and command, then the byte count.
 fn head_from(recording: &[u8], t: usize, need: usize, frame: u8, sum: u8) -> Outcome
     requires { ⌜ (badRecording (now recording) ≡ false) × (2 * t ≤ length (now recording)) ⌝ }
-    ensures { λ r. ⌜ HeadIs (now (recording .entry)) t frame need sum r ⌝ }
+    ensures { λ r. ⌜ HeadIs (before recording) t frame need sum r ⌝ }
 {
     let run = characters(recording, t, need, sum, false);
     match run {
@@ -262,7 +263,7 @@ fn head_from(recording: &[u8], t: usize, need: usize, frame: u8, sum: u8) -> Out
 fn delimiter_at(recording: &[u8], u: usize, v: u16, two: bool) -> Outcome
     requires { ⌜ (badRecording (now recording) ≡ false) × (2 * u + 2 ≤ length (now recording)) ⌝ }
     requires { ⌜ TickIs (now recording) u v × (v % 256 ≡ 32) × (v / 256 ≡ 255 → ⊥) ⌝ }
-    ensures { λ r. ⌜ FrameIs (now (recording .entry)) u (inPreamble two) r ⌝ }
+    ensures { λ r. ⌜ FrameIs (before recording) u (inPreamble two) r ⌝ }
 {
     if two {
         let c = character_of(v);
@@ -285,7 +286,7 @@ fn delimiter_at(recording: &[u8], u: usize, v: u16, two: bool) -> Outcome
 fn other_at(recording: &[u8], u: usize, v: u16, two: bool) -> Outcome
     requires { ⌜ (badRecording (now recording) ≡ false) × (2 * u + 2 ≤ length (now recording)) ⌝ }
     requires { ⌜ TickIs (now recording) u v × (v ≡ 0 → ⊥) × (v ≡ 65312 → ⊥) ⌝ }
-    ensures { λ r. ⌜ FrameIs (now (recording .entry)) u (inPreamble two) r ⌝ }
+    ensures { λ r. ⌜ FrameIs (before recording) u (inPreamble two) r ⌝ }
 {
     if v % 256 == 32 {
         return delimiter_at(recording, u, v, two);
@@ -296,7 +297,7 @@ fn other_at(recording: &[u8], u: usize, v: u16, two: bool) -> Outcome
 // A character of the preamble, after one 0xFF or after two.
 fn preamble_at(recording: &[u8], u: usize, two: bool) -> Step
     requires { ⌜ (badRecording (now recording) ≡ false) × SoundTick (now recording) u ⌝ }
-    ensures { λ r. ⌜ StepIs (now (recording .entry)) u two r ⌝ }
+    ensures { λ r. ⌜ StepIs (before recording) u two r ⌝ }
 {
     let v = tick_at(recording, u);
     if v == 0xFF20 {
@@ -308,7 +309,7 @@ fn preamble_at(recording: &[u8], u: usize, two: bool) -> Step
 // The next character of the preamble. One silent tick is passed over.
 fn preamble_step(recording: &[u8], t: usize, two: bool) -> Step
     requires { ⌜ badRecording (now recording) ≡ false ⌝ }
-    ensures { λ r. ⌜ StepIs (now (recording .entry)) t two r ⌝ }
+    ensures { λ r. ⌜ StepIs (before recording) t two r ⌝ }
 {
     let next = next_character(recording, t);
     match next {
@@ -319,13 +320,13 @@ fn preamble_step(recording: &[u8], t: usize, two: bool) -> Step
 }
 
 // The preamble, after one 0xFF or after two, from a tick on.
-fn preamble_with_gaps(recording: &[u8], from: usize, before: bool) -> Outcome
+fn preamble_with_gaps(recording: &[u8], from: usize, so_far: bool) -> Outcome
     requires { ⌜ (badRecording (now recording) ≡ false) × (2 * from ≤ length (now recording)) ⌝ }
-    ensures { λ r. ⌜ FrameIs (now (recording .entry)) from (inPreamble before) r ⌝ }
+    ensures { λ r. ⌜ FrameIs (before recording) from (inPreamble so_far) r ⌝ }
 {
     let ticks = recording.len() / 2;
     let mut t = from;
-    let mut two = before;
+    let mut two = so_far;
     while t < ticks {
         let step = preamble_step(recording, t, two);
         match step {
@@ -342,7 +343,7 @@ fn preamble_with_gaps(recording: &[u8], from: usize, before: bool) -> Outcome
 // The preamble from its second character on: first each 0xFF that follows without a gap, then those with silent ticks between them.
 fn preamble_from(recording: &[u8], from: usize) -> Outcome
     requires { ⌜ (badRecording (now recording) ≡ false) × (2 * from ≤ length (now recording)) ⌝ }
-    ensures { λ r. ⌜ FrameIs (now (recording .entry)) from (blank (Place.Preamble 1)) r ⌝ }
+    ensures { λ r. ⌜ FrameIs (before recording) from (blank (Place.Preamble 1)) r ⌝ }
 {
     let ticks = recording.len() / 2;
     let mut t = from;
@@ -361,7 +362,7 @@ fn preamble_from(recording: &[u8], from: usize) -> Outcome
 // A frame, or a break, from a tick with a character on; before that tick the reader is before a frame.
 fn frame_from(recording: &[u8], t: usize) -> Outcome
     requires { ⌜ (badRecording (now recording) ≡ false) × SoundTick (now recording) t ⌝ }
-    ensures { λ r. ⌜ FrameIs (now (recording .entry)) t idle r ⌝ }
+    ensures { λ r. ⌜ FrameIs (before recording) t idle r ⌝ }
 {
     let v = tick_at(recording, t);
     if v % 256 == 32 {
@@ -376,7 +377,7 @@ fn frame_from(recording: &[u8], t: usize) -> Outcome
 // The first silent tick from t on, or the recording's end.
 fn silence_from(recording: &[u8], from: usize) -> usize
     requires { ⌜ (badRecording (now recording) ≡ false) × (2 * from ≤ length (now recording)) × (1 ≤ from) ⌝ }
-    ensures { λ u. ⌜ LeftOut (now (recording .entry)) from passing u idle ⌝ }
+    ensures { λ u. ⌜ LeftOut (before recording) from passing u idle ⌝ }
 {
     let ticks = recording.len() / 2;
     let mut t = from;
@@ -392,7 +393,7 @@ fn silence_from(recording: &[u8], from: usize) -> usize
 // The first character from t on, or the recording's end.
 fn sound_from(recording: &[u8], from: usize) -> usize
     requires { ⌜ (badRecording (now recording) ≡ false) × (2 * from ≤ length (now recording)) ⌝ }
-    ensures { λ u. ⌜ SoundFrom (now (recording .entry)) from u ⌝ }
+    ensures { λ u. ⌜ SoundFrom (before recording) from u ⌝ }
 {
     let ticks = recording.len() / 2;
     let mut t = from;
@@ -409,7 +410,7 @@ fn sound_from(recording: &[u8], from: usize) -> usize
 // The entry of a tick with a character; before that tick the reader is before a frame.
 fn item_at(recording: &[u8], t: usize) -> Item
     requires { ⌜ (badRecording (now recording) ≡ false) × SoundTick (now recording) t ⌝ }
-    ensures { λ r. ⌜ ItemIs (now (recording .entry)) t r ⌝ }
+    ensures { λ r. ⌜ ItemIs (before recording) t r ⌝ }
 {
     let outcome = frame_from(recording, t);
     match outcome {
@@ -422,7 +423,7 @@ fn item_at(recording: &[u8], t: usize) -> Item
 // An entry, at the front of a part.
 fn put_entry(part: &mut [u8], tick: usize, verdict: u8)
     requires { ⌜ 9 ≤ length (now part) ⌝ }
-    ensures { λ _. ⌜ now (part .exit) ≡ stored (now (part .entry)) 0 (entry tick verdict) ⌝ }
+    ensures { λ _. ⌜ after part ≡ stored (before part) 0 (entry tick verdict) ⌝ }
 {
     part[0] = (tick / 72057594037927936 % 256) as u8;
     part[1] = (tick / 281474976710656 % 256) as u8;
@@ -438,7 +439,7 @@ fn put_entry(part: &mut [u8], tick: usize, verdict: u8)
 // Puts an entry at the place of its number, where the list is put and not only counted.
 fn put_if(put: bool, out: &mut [u8], n: usize, tick: usize, verdict: u8)
     requires { ⌜ HasRoom put (9 * n + 9) (now out) ⌝ }
-    ensures { λ _. ⌜ now (out .exit) ≡ (if put then stored (now (out .entry)) (9 * n) (entry tick verdict) else now (out .entry)) ⌝ }
+    ensures { λ _. ⌜ after out ≡ (if put then stored (before out) (9 * n) (entry tick verdict) else before out) ⌝ }
 {
     if put {
         let place = 9 * n;
@@ -447,14 +448,14 @@ fn put_if(put: bool, out: &mut [u8], n: usize, tick: usize, verdict: u8)
 }
 
 // The entries from a tick on at which the reader is before a frame, after some others: put or only counted. Returns how many there are then.
-fn entries_from(recording: &[u8], from: usize, before: usize, put: bool, out: &mut [u8]) -> usize
-    requires { ⌜ (badRecording (now recording) ≡ false) × (2 * from ≤ length (now recording)) × (before ≤ from) ⌝ }
-    requires { ⌜ HasRoom put (9 * before + length (foundFrom (now recording) from idle)) (now out) ⌝ }
-    ensures { λ r. ⌜ EntriesAre put (foundFrom (now (recording .entry)) from idle) before (now (out .entry)) r (now (out .exit)) ⌝ }
+fn entries_from(recording: &[u8], from: usize, so_far: usize, put: bool, out: &mut [u8]) -> usize
+    requires { ⌜ (badRecording (now recording) ≡ false) × (2 * from ≤ length (now recording)) × (so_far ≤ from) ⌝ }
+    requires { ⌜ HasRoom put (9 * so_far + length (foundFrom (now recording) from idle)) (now out) ⌝ }
+    ensures { λ r. ⌜ EntriesAre put (foundFrom (before recording) from idle) so_far (before out) r (after out) ⌝ }
 {
     let ticks = recording.len() / 2;
     let mut t = from;
-    let mut n = before;
+    let mut n = so_far;
     while t < ticks {
         let s = sound_from(recording, t);
         if ticks <= s {
@@ -477,7 +478,7 @@ fn entries_from(recording: &[u8], from: usize, before: usize, put: bool, out: &m
 fn entries(recording: &[u8], put: bool, out: &mut [u8]) -> usize
     requires { ⌜ badRecording (now recording) ≡ false ⌝ }
     requires { ⌜ HasRoom put (length (listingOf (now recording))) (now out) ⌝ }
-    ensures { λ r. ⌜ EntriesAre put (listingOf (now (recording .entry))) 0 (now (out .entry)) r (now (out .exit)) ⌝ }
+    ensures { λ r. ⌜ EntriesAre put (listingOf (before recording)) 0 (before out) r (after out) ⌝ }
 {
     if recording.len() < 2 {
         return 0;
@@ -492,7 +493,7 @@ fn entries(recording: &[u8], put: bool, out: &mut [u8]) -> usize
 // Whether the buffer has room for the list. It has at most half as many entries as ticks, rounded up: with room for these nothing is counted.
 fn has_room(recording: &[u8], out: &mut [u8]) -> bool
     requires { ⌜ badRecording (now recording) ≡ false ⌝ }
-    ensures { λ r. ⌜ RoomIs (now (recording .entry)) (now (out .entry)) r (now (out .exit)) ⌝ }
+    ensures { λ r. ⌜ RoomIs (before recording) (before out) r (after out) ⌝ }
 {
     let room = out.len() / 9;
     if recording.len() / 2 < room * 2 {
@@ -504,7 +505,7 @@ fn has_room(recording: &[u8], out: &mut [u8]) -> bool
 
 // Lists the frames and breaks of a recording, at the front of a buffer. A refusal leaves the buffer as it was.
 pub fn list(recording: &[u8], out: &mut [u8]) -> Listed
-    ensures { λ r. ⌜ ListIs (now (recording .entry)) (now (out .entry)) r (now (out .exit)) ⌝ }
+    ensures { λ r. ⌜ ListIs (before recording) (before out) r (after out) ⌝ }
 {
     if recording::is_bad(recording) {
         return Listed::Refused(Refusal::BadRecording);

@@ -21,7 +21,7 @@ ghost use Rattle.state_words.specs.Fits.{HeaderFits, ProfileFits, PlaceF
 
 // The word at a place, or 0 past the last.
 pub fn word_at(words: &[u64], place: usize) -> u64
-    ensures { λ r. ⌜ r ≡ wordAt (now (words .entry)) place ⌝ }
+    ensures { λ r. ⌜ r ≡ wordAt (before words) place ⌝ }
 {
     if place < words.len() {
         return words[place];
@@ -31,26 +31,26 @@ pub fn word_at(words: &[u64], place: usize) -> u64
 
 // The lowest 8, 16 or 32 bits of the word at a place.
 pub fn u8_at(words: &[u64], place: usize) -> u8
-    ensures { λ r. ⌜ r ≡ numberAt 8 (now (words .entry)) place ⌝ }
+    ensures { λ r. ⌜ r ≡ numberAt 8 (before words) place ⌝ }
 {
     (word_at(words, place) % 0x100) as u8
 }
 
 pub fn u16_at(words: &[u64], place: usize) -> u16
-    ensures { λ r. ⌜ r ≡ numberAt 16 (now (words .entry)) place ⌝ }
+    ensures { λ r. ⌜ r ≡ numberAt 16 (before words) place ⌝ }
 {
     (word_at(words, place) % 0x10000) as u16
 }
 
 pub fn u32_at(words: &[u64], place: usize) -> u32
-    ensures { λ r. ⌜ r ≡ numberAt 32 (now (words .entry)) place ⌝ }
+    ensures { λ r. ⌜ r ≡ numberAt 32 (before words) place ⌝ }
 {
     (word_at(words, place) % 0x100000000) as u32
 }
 
 // Whether the word at a place is 1.
 pub fn flag_at(words: &[u64], place: usize) -> bool
-    ensures { λ r. ⌜ r ≡ flagAt (now (words .entry)) place ⌝ }
+    ensures { λ r. ⌜ r ≡ flagAt (before words) place ⌝ }
 {
     word_at(words, place) == 1
 }
@@ -73,7 +73,7 @@ pub fn put(words: &mut [u64], place: u8, part: &[u64])
 
 // The header from a place on; a place is at most 65,535, so that no sum wraps.
 pub fn header_at(words: &[u64], place: u16) -> Header
-    ensures { λ r. ⌜ r ≡ headerAt (now (words .entry)) place ⌝ }
+    ensures { λ r. ⌜ r ≡ headerAt (before words) place ⌝ }
 {
     let i = place as usize;
     Header {
@@ -87,7 +87,7 @@ pub fn header_at(words: &[u64], place: u16) -> Header
 }
 
 pub fn profile_at(words: &[u64], place: u16) -> Profile
-    ensures { λ r. ⌜ r ≡ profileAt (now (words .entry)) place ⌝ }
+    ensures { λ r. ⌜ r ≡ profileAt (before words) place ⌝ }
 {
     let i = place as usize;
     Profile {
@@ -150,7 +150,7 @@ fn place_by(number: u64, n: u8) -> Place
 }
 
 fn damage_at(words: &[u64], place: u16) -> FrameDamage
-    ensures { λ r. ⌜ r ≡ damageAt (now (words .entry)) place ⌝ }
+    ensures { λ r. ⌜ r ≡ damageAt (before words) place ⌝ }
 {
     let i = place as usize;
     FrameDamage {
@@ -195,7 +195,7 @@ fn place_of(word: u64) -> Place
 }
 
 pub fn receiver_at(words: &[u64], place: u8) -> Receiver
-    ensures { λ r. ⌜ r ≡ receiverAt (now (words .entry)) place ⌝ }
+    ensures { λ r. ⌜ r ≡ receiverAt (before words) place ⌝ }
 {
     let i = place as usize;
     let header = header_at(words, place as u16);
@@ -339,7 +339,7 @@ pub fn tick_numbers(sent: u64, told: u64, attempts: u64, event: Event) -> [u64; 
 }
 
 fn whole_at(numbers: &[u64]) -> Whole
-    ensures { λ r. ⌜ r ≡ wholeAt (now (numbers .entry)) ⌝ }
+    ensures { λ r. ⌜ r ≡ wholeAt (before numbers) ⌝ }
 {
     let h = Header {
         frame: u8_at(numbers, 4),
@@ -376,7 +376,7 @@ fn event_by(event: u64, w: Whole, m: FrameDamage) -> Event
 
 // What a tick's numbers tell.
 pub fn event_at(numbers: &[u64; 17]) -> Event
-    ensures { λ r. ⌜ r ≡ eventAt (now (numbers .entry)) ⌝ }
+    ensures { λ r. ⌜ r ≡ eventAt (before numbers) ⌝ }
 {
     let w = whole_at(numbers);
     let m = damage_at(numbers, 12);

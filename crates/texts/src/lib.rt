@@ -4,13 +4,14 @@ ghost use mathlib.Core.List.{[], _∷_, _++_};
 ghost use mathlib.Core.Bool.{false};
 ghost use lib.ListN.{take};
 ghost use Prim.Native.Nat.{_<_, _+_};
+ghost use Rattle.base.specs.Lent.{before, after};
 ghost use Rattle.texts.specs.Decimal.{decimalOf};
 ghost use Rattle.texts.specs.Digits.{decimal, bitOf, digitOf, hexadecimal, spaced, valueOf, byteOf};
 ghost use Rattle.texts.specs.Put.{PutIs};
 
 // Puts a byte at a place, if there is room for it; returns the next place.
 pub fn put_byte(b: u8, out: &mut [u8], at: usize) -> usize
-    ensures { λ r. ⌜ PutIs (b ∷ []) (now (out .entry)) at r (now (out .exit)) ⌝ }
+    ensures { λ r. ⌜ PutIs (b ∷ []) (before out) at r (after out) ⌝ }
 {
     if at < out.len() {
         out[at] = b;
@@ -21,7 +22,7 @@ pub fn put_byte(b: u8, out: &mut [u8], at: usize) -> usize
 
 // Bytes, one after the other.
 pub fn put_bytes(text: &[u8], out: &mut [u8], at: usize) -> usize
-    ensures { λ r. ⌜ PutIs (now (text .entry)) (now (out .entry)) at r (now (out .exit)) ⌝ }
+    ensures { λ r. ⌜ PutIs (before text) (before out) at r (after out) ⌝ }
 {
     let mut place = at;
     let mut i = 0;
@@ -35,14 +36,14 @@ pub fn put_bytes(text: &[u8], out: &mut [u8], at: usize) -> usize
 // A digit, 0 to 9.
 fn put_digit(n: u64, out: &mut [u8], at: usize) -> usize
     requires { ⌜ n < 10 ⌝ }
-    ensures { λ r. ⌜ PutIs ((48 + n) ∷ []) (now (out .entry)) at r (now (out .exit)) ⌝ }
+    ensures { λ r. ⌜ PutIs ((48 + n) ∷ []) (before out) at r (after out) ⌝ }
 {
     put_byte((48 + n) as u8, out, at)
 }
 
 // A number in decimal, up to this many digits.
 pub fn put_digits(digits: u8, n: u64, out: &mut [u8], at: usize) -> usize
-    ensures { λ r. ⌜ PutIs (decimalOf digits n) (now (out .entry)) at r (now (out .exit)) ⌝ }
+    ensures { λ r. ⌜ PutIs (decimalOf digits n) (before out) at r (after out) ⌝ }
 {
     if digits == 0 {
         return at;
@@ -56,14 +57,14 @@ pub fn put_digits(digits: u8, n: u64, out: &mut [u8], at: usize) -> usize
 
 // A number in decimal.
 pub fn put_decimal(n: u64, out: &mut [u8], at: usize) -> usize
-    ensures { λ r. ⌜ PutIs (decimal n) (now (out .entry)) at r (now (out .exit)) ⌝ }
+    ensures { λ r. ⌜ PutIs (decimal n) (before out) at r (after out) ⌝ }
 {
     put_digits(20, n, out, at)
 }
 
 // A name and a number.
 pub fn put_field(name: &[u8], n: u64, out: &mut [u8], at: usize) -> usize
-    ensures { λ r. ⌜ PutIs (now (name .entry) ++ decimal n) (now (out .entry)) at r (now (out .exit)) ⌝ }
+    ensures { λ r. ⌜ PutIs (before name ++ decimal n) (before out) at r (after out) ⌝ }
 {
     let place = put_bytes(name, out, at);
     put_decimal(n, out, place)
@@ -95,7 +96,7 @@ fn digit(capital: bool, n: u8) -> u8
 
 // A byte in hexadecimal, two digits.
 pub fn put_hexadecimal(capital: bool, byte: u8, out: &mut [u8], at: usize) -> usize
-    ensures { λ r. ⌜ PutIs (hexadecimal capital byte) (now (out .entry)) at r (now (out .exit)) ⌝ }
+    ensures { λ r. ⌜ PutIs (hexadecimal capital byte) (before out) at r (after out) ⌝ }
 {
     let high = digit(capital, byte / 16);
     let low = digit(capital, byte % 16);
@@ -105,7 +106,7 @@ pub fn put_hexadecimal(capital: bool, byte: u8, out: &mut [u8], at: usize) -> us
 
 // A byte in hexadecimal, with a space before it.
 pub fn put_spaced(byte: u8, out: &mut [u8], at: usize) -> usize
-    ensures { λ r. ⌜ PutIs (spaced (byte ∷ [])) (now (out .entry)) at r (now (out .exit)) ⌝ }
+    ensures { λ r. ⌜ PutIs (spaced (byte ∷ [])) (before out) at r (after out) ⌝ }
 {
     let place = put_byte(b' ', out, at);
     put_hexadecimal(false, byte, out, place)
@@ -113,7 +114,7 @@ pub fn put_spaced(byte: u8, out: &mut [u8], at: usize) -> usize
 
 // Bytes in hexadecimal, with a space before each, one after the other.
 pub fn put_all_spaced(bytes: &[u8], out: &mut [u8], at: usize) -> usize
-    ensures { λ r. ⌜ PutIs (spaced (now (bytes .entry))) (now (out .entry)) at r (now (out .exit)) ⌝ }
+    ensures { λ r. ⌜ PutIs (spaced (before bytes)) (before out) at r (after out) ⌝ }
 {
     let mut place = at;
     let mut i = 0;
@@ -126,7 +127,7 @@ pub fn put_all_spaced(bytes: &[u8], out: &mut [u8], at: usize) -> usize
 
 // The first count bytes, or all if there are fewer.
 pub fn front(bytes: &[u8], count: usize) -> &[u8]
-    ensures { λ r. ⌜ now r ≡ take count (now (bytes .entry)) ⌝ }
+    ensures { λ r. ⌜ now r ≡ take count (before bytes) ⌝ }
 {
     if count <= bytes.len() {
         return &bytes[..count];
