@@ -12,7 +12,7 @@ use turns::Wish;
 ghost use Prim.Native.Nat.{_<_, _^_};
 ghost use mathlib.Core.Path.{_≡_};
 ghost use Rattle.base.specs.Lent.{before, after};
-ghost use Rattle.recording.specs.Recording.{heardOf};
+ghost use Rattle.line.specs.Heard.{heardOf};
 ghost use Rattle.turns.specs.Told.{deviceTells};
 ghost use Rattle.device_c.specs.Words.{turnWord, turnBy, turnOf, wishWord, wishOf, settingsWords, settingsAt};
 ghost use Rattle.device_c.specs.Words.{answeringWords, answeringAt, burstingWords, contentAt, burstingAt, packed, joined, unpacked, limitAt};
@@ -377,7 +377,7 @@ pub extern "C" fn nengapiko_device_tick(
 ) -> u32
     ensures { λ r. ⌜ DeviceTicks state frame bytes contents (heardOf kind character) (hostCallBy call command) put results r ⌝ }
 {
-    let heard = recording::heard_of(kind, character);
+    let heard = line::heard_of(kind, character);
     let given = device_tick::host_call_by(call, command);
     tick(state, frame, bytes, contents, heard, given, put, results)
 }

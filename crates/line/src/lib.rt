@@ -2,7 +2,7 @@
 use base::Refusal;
 use frame::Header;
 ghost use mathlib.Core.Path.{_≡_};
-ghost use Rattle.line.specs.Heard.{damageNumber};
+ghost use Rattle.line.specs.Heard.{damageNumber, heardOf};
 ghost use Rattle.line.specs.Profile.{fskProfile, c8pskProfile, infraredProfile, valueRefused, orderRefused, profileMade, madeAs};
 
 // How a character was damaged.
@@ -118,6 +118,25 @@ impl Damage {
             Damage::Framing => 3,
         }
     }
+}
+
+// What is heard in a tick, by a kind and a character: silence, a character, or a damaged one.
+pub fn heard_of(kind: u8, c: u8) -> Heard
+    ensures { λ r. ⌜ r ≡ heardOf kind c ⌝ }
+{
+    if kind == 1 {
+        return Heard::Character(c);
+    }
+    if kind == 2 {
+        return Heard::Damaged(c, Damage::Parity);
+    }
+    if kind == 3 {
+        return Heard::Damaged(c, Damage::Overrun);
+    }
+    if kind == 4 {
+        return Heard::Damaged(c, Damage::Framing);
+    }
+    Heard::Silence
 }
 
 impl Profile {

@@ -7,7 +7,8 @@ use Rattle.line.specs.declared.Event.{Event}
 use Rattle.line.specs.declared.Event.the-variants.{Nothing, PassedOver, Broken, Frame, Damaged}
 use Rattle.line.specs.declared.Receiver.{Receiver}
 use Rattle.line.specs.declared.Taken.{Taken}
-use Rattle.recording.specs.Recording.{heardOf, Ticked, trace}
+use Rattle.line.specs.Heard.{heardOf}
+use Rattle.recording.specs.Recording.{Ticked, trace}
 
 -- what the reader tells, as a number
 abbrev pub eventNumber : Event → ℕ

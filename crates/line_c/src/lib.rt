@@ -24,7 +24,7 @@ fn event_number(event: Event) -> u8
 fn stepped(r: Receiver, first: u8, c: u8, bytes: &mut [u8; 255]) -> Taken
     ensures { λ t. ⌜ t ≡ step r first c ⌝ }
 {
-    let heard = recording::heard_of(first / 32, c);
+    let heard = line::heard_of(first / 32, c);
     line_reader::take(r, heard, bytes)
 }
 

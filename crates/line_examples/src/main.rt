@@ -75,7 +75,7 @@ fn run(recording: &[u8], bytes: &mut [u8; 255]) {
     let mut r = line_reader::passing_reader();
     let mut at = 0;
     while 2 <= recording.len() - at {
-        let heard = recording::heard_of(recording[at] / 32, recording[at + 1]);
+        let heard = line::heard_of(recording[at] / 32, recording[at + 1]);
         let taken = line_reader::take(r, heard, bytes);
         let event = taken.event;
         show_event(at / 2, event, bytes);

@@ -1,5 +1,5 @@
 // The tick reader for programs in C: a tick of it, with its state as words that the caller lends.
-ghost use Rattle.recording.specs.Recording.{heardOf};
+ghost use Rattle.line.specs.Heard.{heardOf};
 ghost use Rattle.line_reader_c.specs.Tick.{ReaderTicks};
 
 // A tick of the reader that the words stand for; bytes holds the data of the frame being heard.
@@ -13,7 +13,7 @@ pub extern "C" fn nengapiko_reader_tick(
 )
     ensures { λ _. ⌜ ReaderTicks state bytes (heardOf kind character) results ⌝ }
 {
-    let heard = recording::heard_of(kind, character);
+    let heard = line::heard_of(kind, character);
     let r = state_words::receiver_at(state, 0);
     let t = line_reader::take(r, heard, bytes);
     let next = t.receiver;

@@ -11,7 +11,7 @@ use turns::Timer;
 ghost use Prim.Native.Nat.{_<_, _^_};
 ghost use mathlib.Core.Path.{_≡_};
 ghost use Rattle.base.specs.Lent.{before, after};
-ghost use Rattle.recording.specs.Recording.{heardOf};
+ghost use Rattle.line.specs.Heard.{heardOf};
 ghost use Rattle.turns.specs.Told.{masterTells};
 ghost use Rattle.master_c.specs.Words.{stageWord, stageBy, stageOf, messageAt, timerAt, notedAt, frontWords, endWords, packed, unpacked, limitAt};
 ghost use Rattle.master_c.specs.Words.{StageFits, MessageFits, TimerFits, MasterFits};
@@ -311,7 +311,7 @@ pub extern "C" fn nengapiko_master_tick(
 ) -> u32
     ensures { λ r. ⌜ MasterTicks state frame bytes (heardOf kind character) (requestOf requests preamble revision long address command) put results r ⌝ }
 {
-    let heard = recording::heard_of(kind, character);
+    let heard = line::heard_of(kind, character);
     let call = request_of(requests, preamble, revision, long, address, command);
     tick(state, frame, bytes, heard, call, put, results)
 }

@@ -10,7 +10,7 @@ use Rattle.base.proofs.Choices.{if-is-false}
 use Rattle.line.specs.declared.Damage.the-variants.{Parity, Overrun, Framing}
 use Rattle.line.specs.declared.Heard.{Heard}
 use Rattle.line.specs.declared.Heard.the-variants.{Silence, Character, Damaged}
-use Rattle.recording.specs.Recording.{heardOf}
+use Rattle.line.specs.Heard.{heardOf}
 use Rattle.turns.specs.declared.Device.{Device}
 use Rattle.turns.specs.declared.Master.{Master}
 use Rattle.state_words.specs.Fields.{wordAt, numberAt}

@@ -8,7 +8,7 @@ use Rattle.line.specs.declared.Damage.{Damage}
 use Rattle.line.specs.declared.Damage.the-variants.{Parity, Overrun, Framing}
 use Rattle.line.specs.declared.Heard.{Heard}
 use Rattle.line.specs.declared.Heard.the-variants.{Silence, Character, Damaged}
-use Rattle.recording.specs.Recording.{heardOf}
+use Rattle.line.specs.Heard.{heardOf}
 use Rattle.state_words.specs.Fields.{wordAt, numberAt}
 use Rattle.master_c.specs.Words as MasterWords
 use Rattle.device_c.specs.Words as DeviceWords

@@ -15,7 +15,7 @@ ghost use Prim.Native.Nat.{_<_, _^_};
 ghost use mathlib.Core.Path.{_≡_};
 ghost use Rattle.base.specs.Lent.{before};
 ghost use Rattle.base.specs.Refusal.{accepted};
-ghost use Rattle.recording.specs.Recording.{heardOf};
+ghost use Rattle.line.specs.Heard.{heardOf};
 ghost use Rattle.master_c.specs.Tick.{requestOf};
 ghost use Rattle.port.specs.Device.{portDeviceStarts};
 ghost use Rattle.port.specs.Master.{portMasterStarts};
@@ -187,7 +187,7 @@ pub extern "C" fn nengapiko_port_master_tick(
     ensures { λ r. ⌜ PortMasterTicks state port frame bytes (heardOf kind character) (requestOf requests preamble revision long address command)
         put results r ⌝ }
 {
-    let heard = recording::heard_of(kind, character);
+    let heard = line::heard_of(kind, character);
     let call = master_c::request_of(requests, preamble, revision, long, address, command);
     tick_master(state, port, frame, bytes, heard, call, put, results)
 }
@@ -326,8 +326,8 @@ fn unpack_device(state: &[u64; 41], port: &[u64; 6]) -> PortDevice
     ensures { λ y. ⌜ y ≡ unpackedDevice (before state) (before port) ⌝ }
 {
     let d = device_c::unpack(state);
-    let a = recording::heard_of(state_words::u8_at(port, 1), state_words::u8_at(port, 2));
-    let b = recording::heard_of(state_words::u8_at(port, 3), state_words::u8_at(port, 4));
+    let a = line::heard_of(state_words::u8_at(port, 1), state_words::u8_at(port, 2));
+    let b = line::heard_of(state_words::u8_at(port, 3), state_words::u8_at(port, 4));
     let ear = ear_by(state_words::word_at(port, 0), a, b);
     let quiet = state_words::u16_at(port, 5);
     PortDevice {
@@ -420,7 +420,7 @@ pub extern "C" fn nengapiko_port_device_tick(
 ) -> u32
     ensures { λ r. ⌜ PortDeviceTicks state port frame bytes (heardOf kind character) (callBy call) put results r ⌝ }
 {
-    let heard = recording::heard_of(kind, character);
+    let heard = line::heard_of(kind, character);
     let given = call_by(call);
     tick_device(state, port, frame, bytes, heard, given, put, results)
 }

@@ -11,7 +11,8 @@ use borrow.Author.Tests.{eq-eqb, ne-eqb, eqb-true, eqb-false, le-ltb, lt-ltb, lt
 use Rattle.base.specs.Choice.{if_then_else_, _=?_, _<?_}
 use Rattle.base.proofs.Choices.{if-is-true, if-is-false, went-else, true-false}
 use Rattle.line.specs.declared.Heard.{Heard}
-use Rattle.recording.specs.Form.{heardOf, ticksOf, tickRefused, badRecording}
+use Rattle.line.specs.Heard.{heardOf}
+use Rattle.recording.specs.Form.{ticksOf, tickRefused, badRecording}
 use Rattle.recording.specs.Recording.{TickIs, TickAt}
 use Rattle.recording.specs.Marks.{isMarked, orMarked, BadnessIs}
 use Rattle.recording.proofs.Runs.{two-more}

@@ -6,12 +6,12 @@ use mathlib.Core.Bool.{Bool, true, false}
 use borrow.Author.Tests.{eqb-true, eqb-false, ltb-false}
 use Rattle.base.specs.Choice.{if_then_else_, _=?_, _<?_}
 use Rattle.base.proofs.Choices.{true-false}
-use Rattle.line.specs.Heard.{damageNumber}
+use Rattle.line.specs.Heard.{damageNumber, heardOf}
 use Rattle.line.specs.declared.Damage.{Damage}
 use Rattle.line.specs.declared.Damage.the-variants.{Parity, Overrun, Framing}
 use Rattle.line.specs.declared.Heard.{Heard}
 use Rattle.line.specs.declared.Heard.the-variants.{Silence, Character, Damaged}
-use Rattle.recording.specs.Form.{heardOf, tickRefused}
+use Rattle.recording.specs.Form.{tickRefused}
 
 pub data Good (x c : ℕ) : Type 0 where
   silent : x ≡ 0 → c ≡ 0 → Good x c

@@ -4,20 +4,10 @@ use Prim.Native.Nat.{ℕ, _/_, _%_}
 use mathlib.Core.Bool.{Bool, true, false}
 use mathlib.Core.List.{List, [], _∷_}
 use Rattle.base.specs.Choice.{if_then_else_, _<?_, _=?_}
-use Rattle.line.specs.declared.Damage.the-variants.{Parity, Overrun, Framing}
+use Rattle.line.specs.Heard.{heardOf}
 use Rattle.line.specs.declared.Heard.{Heard}
-use Rattle.line.specs.declared.Heard.the-variants.{Silence, Character, Damaged}
 
--- "0 silence, 1 character, 2 to 4 damage 1 to 3"; any other kind, which 21 refuses, is silence too
-abbrev pub heardOf : ℕ → ℕ → Heard
-heardOf kind c =
-    if kind =? 1 then Character c else
-    if kind =? 2 then Damaged c Parity else
-    if kind =? 3 then Damaged c Overrun else
-    if kind =? 4 then Damaged c Framing else
-    Silence
-
--- what a recording says was heard, tick by tick; a last odd byte is no tick
+-- what a recording says was heard, tick by tick, "0 silence, 1 character, 2 to 4 damage 1 to 3", other kinds, which 21 refuses, as silence; a last odd byte is no tick
 unfoldable pub ticksOf : List ℕ → List Heard
 ticksOf [] = []
 ticksOf (first ∷ []) = []

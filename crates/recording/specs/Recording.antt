@@ -5,7 +5,6 @@ use mathlib.Core.Path.{_≡_}
 use mathlib.Core.List.{List, [], _∷_}
 use lib.ListN.{length, getD}
 pub use Rattle.base.specs.Events.{RunIs}
-pub use Rattle.recording.specs.Form.{heardOf}
 
 -- v is the two bytes of tick t as one number, the character the high byte
 pub record TickIs (recording : List ℕ) (t v : ℕ) : Type 0 where

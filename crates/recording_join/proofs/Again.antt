@@ -10,12 +10,12 @@ use borrow.Author.Tests.{eq-eqb, ne-eqb, eqb-true, eqb-false, le-ltb}
 use Rattle.base.specs.Choice.{if_then_else_, _=?_, _<?_}
 use Rattle.base.specs.declared.Refusal.the-variants.{BadRecording, BufferShort, UnequalTaps}
 use Rattle.base.proofs.Choices.{if-is-true, if-is-false, went-else, true-false}
-use Rattle.line.specs.Heard.{damageNumber}
+use Rattle.line.specs.Heard.{damageNumber, heardOf}
 use Rattle.line.specs.declared.Damage.{Damage}
 use Rattle.line.specs.declared.Damage.the-variants.{Parity, Overrun, Framing}
 use Rattle.line.specs.declared.Heard.{Heard}
 use Rattle.line.specs.declared.Heard.the-variants.{Silence, Character, Damaged}
-use Rattle.recording.specs.Form.{heardOf, ticksOf, tickRefused, badRecording}
+use Rattle.recording.specs.Form.{ticksOf, tickRefused, badRecording}
 use Rattle.recording.proofs.Forms.{length-ticks}
 use Rattle.recording.proofs.Ticks.{good-tick, heard-as}
 use Rattle.recording_join.specs.Joining.{Together, both, differ, together, allTogether, bytesOf, bytesTogether, recorded, joinedOf, differenceFrom, differenceOf, byDifference, joinAnswer}

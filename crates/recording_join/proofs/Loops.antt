@@ -11,10 +11,10 @@ use Rattle.base.specs.Choice.{if_then_else_, _=?_, _<?_}
 use Rattle.base.specs.Store.{stored}
 use Rattle.base.proofs.Choices.{if-is-true, if-is-false}
 use Rattle.line.specs.declared.Damage.{Damage}
-use Rattle.line.specs.Heard.{damageNumber}
+use Rattle.line.specs.Heard.{damageNumber, heardOf}
 use Rattle.line.specs.declared.Heard.{Heard}
 use Rattle.line.specs.declared.Heard.the-variants.{Silence, Character, Damaged}
-use Rattle.recording.specs.Form.{heardOf, ticksOf, tickRefused, badRecording}
+use Rattle.recording.specs.Form.{ticksOf, tickRefused, badRecording}
 use Rattle.recording.specs.Recording.{TickIs, TickAt}
 use Rattle.recording.proofs.Forms.{ticks-on, ticks-over, good-here}
 use Rattle.recording.proofs.Ticks.{Good, silent, sound, hurt, good-tick, heardAs, heard-as}

@@ -7,12 +7,12 @@ use mathlib.Core.List.{List, [], _∷_}
 use borrow.Author.Tests.{eq-eqb, ne-eqb, eqb-true, eqb-false, le-ltb, lt-ltb, ltb-true, ltb-false}
 use Rattle.base.specs.Choice.{if_then_else_, _=?_, _<?_}
 use Rattle.base.proofs.Choices.{if-is-true, if-is-false, true-false}
-use Rattle.line.specs.Heard.{damageNumber}
+use Rattle.line.specs.Heard.{damageNumber, heardOf}
 use Rattle.line.specs.declared.Damage.{Damage}
 use Rattle.line.specs.declared.Damage.the-variants.{Parity, Overrun, Framing}
 use Rattle.line.specs.declared.Heard.{Heard}
 use Rattle.line.specs.declared.Heard.the-variants.{Silence, Character, Damaged}
-use Rattle.recording.specs.Form.{heardOf, tickRefused}
+use Rattle.recording.specs.Form.{tickRefused}
 use Rattle.recording.proofs.Ticks.{Good, silent, sound, hurt, good-tick, heardAs, heard-as}
 use Rattle.recording_join.specs.Joining.{Together, both, differ, together, bytesOf, bytesTogether}
 use Rattle.recording_join.specs.Choosing.{takesSecond, differs}

@@ -21,7 +21,8 @@ use Rattle.player_listing.specs.Text.{typeName, masterDigit, word}
 use Rattle.texts.specs.Digits.{decimal, spaced}
 use Rattle.texts.specs.Put.{PutIs}
 use Rattle.texts.proofs.Puts.{put-then, put-none, put-length}
-use Rattle.recording.specs.Form.{heardOf, ticksOf}
+use Rattle.line.specs.Heard.{heardOf}
+use Rattle.recording.specs.Form.{ticksOf}
 use Rattle.recording.proofs.Forms.{ticks-on, ticks-over}
 use Rattle.recording_lines.specs.Lines.{ticksText, brokenLine, damagedLine, fieldsText, wholeLine, lineBy, Kept, isIdle, firstOf, nextTick, stepped, lineAt, linesFrom, keptBehind, startOf}
 use Rattle.recording_lines.specs.Promises.{keep, TickIs, LinesAre}

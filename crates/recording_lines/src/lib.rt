@@ -14,7 +14,8 @@ ghost use Rattle.base.specs.Lent.{before, after};
 ghost use Rattle.line.specs.Reader.{ReaderTakeIs};
 ghost use Rattle.texts.specs.Digits.{decimal};
 ghost use Rattle.texts.specs.Put.{PutIs};
-ghost use Rattle.recording.specs.Form.{heardOf, ticksOf, tickRefused};
+ghost use Rattle.line.specs.Heard.{heardOf};
+ghost use Rattle.recording.specs.Form.{ticksOf, tickRefused};
 ghost use Rattle.player_listing.specs.Text.{word};
 ghost use Rattle.recording_lines.specs.Lines.{ticksText, brokenLine, damagedLine, fieldsText, wholeLine, lineBy, isIdle, firstOf, nextTick, startOf};
 ghost use Rattle.recording_lines.specs.Bad.{firstBad};
@@ -162,7 +163,7 @@ fn next_tick(t: u64) -> u64
 fn hear(r: Receiver, first: u8, c: u8, bytes: &mut [u8; 255]) -> Taken
     ensures { λ t. ⌜ ReaderTakeIs r (heardOf (first / 32) c) (before bytes) t (after bytes) ⌝ }
 {
-    let heard = recording::heard_of(first / 32, c);
+    let heard = line::heard_of(first / 32, c);
     line_reader::take(r, heard, bytes)
 }
 

@@ -12,7 +12,7 @@ use Rattle.base.specs.Choice.{if_then_else_, _=?_, _<?_}
 use Rattle.base.proofs.Choices.{if-is-true, if-is-false}
 use Rattle.frame.specs.declared.Header.{Header}
 use Rattle.line.specs.Gaps.{IsCharacter, is-sound, is-damaged}
-use Rattle.line.specs.Heard.{damageNumber}
+use Rattle.line.specs.Heard.{damageNumber, heardOf}
 use Rattle.line.specs.Reader.{idle, passing, blank, tells, breaks, gapped, next, behindAddress, firstHeader, addressHeader, commandHeader, atFirst, atAddress, atExpansion, atCommand, atData, atCheck, counted, character, damaged, marked, addressDamaged, kindDamaged, isDamaged, withCheck, wholeOf, ended, summed, taken}
 use Rattle.line.specs.declared.Damage.{Damage}
 use Rattle.line.specs.declared.Damage.the-variants.{Parity, Overrun, Framing}
@@ -27,7 +27,7 @@ use Rattle.line.specs.declared.Receiver.{Receiver}
 use Rattle.line.specs.declared.Taken.{Taken}
 use Rattle.line.proofs.Gaps.{Within}
 use Rattle.line.proofs.Ticks.{outside-idle, gap-passed, gap-breaks, gapped-takes}
-use Rattle.recording.specs.Form.{heardOf, ticksOf, badRecording}
+use Rattle.recording.specs.Form.{ticksOf, badRecording}
 use Rattle.recording.specs.Recording.{TickIs}
 use Rattle.recording.proofs.Forms.{ticks-on, ticks-over, good-at}
 use Rattle.recording.proofs.Ticks.{Good, silent, sound, hurt, good-tick, heardAs, heard-as}

@@ -1,7 +1,7 @@
 use borrow.Author.Needs.{needs}
 use Rattle.base.proofs.Choices.{choices}
-use Rattle.recording.proofs.heard_of.Statement.{statement}
-use Rattle.recording.proofs.heard_of.Tie as tie
+use Rattle.line.proofs.heard_of.Statement.{statement}
+use Rattle.line.proofs.heard_of.Tie as tie
 
 pub heard-of-spec : {M : Type 1} → statement M
 heard-of-spec =
