@@ -38,7 +38,7 @@ fn behind(
     ensures { λ e. ⌜ e ≡ deviceBehind d deaf turn length burst primary due r ⌝ }
 {
     let p = d.profile;
-    let profile = party::same_profile(p);
+    let profile = party::copy_profile(p);
     let request = d.request;
     let wish = d.wish;
     let content = d.content;

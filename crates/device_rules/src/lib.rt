@@ -33,7 +33,7 @@ pub fn with_parts(
     ensures { λ e. ⌜ e ≡ deviceWith d r turn request wish length due ⌝ }
 {
     let p = d.profile;
-    let profile = party::same_profile(p);
+    let profile = party::copy_profile(p);
     let content = d.content;
     Device {
         profile: profile,
@@ -131,7 +131,7 @@ fn listens(d: Device, told: DeviceTold) -> Change
     ensures { λ c. ⌜ c ≡ listensOn d told ⌝ }
 {
     let q = d.request;
-    let request = line_reader::same_header(q);
+    let request = line_reader::copy_header(q);
     Change {
         turn: Turn::Listens,
         request: request,
@@ -157,7 +157,7 @@ fn after_request(d: Device, w: Whole) -> Change
     let h = w.header;
     let profile = d.profile;
     if may_answer(d, h) {
-        let request = line_reader::same_header(h);
+        let request = line_reader::copy_header(h);
         return Change {
             turn: Turn::Asked(profile.sto),
             request: request,
@@ -193,7 +193,7 @@ fn after_damage(d: Device, w: Whole, m: FrameDamage) -> Change
     let h = w.header;
     if has_error(d, w, m) {
         let length = frame_length(d.preamble, h.long, 2);
-        let request = line_reader::same_header(h);
+        let request = line_reader::copy_header(h);
         return Change {
             turn: Turn::AnswerWaits,
             request: request,
@@ -347,15 +347,15 @@ fn hears_silence(d: Device) -> DeviceTaken
 }
 
 // The same device, with the parts that the tick reader builds again field by field.
-fn same_device(d: Device) -> Device
+fn copy_device(d: Device) -> Device
     ensures { λ r. ⌜ r ≡ d ⌝ }
 {
     let r = d.receiver;
     let q = d.request;
     let turn = d.turn;
     let wish = d.wish;
-    let receiver = line_reader::same_receiver(r);
-    let request = line_reader::same_header(q);
+    let receiver = line_reader::copy_receiver(r);
+    let request = line_reader::copy_header(q);
     with_parts(d, receiver, turn, request, wish, d.length, d.due)
 }
 
@@ -363,7 +363,7 @@ fn same_device(d: Device) -> Device
 pub fn take(d: Device, heard: Heard, bytes: &mut [u8; 255]) -> DeviceTaken
     ensures { λ t. ⌜ HeardIs d heard (before bytes) t (after bytes) ⌝ }
 {
-    let own = same_device(d);
+    let own = copy_device(d);
     if own.deaf {
         return hears_nothing(own);
     }

@@ -14,7 +14,8 @@ use Rattle.frame.specs.declared.Delimiter.{Delimiter}
 use Rattle.frame.specs.declared.Delimiter.the-variants.{Is, Not}
 use Rattle.frame.specs.declared.Header.{Header}
 use Rattle.frame.proofs.Taken as Write
-use Rattle.line.specs.Gaps.{IsCharacter, is-sound, is-damaged, SecondBreaks, NothingBroken, SilentTicks, GapsBefore, no-more, at-once, behind-silence, from-first, Ends, last, before, SameEnd, GapsPassedOver, characters, FrameWithGaps}
+use Rattle.line.specs.Heard.{characters}
+use Rattle.line.specs.Gaps.{IsCharacter, is-sound, is-damaged, SecondBreaks, NothingBroken, SilentTicks, GapsBefore, no-more, at-once, behind-silence, from-first, Ends, last, before, SameEnd, GapsPassedOver, FrameWithGaps}
 use Rattle.line.specs.Reader.{idle, blank, passing, tells, gapped, taken, takenData, next, breaks, begins, counted, marked, addressDamaged, kindDamaged, atIdle, atPreamble, atFirst, atAddress, atExpansion, atCommand, atCount, atData, atCheck, ended, isDamaged, character, damaged}
 use Rattle.line.specs.declared.Damage.{Damage}
 use Rattle.line.specs.declared.Event.{Event}

@@ -9,6 +9,7 @@ use Rattle.base.specs.Store.{stored}
 use Rattle.frame.specs.Frame.{frameBytes}
 use Rattle.frame.specs.Write.{writeAnswer}
 use Rattle.frame.specs.declared.Header.{Header}
+use Rattle.line.specs.Heard.{characters}
 use Rattle.line.specs.Reader.{idle, tells, taken, takenData}
 use Rattle.line.specs.declared.Damage.{Damage}
 use Rattle.line.specs.declared.Event.the-variants.{Nothing, Broken, Frame}
@@ -68,10 +69,6 @@ abbrev pub GapsPassedOver : Type 0
 GapsPassedOver = (r : Receiver) (b : List ℕ) (cs hs : List Heard) (t : Taken) (d : List ℕ) → Gapped cs hs → SameEnd r b cs hs t d
 
 -- ---- a frame as it is written
-
-abbrev pub characters : List ℕ → List Heard
-characters [] = []
-characters (c ∷ cs) = Character c ∷ characters cs
 
 -- Of a frame that the writer writes, with two or more 0xFF of its preamble and single silent ticks inside, nothing is told before its last character. There the frame that was written is told, with its data at the front of the lent buffer.
 abbrev pub FrameWithGaps : Type 0

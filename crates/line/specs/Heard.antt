@@ -1,6 +1,7 @@
 -- To be believed: what the engine must do, or what is claimed of it.
 -- Document 01, "Line and ticks": "A party hears silence, a character, or a damaged character with its kind: 1 parity, 2 overrun, 3 framing".
 use Prim.Native.Nat.{ℕ, _+_}
+use mathlib.Core.List.{List, [], _∷_}
 use Rattle.base.specs.Choice.{if_then_else_, _=?_}
 use Rattle.line.specs.declared.Damage.{Damage}
 use Rattle.line.specs.declared.Damage.the-variants.{Parity, Overrun, Framing}
@@ -20,3 +21,8 @@ heardOf kind c =
     if kind =? 1 + damageNumber Overrun then Damaged c Overrun else
     if kind =? 1 + damageNumber Framing then Damaged c Framing else
     Silence
+
+-- characters as they are heard, one a tick
+abbrev pub characters : List ℕ → List Heard
+characters [] = []
+characters (c ∷ cs) = Character c ∷ characters cs

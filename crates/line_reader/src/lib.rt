@@ -16,7 +16,7 @@ ghost use Rattle.base.specs.Choice.{if_then_else_, _=?_};
 ghost use Rattle.line.specs.Reader.{noDamage, blank, idle, passing, breaks, gapped, silentInside, insideFrame, silence, tells, next, atIdle, begins, atPreamble, behindAddress, firstHeader, atFirst, addressHeader, atAddress, atExpansion, commandHeader, atCommand, counted, atCount, atData, isDamaged, ended, atCheck, character, addressDamaged, kindDamaged, marked, damaged, keptByte, kept, ReaderTakeIs};
 
 // The next three give what they take, field by field. A struct that is copied as a block, with the unused bytes between its fields, stays in memory; when it is built again field by field, its fields can stay in registers.
-pub fn same_header(h: Header) -> Header
+pub fn copy_header(h: Header) -> Header
     ensures { λ r. ⌜ r ≡ h ⌝ }
 {
     Header {
@@ -29,7 +29,7 @@ pub fn same_header(h: Header) -> Header
     }
 }
 
-fn same_damage(m: FrameDamage) -> FrameDamage
+fn copy_damage(m: FrameDamage) -> FrameDamage
     ensures { λ r. ⌜ r ≡ m ⌝ }
 {
     FrameDamage {
@@ -41,14 +41,14 @@ fn same_damage(m: FrameDamage) -> FrameDamage
     }
 }
 
-pub fn same_receiver(r: Receiver) -> Receiver
+pub fn copy_receiver(r: Receiver) -> Receiver
     ensures { λ s. ⌜ s ≡ r ⌝ }
 {
     let place = r.place;
     let h = r.header;
-    let header = same_header(h);
+    let header = copy_header(h);
     let m = r.damage;
-    let damage = same_damage(m);
+    let damage = copy_damage(m);
     Receiver {
         place: place,
         header: header,
@@ -137,9 +137,9 @@ pub fn gapped_reader(r: Receiver) -> Receiver
 {
     let place = r.place;
     let h = r.header;
-    let header = same_header(h);
+    let header = copy_header(h);
     let m = r.damage;
-    let damage = same_damage(m);
+    let damage = copy_damage(m);
     Receiver {
         place: place,
         header: header,
@@ -207,8 +207,8 @@ fn to_next(r: Receiver, h: Header, place: Place, c: u8) -> Taken
     ensures { λ t. ⌜ t ≡ next r h place c ⌝ }
 {
     let m = r.damage;
-    let damage = same_damage(m);
-    let header = same_header(h);
+    let damage = copy_damage(m);
+    let header = copy_header(h);
     let receiver = Receiver {
         place: place,
         header: header,
@@ -370,8 +370,8 @@ fn with_count(r: Receiver, c: u8, place: Place) -> Taken
 {
     let h = r.header;
     let m = r.damage;
-    let damage = same_damage(m);
-    let header = same_header(h);
+    let damage = copy_damage(m);
+    let header = copy_header(h);
     let receiver = Receiver {
         place: place,
         header: header,
@@ -446,7 +446,7 @@ fn at_check(r: Receiver, c: u8) -> Taken
         check: wrong_check(r.sum ^ c),
         address: m.address,
     };
-    let header = same_header(h);
+    let header = copy_header(h);
     let whole = Whole {
         header: header,
         expansion: r.expansion,
@@ -504,7 +504,7 @@ fn with_damage(r: Receiver, damage: FrameDamage) -> Receiver
 {
     let place = r.place;
     let h = r.header;
-    let header = same_header(h);
+    let header = copy_header(h);
     Receiver {
         place: place,
         header: header,
@@ -550,7 +550,7 @@ fn in_contents(r: Receiver, kind: Damage) -> Receiver
     ensures { λ s. ⌜ s ≡ marked r (kindDamaged kind (r .damage)) ⌝ }
 {
     let m = r.damage;
-    let damage = same_damage(m);
+    let damage = copy_damage(m);
     with_damage(r, of_kind(kind, damage))
 }
 

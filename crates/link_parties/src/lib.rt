@@ -256,7 +256,7 @@ fn step_of(t: Taken) -> LineStep
 {
     let next = t.receiver;
     let event = t.event;
-    let reader = line_reader::same_receiver(next);
+    let reader = line_reader::copy_receiver(next);
     let quiet = finds_nothing(event);
     LineStep {
         reader: reader,

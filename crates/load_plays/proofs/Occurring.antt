@@ -15,7 +15,7 @@ use Rattle.turns.specs.declared.Wish.the-variants.{Same}
 use Rattle.runs.proofs.Wait.{run-length}
 use Rattle.player.specs.Play.{ready, readyLink}
 use Rattle.load_writer.proofs.Seeds.{beyond}
-use Rattle.load_plays.specs.Occur.{shownAt, between, untouched, characters, EachKind}
+use Rattle.load_plays.specs.Occur.{shownAt, between, untouched, charactersSent, EachKind}
 use Rattle.load_plays.specs.Plays.{callsOf, playOf, KindsOccur}
 use Rattle.load_plays.proofs.Opening.{openingCalls, openingSteps, absentRequest, toldRequest, calls-long, asks, answers, opened}
 use Rattle.load_plays.proofs.First.{Begins, opening-first}
@@ -87,7 +87,7 @@ module _ (calls : List Calls) (steps : List LinkStep) (b : Begins calls steps) w
       asks = in-calls _ _ 0 _ (omega arith) asks;
       is-taken = in-steps _ _ 0 _ (omega arith) (opened .primary-taken);
       last = 221;
-      attempts = ap (characters true) (part 0 221 (omega arith) (omega arith)) ∙ opened .attempts;
+      attempts = ap (charactersSent true) (part 0 221 (omega arith) (omega arith)) ∙ opened .attempts;
       given-up = in-steps _ _ 221 _ (omega arith) (opened .given-up);
     };
     burst = record {

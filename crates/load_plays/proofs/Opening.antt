@@ -24,7 +24,7 @@ use Rattle.turns.specs.declared.Wish.the-variants.{Same}
 use Rattle.player_script.specs.Script.{wantedAt, stopOf, callsFrom}
 use Rattle.player.specs.Play.{readyLink}
 use Rattle.load_writer.specs.Load.{opening}
-use Rattle.load_plays.specs.Occur.{shownAt, asked, askedResult, masterTold, gave, gaveResult, deviceTold, bursts, between, untouched, characters, times}
+use Rattle.load_plays.specs.Occur.{shownAt, asked, askedResult, masterTold, gave, gaveResult, deviceTold, bursts, between, untouched, charactersSent, times}
 
 -- the calls before tick 400, and what every party does
 unfoldable pub openingCalls : List Calls
@@ -45,11 +45,11 @@ unfolding openingCalls callsFrom
 calls-long = refl
 
 pub asks : asked true 0 openingCalls ≡ requests absentRequest []
-unfolding openingCalls opening wantedAt stopOf callsFrom readyLink run linkTick deviceTicks sides carried masterTick deviceTick requested requestedUpTo masterTakes masterSends deviceTakes deviceSends answered contentGiven taken takenData silentInside atIdle atPreamble atFirst atAddress atExpansion atCommand atCount atData atCheck writeBuffer writeAnswer frameBytes preambleBytes bodyBytes protectedBytes headerBytes xorFrom delimiterOf stored deviceSenders shownAt untouched characters times if_then_else_
+unfolding openingCalls opening wantedAt stopOf callsFrom readyLink run linkTick deviceTicks sides carried masterTick deviceTick requested requestedUpTo masterTakes masterSends deviceTakes deviceSends answered contentGiven taken takenData silentInside atIdle atPreamble atFirst atAddress atExpansion atCommand atCount atData atCheck writeBuffer writeAnswer frameBytes preambleBytes bodyBytes protectedBytes headerBytes xorFrom delimiterOf stored deviceSenders shownAt untouched charactersSent times if_then_else_
 asks = refl
 
 pub answers : gave 1 271 openingCalls ≡ gives-answer Same (0 ∷ 0 ∷ [])
-unfolding openingCalls opening wantedAt stopOf callsFrom readyLink run linkTick deviceTicks sides carried masterTick deviceTick requested requestedUpTo masterTakes masterSends deviceTakes deviceSends answered contentGiven taken takenData silentInside atIdle atPreamble atFirst atAddress atExpansion atCommand atCount atData atCheck writeBuffer writeAnswer frameBytes preambleBytes bodyBytes protectedBytes headerBytes xorFrom delimiterOf stored deviceSenders shownAt untouched characters times if_then_else_
+unfolding openingCalls opening wantedAt stopOf callsFrom readyLink run linkTick deviceTicks sides carried masterTick deviceTick requested requestedUpTo masterTakes masterSends deviceTakes deviceSends answered contentGiven taken takenData silentInside atIdle atPreamble atFirst atAddress atExpansion atCommand atCount atData atCheck writeBuffer writeAnswer frameBytes preambleBytes bodyBytes protectedBytes headerBytes xorFrom delimiterOf stored deviceSenders shownAt untouched charactersSent times if_then_else_
 answers = refl
 
 -- what is told and what becomes of the calls
@@ -57,7 +57,7 @@ pub record Shown (steps : List LinkStep) : Type 0 where
   pub primary-taken : askedResult true 0 steps ≡ was-taken
   pub secondary-taken : askedResult false 0 steps ≡ was-taken
   pub given-up : masterTold true 221 steps ≡ GivenUp 4
-  pub attempts : characters true (between 0 221 steps) ≡ times 4 (frameBytes 5 (stxHeader true absentRequest) [])
+  pub attempts : charactersSent true (between 0 221 steps) ≡ times 4 (frameBytes 5 (stxHeader true absentRequest) [])
   pub is-told : deviceTold 1 243 steps ≡ DeviceTold.Request toldRequest
   pub since : untouched 1 (between 243 271 steps) ≡ true
   pub late : gaveResult 1 271 steps ≡ was-refused 8
@@ -67,7 +67,7 @@ pub record Shown (steps : List LinkStep) : Type 0 where
   pub is-off : bursts 0 391 steps ≡ false
 
 pub opened : Shown openingSteps
-unfolding openingSteps openingCalls opening wantedAt stopOf callsFrom readyLink run linkTick deviceTicks sides carried masterTick deviceTick requested requestedUpTo masterTakes masterSends deviceTakes deviceSends answered contentGiven taken takenData silentInside atIdle atPreamble atFirst atAddress atExpansion atCommand atCount atData atCheck writeBuffer writeAnswer frameBytes preambleBytes bodyBytes protectedBytes headerBytes xorFrom delimiterOf stored deviceSenders shownAt untouched characters times if_then_else_
+unfolding openingSteps openingCalls opening wantedAt stopOf callsFrom readyLink run linkTick deviceTicks sides carried masterTick deviceTick requested requestedUpTo masterTakes masterSends deviceTakes deviceSends answered contentGiven taken takenData silentInside atIdle atPreamble atFirst atAddress atExpansion atCommand atCount atData atCheck writeBuffer writeAnswer frameBytes preambleBytes bodyBytes protectedBytes headerBytes xorFrom delimiterOf stored deviceSenders shownAt untouched charactersSent times if_then_else_
 opened = record {
   primary-taken = refl;
   secondary-taken = refl;

@@ -97,9 +97,9 @@ abbrev pub withSent : Sent → List ℕ → List ℕ
 withSent Silent cs = cs
 withSent (Character c) cs = c ∷ cs
 
-unfoldable pub characters : Bool → List LinkStep → List ℕ
-characters primary [] = []
-characters primary (s ∷ ss) = withSent (masterIn primary s .sent) (characters primary ss)
+unfoldable pub charactersSent : Bool → List LinkStep → List ℕ
+charactersSent primary [] = []
+charactersSent primary (s ∷ ss) = withSent (masterIn primary s .sent) (charactersSent primary ss)
 
 -- some bytes, so many times
 unfoldable pub times : ℕ → List ℕ → List ℕ
@@ -117,7 +117,7 @@ pub record AbsentDevice (l : Link) (retries : ℕ) (calls : List Calls) (steps :
   pub asks : asked primary tick calls ≡ requests request []
   pub is-taken : askedResult primary tick steps ≡ was-taken
   pub last : ℕ
-  pub attempts : characters primary (between tick last steps) ≡ times (retries + 1) (frameBytes (request .preamble) (stxHeader primary request) [])
+  pub attempts : charactersSent primary (between tick last steps) ≡ times (retries + 1) (frameBytes (request .preamble) (stxHeader primary request) [])
   pub given-up : masterTold primary last steps ≡ GivenUp (retries + 1)
 
 -- ---- "burst turned on and off"

@@ -413,7 +413,7 @@ fn take_call(
 }
 
 // The next three give what they take, field by field, for the reason given in the tick reader.
-fn same_noted(n: Noted) -> Noted
+fn copy_noted(n: Noted) -> Noted
     ensures { λ r. ⌜ r ≡ n ⌝ }
 {
     Noted {
@@ -422,12 +422,12 @@ fn same_noted(n: Noted) -> Noted
     }
 }
 
-fn same_message(g: Message) -> Message
+fn copy_message(g: Message) -> Message
     ensures { λ r. ⌜ r ≡ g ⌝ }
 {
     let stage = g.stage;
     let h = g.header;
-    let header = line_reader::same_header(h);
+    let header = line_reader::copy_header(h);
     Message {
         stage: stage,
         header: header,
@@ -436,7 +436,7 @@ fn same_message(g: Message) -> Message
     }
 }
 
-fn same_master(m: Master) -> Master
+fn copy_master(m: Master) -> Master
     ensures { λ r. ⌜ r ≡ m ⌝ }
 {
     let p = m.profile;
@@ -444,9 +444,9 @@ fn same_master(m: Master) -> Master
     let n = m.noted;
     let g = m.message;
     let timer = m.timer;
-    let receiver = line_reader::same_receiver(r);
-    let noted = same_noted(n);
-    let message = same_message(g);
+    let receiver = line_reader::copy_receiver(r);
+    let noted = copy_noted(n);
+    let message = copy_message(g);
     Master {
         primary: m.primary,
         profile: p,
@@ -472,7 +472,7 @@ pub fn tick(
 ) -> MasterTicked
     ensures { λ r. ⌜ MasterTickIs limit m heard call (before put) (before frame) (before bytes) r (after frame) (after bytes) ⌝ }
 {
-    let own = same_master(m);
+    let own = copy_master(m);
     let t = hears::take(own, heard, bytes);
     let taken = t.master;
     let told = t.told;

@@ -12,7 +12,7 @@ use turns::Stage;
 use turns::Timer;
 ghost use mathlib.Core.Path.{_≡_};
 ghost use Rattle.base.specs.Lent.{before};
-ghost use Rattle.turns.specs.Master.{ownRt1, quietTime, masterWith, messageAt, timer, burstTimer, opened, countClear, countBurst, timerCounted, burstCounted, namesDevice, addressOf, isNoted, burstAfter, notedAfter, toItself, broken, endedBy, timerAfter, ends, fails, sameBit, isAnswer, atBreak, answersMessage, atFrame, ifAwaiting};
+ghost use Rattle.turns.specs.Master.{ownRt1, quietTime, masterWith, messageAt, timer, burstTimer, opened, countClear, countBurst, timerCounted, burstCounted, namesDevice, notedFrom, isNoted, burstAfter, notedAfter, toItself, broken, endedBy, timerAfter, ends, fails, sameBit, isAnswer, atBreak, answersMessage, atFrame, ifAwaiting};
 ghost use Rattle.master_rules.specs.Parts.{sameRequest, unended};
 
 // The RT1 of a master with this master bit.
@@ -67,7 +67,7 @@ pub fn at_stage(g: Message, stage: Stage) -> Message
     ensures { λ r. ⌜ r ≡ messageAt g stage ⌝ }
 {
     let h = g.header;
-    let header = line_reader::same_header(h);
+    let header = line_reader::copy_header(h);
     Message {
         stage: stage,
         header: header,
@@ -178,7 +178,7 @@ pub fn burst_counted(m: Master) -> bool
 
 // The address that a frame notes.
 fn address_of(h: Header) -> Noted
-    ensures { λ n. ⌜ n ≡ addressOf h ⌝ }
+    ensures { λ n. ⌜ n ≡ notedFrom h ⌝ }
 {
     Noted {
         long: h.long,

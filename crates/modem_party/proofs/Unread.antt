@@ -32,9 +32,9 @@ device = behind-silence (behind-silence (record { device = freshDevice fskProfil
 unfoldable pub others : List ℕ
 others = 0xFF ∷ 0xFF ∷ 0xFF ∷ 0xFF ∷ 0x02 ∷ 0x80 ∷ 0x00 ∷ 0x00 ∷ 0x82 ∷ []
 
-unfoldable pub characters : List ℕ → List (Tick DeviceCall)
-characters [] = []
-characters (c ∷ cs) = record { heard = Character c; bit = false; call = no-call } ∷ characters cs
+unfoldable pub characterTicks : List ℕ → List (Tick DeviceCall)
+characterTicks [] = []
+characterTicks (c ∷ cs) = record { heard = Character c; bit = false; call = no-call } ∷ characterTicks cs
 
 -- the number of what is told in each tick: 1 is a request
 unfoldable pub told : List (Step DeviceSide DeviceStep) → List ℕ
@@ -53,15 +53,15 @@ pub overrun-heard : hears (arrives (unread .chip) (wire (Character 0xFF) false))
 unfolding device looks puts deviceTick deviceTakes deviceSends taken takenData if_then_else_
 overrun-heard = refl
 
-pub not-told : told-behind (chipped (deviceStep 255) (unread .chip) (unread .step .behind) (characters others)) ≡ replicate 9 0
-unfolding told-behind characters others device chipped looks puts ones deviceTick deviceTakes deviceSends taken takenData atIdle atPreamble atFirst atCommand atCount atCheck delimiterOf stored if_then_else_
+pub not-told : told-behind (chipped (deviceStep 255) (unread .chip) (unread .step .behind) (characterTicks others)) ≡ replicate 9 0
+unfolding told-behind characterTicks others device chipped looks puts ones deviceTick deviceTakes deviceSends taken takenData atIdle atPreamble atFirst atCommand atCount atCheck delimiterOf stored if_then_else_
 not-told = refl
 
 -- without the chip, with the first character missing and with it
-pub told-missing : told (plain (deviceStep 255) (unread .step .behind) (characters others)) ≡ replicate 8 0 ++ (1 ∷ [])
-unfolding told characters others device plain deviceTick deviceTakes deviceSends taken takenData atIdle atPreamble atFirst atCommand atCount atCheck delimiterOf stored if_then_else_
+pub told-missing : told (plain (deviceStep 255) (unread .step .behind) (characterTicks others)) ≡ replicate 8 0 ++ (1 ∷ [])
+unfolding told characterTicks others device plain deviceTick deviceTakes deviceSends taken takenData atIdle atPreamble atFirst atCommand atCount atCheck delimiterOf stored if_then_else_
 told-missing = refl
 
-pub told-without : told (plain (deviceStep 255) device (characters (0xFF ∷ others))) ≡ replicate 9 0 ++ (1 ∷ [])
-unfolding told characters others device plain deviceTick deviceTakes deviceSends taken takenData atIdle atPreamble atFirst atCommand atCount atCheck delimiterOf stored if_then_else_
+pub told-without : told (plain (deviceStep 255) device (characterTicks (0xFF ∷ others))) ≡ replicate 9 0 ++ (1 ∷ [])
+unfolding told characterTicks others device plain deviceTick deviceTakes deviceSends taken takenData atIdle atPreamble atFirst atCommand atCount atCheck delimiterOf stored if_then_else_
 told-without = refl

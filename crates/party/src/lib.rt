@@ -77,7 +77,7 @@ pub fn seeks_tag(h: Header) -> bool
 }
 
 // The same profile, field by field, for the reason given in the tick reader.
-pub fn same_profile(p: Profile) -> Profile
+pub fn copy_profile(p: Profile) -> Profile
     ensures { λ r. ⌜ r ≡ p ⌝ }
 {
     Profile {

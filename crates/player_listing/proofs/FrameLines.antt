@@ -25,7 +25,7 @@ use Rattle.turns.specs.declared.Sent.{Sent}
 use Rattle.turns.specs.declared.Sent.the-variants.{Silent}
 use Rattle.turns.proofs.NoGaps.{master-leaves-no-gap, device-leaves-no-gap}
 use Rattle.player_listing.specs.Lines.{Line, lineOf, quietMonitor, PartyLines, goesOn, frameEnds, endsBy, endsWith, oneMore, listens}
-use Rattle.player_listing.specs.FrameLines.{characters, aloneFor, partyLines, frameLine, Frames, at-stop, silent, sent-to-end, stopped, ListedAsSent, MasterListed, DeviceListed}
+use Rattle.player_listing.specs.FrameLines.{sentCharacters, aloneFor, partyLines, frameLine, Frames, at-stop, silent, sent-to-end, stopped, ListedAsSent, MasterListed, DeviceListed}
 use Rattle.player_listing.specs.declared.Monitor.{Monitor}
 
 -- ---- choices
@@ -57,8 +57,8 @@ alone-next lone tick (suc n) =
 -- ---- the characters of a frame
 
 -- the last of them
-characters-end : (cs : List ℕ) (c : ℕ) (us : List Sent) → characters (cs ++ (c ∷ [])) ++ us ≡ characters cs ++ (Sent.Character c ∷ us)
-unfolding characters
+characters-end : (cs : List ℕ) (c : ℕ) (us : List Sent) → sentCharacters (cs ++ (c ∷ [])) ++ us ≡ sentCharacters cs ++ (Sent.Character c ∷ us)
+unfolding sentCharacters
 characters-end [] c us = refl
 characters-end (d ∷ cs) c us = ap (λ (l : List Sent). Sent.Character d ∷ l) (characters-end cs c us)
 
@@ -123,9 +123,9 @@ module _ (lone : ℕ → Bool) (party : ℕ) where
 
   -- characters of which the reader tells nothing
   no-line : {r s : Receiver} {b d cs : List ℕ} (tick k : ℕ) (alone : Bool) (us : List Sent) → Leads r b cs s d → k + length cs ≤ 65535
-      → partyLines lone party tick (monitorAt r k alone) (characters cs ++ us)
+      → partyLines lone party tick (monitorAt r k alone) (sentCharacters cs ++ us)
       ≡ partyLines lone party (tick + length cs) (monitorAt s (k + length cs) (if alone then aloneFor lone tick (length cs) else false)) us
-  unfolding partyLines characters aloneFor behindTick
+  unfolding partyLines sentCharacters aloneFor behindTick
   no-line {r} tick k alone us stays small =
       let t : tick ≡ tick + 0 = omega arith in
       let n : k ≡ k + 0 = omega arith in
@@ -135,24 +135,24 @@ module _ (lone : ℕ → Bool) (party : ℕ) where
       let ticks : tick + 1 + length cs ≡ tick + suc (length cs) = omega arith in
       let counts : k + 1 + length cs ≡ k + suc (length cs) = omega arith in
       let now : Bool = if alone then lone tick else false in
-      ap (behindTick tick (characters cs ++ us)) (hears-nothing tick r s k c alone p)
-      ∙ ap (λ (n : ℕ). partyLines lone party (tick + 1) (monitorAt s n now) (characters cs ++ us)) (more k below)
+      ap (behindTick tick (sentCharacters cs ++ us)) (hears-nothing tick r s k c alone p)
+      ∙ ap (λ (n : ℕ). partyLines lone party (tick + 1) (monitorAt s n now) (sentCharacters cs ++ us)) (more k below)
       ∙ no-line (tick + 1) (k + 1) now us l (omega arith)
       ∙ (λ i. partyLines lone party (ticks i) (monitorAt t (counts i) (both-then alone (lone tick) (aloneFor lone (tick + 1) (length cs)) i)) us)
 
   -- the stop comes before the last character
   no-line-at-stop : {r s : Receiver} {b d cs : List ℕ} (tick k n : ℕ) (alone : Bool) (us : List ℕ) → Leads r b cs s d → n ≤ length cs
-      → partyLines lone party tick (monitorAt r k alone) (characters (take n (cs ++ us))) ≡ []
-  unfolding partyLines characters behindTick
+      → partyLines lone party tick (monitorAt r k alone) (sentCharacters (take n (cs ++ us))) ≡ []
+  unfolding partyLines sentCharacters behindTick
   no-line-at-stop tick k zero alone us l small = refl
   no-line-at-stop tick k (suc n) alone us stays small = absurd (omega arith)
   no-line-at-stop {r} tick k (suc n) alone us (hears {s = s} {c = c} {cs = cs} p q l) small =
-      ap (behindTick tick (characters (take n (cs ++ us)))) (hears-nothing tick r s k c alone p)
+      ap (behindTick tick (sentCharacters (take n (cs ++ us)))) (hears-nothing tick r s k c alone p)
       ∙ no-line-at-stop (tick + 1) (oneMore k) n (if alone then lone tick else false) us l (omega arith)
 
   -- a frame from its first character to its last
   one-line : (tick : ℕ) (w : List ℕ) (f : IsFrame w) (us : List Sent)
-      → partyLines lone party tick quietMonitor (characters w ++ us) ≡ frameLine lone party tick w f ++ partyLines lone party (tick + length w) quietMonitor us
+      → partyLines lone party tick quietMonitor (sentCharacters w ++ us) ≡ frameLine lone party tick w f ++ partyLines lone party (tick + length w) quietMonitor us
   unfolding partyLines frameLine frameEnds behindTick
   one-line tick w f us =
       let x = whole-at-last w f in
@@ -165,7 +165,7 @@ module _ (lone : ℕ → Bool) (party : ℕ) where
       let last : tick + n ≡ tick + length w - 1 = omega (arith, long) in
       let behind : tick + n + 1 ≡ tick + length w = omega (arith, long) in
       let count : oneMore (0 + n) ≡ length w = more (0 + n) (omega (arith, long, x .short)) ∙ (omega (arith, long)) in
-      ap (λ (l : List ℕ). partyLines lone party tick quietMonitor (characters l ++ us)) (x .is)
+      ap (λ (l : List ℕ). partyLines lone party tick quietMonitor (sentCharacters l ++ us)) (x .is)
       ∙ ap (partyLines lone party tick quietMonitor) (characters-end (x .front) c us)
       ∙ no-line tick 0 true (Sent.Character c ∷ us) (x .leads) (omega (arith, long, x .short))
       ∙ ap (behindTick (tick + n) us) (hears-last (tick + n) (x .reader) (0 + n) c before (x .whole) (x .told))
@@ -175,30 +175,30 @@ module _ (lone : ℕ → Bool) (party : ℕ) where
 
   -- where so much is left of a frame
   data Behind (tick : ℕ) (left : List ℕ) (ss : List Sent) : Type 0 where
-    ends : (rest : List Sent) (ls : List Line) (at : ℕ) → at ≡ tick + length left → characters left ++ rest ≡ ss → Frames lone party at rest ls → Behind tick left ss
-    stops : (n : ℕ) → n < length left → characters (take n left) ≡ ss → Behind tick left ss
+    ends : (rest : List Sent) (ls : List Line) (at : ℕ) → at ≡ tick + length left → sentCharacters left ++ rest ≡ ss → Frames lone party at rest ls → Behind tick left ss
+    stops : (n : ℕ) → n < length left → sentCharacters (take n left) ≡ ss → Behind tick left ss
 
   behind-silent : {tick : ℕ} {ss : List Sent} → Behind (tick + 1) [] ss → Behind tick [] (Silent ∷ ss)
-  unfolding characters
+  unfolding sentCharacters
   behind-silent {tick} (ends rest ls at t e f) =
       let next : at ≡ tick + 1 = omega (arith, t) in
       ends (Silent ∷ rest) ls tick (omega arith) (ap (λ (l : List Sent). Silent ∷ l) e) (silent (subst (λ (n : ℕ). Frames lone party n rest ls) next f))
   behind-silent (stops n below e) = absurd (omega arith)
 
   behind-character : {tick c : ℕ} {left : List ℕ} {ss : List Sent} → Behind (tick + 1) left ss → Behind tick (c ∷ left) (Sent.Character c ∷ ss)
-  unfolding characters
+  unfolding sentCharacters
   behind-character {c = c} (ends rest ls at t e f) = ends rest ls at (omega (arith, t)) (ap (λ (l : List Sent). Sent.Character c ∷ l) e) f
   behind-character {c = c} (stops n below e) = stops (suc n) (omega arith) (ap (λ (l : List Sent). Sent.Character c ∷ l) e)
 
   behind-frame : {tick : ℕ} {w : List ℕ} {ss : List Sent} → IsFrame w → Behind tick w ss → Behind tick [] ss
-  unfolding characters
+  unfolding sentCharacters
   behind-frame {tick} {w} {ss} g (ends rest ls at t e f) =
       ends ss (frameLine lone party tick w g ++ ls) tick (omega arith) refl
       (subst (λ (l : List Sent). Frames lone party tick l (frameLine lone party tick w g ++ ls)) e (sent-to-end g (subst (λ (n : ℕ). Frames lone party n rest ls) t f)))
   behind-frame {tick} {w} {ss} g (stops n below e) = ends ss [] tick (omega arith) refl (subst (λ (l : List Sent). Frames lone party tick l []) e (stopped g below))
 
   behind : {left : List ℕ} {ss : List Sent} (tick : ℕ) → NoGap left ss → Behind tick left ss
-  unfolding characters
+  unfolding sentCharacters
   behind tick (no-tick {left = []}) = ends [] [] tick (omega arith) refl at-stop
   behind tick (no-tick {left = c ∷ left}) = stops 0 (omega arith) refl
   behind tick (silent-tick g) = behind-silent (behind (tick + 1) g)
@@ -215,11 +215,11 @@ listed-as-sent lone party tick _ _ (sent-to-end {w = w} {ss = ss} {ls = ls} f fs
 listed-as-sent lone party tick _ _ (stopped {n = n} {w = w} f below) =
     let x = whole-at-last w f in
     let long : length w ≡ length (x .front) + 1 = ap (λ (l : List ℕ). length l) (x .is) ∙ length-append (x .front) (x .last ∷ []) in
-    ap (λ (l : List ℕ). partyLines lone party tick quietMonitor (characters (take n l))) (x .is)
+    ap (λ (l : List ℕ). partyLines lone party tick quietMonitor (sentCharacters (take n l))) (x .is)
     ∙ no-line-at-stop lone party tick 0 n true (x .last ∷ []) (x .leads) (omega (arith, long))
 
 pub no-gap-listed : (lone : ℕ → Bool) (party tick : ℕ) (ss : List Sent) → NoGap [] ss → Frames lone party tick ss (partyLines lone party tick quietMonitor ss)
-unfolding characters
+unfolding sentCharacters
 no-gap-listed lone party tick ss g = go (behind lone party tick g)
   where
     go : Behind lone party tick [] ss → Frames lone party tick ss (partyLines lone party tick quietMonitor ss)

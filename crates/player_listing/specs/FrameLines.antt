@@ -19,9 +19,9 @@ use Rattle.player_listing.specs.Lines.{Line, lineOf, quietMonitor, liste
 use Rattle.player_listing.specs.declared.Monitor.{Monitor}
 
 -- a frame's characters, one in each tick
-unfoldable pub characters : List ℕ → List Sent
-characters [] = []
-characters (c ∷ cs) = Character c ∷ characters cs
+unfoldable pub sentCharacters : List ℕ → List Sent
+sentCharacters [] = []
+sentCharacters (c ∷ cs) = Character c ∷ sentCharacters cs
 
 -- "alone in each tick", in n ticks from this one on; `lone` says of each tick whether at most one party sends in it
 unfoldable pub aloneFor : (ℕ → Bool) → ℕ → ℕ → Bool
@@ -44,8 +44,8 @@ pub data Frames (lone : ℕ → Bool) (party : ℕ) : ℕ → List Sent → List
   at-stop : {tick : ℕ} → Frames lone party tick [] []
   silent : {tick : ℕ} {ss : List Sent} {ls : List Line} → Frames lone party (tick + 1) ss ls → Frames lone party tick (Silent ∷ ss) ls
   sent-to-end : {tick : ℕ} {w : List ℕ} {ss : List Sent} {ls : List Line} (f : IsFrame w) → Frames lone party (tick + length w) ss ls
-      → Frames lone party tick (characters w ++ ss) (frameLine lone party tick w f ++ ls)
-  stopped : {tick n : ℕ} {w : List ℕ} → IsFrame w → n < length w → Frames lone party tick (characters (take n w)) []
+      → Frames lone party tick (sentCharacters w ++ ss) (frameLine lone party tick w f ++ ls)
+  stopped : {tick n : ℕ} {w : List ℕ} → IsFrame w → n < length w → Frames lone party tick (sentCharacters (take n w)) []
 
 -- However the silent ticks and frames are told apart, the lines are those of the output.
 abbrev pub ListedAsSent : Type 0

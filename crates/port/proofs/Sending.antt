@@ -44,7 +44,7 @@ use Rattle.port.specs.Master.{afterPortFrame, byFound, begins, wakesFirs
 use Rattle.port.specs.Master as P
 use Rattle.port.specs.Sending as S
 use Rattle.port.specs.Sending.{wakeUpBytes, answerAmong, attempt, SentAsSaid, WakeUpsAsSaid}
-use Rattle.port.specs.Ticks.{PortMasterSide, PortMasterStep, MasterInput, masterData, withMaster, masterSent, masterCalled, masterCalls, portMasterTick}
+use Rattle.port.specs.Ticks.{PortMasterSide, PortMasterStep, MasterInput, masterData, withMaster, portMasterSent, masterCalled, masterCalls, portMasterTick}
 use Rattle.port.specs.declared.WakeUp.{WakeUp}
 use Rattle.port.specs.declared.WakeUp.the-variants.{Off, Left}
 use Rattle.port.specs.declared.PortMaster.{PortMaster}
@@ -293,7 +293,7 @@ module _ (limit : ℕ) (primary : Bool) (retries : ℕ) (small : limit ≤ 255) 
 
     -- with this master and frame buffer, whatever became of the call
     sent-by : (call : MasterCall) (y : PortMaster) (g : List ℕ) (asked : MessageLog) (result : CallResult) → y .since ≡ t .master .since → y .master .primary ≡ primary → y .master .retries ≡ retries
-        → 284 ≤ length g → Asked primary call result (behindReport (t .told) log) asked → Speaks retries g y asked → Ticks call log past (masterSent heard t (portMasterSends y g) g bytes result)
+        → 284 ≤ length g → Asked primary call result (behindReport (t .told) log) asked → Speaks retries g y asked → Ticks call log past (portMasterSent heard t (portMasterSends y g) g bytes result)
     sent-by call y g asked result e o n r is p =
         let c = subst (λ (k : ℕ). Counts dozeTicks k (t .event ∷ past)) (sym e) count in
         let s = speaks-sends retries g (t .event ∷ past) y n c p in

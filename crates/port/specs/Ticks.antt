@@ -56,8 +56,8 @@ masterData x heard = if x .master .master .deaf then x .bytes else takenData (x 
 abbrev pub withMaster : PortMaster → Master → PortMaster
 withMaster x m = record { master = m; since = x .since; wake = x .wake }
 
-abbrev pub masterSent : Heard → PortMasterTaken → PortMasterSent → List ℕ → List ℕ → CallResult → PortMasterStep
-masterSent heard t s frame bytes result = record {
+abbrev pub portMasterSent : Heard → PortMasterTaken → PortMasterSent → List ℕ → List ℕ → CallResult → PortMasterStep
+portMasterSent heard t s frame bytes result = record {
   heard = heard;
   side = record { master = s .master; frame = frame; bytes = bytes };
   sent = s .sent;
@@ -69,11 +69,11 @@ masterSent heard t s frame bytes result = record {
 -- `put` is the STX of the request
 abbrev pub masterCalled : Heard → PortMasterTaken → Called Master → List ℕ → List ℕ → List ℕ → PortMasterStep
 masterCalled heard t (accepted m) put frame bytes =
-    masterSent heard t (portMasterSends (withMaster (t .master) m) (stored frame 0 put)) (stored frame 0 put) bytes was-taken
-masterCalled heard t (refused why) put frame bytes = masterSent heard t (portMasterSends (t .master) frame) frame bytes (was-refused why)
+    portMasterSent heard t (portMasterSends (withMaster (t .master) m) (stored frame 0 put)) (stored frame 0 put) bytes was-taken
+masterCalled heard t (refused why) put frame bytes = portMasterSent heard t (portMasterSends (t .master) frame) frame bytes (was-refused why)
 
 abbrev pub masterCalls : ℕ → Heard → PortMasterTaken → MasterCall → List ℕ → List ℕ → PortMasterStep
-masterCalls limit heard t no-request frame bytes = masterSent heard t (portMasterSends (t .master) frame) frame bytes none
+masterCalls limit heard t no-request frame bytes = portMasterSent heard t (portMasterSends (t .master) frame) frame bytes none
 masterCalls limit heard t (requests q put) frame bytes =
     masterCalled heard t (portRequested limit (t .master .master) q (length put))
     (frameBytes (q .preamble) (requestHeader (t .master .master) q) put) frame bytes

@@ -42,7 +42,7 @@ use Rattle.line.specs.Profile.{infraredProfile}
 use Rattle.port.specs.Numbers.{dozeTicks, portPreamble}
 use Rattle.port.specs.Master.{afterPortFrame, byFound, endsAnswer, sinceAfter, masterTook, portMasterTakes, portRequested, begins, wakeUpCharacter, deafened, sendsWakeUp, sendsPlain, portMasterSends, masterStarted, portMasterStarts}
 use Rattle.port.specs.Master as P
-use Rattle.port.specs.Ticks.{withMaster, masterSent, masterCalled, masterCalls, portMasterTick}
+use Rattle.port.specs.Ticks.{withMaster, portMasterSent, masterCalled, masterCalls, portMasterTick}
 use Rattle.port.specs.declared.PortMaster.{PortMaster}
 use Rattle.port.specs.declared.PortMasterSent.{PortMasterSent}
 use Rattle.port.specs.declared.PortMasterTaken.{PortMasterTaken}
@@ -121,7 +121,7 @@ module _ (limit : ℕ) (x : PortMaster) (w : RequestFields) (put frame after : L
         record {
           goes = λ heard told event bytes.
               ap (λ (c : Called Master). masterCalled heard (took x told event) c stx frame bytes) called
-              ∙ (λ i. masterSent heard (took x told event) (portMasterSends (sym z i) (buffer i)) (buffer i) bytes was-taken);
+              ∙ (λ i. portMasterSent heard (took x told event) (portMasterSends (sym z i) (buffer i)) (buffer i) bytes was-taken);
         }
 
     pub call-refused : (why : Refusal) → r ≡ MasterRequested.Refused why → PortCalledIs limit x (MasterHostCall.Requests w) put frame (record { master = x; result = CallStatus.Refused why }) after
@@ -132,14 +132,14 @@ module _ (limit : ℕ) (x : PortMaster) (w : RequestFields) (put frame after : L
         record {
           goes = λ heard told event bytes.
               ap (λ (c : Called Master). masterCalled heard (took x told event) c stx frame bytes) called
-              ∙ ap (λ (f : List ℕ). masterSent heard (took x told event) (portMasterSends x f) f bytes (was-refused (number why))) buffer;
+              ∙ ap (λ (f : List ℕ). portMasterSent heard (took x told event) (portMasterSends x f) f bytes (was-refused (number why))) buffer;
         }
 
 pub call-none : (limit : ℕ) (x : PortMaster) (call : MasterHostCall) (put frame : List ℕ) (r : PortCallTaken) → call ≡ MasterHostCall.Nothing → r ≡ uncalled x → PortCalledIs limit x call put frame r frame
 call-none limit x call put frame r e p = record {
   goes = λ heard told event bytes.
       ap (λ (c : MasterHostCall). masterCalls limit heard (took x told event) (callOf c put) frame bytes) e
-      ∙ ap (λ (k : PortCallTaken). masterSent heard (took x told event) (portMasterSends (k .master) frame) frame bytes (resultOf (k .result))) (sym p);
+      ∙ ap (λ (k : PortCallTaken). portMasterSent heard (took x told event) (portMasterSends (k .master) frame) frame bytes (resultOf (k .result))) (sym p);
 }
 
 pub call-some : (limit : ℕ) (x : PortMaster) (call : MasterHostCall) (w : RequestFields) (put frame after : List ℕ) (r : PortCallTaken) → call ≡ MasterHostCall.Requests w → PortCalledIs limit x (MasterHostCall.Requests w) put frame r after → PortCalledIs limit x call put frame r after
@@ -187,7 +187,7 @@ pub tick-is : (limit : ℕ) (x : PortMaster) (heard : Heard) (call : MasterHostC
     → PortMasterTickIs limit x heard call put frame bytes (record { master = s .master; sent = s .sent; told = t .told; event = t .event; result = c .result }) frame-after bytes-after
 unfolding portMasterTick
 tick-is limit x heard call put frame bytes frame-after bytes-after t c s p q e =
-    ap (λ (k : PortMasterSent). masterSent heard t k frame-after bytes-after (resultOf (c .result))) e
+    ap (λ (k : PortMasterSent). portMasterSent heard t k frame-after bytes-after (resultOf (c .result))) e
     ∙ sym (q .goes heard (t .told) (t .event) bytes-after)
     ∙ ap (λ (k : PortMasterTaken). masterCalls limit heard k (callOf call put) frame bytes-after) (p .takes)
     ∙ ap (λ (b : List ℕ). masterCalls limit heard (portMasterTakes x heard b) (callOf call put) frame b) (p .buffer)

@@ -18,7 +18,7 @@ use Rattle.master.specs.Takes.{heardBytes}
 use Rattle.master.specs.Tick.{callOf}
 use Rattle.master.specs.declared.MasterHostCall.{MasterHostCall}
 use Rattle.port.specs.Master.{portMasterTakes, portMasterSends}
-use Rattle.port.specs.Ticks.{masterSent, masterCalls}
+use Rattle.port.specs.Ticks.{portMasterSent, masterCalls}
 use Rattle.port.specs.declared.PortMaster.{PortMaster}
 use Rattle.port.specs.declared.PortMasterTaken.{PortMasterTaken}
 use Rattle.port_master.specs.declared.PortCallTaken.{PortCallTaken}
@@ -48,4 +48,4 @@ took x told event = record { master = x; told = told; event = event }
 pub record PortCalledIs (limit : ℕ) (x : PortMaster) (call : MasterHostCall) (put frame : List ℕ) (r : PortCallTaken) (after : List ℕ) : Type 0 where
   pub goes : (heard : Heard) (told : MasterTold) (event : Event) (bytes : List ℕ)
       → masterCalls limit heard (took x told event) (callOf call put) frame bytes
-      ≡ masterSent heard (took x told event) (portMasterSends (r .master) after) after bytes (resultOf (r .result))
+      ≡ portMasterSent heard (took x told event) (portMasterSends (r .master) after) after bytes (resultOf (r .result))

@@ -159,7 +159,7 @@ fn sum_within(a: usize, b: usize) -> usize
 }
 
 // The same tick, with the bound that its type gives.
-fn same_tick(t: usize) -> usize
+fn copy_tick(t: usize) -> usize
     ensures { λ r. ⌜ (r ≡ t) × (r ≤ largestTick) ⌝ }
 {
     t
@@ -191,9 +191,9 @@ pub fn pieced(ticks: usize, earlier: JoinAnswer, later: JoinAnswer) -> JoinAnswe
             JoinAnswer::Differ(t) => JoinAnswer::Refused(why),
         },
         JoinAnswer::Differ(s) => match later {
-            JoinAnswer::Joined => JoinAnswer::Differ(same_tick(s)),
+            JoinAnswer::Joined => JoinAnswer::Differ(copy_tick(s)),
             JoinAnswer::Refused(why) => JoinAnswer::Refused(why),
-            JoinAnswer::Differ(t) => JoinAnswer::Differ(same_tick(s)),
+            JoinAnswer::Differ(t) => JoinAnswer::Differ(copy_tick(s)),
         },
     }
 }

@@ -12,7 +12,7 @@ use Rattle.turns.specs.Link.{DeviceSide, LinkStep, linkAfter, sides}
 use Rattle.turns.specs.Run.{All, count, deviceSenders, senders, EachTick, no-tick, tick-and, NoTwoSend}
 use Rattle.turns.specs.Demand3.{masterIn, AcceptedIn, BeginsWithin, longestWait}
 use Rattle.turns.specs.Demand3 as D
-use Rattle.runs.specs.Late.{inTick, masterSent, sendersIn, BothSend, Shared}
+use Rattle.runs.specs.Late.{inTick, masterSentIn, sendersIn, BothSend, Shared}
 use Rattle.turns.specs.declared.Sent.{Sent}
 use Rattle.turns.proofs.Phases.{Ready}
 use Rattle.turns.proofs.Senders.{silent-none}
@@ -32,7 +32,7 @@ abbrev pub SharedBy : LinkStep → Type 0
 SharedBy s = Shared (count (s .for-primary .sent)) (count (s .for-secondary .sent)) (reading (s .for-primary .side) (linkAfter s .line) .event) (reading (s .for-secondary .side) (linkAfter s .line) .event)
 
 abbrev pub SharedIn : List LinkStep → ℕ → Type 0
-SharedIn steps t = Shared (masterSent true steps t) (masterSent false steps t) (toldIn true steps t) (toldIn false steps t)
+SharedIn steps t = Shared (masterSentIn true steps t) (masterSentIn false steps t) (toldIn true steps t) (toldIn false steps t)
 
 -- behind it, no reader stands inside a frame where the line is silent
 abbrev pub ReadyAfter : LinkStep → Type 0
@@ -163,10 +163,10 @@ before x f (suc t) = f t
 
 -- x and y: what the primary and the secondary sent in the tick before
 pub record BeginFrom (x y : ℕ) (ss : List LinkStep) (t : ℕ) : Type 0 where
-  pub primary-sends : masterSent true ss t ≡ 1
-  pub secondary-sends : masterSent false ss t ≡ 1
-  pub primary-did-not : before x (λ (i : ℕ). masterSent true ss i) t ≡ 0
-  pub secondary-did-not : before y (λ (i : ℕ). masterSent false ss i) t ≡ 0
+  pub primary-sends : masterSentIn true ss t ≡ 1
+  pub secondary-sends : masterSentIn false ss t ≡ 1
+  pub primary-did-not : before x (λ (i : ℕ). masterSentIn true ss i) t ≡ 0
+  pub secondary-did-not : before y (λ (i : ℕ). masterSentIn false ss i) t ≡ 0
 
 pub record OverlapFrom (limit x y : ℕ) (ss : List LinkStep) (t : ℕ) : Type 0 where
   pub first : ℕ
@@ -187,7 +187,7 @@ nearer zero b = record { primary-sends = b .primary-sends; secondary-sends = b .
 nearer (suc t) b = record { primary-sends = b .primary-sends; secondary-sends = b .secondary-sends; primary-did-not = b .primary-did-not; secondary-did-not = b .secondary-did-not }
 
 -- where both send, two do
-two-of : (ss : List LinkStep) (t : ℕ) → masterSent true ss t ≡ 1 → masterSent false ss t ≡ 1 → 2 ≤ sendersIn ss t
+two-of : (ss : List LinkStep) (t : ℕ) → masterSentIn true ss t ≡ 1 → masterSentIn false ss t ≡ 1 → 2 ≤ sendersIn ss t
 unfolding inTick
 two-of [] t a b = absurd (omega (arith, a))
 two-of (s ∷ ss) zero a b = omega (arith, a, b)
@@ -228,7 +228,7 @@ pub record Only (x y : ℕ) (ss : List LinkStep) : Type 0 where
 
 -- behind a tick in which both send, or from the end of a shared frame on
 pub data ClaimedIn (ss : List LinkStep) (t : ℕ) : Type 0 where
-  both-sent : (u : ℕ) → u < t → masterSent true ss u ≡ 1 → masterSent false ss u ≡ 1 → ClaimedIn ss t
+  both-sent : (u : ℕ) → u < t → masterSentIn true ss u ≡ 1 → masterSentIn false ss u ≡ 1 → ClaimedIn ss t
   frame-ended : (u : ℕ) → u ≤ t → SharedIn ss u → ClaimedIn ss t
 
 module _ {limit : ℕ} {p : Profile} {retries : ℕ} where

@@ -85,7 +85,7 @@ same-noted noted h e = go (h .frame =? back) (h .frame =? ack) (h .burst) (names
     B a b c d = if a then true else if b then (if c then true else if d then (if Rattle.turns.specs.Master.isNoted noted h then false else false) else false) else false
 
     M : Bool → Bool → Bool → Bool → Noted
-    M a b c d = if a then Rattle.turns.specs.Master.addressOf h else if b then (if c then (if d then Rattle.turns.specs.Master.addressOf h else noted) else noted) else noted
+    M a b c d = if a then Rattle.turns.specs.Master.notedFrom h else if b then (if c then (if d then Rattle.turns.specs.Master.notedFrom h else noted) else noted) else noted
 
     go : (a b c d : Bool) → (h .frame =? back) ≡ a → (h .frame =? ack) ≡ b → h .burst ≡ c → namesDevice h ≡ d → notedAfter noted h ≡ noted
     go a b c d ea eb ec ed = (λ i. M (ea i) (eb i) (ec i) (ed i)) ∙ by a b c d ((λ i. B (sym ea i) (sym eb i) (sym ec i) (sym ed i)) ∙ e)

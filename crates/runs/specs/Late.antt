@@ -75,8 +75,8 @@ inTick f (s ∷ ss) zero = f s
 inTick f (s ∷ ss) (suc t) = inTick f ss t
 
 -- 1 where the primary sends, or the secondary
-abbrev pub masterSent : Bool → List LinkStep → ℕ → ℕ
-masterSent primary steps t = inTick (λ (s : LinkStep). count (masterIn primary s .sent)) steps t
+abbrev pub masterSentIn : Bool → List LinkStep → ℕ → ℕ
+masterSentIn primary steps t = inTick (λ (s : LinkStep). count (masterIn primary s .sent)) steps t
 
 abbrev pub devicesSent : List LinkStep → ℕ → ℕ
 devicesSent steps t = inTick (λ (s : LinkStep). deviceSenders (s .for-devices)) steps t
@@ -90,19 +90,19 @@ sendersIn steps t = inTick senders steps t
 -- 1 where it sends in the tick before t: nobody does before tick 0
 abbrev pub sentBefore : Bool → List LinkStep → ℕ → ℕ
 sentBefore primary steps zero = 0
-sentBefore primary steps (suc t) = masterSent primary steps t
+sentBefore primary steps (suc t) = masterSentIn primary steps t
 
 -- "two masters begin together": both send in tick t, and neither did in the tick before
 pub record BeginTogether (steps : List LinkStep) (t : ℕ) : Type 0 where
-  pub primary-sends : masterSent true steps t ≡ 1
-  pub secondary-sends : masterSent false steps t ≡ 1
+  pub primary-sends : masterSentIn true steps t ≡ 1
+  pub secondary-sends : masterSentIn false steps t ≡ 1
   pub primary-did-not : sentBefore true steps t ≡ 0
   pub secondary-did-not : sentBefore false steps t ≡ 0
 
 -- both masters send, and no device does
 pub record BothSend (steps : List LinkStep) (t : ℕ) : Type 0 where
-  pub primary-sends : masterSent true steps t ≡ 1
-  pub secondary-sends : masterSent false steps t ≡ 1
+  pub primary-sends : masterSentIn true steps t ≡ 1
+  pub secondary-sends : masterSentIn false steps t ≡ 1
   pub no-device : devicesSent steps t ≡ 0
 
 -- a tick of the overlap: both masters have sent since they began together, for no longer than the longest frame
@@ -118,7 +118,7 @@ pub record EndedBy (steps : List LinkStep) (u t : ℕ) : Type 0 where
   pub tick : ℕ
   pub since-first : u ≤ tick
   pub by-now : tick ≤ t
-  pub not-both : masterSent true steps tick ≡ 1 → masterSent false steps tick ≡ 1 → ⊥
+  pub not-both : masterSentIn true steps tick ≡ 1 → masterSentIn false steps tick ≡ 1 → ⊥
 
 pub record OneOverlap (limit : ℕ) (steps : List LinkStep) : Type 0 where
   -- "there is at most one tick in which two masters begin together"
@@ -153,7 +153,7 @@ pub data Shared (by-primary by-secondary : ℕ) (to-primary to-secondary : Event
 
 -- such a frame ends in tick t
 abbrev pub SharedFrame : ℕ → ℕ → List LinkStep → ℕ → Type 0
-SharedFrame a b steps t = Shared (masterSent true steps t) (masterSent false steps t) (heardIn true a passing steps t) (heardIn false b passing steps t)
+SharedFrame a b steps t = Shared (masterSentIn true steps t) (masterSentIn false steps t) (heardIn true a passing steps t) (heardIn false b passing steps t)
 
 -- how it is seen on the line: both masters have started, tick u is silent, one party sends in each tick after it up to t, and the next tick is silent
 pub record FrameSeen (a b : ℕ) (steps : List LinkStep) (u t : ℕ) : Type 0 where

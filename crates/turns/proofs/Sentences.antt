@@ -21,7 +21,7 @@ use Rattle.line.specs.declared.Profile.{Profile}
 use Rattle.line.specs.declared.Receiver.{Receiver}
 use Rattle.line.specs.declared.Whole.{Whole}
 use Rattle.turns.specs.Party.{isBroadcast, seeksTag, Request, CallResult, was-refused}
-use Rattle.turns.specs.Master.{sameBit, toItself, isAnswer, masterStarts, freshMaster, quietTime, requested, requestedUpTo, pollingUpTo, requestHeader, hasMessage, commandRefused, masterTakes, namesDevice, addressOf, isNoted, burstAfter, notedAfter, timerAfter, fails, ends, atBreak, answersMessage, atFrame, opened, countClear, countBurst, timerCounted, burstCounted}
+use Rattle.turns.specs.Master.{sameBit, toItself, isAnswer, masterStarts, freshMaster, quietTime, requested, requestedUpTo, pollingUpTo, requestHeader, hasMessage, commandRefused, masterTakes, namesDevice, notedFrom, isNoted, burstAfter, notedAfter, timerAfter, fails, ends, atBreak, answersMessage, atFrame, opened, countClear, countBurst, timerCounted, burstCounted}
 use Rattle.turns.specs.Master as M
 use Rattle.turns.specs.Device.{freshDevice, isOwn, mayAnswer, hasError, errorStatus, errorData, errorFrame, afterRequest, afterFrame, afterDamage, waited, deviceTakes, contentGiven, backDue}
 use Rattle.turns.specs.Link.{requests, gives-content, MasterSide, DeviceSide, masterData, masterCalled, masterTick, deviceData, heardFrame, contentCalled, deviceTick}
@@ -156,15 +156,15 @@ pub none-due : (d : Device) → backDue d 0 ≡ false
 none-due d = if-both (λ (b : Bool). b ≡ false) (d .burst) _ _ refl refl
 
 -- "or a BACK, sets BURST and notes its address"
-pub back-notes : (burst : Bool) (noted : Noted) (h : Header) → h .frame ≡ back → (burstAfter burst noted h ≡ true) × (notedAfter noted h ≡ addressOf h)
-back-notes burst noted h e = (if-is-true (h .frame =? back) true _ (eq-eqb (h .frame) back e), if-is-true (h .frame =? back) (addressOf h) _ (eq-eqb (h .frame) back e))
+pub back-notes : (burst : Bool) (noted : Noted) (h : Header) → h .frame ≡ back → (burstAfter burst noted h ≡ true) × (notedAfter noted h ≡ notedFrom h)
+back-notes burst noted h e = (if-is-true (h .frame =? back) true _ (eq-eqb (h .frame) back e), if-is-true (h .frame =? back) (notedFrom h) _ (eq-eqb (h .frame) back e))
 
 module _ (noted : Noted) (h : Header) (type : h .frame ≡ ack) where
   by-ack : {A : Type 0} (a b c : A) → (if h .frame =? back then a else (if h .frame =? ack then b else c)) ≡ b
   by-ack a b c = if-is-false (h .frame =? back) a _ (ap (λ (n : ℕ). n =? back) type) ∙ if-is-true (h .frame =? ack) b c (eq-eqb (h .frame) ack type)
 
   -- "A long ACK with the burst flag .. notes its address"; that it sets BURST is `flag-sets` in TagSentences
-  pub long-notes : h .burst ≡ true → namesDevice h ≡ true → notedAfter noted h ≡ addressOf h
+  pub long-notes : h .burst ≡ true → namesDevice h ≡ true → notedAfter noted h ≡ notedFrom h
   long-notes flag long = by-ack _ _ _ ∙ if-is-true (h .burst) _ _ flag ∙ if-is-true (namesDevice h) _ _ long
 
   -- "A short ACK with the flag .. notes nothing"

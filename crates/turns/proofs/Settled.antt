@@ -18,7 +18,7 @@ use Rattle.line.specs.Reader.{taken, takenData, atIdle, atPreamble, atFirst, at
 use Rattle.turns.specs.Master.{requested, requestedUpTo}
 use Rattle.turns.specs.Device.{deviceTakes, deviceSends, answered}
 use Rattle.turns.specs.Link.{deviceTick}
-use Rattle.turns.specs.Settled.{CheckByte, Longest, request, characters, hearing, check-byte-is, polling-is, data-is, answer-is, longest-is, table, AllSettled, no-more, row-and}
+use Rattle.turns.specs.Settled.{CheckByte, Longest, request, hearing, check-byte-is, polling-is, data-is, answer-is, longest-is, table, AllSettled, no-more, row-and}
 
 -- the check byte of every frame with these bytes is their exclusive-or
 frame-with : (h : Header) (put : List ℕ) → writeAnswer 5 h (length put) 284 0 ≡ accepted (5 + length (protectedBytes h put) + 1) → CheckByte (protectedBytes h put) (exclusiveOr (protectedBytes h put))
@@ -45,7 +45,7 @@ longest-frame = record {
 }
 
 pub all-settled : AllSettled table
-unfolding characters hearing requested requestedUpTo deviceTick deviceTakes deviceSends answered taken takenData atIdle atPreamble atFirst atAddress atExpansion atCommand atCount atData atCheck writeBuffer writeAnswer frameBytes preambleBytes bodyBytes protectedBytes headerBytes xorFrom delimiterOf stored if_then_else_
+unfolding hearing requested requestedUpTo deviceTick deviceTakes deviceSends answered taken takenData atIdle atPreamble atFirst atAddress atExpansion atCommand atCount atData atCheck writeBuffer writeAnswer frameBytes preambleBytes bodyBytes protectedBytes headerBytes xorFrom delimiterOf stored if_then_else_
 all-settled =
     row-and (check-byte-is (frame-with request [] refl))
     (row-and (check-byte-is (frame-with (record { frame = stx; long = true; primary = true; burst = false; address = 2; command = 3 }) [] refl))

@@ -100,8 +100,8 @@ burstCounted m = if m .burst then (if m .timer .quiet =? 1 then false else true)
 abbrev pub namesDevice : Header → Bool
 namesDevice h = if seeksTag h then false else h .long
 
-abbrev pub addressOf : Header → Noted
-addressOf h = record { long = h .long; address = h .address }
+abbrev pub notedFrom : Header → Noted
+notedFrom h = record { long = h .long; address = h .address }
 
 -- whether the noted address is this long one
 abbrev pub isNoted : Noted → Header → Bool
@@ -118,8 +118,8 @@ burstAfter burst noted h =
 
 abbrev pub notedAfter : Noted → Header → Noted
 notedAfter noted h =
-    if h .frame =? back then addressOf h else
-    if h .frame =? ack then (if h .burst then (if namesDevice h then addressOf h else noted) else noted)
+    if h .frame =? back then notedFrom h else
+    if h .frame =? ack then (if h .burst then (if namesDevice h then notedFrom h else noted) else noted)
     else noted
 
 -- ---- the timer after what ended

@@ -11,9 +11,10 @@ use Rattle.frame.specs.Delimiter.{stx}
 use Rattle.frame.specs.Frame.{frameBytes, preambleBytes, protectedBytes}
 use Rattle.frame.specs.Write.{writeAnswer}
 use Rattle.frame.specs.declared.Header.{Header}
+use Rattle.line.specs.Heard.{characters}
 use Rattle.line.specs.Profile.{fskProfile}
 use Rattle.line.specs.declared.Heard.{Heard}
-use Rattle.line.specs.declared.Heard.the-variants.{Silence, Character}
+use Rattle.line.specs.declared.Heard.the-variants.{Silence}
 use Rattle.turns.specs.Party.{CallResult, none, was-taken, was-refused}
 use Rattle.turns.specs.Master.{freshMaster, requested}
 use Rattle.turns.specs.Device.{freshDevice}
@@ -70,10 +71,6 @@ askData count =
 -- an STX with command 0 to polling address 0
 abbrev pub request : Header
 request = record { frame = stx; long = false; primary = true; burst = false; address = 0; command = 0 }
-
-unfoldable pub characters : List ℕ → List Heard
-characters [] = []
-characters (c ∷ cs) = Character c ∷ characters cs
 
 -- a device that hears all of this, one thing a tick, and whose host gives nothing
 unfoldable pub hearing : DeviceSide → List Heard → DeviceSide

@@ -1,10 +1,10 @@
 use borrow.Author.Needs.{needs}
 use Rattle.device_rules.proofs.Parts.{parts}
-use Rattle.device_rules.proofs.same_device.Statement.{statement}
-use Rattle.device_rules.proofs.same_device.Tie as tie
+use Rattle.device_rules.proofs.copy_device.Statement.{statement}
+use Rattle.device_rules.proofs.copy_device.Tie as tie
 
-pub same-device-spec : {M : Type 1} → statement M
-same-device-spec =
+pub copy-device-spec : {M : Type 1} → statement M
+copy-device-spec =
     tie.close
     (tie.spec
     (λ c κs. search needs)

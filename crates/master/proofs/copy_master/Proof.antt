@@ -1,10 +1,10 @@
 use borrow.Author.Needs.{needs}
 use Rattle.master.proofs.Ticks.{sames}
-use Rattle.master.proofs.same_master.Statement.{statement}
-use Rattle.master.proofs.same_master.Tie as tie
+use Rattle.master.proofs.copy_master.Statement.{statement}
+use Rattle.master.proofs.copy_master.Tie as tie
 
-pub same-master-spec : {M : Type 1} → statement M
-same-master-spec =
+pub copy-master-spec : {M : Type 1} → statement M
+copy-master-spec =
     tie.close
     (tie.spec
     (λ c κs. search needs)
