@@ -3,3 +3,4 @@ pub mod Heard
 pub mod Profile
 pub mod Reader
 pub mod Gaps
+pub mod Told

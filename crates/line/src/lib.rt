@@ -3,6 +3,7 @@ use base::Refusal;
 use frame::Header;
 ghost use mathlib.Core.Path.{_≡_};
 ghost use Rattle.line.specs.Heard.{damageNumber, heardOf};
+ghost use Rattle.line.specs.Told.{eventNumber};
 ghost use Rattle.line.specs.Profile.{fskProfile, c8pskProfile, infraredProfile, valueRefused, orderRefused, profileMade, madeAs};
 
 // How a character was damaged.
@@ -105,6 +106,21 @@ pub enum Event {
 pub struct Taken {
     pub receiver: Receiver,
     pub event: Event,
+}
+
+impl Event {
+    // Its number for programs in C.
+    pub fn number(self) -> u8
+        ensures { λ r. ⌜ r ≡ eventNumber self ⌝ }
+    {
+        match self {
+            Event::Nothing => 0,
+            Event::PassedOver => 1,
+            Event::Broken => 2,
+            Event::Frame(_) => 3,
+            Event::Damaged(_, _) => 4,
+        }
+    }
 }
 
 impl Damage {

@@ -7,7 +7,8 @@ use Rattle.line.specs.Reader.{passing}
 use Rattle.line.specs.declared.Event.{Event}
 use Rattle.line.specs.declared.Event.the-variants.{Nothing, PassedOver, Broken, Frame, Damaged}
 use Rattle.line.specs.declared.Receiver.{Receiver}
-use Rattle.line_c.specs.Told.{eventNumber, step, ticked}
+use Rattle.line.specs.Told.{eventNumber}
+use Rattle.recording_c.specs.Ticks.{step, ticked}
 use Rattle.recording.specs.Form.{ticksOf}
 use Rattle.recording.specs.Recording.{trace}
 use Rattle.recording_list.specs.Listing.{adds, found}

@@ -4,7 +4,7 @@ use Prim.Native.Nat.{ℕ, _+_}
 use mathlib.Core.Path.{_≡_}
 use mathlib.Core.List.{List, [], _∷_, _++_}
 use Rattle.base.specs.Choice.{if_then_else_, _=?_}
-use Rattle.line_c.specs.Told.{told}
+use Rattle.recording_c.specs.Ticks.{told}
 use Rattle.recording_list.specs.Listing.{entry, listingOf}
 
 -- the entry of tick t, by its number: 2 broken, 3 whole, 4 damaged, and 1, passed over, in tick 0; any other tick has none

@@ -4,6 +4,7 @@ use Prim.Native.Nat.{ℕ, _+_}
 use mathlib.Core.List.{List, [], _∷_, _++_}
 use Rattle.base.specs.Choice.{if_then_else_, _=?_}
 use Rattle.line.specs.Reader.{noDamage}
+use Rattle.line.specs.Told.{eventNumber}
 use Rattle.line.specs.declared.Event.{Event}
 use Rattle.line.specs.declared.Event.the-variants.{Nothing, PassedOver, Broken, Frame, Damaged}
 use Rattle.line.specs.declared.FrameDamage.{FrameDamage}
@@ -31,12 +32,15 @@ abbrev pub noFrame : List ℕ
 noFrame = 0 ∷ 0 ∷ 0 ∷ 0 ∷ 0 ∷ 0 ∷ 0 ∷ 0 ∷ 0 ∷ 0 ∷ 0 ∷ 0 ∷ 0 ∷ []
 
 -- what the reader found: the numbers of `enum nengapiko_event`, and every frame with its fields
+abbrev pub eventFields : Event → List ℕ
+eventFields Nothing = noFrame
+eventFields PassedOver = noFrame
+eventFields Broken = noFrame
+eventFields (Frame w) = frameNumbers w noDamage
+eventFields (Damaged w m) = frameNumbers w m
+
 abbrev pub eventNumbers : Event → List ℕ
-eventNumbers Nothing = 0 ∷ noFrame
-eventNumbers PassedOver = 1 ∷ noFrame
-eventNumbers Broken = 2 ∷ noFrame
-eventNumbers (Frame w) = 3 ∷ frameNumbers w noDamage
-eventNumbers (Damaged w m) = 4 ∷ frameNumbers w m
+eventNumbers event = eventNumber event ∷ eventFields event
 
 abbrev pub tickNumbers : ℕ → ℕ → ℕ → Event → List ℕ
 tickNumbers sent told attempts event = sent ∷ told ∷ attempts ∷ eventNumbers event
@@ -58,10 +62,10 @@ wholeAt numbers = record {
 
 abbrev pub eventBy : ℕ → Whole → FrameDamage → Event
 eventBy event w m =
-    if event =? 1 then PassedOver else
-    if event =? 2 then Broken else
-    if event =? 3 then Frame w else
-    if event =? 4 then Damaged w m else
+    if event =? eventNumber PassedOver then PassedOver else
+    if event =? eventNumber Broken then Broken else
+    if event =? eventNumber (Frame w) then Frame w else
+    if event =? eventNumber (Damaged w m) then Damaged w m else
     Nothing
 
 abbrev pub eventAt : List ℕ → Event

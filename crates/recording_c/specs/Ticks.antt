@@ -3,20 +3,11 @@
 use Prim.Native.Nat.{ℕ, _/_}
 use mathlib.Core.List.{List}
 use Rattle.line.specs.Reader.{passing, taken}
-use Rattle.line.specs.declared.Event.{Event}
-use Rattle.line.specs.declared.Event.the-variants.{Nothing, PassedOver, Broken, Frame, Damaged}
+use Rattle.line.specs.Told.{eventNumber}
 use Rattle.line.specs.declared.Receiver.{Receiver}
 use Rattle.line.specs.declared.Taken.{Taken}
 use Rattle.line.specs.Heard.{heardOf}
 use Rattle.recording.specs.Recording.{Ticked, trace}
-
--- what the reader tells, as a number
-abbrev pub eventNumber : Event → ℕ
-eventNumber Nothing = 0
-eventNumber PassedOver = 1
-eventNumber Broken = 2
-eventNumber (Frame w) = 3
-eventNumber (Damaged w m) = 4
 
 -- a tick of the reader, made from the two bytes
 abbrev pub step : Receiver → ℕ → ℕ → Taken

@@ -7,7 +7,8 @@ use Rattle.line.specs.Reader.{passing, taken}
 use Rattle.line.specs.declared.Heard.{Heard}
 use Rattle.line.specs.declared.Receiver.{Receiver}
 use Rattle.line.specs.declared.Taken.{Taken}
-use Rattle.line_c.specs.Told.{eventNumber, step, ticked, told}
+use Rattle.line.specs.Told.{eventNumber}
+use Rattle.recording_c.specs.Ticks.{step, ticked, told}
 use Rattle.recording.proofs.Runs.{Running, begun, goes-on, run-ended, run-full}
 
 -- a tick of what was heard

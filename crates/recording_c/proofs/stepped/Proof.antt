@@ -1,7 +1,7 @@
 use borrow.Author.Needs.{needs}
-use Rattle.line_c.proofs.Reader.{step-same}
-use Rattle.line_c.proofs.stepped.Statement.{statement}
-use Rattle.line_c.proofs.stepped.Tie as tie
+use Rattle.recording_c.proofs.Reader.{step-same}
+use Rattle.recording_c.proofs.stepped.Statement.{statement}
+use Rattle.recording_c.proofs.stepped.Tie as tie
 
 pub stepped-spec : {M : Type 1} → statement M
 stepped-spec =

@@ -1,11 +1,11 @@
 use Prim.Native.Nat.{_-_}
 use lib.ListN.{length}
 use borrow.Author.Needs.{needs}
-use Rattle.line_c.specs.Told.{ticked, told}
+use Rattle.recording_c.specs.Ticks.{ticked, told}
 use Rattle.recording.proofs.Runs.{Running}
-use Rattle.line_c.proofs.Reader.{runs}
-use Rattle.line_c.proofs.run.Statement.{statement}
-use Rattle.line_c.proofs.run.Tie as tie
+use Rattle.recording_c.proofs.Reader.{runs}
+use Rattle.recording_c.proofs.run.Statement.{statement}
+use Rattle.recording_c.proofs.run.Tie as tie
 
 abbrev Inv-loop : tie.InvT-loop
 Inv-loop recording events₀ bytes₀ r₀ at₀ i₀ events bytes r at i = Running ticked (told recording) recording events₀ r events at i

@@ -1,2 +1,0 @@
--- The tick reader over a recording of the line.
-pub mod Told
