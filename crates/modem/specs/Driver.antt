@@ -3,6 +3,7 @@
 use Prim.Native.Nat.{ℕ, _+_, _/_, _%_}
 use mathlib.Core.Bool.{Bool, true, false}
 use Rattle.base.specs.Choice.{if_then_else_, _=?_}
+use Rattle.line.specs.Heard.{damageNumber}
 use Rattle.line.specs.declared.Damage.the-variants.{Parity, Overrun, Framing}
 use Rattle.line.specs.declared.Heard.{Heard}
 use Rattle.line.specs.declared.Heard.the-variants.{Silence, Character, Damaged}
@@ -18,8 +19,8 @@ use Rattle.modem.specs.declared.ChipHeard.{ChipHeard}
 abbrev pub damagedBy : ℕ → ℕ → Heard
 damagedBy c kind =
     if kind =? 0 then Character c else
-    if kind =? 1 then Damaged c Parity else
-    if kind =? 2 then Damaged c Overrun else
+    if kind =? damageNumber Parity then Damaged c Parity else
+    if kind =? damageNumber Overrun then Damaged c Overrun else
     Damaged c Framing
 
 -- what is heard, by status bit 5, byte 3 and byte 2
