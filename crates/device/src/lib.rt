@@ -60,7 +60,7 @@ fn answer_header(h: Header, burst: bool) -> Header
     ensures { λ r. ⌜ r ≡ answerHeader h burst ⌝ }
 {
     Header {
-        frame: frame::ACK,
+        kind: frame::ACK,
         long: h.long,
         primary: h.primary,
         burst: burst,
@@ -245,7 +245,7 @@ fn back_header(d: Device) -> Header
 {
     let content = d.content;
     Header {
-        frame: frame::BACK,
+        kind: frame::BACK,
         long: true,
         primary: d.primary,
         burst: true,
@@ -292,7 +292,7 @@ pub fn fresh(profile: Profile, preamble: u8, polling: u8, unique: u64) -> Device
 {
     let receiver = line_reader::passing_reader();
     let request = Header {
-        frame: 0,
+        kind: 0,
         long: false,
         primary: false,
         burst: false,

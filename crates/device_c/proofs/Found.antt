@@ -24,7 +24,7 @@ use Rattle.device_c.specs.Tick.{ToldIsFound}
 
 by-frame : (d : Device) (w : Whole) → ToldIsFound (afterFrame d w .told) (Frame w)
 by-frame d w =
-    if-both (λ (c : Change). ToldIsFound (c .told) (Frame w)) (w .header .frame =? stx) _ _
+    if-both (λ (c : Change). ToldIsFound (c .told) (Frame w)) (w .header .kind =? stx) _ _
     (if-both (λ (c : Change). ToldIsFound (c .told) (Frame w)) (w .expansion =? 0) _ _
     (if-both (λ (c : Change). ToldIsFound (c .told) (Frame w)) (mayAnswer d (w .header)) _ _
     refl

@@ -224,7 +224,7 @@ fn answering_words(d: Device) -> [u64; 10]
         turn_word(turn),
         wish_word(wish),
         d.length as u64,
-        h.frame as u64,
+        h.kind as u64,
         h.long as u64,
         h.primary as u64,
         h.burst as u64,

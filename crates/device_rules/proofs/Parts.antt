@@ -77,11 +77,11 @@ due-at profile p q n e f = f ∙ ap (λ (x : Event). dueAfter profile (endedBy x
 -- ---- the next BACK behind a frame
 
 module _ (p : Profile) (w : Whole) (n : ℕ) where
-  pub due-ack : w .header .frame ≡ ack → n ≡ 1 → n ≡ dueAfter p (endedBy (Frame w))
-  due-ack f q = q ∙ sym (ap (dueAfter p) (if-is-true (w .header .frame =? ack) _ _ (eq-eqb (w .header .frame) ack f)))
+  pub due-ack : w .header .kind ≡ ack → n ≡ 1 → n ≡ dueAfter p (endedBy (Frame w))
+  due-ack f q = q ∙ sym (ap (dueAfter p) (if-is-true (w .header .kind =? ack) _ _ (eq-eqb (w .header .kind) ack f)))
 
-  pub due-other : (w .header .frame ≡ ack → ⊥) → n ≡ p .rt1p → n ≡ dueAfter p (endedBy (Frame w))
-  due-other f q = q ∙ sym (ap (dueAfter p) (if-is-false (w .header .frame =? ack) _ _ (ne-eqb (w .header .frame) ack f)))
+  pub due-other : (w .header .kind ≡ ack → ⊥) → n ≡ p .rt1p → n ≡ dueAfter p (endedBy (Frame w))
+  due-other f q = q ∙ sym (ap (dueAfter p) (if-is-false (w .header .kind =? ack) _ _ (ne-eqb (w .header .kind) ack f)))
 
 -- ---- a character
 

@@ -13,7 +13,7 @@ use Rattle.turns.specs.declared.DeviceTaken.{DeviceTaken}
 
 -- how many characters a frame has; of its header only the form of the address matters
 abbrev pub lengthBy : ℕ → Bool → ℕ → ℕ
-lengthBy preamble long count = frameLength preamble (record { frame = 0; long = long; primary = false; burst = false; address = 0; command = 0 }) count
+lengthBy preamble long count = frameLength preamble (record { kind = 0; long = long; primary = false; burst = false; address = 0; command = 0 }) count
 
 -- a device with the data buffer that it is lent
 abbrev pub lent : Device → List ℕ → DeviceSide

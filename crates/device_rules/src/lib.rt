@@ -71,7 +71,7 @@ fn due_after_frame(d: Device, w: Whole) -> u32
     ensures { λ r. ⌜ r ≡ dueAfter (d .profile) (endedBy (Event.Frame w)) ⌝ }
 {
     let h = w.header;
-    if h.frame == frame::ACK {
+    if h.kind == frame::ACK {
         return 1;
     }
     let profile = d.profile;
@@ -108,7 +108,7 @@ pub fn has_error(d: Device, w: Whole, m: FrameDamage) -> bool
     ensures { λ r. ⌜ r ≡ hasError d w m ⌝ }
 {
     let h = w.header;
-    if h.frame == frame::STX {
+    if h.kind == frame::STX {
         if w.expansion == 0 {
             return has_own_address(d, h, m);
         }
@@ -177,7 +177,7 @@ fn after_frame(d: Device, w: Whole) -> Change
 {
     let h = w.header;
     let expansion = w.expansion;
-    if h.frame == frame::STX {
+    if h.kind == frame::STX {
         if expansion == 0 {
             return after_request(d, w);
         }

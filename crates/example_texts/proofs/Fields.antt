@@ -14,12 +14,12 @@ pub put-flag : (name : List ℕ) (on : Bool) (n : ℕ) (before after : List ℕ)
 put-flag name on n before after at r e p = put-same (name ++ decimal n) (name ++ decimal (bitOf on)) before at r after p (ap (λ (m : ℕ). name ++ decimal m) e)
 
 pub put-header : (h : Header) (before a b c d after : List ℕ) (at i j k m r : ℕ)
-    → PutIs (typeName ++ decimal (h .frame)) before at i a → PutIs (longName ++ decimal (bitOf (h .long))) a i j b
+    → PutIs (typeName ++ decimal (h .kind)) before at i a → PutIs (longName ++ decimal (bitOf (h .long))) a i j b
     → PutIs (primaryName ++ decimal (bitOf (h .primary))) b j k c → PutIs (burstName ++ decimal (bitOf (h .burst))) c k m d
     → PutIs (addressName ++ decimal (h .address)) d m r after → PutIs (headerText h) before at r after
 unfolding headerText
 put-header h before a b c d after at i j k m r p q s t u =
-    let type = typeName ++ decimal (h .frame) in
+    let type = typeName ++ decimal (h .kind) in
     let long = longName ++ decimal (bitOf (h .long)) in
     let primary = primaryName ++ decimal (bitOf (h .primary)) in
     let burst = burstName ++ decimal (bitOf (h .burst)) in

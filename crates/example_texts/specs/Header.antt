@@ -23,7 +23,7 @@ addressName = 32 ∷ 97 ∷ 100 ∷ 100 ∷ 114 ∷ 101 ∷ 115 ∷ 115 ∷ 32 �
 
 unfoldable pub headerText : Header → List ℕ
 headerText h =
-    (typeName ++ decimal (h .frame))
+    (typeName ++ decimal (h .kind))
     ++ ((longName ++ decimal (bitOf (h .long)))
     ++ ((primaryName ++ decimal (bitOf (h .primary)))
     ++ ((burstName ++ decimal (bitOf (h .burst)))

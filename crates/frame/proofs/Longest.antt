@@ -36,7 +36,7 @@ written-length preamble h bytes room place end e =
     }
 
 abbrev pub longestHeader : Header
-longestHeader = record { frame = ack; long = true; primary = true; burst = false; address = 1; command = 0 }
+longestHeader = record { kind = ack; long = true; primary = true; burst = false; address = 1; command = 0 }
 
 pub longest-is-written : writeAnswer mostPreambles longestHeader mostData (longestFrame mostData) 0 ≡ accepted 284
 unfolding writeAnswer if_then_else_

@@ -77,16 +77,16 @@ bytes-back a = omega (arith, div-div-eq-div-mul a (2 ^ 8) (2 ^ 8), div-div-eq-di
 
 -- what a reader finds in a header that was written, whatever stands behind it
 record Front (h : Header) (count : ℕ) (t : List ℕ) : Type 0 where
-  delimiter-at : byteAt t 0 ≡ delimiterByte (h .frame) (h .long)
-  header-at : headerOf (h .frame) (h .long) (commandPlace (h .long) 0) t ≡ h
+  delimiter-at : byteAt t 0 ≡ delimiterByte (h .kind) (h .long)
+  header-at : headerOf (h .kind) (h .long) (commandPlace (h .long) 0) t ≡ h
   count-at : byteAt t (commandPlace (h .long) 0 + 1) ≡ count
 
 module _ (h : Header) (t : List ℕ) (bits : ℕ) (small : bits < 64) (at : byteAt t 1 ≡ firstByte h bits) where
-  header-same : (command : byteAt t (commandPlace (h .long) 0) ≡ h .command) (address : addressOf (h .long) t ≡ h .address) → headerOf (h .frame) (h .long) (commandPlace (h .long) 0) t ≡ h
+  header-same : (command : byteAt t (commandPlace (h .long) 0) ≡ h .command) (address : addressOf (h .long) t ≡ h .address) → headerOf (h .kind) (h .long) (commandPlace (h .long) 0) t ≡ h
   header-same command address =
       let primary : masterBit t ≡ h .primary = ap (λ (b : ℕ). b / 128 =? 1) at ∙ master-back (h .primary) (h .burst) bits small in
       let burst : burstFlag t ≡ h .burst = ap (λ (b : ℕ). b / 64 % 2 =? 1) at ∙ burst-back (h .primary) (h .burst) bits small in
-      λ i. record { frame = h .frame; long = h .long; primary = primary i; burst = burst i; address = address i; command = command i }
+      λ i. record { kind = h .kind; long = h .long; primary = primary i; burst = burst i; address = address i; command = command i }
 
   six-bits : byteAt t 1 % 64 ≡ bits
   six-bits = ap (λ (b : ℕ). b % 64) at ∙ bits-back (h .primary) (h .burst) bits small
@@ -99,8 +99,8 @@ unfolding headerBytes
 front-long h count u e small =
     let a : ℕ = h .address in
     let t : List ℕ = headerBytes h count ++ u in
-    let shape : t ≡ (delimiterByte (h .frame) (h .long) ∷ (longAddress h ++ (h .command ∷ count ∷ []))) ++ u =
-    ap (λ (l : List ℕ). (delimiterByte (h .frame) (h .long) ∷ (l ++ (h .command ∷ count ∷ []))) ++ u) (if-is-true (h .long) (longAddress h) (shortAddress h) e) in
+    let shape : t ≡ (delimiterByte (h .kind) (h .long) ∷ (longAddress h ++ (h .command ∷ count ∷ []))) ++ u =
+    ap (λ (l : List ℕ). (delimiterByte (h .kind) (h .long) ∷ (l ++ (h .command ∷ count ∷ []))) ++ u) (if-is-true (h .long) (longAddress h) (shortAddress h) e) in
     let place : commandPlace (h .long) 0 ≡ 6 = place-is h 5 (if-is-true (h .long) 5 1 e) in
     let below : a / 2 ^ 32 < 64 = omega (arith, if-is-true {A = ℕ} (h .long) (2 ^ 38 - 1) 63 e) in
     let first-at : byteAt t 1 ≡ firstByte h (a / 2 ^ 32) = ap (λ (l : List ℕ). byteAt l 1) shape in
@@ -120,8 +120,8 @@ unfolding headerBytes
 front-short h count u e small =
     let a : ℕ = h .address in
     let t : List ℕ = headerBytes h count ++ u in
-    let shape : t ≡ (delimiterByte (h .frame) (h .long) ∷ (shortAddress h ++ (h .command ∷ count ∷ []))) ++ u =
-    ap (λ (l : List ℕ). (delimiterByte (h .frame) (h .long) ∷ (l ++ (h .command ∷ count ∷ []))) ++ u) (if-is-false (h .long) (longAddress h) (shortAddress h) e) in
+    let shape : t ≡ (delimiterByte (h .kind) (h .long) ∷ (shortAddress h ++ (h .command ∷ count ∷ []))) ++ u =
+    ap (λ (l : List ℕ). (delimiterByte (h .kind) (h .long) ∷ (l ++ (h .command ∷ count ∷ []))) ++ u) (if-is-false (h .long) (longAddress h) (shortAddress h) e) in
     let place : commandPlace (h .long) 0 ≡ 2 = place-is h 1 (if-is-false (h .long) 5 1 e) in
     let below : a < 64 = omega (arith, if-is-false {A = ℕ} (h .long) (2 ^ 38 - 1) 63 e) in
     let first-at : byteAt t 1 ≡ firstByte h a = ap (λ (l : List ℕ). byteAt l 1) shape in
@@ -164,16 +164,16 @@ body-sound preamble h bytes rest fits =
     let place : ℕ = commandPlace (h .long) 0 in
     let head : Front h (length bytes) t = rw body-split (front h (length bytes) (bytes ++ (exclusiveOr (protectedBytes h bytes) ∷ rest)) (fits .address-high)) in
     let body-first : take (place + 3 + length bytes) t ≡ bodyBytes h bytes = take-at (bodyBytes h bytes) rest (place + 3 + length bytes) (omega (arith, body-count h bytes)) in
-    let header : headerOf (h .frame) (h .long) place t ≡ h = head .header-at in
+    let header : headerOf (h .kind) (h .long) place t ≡ h = head .header-at in
     let start : preamble + (place + 2) ≡ preamble + headerLength h = omega arith in
     let end : preamble + (place + 3 + length bytes) ≡ frameLength preamble h (length bytes) = omega arith in
     record {
-      frame = h .frame;
+      frame = h .kind;
       long = h .long;
       expansion = 0;
       place = place;
       count = length bytes;
-      delimited = ap delimiterOf (head .delimiter-at) ∙ delimiter-back (h .frame) (h .long) (fits .typed);
+      delimited = ap delimiterOf (head .delimiter-at) ∙ delimiter-back (h .kind) (h .long) (fits .typed);
       placed = refl;
       counted = sym (head .count-at);
       inside = omega (arith, body-count h bytes, length-append (bodyBytes h bytes) rest);
@@ -182,9 +182,9 @@ body-sound preamble h bytes rest fits =
       found = λ i. record { preamble = preamble; header = header i; expansion = 0; start = start i; count = length bytes; end = end i };
     }
 
-no-more : (h : Header) (bytes rest : List ℕ) → isType (h .frame) ≡ true → preambles (bodyBytes h bytes ++ rest) ≡ 0
+no-more : (h : Header) (bytes rest : List ℕ) → isType (h .kind) ≡ true → preambles (bodyBytes h bytes ++ rest) ≡ 0
 unfolding bodyBytes protectedBytes headerBytes
-no-more h bytes rest e = no-preamble (bodyBytes h bytes ++ rest) (delimiter-no-preamble (h .frame) (h .long) e)
+no-more h bytes rest e = no-preamble (bodyBytes h bytes ++ rest) (delimiter-no-preamble (h .kind) (h .long) e)
 
 -- the theorem
 pub reads-back : (preamble : ℕ) (h : Header) (bytes rest : List ℕ) → Fits preamble h (length bytes)

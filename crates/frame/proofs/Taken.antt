@@ -20,8 +20,8 @@ pub record Fits (preamble : ℕ) (h : Header) (count : ℕ) : Type 0 where
   pub preamble-high : preamble ≤ mostPreambles
   pub address-high : h .address ≤ largestAddress (h .long)
   pub count-high : count ≤ mostData
-  pub enough : tooFew (h .frame) count ≡ false
-  pub typed : isType (h .frame) ≡ true
+  pub enough : tooFew (h .kind) count ≡ false
+  pub typed : isType (h .kind) ≡ true
 
 pub record Room (preamble : ℕ) (h : Header) (count room place end : ℕ) : Type 0 where
   pub fits : Fits preamble h count
@@ -37,8 +37,8 @@ taken preamble h count room place end e =
     let a = went-else (preamble outside fewestPreambles to mostPreambles) _ _ (accepted end) e (not-to 3 end) in
     let b = went-else (addressTooLarge h) _ _ (accepted end) (a .1) (not-to 4 end) in
     let c = went-else (mostData <? count) _ _ (accepted end) (b .1) (not-to 6 end) in
-    let d = went-else (tooFew (h .frame) count) _ _ (accepted end) (c .1) (not-to 9 end) in
-    let t = went-then (isType (h .frame)) _ _ (accepted end) (d .1) (not-to 12 end) in
+    let d = went-else (tooFew (h .kind) count) _ _ (accepted end) (c .1) (not-to 9 end) in
+    let t = went-then (isType (h .kind)) _ _ (accepted end) (d .1) (not-to 12 end) in
     let r = went-then (place + frameLength preamble h count ≤? room) _ _ (accepted end) (t .1) (not-to 15 end) in
     let same : place + frameLength preamble h count ≡ end = cc (r .1) in
     let below = leb-true (place + frameLength preamble h count) room (r .0) in
@@ -89,6 +89,6 @@ fits-taken preamble h count room place f r =
     if-false (preamble outside fewestPreambles to mostPreambles) answer _ _ (inside-is preamble fewestPreambles mostPreambles (f .preamble-low) (f .preamble-high))
     (if-not-below (largestAddress (h .long)) (h .address) answer _ _ (f .address-high)
     (if-not-below mostData count answer _ _ (f .count-high)
-    (if-false (tooFew (h .frame) count) answer _ _ (f .enough)
-    (if-true (isType (h .frame)) answer _ _ (f .typed)
+    (if-false (tooFew (h .kind) count) answer _ _ (f .enough)
+    (if-true (isType (h .kind)) answer _ _ (f .typed)
     (if-at-most (place + frameLength preamble h count) room answer _ _ r refl)))))

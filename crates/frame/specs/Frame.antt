@@ -17,7 +17,7 @@ tooFew frame count = if fromDevice frame then count <? fewestAnswered else false
 
 -- delimiter, address, command and byte count
 unfoldable pub headerBytes : Header → ℕ → List ℕ
-headerBytes h count = delimiterByte (h .frame) (h .long) ∷ (addressBytes h ++ (h .command ∷ count ∷ []))
+headerBytes h count = delimiterByte (h .kind) (h .long) ∷ (addressBytes h ++ (h .command ∷ count ∷ []))
 
 -- what the check byte protects: delimiter to data
 unfoldable pub protectedBytes : Header → List ℕ → List ℕ

@@ -28,7 +28,7 @@ commandPlace long expansion = addressLength long + expansion + 1
 
 abbrev pub headerOf : ℕ → Bool → ℕ → List ℕ → Header
 headerOf frame long place body = record {
-  frame = frame;
+  kind = frame;
   long = long;
   primary = masterBit body;
   burst = burstFlag body;

@@ -21,8 +21,8 @@ byFields preamble h count fits =
     if preamble outside fewestPreambles to mostPreambles then refused 3 else
     if addressTooLarge h then refused 4 else
     if mostData <? count then refused 6 else
-    if tooFew (h .frame) count then refused 9 else
-    if isType (h .frame) then fits else
+    if tooFew (h .kind) count then refused 9 else
+    if isType (h .kind) then fits else
     refused 12
 
 -- "15: buffer too short", also for a place beyond the buffer

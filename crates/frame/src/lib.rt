@@ -17,7 +17,7 @@ pub const BACK: u8 = 1;
 pub struct Header {
     pub address: u64,
     // the frame type: STX, ACK or BACK
-    pub frame: u8,
+    pub kind: u8,
     // the master bit
     pub primary: bool,
     // the burst flag

@@ -16,7 +16,7 @@ use Rattle.frame.specs.declared.Found.{Found}
 -- the header that a write is given, field by field
 abbrev pub header : ℕ → Bool → Bool → Bool → ℕ → ℕ → Header
 header frame long primary burst address command =
-    record { frame = frame; long = long; primary = primary; burst = burst; address = address; command = command }
+    record { kind = frame; long = long; primary = primary; burst = burst; address = address; command = command }
 
 -- what a write or a read returns: 0, or the refusal's number
 abbrev pub returned : {A : Type 0} → Called A → ℕ
@@ -37,7 +37,7 @@ pub record WriteCall (preamble : ℕ) (h : Header) (bytes buffer : Lent (List �
 abbrev pub foundNumbers : Found → List ℕ
 foundNumbers f =
     f .preamble ∷
-    f .header .frame ∷
+    f .header .kind ∷
     bit (f .header .long) ∷
     bit (f .header .primary) ∷
     bit (f .header .burst) ∷

@@ -25,7 +25,7 @@ pub extern "C" fn nengapiko_write(
     ensures { λ r. ⌜ WriteCall preamble (header frame long primary burst address command) bytes buffer place end r ⌝ }
 {
     let h = Header {
-        frame: frame,
+        kind: frame,
         long: long,
         primary: primary,
         burst: burst,
@@ -59,7 +59,7 @@ fn numbers_of(found: Found) -> [u64; 11]
     let h = found.header;
     [
         found.preamble as u64,
-        h.frame as u64,
+        h.kind as u64,
         bit_of(h.long),
         bit_of(h.primary),
         bit_of(h.burst),

@@ -154,7 +154,7 @@ fn show_length(start: usize, preamble: usize, h: Header, bytes: &[u8]) {
 // A header by its fields.
 fn header(frame: u8, long: bool, primary: bool, burst: bool, address: u64, command: u8) -> Header {
     Header {
-        frame: frame,
+        kind: frame,
         long: long,
         primary: primary,
         burst: burst,

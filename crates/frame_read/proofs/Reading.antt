@@ -71,8 +71,8 @@ unique-room long place n e h k = omega (arith, if-is-true {A = ℕ} long 5 1 e)
 
 -- the parts of a record that a call answered
 pub header-is : (frame : ℕ) (long : Bool) (place : ℕ) (body : List ℕ) (a : ℕ) → a ≡ addressOf long body
-    → _≡_ {A = Header} (record { frame = frame; long = long; primary = masterBit body; burst = burstFlag body; address = a; command = byteAt body place }) (headerOf frame long place body)
-header-is frame long place body a e = ap (λ (x : ℕ). record { frame = frame; long = long; primary = masterBit body; burst = burstFlag body; address = x; command = byteAt body place }) e
+    → _≡_ {A = Header} (record { kind = frame; long = long; primary = masterBit body; burst = burstFlag body; address = a; command = byteAt body place }) (headerOf frame long place body)
+header-is frame long place body a e = ap (λ (x : ℕ). record { kind = frame; long = long; primary = masterBit body; burst = burstFlag body; address = x; command = byteAt body place }) e
 
 pub found-is : (preamble : ℕ) (body : List ℕ) (frame : ℕ) (long : Bool) (expansion place count : ℕ) (h : Header) → h ≡ headerOf frame long place body
     → accepted (record { preamble = preamble; header = h; expansion = expansion; start = preamble + (place + 2); count = count; end = preamble + (place + 3 + count) }) ≡ accepted (foundAt preamble body frame long expansion place count)

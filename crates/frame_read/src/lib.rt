@@ -63,7 +63,7 @@ fn header_of(frame: u8, long: bool, place: usize, body: &[u8]) -> Header
 {
     let first = body[1];
     Header {
-        frame: frame,
+        kind: frame,
         long: long,
         primary: first / 128 == 1,
         burst: first / 64 % 2 == 1,

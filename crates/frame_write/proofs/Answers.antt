@@ -93,8 +93,8 @@ module _ (preamble : ℕ) (h : Header) (count room place end : ℕ) (r : Written
   pub place-inside : place ≤ room
   place-inside = omega (arith, told .end-is, told .inside)
 
-  pub type-fits : h .frame ≤ 6
-  type-fits = type-small (h .frame) (told .fits .typed)
+  pub type-fits : h .kind ≤ 6
+  type-fits = type-small (h .kind) (told .fits .typed)
 
   pub address-fits : h .address ≤ largestAddress (h .long)
   address-fits = told .fits .address-high

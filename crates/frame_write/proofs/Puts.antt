@@ -123,12 +123,12 @@ unfolding headerBytes
 address-count h = omega (arith, header-count h 0, length-append (addressBytes h) (h .command ∷ 0 ∷ []))
 
 header-put : (h : Header) (count p q k l m : ℕ) (xs ds os cs ns : List ℕ) → length xs ≡ headerLength h
-    → ds ≡ delimiterByte (h .frame) (h .long) ∷ [] → os ≡ addressBytes h → cs ≡ h .command ∷ [] → ns ≡ count ∷ []
+    → ds ≡ delimiterByte (h .kind) (h .long) ∷ [] → os ≡ addressBytes h → cs ≡ h .command ∷ [] → ns ≡ count ∷ []
     → p ≡ length xs - 2 → q ≡ length xs - 1 → k ≡ p - 1 → l ≡ q - p → m ≡ length (putMid p l (putMid 1 k (putMid 0 1 xs ds) os) cs) - q
     → putMid q m (putMid p l (putMid 1 k (putMid 0 1 xs ds) os) cs) ns ≡ headerBytes h count
 unfolding headerBytes
 header-put h count p q k l m xs ds os cs ns e d a c n p-is q-is k-is l-is m-is =
-    let first : ℕ = delimiterByte (h .frame) (h .long) in
+    let first : ℕ = delimiterByte (h .kind) (h .long) in
     let address : List ℕ = addressBytes h in
     let one : putMid 0 1 xs ds ≡ stored xs 0 (first ∷ []) = part-holds 0 1 xs ds (first ∷ []) d refl (omega arith) in
     let two : putMid 1 k (putMid 0 1 xs ds) os ≡ stored xs 0 (first ∷ address) =
@@ -142,7 +142,7 @@ header-put h count p q k l m xs ds os cs ns e d a c n p-is q-is k-is l-is m-is =
     ∙ stored-whole xs (first ∷ (address ++ (h .command ∷ count ∷ []))) (omega (arith, address-count h, length-append address (h .command ∷ count ∷ [])))
 
 pub header-is : (h : Header) (count byte p q k l m u v w r : ℕ) (xs ds os cs ns : List ℕ) → length xs ≡ headerLength h
-    → byte ≡ delimiterByte (h .frame) (h .long) → PartIs 0 (byte ∷ []) ds u → PartIs u (addressBytes h) os v → PartIs v (h .command ∷ []) cs w → PartIs w (count ∷ []) ns r
+    → byte ≡ delimiterByte (h .kind) (h .long) → PartIs 0 (byte ∷ []) ds u → PartIs u (addressBytes h) os v → PartIs v (h .command ∷ []) cs w → PartIs w (count ∷ []) ns r
     → p ≡ length xs - 2 → q ≡ length xs - 1 → k ≡ p - 1 → l ≡ q - p → m ≡ length (putMid p l (putMid 1 k (putMid 0 1 xs ds) os) cs) - q
     → PartIs 0 (headerBytes h count) (putMid q m (putMid p l (putMid 1 k (putMid 0 1 xs ds) os) cs) ns) r
 unfolding headerBytes xorFrom
@@ -150,7 +150,7 @@ header-is h count byte p q k l m u v w r xs ds os cs ns e b d a c n p-is q-is k-
   holds = header-put h count p q k l m xs ds os cs ns e (d .holds ∙ ap (λ (y : ℕ). y ∷ []) b) (a .holds) (c .holds) (n .holds) p-is q-is k-is l-is m-is;
   check =
       n .check ∙ ap (λ (y : ℕ). bitXor y count) (c .check ∙ ap (λ (y : ℕ). bitXor y (h .command)) (a .check ∙ ap (λ (y : ℕ). xorFrom y (addressBytes h)) (d .check ∙ b)))
-      ∙ sym (xor-append (delimiterByte (h .frame) (h .long)) (addressBytes h) (h .command ∷ count ∷ []));
+      ∙ sym (xor-append (delimiterByte (h .kind) (h .long)) (addressBytes h) (h .command ∷ count ∷ []));
 }
 
 -- header, data and check byte

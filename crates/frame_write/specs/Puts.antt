@@ -15,6 +15,6 @@ pub record PartIs (x : ℕ) (bytes part : List ℕ) (sum : ℕ) : Type 0 where
 
 -- a header and so many data bytes, within the limits that every written frame is within
 pub record WithinLimits (h : Header) (count : ℕ) : Type 0 where
-  pub type-small : h .frame ≤ 6
+  pub type-small : h .kind ≤ 6
   pub address-small : h .address ≤ largestAddress (h .long)
   pub count-small : count ≤ mostData

@@ -47,10 +47,10 @@ fn first_byte(h: Header, bits: u8) -> u8
 
 // The delimiter.
 fn delimiter_byte(h: Header) -> u8
-    requires { ⌜ h .frame ≤ 6 ⌝ }
-    ensures { λ r. ⌜ r ≡ delimiterByte (h .frame) (h .long) ⌝ }
+    requires { ⌜ h .kind ≤ 6 ⌝ }
+    ensures { λ r. ⌜ r ≡ delimiterByte (h .kind) (h .long) ⌝ }
 {
-    flag(h.long, 128) + h.frame
+    flag(h.long, 128) + h.kind
 }
 
 // Puts a field of one byte. Like each function that puts a field, it returns the exclusive-or of x and what it put.
@@ -94,7 +94,7 @@ fn put_address(part: &mut [u8], x: u8, h: Header) -> u8
 
 // Puts delimiter, address, command and byte count.
 fn put_header(part: &mut [u8], h: Header, count: u8) -> u8
-    requires { ⌜ (length (now part) ≡ headerLength h) × (h .frame ≤ 6) × (h .address ≤ largestAddress (h .long)) ⌝ }
+    requires { ⌜ (length (now part) ≡ headerLength h) × (h .kind ≤ 6) × (h .address ≤ largestAddress (h .long)) ⌝ }
     ensures { λ r. ⌜ PartIs 0 (headerBytes h count) (after part) r ⌝ }
 {
     let address_end = part.len() - 2;
@@ -196,10 +196,10 @@ fn answer(preamble: usize, h: Header, count: usize, room: usize, place: usize) -
     if 255 < count {
         return Written::Refused(Refusal::DataLong);
     }
-    if frame::too_few(h.frame, count) {
+    if frame::too_few(h.kind, count) {
         return Written::Refused(Refusal::DataLength);
     }
-    if frame::is_type(h.frame) {
+    if frame::is_type(h.kind) {
         return by_room(place, frame_length(preamble, h, count), room);
     }
     Written::Refused(Refusal::NoDelimiter)

@@ -124,19 +124,19 @@ atPlace place h expansion sum = record { place = place; header = h; expansion = 
 -- the byte count breaks the frame, or leads to the check byte or the data
 data NextCount (h : Header) (expansion sum k : ℕ) : Type 0 where
   broke : taken (atPlace Count h expansion sum) (Character k) ≡ breaks → NextCount h expansion sum k
-  empty : tooFew (h .frame) k ≡ false → k ≡ 0 → taken (atPlace Count h expansion sum) (Character k) ≡ tells (atEnd h expansion k (bitXor sum k)) Nothing → NextCount h expansion sum k
-  some : tooFew (h .frame) k ≡ false → 0 < k → taken (atPlace Count h expansion sum) (Character k) ≡ tells (inData h expansion k 0 (bitXor sum k)) Nothing → NextCount h expansion sum k
+  empty : tooFew (h .kind) k ≡ false → k ≡ 0 → taken (atPlace Count h expansion sum) (Character k) ≡ tells (atEnd h expansion k (bitXor sum k)) Nothing → NextCount h expansion sum k
+  some : tooFew (h .kind) k ≡ false → 0 < k → taken (atPlace Count h expansion sum) (Character k) ≡ tells (inData h expansion k 0 (bitXor sum k)) Nothing → NextCount h expansion sum k
 
 next-count : (h : Header) (expansion sum k : ℕ) → NextCount h expansion sum k
 unfolding taken atCount
-next-count h expansion sum k = first (tooFew (h .frame) k) refl
+next-count h expansion sum k = first (tooFew (h .kind) k) refl
   where
-    second : (t : Bool) → (k =? 0) ≡ t → tooFew (h .frame) k ≡ false → NextCount h expansion sum k
-    second true z f = empty f (eqb-true k 0 z) (if-is-false (tooFew (h .frame) k) _ _ f ∙ if-is-true (k =? 0) _ _ z)
-    second false z f = let nonzero : k ≡ 0 → ⊥ = eqb-false k 0 z in some f (positive k nonzero) (if-is-false (tooFew (h .frame) k) _ _ f ∙ if-is-false (k =? 0) _ _ z)
+    second : (t : Bool) → (k =? 0) ≡ t → tooFew (h .kind) k ≡ false → NextCount h expansion sum k
+    second true z f = empty f (eqb-true k 0 z) (if-is-false (tooFew (h .kind) k) _ _ f ∙ if-is-true (k =? 0) _ _ z)
+    second false z f = let nonzero : k ≡ 0 → ⊥ = eqb-false k 0 z in some f (positive k nonzero) (if-is-false (tooFew (h .kind) k) _ _ f ∙ if-is-false (k =? 0) _ _ z)
 
-    first : (t : Bool) → tooFew (h .frame) k ≡ t → NextCount h expansion sum k
-    first true f = broke (if-is-true (tooFew (h .frame) k) _ _ f)
+    first : (t : Bool) → tooFew (h .kind) k ≡ t → NextCount h expansion sum k
+    first true f = broke (if-is-true (tooFew (h .kind) k) _ _ f)
     first false f = second (k =? 0) refl f
 
 -- an expansion byte leads to the next one, or to the command
@@ -158,7 +158,7 @@ behind h expansion sum = atPlace (if expansion =? 0 then Command else Expansion 
 
 -- the reader behind a delimiter d
 abbrev bareHeader : ℕ → Bool → Header
-bareHeader frame long = record { frame = frame; long = long; primary = false; burst = false; address = 0; command = 0 }
+bareHeader frame long = record { kind = frame; long = long; primary = false; burst = false; address = 0; command = 0 }
 
 abbrev opened : ℕ → Bool → ℕ → ℕ → Receiver
 opened frame long expansion d = atPlace First (bareHeader frame long) expansion d
@@ -305,7 +305,7 @@ module _ (c : ℕ) (w : Whole) where
     extra-long : length extra ≡ to-come
     as-many : length bytes ≡ count
     count-small : count ≤ 255
-    enough : tooFew (h .frame) count ≡ false
+    enough : tooFew (h .kind) count ≡ false
     whole : record { header = commandHeader h command; expansion = expansion; count = count } ≡ w
     zero-sum : bitXor (xorFrom sum cs) c ≡ 0
     stores : (b : List ℕ) → dataAfter r cs b ≡ stored b 0 bytes
@@ -317,7 +317,7 @@ module _ (c : ℕ) (w : Whole) where
     split : cs ≡ count ∷ bytes
     as-many : length bytes ≡ count
     count-small : count ≤ 255
-    enough : tooFew (h .frame) count ≡ false
+    enough : tooFew (h .kind) count ≡ false
     whole : record { header = h; expansion = expansion; count = count } ≡ w
     zero-sum : bitXor (xorFrom sum cs) c ≡ 0
     stores : (b : List ℕ) → dataAfter (atPlace Count h expansion sum) cs b ≡ stored b 0 bytes
@@ -455,7 +455,7 @@ module _ (c : ℕ) (w : Whole) where
     rest : TailRead h expansion expansion (xorFrom d address) r tail
     no-data : (b : List ℕ) → dataAfter (opened frame long expansion d) cs b ≡ dataAfter r tail b
     -- what the slice reader finds in these bytes
-    fields : (u : List ℕ) → h ≡ record { frame = frame; long = long; primary = masterBit (d ∷ (address ++ u)); burst = burstFlag (d ∷ (address ++ u)); address = addressOf long (d ∷ (address ++ u)); command = 0 }
+    fields : (u : List ℕ) → h ≡ record { kind = frame; long = long; primary = masterBit (d ∷ (address ++ u)); burst = burstFlag (d ∷ (address ++ u)); address = addressOf long (d ∷ (address ++ u)); command = 0 }
 
   from-short : (frame expansion d : ℕ) (cs : List ℕ) → AllBytes cs → Quiet (opened frame false expansion d) cs
       → taken (readerAfter (opened frame false expansion d) cs) (Character c) .event ≡ Frame w → AddressRead frame false expansion d cs
@@ -494,7 +494,7 @@ module _ (c : ℕ) (w : Whole) where
         address-long = refl;
         rest = from-behind h expansion sum cs (small .1 .1 .1 .1 .1) (q .1 .1 .1 .1 .1) e;
         no-data = λ b. refl;
-        fields = λ u. ap (λ (n : ℕ). record { frame = frame; long = true; primary = (x / 128 =? 1); burst = (x / 64 % 2 =? 1); address = n; command = 0 }) a;
+        fields = λ u. ap (λ (n : ℕ). record { kind = frame; long = true; primary = (x / 128 =? 1); burst = (x / 64 % 2 =? 1); address = n; command = 0 }) a;
       }
 
   from-first : (frame : ℕ) (long : Bool) (expansion d : ℕ) (cs : List ℕ) → AllBytes cs → Quiet (opened frame long expansion d) cs
@@ -688,7 +688,7 @@ slice-reads cs c w b small quiet e room =
     ∙ ap (λ (x : ℕ). bitXor x c) (xor-append d (ar .address) (ar .tail))
     ∙ tr .zero-sum in
     let header-parts = ar .fields (tr .extra ++ (tr .command ∷ tr .count ∷ (tr .bytes ++ (c ∷ [])))) in
-    let same-type : ar .h .frame ≡ pr .frame = ap (λ (h : Header). h .frame) header-parts in
+    let same-type : ar .h .kind ≡ pr .frame = ap (λ (h : Header). h .kind) header-parts in
     let s : Sound p t (foundAt p t (pr .frame) (pr .long) (pr .expansion) k (tr .count)) =
     sound (pr .frame) (pr .long) (pr .expansion) d (tr .command) (tr .count) (ar .address) (tr .extra) (tr .bytes) c
     p (pr .delimited) (ar .address-long) (tr .extra-long) (tr .as-many) (ap (λ (n : ℕ). tooFew n (tr .count)) (sym same-type) ∙ tr .enough) zero-sum in
@@ -701,7 +701,7 @@ slice-reads cs c w b small quiet e room =
     let regrouped : t ≡ parts = ap (λ (l : List ℕ). d ∷ l) (append-assoc (ar .address) (tr .extra) (tr .command ∷ tr .count ∷ (tr .bytes ++ (c ∷ [])))) in
     let command-is : byteAt t k ≡ tr .command = command-at (pr .frame) (pr .long) (pr .expansion) d (tr .command) (tr .count) (ar .address) (tr .extra) (tr .bytes) c (ar .address-long) (tr .extra-long) in
     let header-is : headerOf (pr .frame) (pr .long) k t ≡ commandHeader (ar .h) (tr .command) =
-    (λ i. record { frame = pr .frame; long = pr .long; primary = masterBit (regrouped i); burst = burstFlag (regrouped i); address = addressOf (pr .long) (regrouped i); command = command-is i })
+    (λ i. record { kind = pr .frame; long = pr .long; primary = masterBit (regrouped i); burst = burstFlag (regrouped i); address = addressOf (pr .long) (regrouped i); command = command-is i })
     ∙ ap (λ (h : Header). commandHeader h (tr .command)) (sym header-parts) in
     let data-is : take (tr .count) (drop (k + 2) t) ≡ tr .bytes = data-at (pr .frame) (pr .long) (pr .expansion) d (tr .command) (tr .count) (ar .address) (tr .extra) (tr .bytes) c (ar .address-long) (tr .extra-long) (tr .as-many) in
     let t-long : length t ≡ k + 3 + tr .count = body-long (pr .frame) (pr .long) (pr .expansion) d (tr .command) (tr .count) (ar .address) (tr .extra) (tr .bytes) c (ar .address-long) (tr .extra-long) (tr .as-many) in

@@ -28,7 +28,7 @@ gaps-so = from-first is-sound (behind-silence is-sound (at-once is-sound (behind
 -- what both tell in their last tick, and only there
 abbrev pub damagedFrame : Taken
 damagedFrame =
-    tells idle (Event.Damaged (record { header = record { frame = 2; long = false; primary = true; burst = false; address = 0; command = 3 }; expansion = 2; count = 2 })
+    tells idle (Event.Damaged (record { header = record { kind = 2; long = false; primary = true; burst = false; address = 0; command = 3 }; expansion = 2; count = 2 })
     (record { parity = true; overrun = false; framing = false; check = false; address = false }))
 
 pub without-gaps : Ends idle (0 ∷ 0 ∷ 0 ∷ []) unbroken damagedFrame (0xAA ∷ 0x55 ∷ 0 ∷ [])

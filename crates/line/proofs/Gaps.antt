@@ -114,7 +114,7 @@ behind-character First r c = behind-first r c
 behind-character (Address n) r c = behind-address r n c
 behind-character (Expansion n) r c = behind-expansion r n c
 behind-character Command r c = behind-command r c
-behind-character Count r c = by-if (tooFew (r .header .frame) c) _ _ behind-breaks (by-if (c =? 0) _ _ (behind-counted r c Check refl) (behind-counted r c (Data 0) refl))
+behind-character Count r c = by-if (tooFew (r .header .kind) c) _ _ behind-breaks (by-if (c =? 0) _ _ (behind-counted r c Check refl) (behind-counted r c (Data 0) refl))
 behind-character (Data n) r c = behind-data r n c
 behind-character Check r c = behind-check r c
 

@@ -33,7 +33,7 @@ use Rattle.line.proofs.Leads.{Leads, stays, hears, leads-on, preamble-l
 
 -- the reader behind a delimiter, and at the command, the byte count
 abbrev opened : ℕ → Bool → ℕ → Receiver
-opened frame long sum = record { place = First; header = record { frame = frame; long = long; primary = false; burst = false; address = 0; command = 0 }; expansion = 0; count = 0; sum = sum; damage = noDamage; gap = false }
+opened frame long sum = record { place = First; header = record { kind = frame; long = long; primary = false; burst = false; address = 0; command = 0 }; expansion = 0; count = 0; sum = sum; damage = noDamage; gap = false }
 
 abbrev atCountWith : Header → ℕ → Receiver
 atCountWith h sum = record { place = Count; header = h; expansion = 0; count = 0; sum = sum; damage = noDamage; gap = false }
@@ -51,7 +51,7 @@ delimiter-leads b frame long typed =
 
 -- what the address's bytes and the command give
 heardShort : ℕ → ℕ → ℕ → Header
-heardShort frame x command = record { frame = frame; long = false; primary = (x / 128 =? 1); burst = (x / 64 % 2 =? 1); address = x % 64; command = command }
+heardShort frame x command = record { kind = frame; long = false; primary = (x / 128 =? 1); burst = (x / 64 % 2 =? 1); address = x % 64; command = command }
 
 short-leads : (b : List ℕ) (frame sum x command : ℕ) → Leads (opened frame false sum) b (x ∷ command ∷ []) (atCountWith (heardShort frame x command) (xorFrom sum (x ∷ command ∷ []))) b
 unfolding taken takenData atFirst atCommand if_then_else_ heardShort xorFrom
@@ -62,7 +62,7 @@ more a c = a % 2 ^ 32 * 256 + c
 
 heardLong : ℕ → ℕ → ℕ → ℕ → ℕ → ℕ → ℕ → Header
 heardLong frame x b2 b3 b4 b5 command =
-    record { frame = frame; long = true; primary = (x / 128 =? 1); burst = (x / 64 % 2 =? 1); address = more (more (more (more (x % 64) b2) b3) b4) b5; command = command }
+    record { kind = frame; long = true; primary = (x / 128 =? 1); burst = (x / 64 % 2 =? 1); address = more (more (more (more (x % 64) b2) b3) b4) b5; command = command }
 
 long-leads : (b : List ℕ) (frame sum x b2 b3 b4 b5 command : ℕ)
     → Leads (opened frame true sum) b (x ∷ b2 ∷ b3 ∷ b4 ∷ b5 ∷ command ∷ []) (atCountWith (heardLong frame x b2 b3 b4 b5 command) (xorFrom sum (x ∷ b2 ∷ b3 ∷ b4 ∷ b5 ∷ command ∷ []))) b
@@ -87,12 +87,12 @@ address-more a h =
 -- behind the delimiter, address and command lead to the byte count, with the header that was written
 AtCount : Header → List ℕ → Type 0
 AtCount h b =
-    Leads (opened (h .frame) (h .long) (delimiterByte (h .frame) (h .long))) b (addressBytes h ++ (h .command ∷ []))
-    (atCountWith h (xorFrom (delimiterByte (h .frame) (h .long)) (addressBytes h ++ (h .command ∷ [])))) b
+    Leads (opened (h .kind) (h .long) (delimiterByte (h .kind) (h .long))) b (addressBytes h ++ (h .command ∷ []))
+    (atCountWith h (xorFrom (delimiterByte (h .kind) (h .long)) (addressBytes h ++ (h .command ∷ [])))) b
 
 module _ (b : List ℕ) (frame : ℕ) (primary burst : Bool) (address command : ℕ) where
   header : Bool → Header
-  header long = record { frame = frame; long = long; primary = primary; burst = burst; address = address; command = command }
+  header long = record { kind = frame; long = long; primary = primary; burst = burst; address = address; command = command }
 
   at-count-short : address ≤ 63 → AtCount (header false) b
   unfolding AtCount heardShort header if_then_else_
@@ -103,7 +103,7 @@ module _ (b : List ℕ) (frame : ℕ) (primary burst : Bool) (address command : 
       let q : (x / 64 % 2 =? 1) ≡ burst = burst-back primary burst address below in
       let a : x % 64 ≡ address = bits-back primary burst address below in
       let d : ℕ = delimiterByte frame false in
-      let same : heardShort frame x command ≡ header false = λ i. record { frame = frame; long = false; primary = p i; burst = q i; address = a i; command = command } in
+      let same : heardShort frame x command ≡ header false = λ i. record { kind = frame; long = false; primary = p i; burst = q i; address = a i; command = command } in
       subst (λ (h : Header). Leads (opened frame false d) b (x ∷ command ∷ []) (atCountWith h (xorFrom d (x ∷ command ∷ []))) b) same (short-leads b frame d x command)
 
   at-count-long : address < 2 ^ 38 → AtCount (header true) b
@@ -122,7 +122,7 @@ module _ (b : List ℕ) (frame : ℕ) (primary burst : Bool) (address command : 
       ap (λ (n : ℕ). more (more (more (more n b2) b3) b4) b5) (bits-back primary burst bits below) ∙ address-more address small in
       let d : ℕ = delimiterByte frame true in
       let bytes : List ℕ = x ∷ b2 ∷ b3 ∷ b4 ∷ b5 ∷ command ∷ [] in
-      let same : heardLong frame x b2 b3 b4 b5 command ≡ header true = λ i. record { frame = frame; long = true; primary = p i; burst = q i; address = a i; command = command } in
+      let same : heardLong frame x b2 b3 b4 b5 command ≡ header true = λ i. record { kind = frame; long = true; primary = p i; burst = q i; address = a i; command = command } in
       subst (λ (h : Header). Leads (opened frame true d) b bytes (atCountWith h (xorFrom d bytes)) b) same (long-leads b frame d x b2 b3 b4 b5 command)
 
 at-count : (h : Header) (b : List ℕ) → h .address ≤ largestAddress (h .long) → AtCount h b
@@ -131,48 +131,48 @@ at-count h b small = go (h .long) refl
   where
     go : (l : Bool) → h .long ≡ l → AtCount h b
     go true e =
-        let same : h ≡ header b (h .frame) (h .primary) (h .burst) (h .address) (h .command) true =
-        λ i. record { frame = h .frame; long = e i; primary = h .primary; burst = h .burst; address = h .address; command = h .command } in
-        subst (λ (g : Header). AtCount g b) (sym same) (at-count-long b (h .frame) (h .primary) (h .burst) (h .address) (h .command) (omega (arith, if-is-true {A = ℕ} (h .long) (2 ^ 38 - 1) 63 e)))
+        let same : h ≡ header b (h .kind) (h .primary) (h .burst) (h .address) (h .command) true =
+        λ i. record { kind = h .kind; long = e i; primary = h .primary; burst = h .burst; address = h .address; command = h .command } in
+        subst (λ (g : Header). AtCount g b) (sym same) (at-count-long b (h .kind) (h .primary) (h .burst) (h .address) (h .command) (omega (arith, if-is-true {A = ℕ} (h .long) (2 ^ 38 - 1) 63 e)))
     go false e =
-        let same : h ≡ header b (h .frame) (h .primary) (h .burst) (h .address) (h .command) false =
-        λ i. record { frame = h .frame; long = e i; primary = h .primary; burst = h .burst; address = h .address; command = h .command } in
-        subst (λ (g : Header). AtCount g b) (sym same) (at-count-short b (h .frame) (h .primary) (h .burst) (h .address) (h .command) (omega (arith, if-is-false {A = ℕ} (h .long) (2 ^ 38 - 1) 63 e)))
+        let same : h ≡ header b (h .kind) (h .primary) (h .burst) (h .address) (h .command) false =
+        λ i. record { kind = h .kind; long = e i; primary = h .primary; burst = h .burst; address = h .address; command = h .command } in
+        subst (λ (g : Header). AtCount g b) (sym same) (at-count-short b (h .kind) (h .primary) (h .burst) (h .address) (h .command) (omega (arith, if-is-false {A = ℕ} (h .long) (2 ^ 38 - 1) 63 e)))
 
 -- the byte count and the data
-count-leads : (h : Header) (sum : ℕ) (b bytes : List ℕ) → tooFew (h .frame) (length bytes) ≡ false → length bytes ≤ 255
+count-leads : (h : Header) (sum : ℕ) (b bytes : List ℕ) → tooFew (h .kind) (length bytes) ≡ false → length bytes ≤ 255
     → Leads (atCountWith h sum) b (length bytes ∷ bytes) (atEnd h 0 (length bytes) (xorFrom sum (length bytes ∷ bytes))) (stored b 0 bytes)
 unfolding taken takenData atCount xorFrom stored
-count-leads h sum b [] enough small = hears (sym (if-false (tooFew (h .frame) 0) _ _ _ enough (if-equal 0 0 _ _ _ refl refl))) refl stays
+count-leads h sum b [] enough small = hears (sym (if-false (tooFew (h .kind) 0) _ _ _ enough (if-equal 0 0 _ _ _ refl refl))) refl stays
 count-leads h sum b (c ∷ cs) enough small =
     let n : ℕ = length (c ∷ cs) in
-    hears (sym (if-false (tooFew (h .frame) n) _ _ _ enough (if-unequal n 0 _ _ _ (omega arith) refl))) refl
+    hears (sym (if-false (tooFew (h .kind) n) _ _ _ enough (if-unequal n 0 _ _ _ (omega arith) refl))) refl
     (data-leads h 0 n 0 (bitXor sum n) b c cs (omega arith) small)
 
 -- the protected bytes, as the reader goes through them
 regroup : (h : Header) (bytes : List ℕ)
-    → protectedBytes h bytes ≡ delimiterByte (h .frame) (h .long) ∷ ((addressBytes h ++ (h .command ∷ [])) ++ (length bytes ∷ bytes))
+    → protectedBytes h bytes ≡ delimiterByte (h .kind) (h .long) ∷ ((addressBytes h ++ (h .command ∷ [])) ++ (length bytes ∷ bytes))
 unfolding protectedBytes headerBytes
 regroup h bytes =
     let tail : List ℕ = length bytes ∷ bytes in
-    ap (λ (l : List ℕ). delimiterByte (h .frame) (h .long) ∷ l)
+    ap (λ (l : List ℕ). delimiterByte (h .kind) (h .long) ∷ l)
     (append-assoc (addressBytes h) (h .command ∷ length bytes ∷ []) bytes ∙ sym (append-assoc (addressBytes h) (h .command ∷ []) tail))
 
 sum-is : (h : Header) (bytes : List ℕ)
-    → xorFrom (xorFrom (delimiterByte (h .frame) (h .long)) (addressBytes h ++ (h .command ∷ []))) (length bytes ∷ bytes) ≡ exclusiveOr (protectedBytes h bytes)
+    → xorFrom (xorFrom (delimiterByte (h .kind) (h .long)) (addressBytes h ++ (h .command ∷ []))) (length bytes ∷ bytes) ≡ exclusiveOr (protectedBytes h bytes)
 unfolding xorFrom
 sum-is h bytes =
-    let d : ℕ = delimiterByte (h .frame) (h .long) in
+    let d : ℕ = delimiterByte (h .kind) (h .long) in
     sym (xor-append d (addressBytes h ++ (h .command ∷ [])) (length bytes ∷ bytes))
     ∙ ap (λ (x : ℕ). xorFrom x ((addressBytes h ++ (h .command ∷ [])) ++ (length bytes ∷ bytes))) (sym (xor-zero-l d))
     ∙ ap exclusiveOr (sym (regroup h bytes))
 
 -- a message that can be heard: the fields of a frame that can be written, whatever its preamble
 pub record Heard (h : Header) (bytes : List ℕ) : Type 0 where
-  pub typed : isType (h .frame) ≡ true
+  pub typed : isType (h .kind) ≡ true
   pub address-high : h .address ≤ largestAddress (h .long)
   pub count-high : length bytes ≤ 255
-  pub enough : tooFew (h .frame) (length bytes) ≡ false
+  pub enough : tooFew (h .kind) (length bytes) ≡ false
 
 abbrev pub wholeMessage : Header → List ℕ → Whole
 wholeMessage h bytes = record { header = h; expansion = 0; count = length bytes }
@@ -190,8 +190,8 @@ frame-leads preamble h bytes b two ok = go preamble two
     body : Leads (blank (Preamble 2)) b (protectedBytes h bytes) (beforeCheck h bytes) (stored b 0 bytes)
     body =
         subst (λ (l : List ℕ). Leads (blank (Preamble 2)) b l (beforeCheck h bytes) (stored b 0 bytes)) (sym (regroup h bytes))
-        (subst (λ (x : ℕ). Leads (blank (Preamble 2)) b (delimiterByte (h .frame) (h .long) ∷ ((addressBytes h ++ (h .command ∷ [])) ++ (length bytes ∷ bytes))) (atEnd h 0 (length bytes) x) (stored b 0 bytes)) (sum-is h bytes)
-        (leads-on (delimiter-leads b (h .frame) (h .long) (ok .typed))
+        (subst (λ (x : ℕ). Leads (blank (Preamble 2)) b (delimiterByte (h .kind) (h .long) ∷ ((addressBytes h ++ (h .command ∷ [])) ++ (length bytes ∷ bytes))) (atEnd h 0 (length bytes) x) (stored b 0 bytes)) (sum-is h bytes)
+        (leads-on (delimiter-leads b (h .kind) (h .long) (ok .typed))
         (leads-on (at-count h b (ok .address-high)) (count-leads h _ b bytes (ok .enough) (ok .count-high)))))
 
     go : (n : ℕ) → 2 ≤ n → Leads idle b (preambleBytes n ++ protectedBytes h bytes) (beforeCheck h bytes) (stored b 0 bytes)

@@ -28,7 +28,7 @@ use Rattle.line.specs.declared.Taken.{Taken}
 
 -- a reader at a place, which holds nothing of a frame
 abbrev pub noHeader : Header
-noHeader = record { frame = 0; long = false; primary = false; burst = false; address = 0; command = 0 }
+noHeader = record { kind = 0; long = false; primary = false; burst = false; address = 0; command = 0 }
 
 abbrev pub noDamage : FrameDamage
 noDamage = record { parity = false; overrun = false; framing = false; check = false; address = false }
@@ -95,7 +95,7 @@ begins c Not = breaks
 begins c (Is frame long expansion) =
     tells (record {
       place = First;
-      header = record { frame = frame; long = long; primary = false; burst = false; address = 0; command = 0 };
+      header = record { kind = frame; long = long; primary = false; burst = false; address = 0; command = 0 };
       expansion = expansion;
       count = 0;
       sum = c;
@@ -113,7 +113,7 @@ behindAddress r = if r .expansion =? 0 then Command else Expansion (r .expansion
 
 -- the first address byte: master bit, burst flag, six bits
 abbrev pub firstHeader : Header → ℕ → Header
-firstHeader h c = record { frame = h .frame; long = h .long; primary = (c / 128 =? 1); burst = (c / 64 % 2 =? 1); address = c % 64; command = h .command }
+firstHeader h c = record { kind = h .kind; long = h .long; primary = (c / 128 =? 1); burst = (c / 64 % 2 =? 1); address = c % 64; command = h .command }
 
 unfoldable pub atFirst : Receiver → ℕ → Taken
 atFirst r c = if r .header .long then next r (firstHeader (r .header) c) (Address 4) c else next r (firstHeader (r .header) c) (behindAddress r) c
@@ -121,7 +121,7 @@ atFirst r c = if r .header .long then next r (firstHeader (r .header) c) (Addres
 -- another address byte: the address so far, and eight more bits
 abbrev pub addressHeader : Header → ℕ → Header
 addressHeader h c =
-    record { frame = h .frame; long = h .long; primary = h .primary; burst = h .burst; address = h .address % 2 ^ 32 * 256 + c; command = h .command }
+    record { kind = h .kind; long = h .long; primary = h .primary; burst = h .burst; address = h .address % 2 ^ 32 * 256 + c; command = h .command }
 
 unfoldable pub atAddress : Receiver → ℕ → ℕ → Taken
 atAddress r n c = if 1 <? n then next r (addressHeader (r .header) c) (Address (n - 1)) c else next r (addressHeader (r .header) c) (behindAddress r) c
@@ -130,7 +130,7 @@ unfoldable pub atExpansion : Receiver → ℕ → ℕ → Taken
 atExpansion r n c = if 1 <? n then next r (r .header) (Expansion (n - 1)) c else next r (r .header) Command c
 
 abbrev pub commandHeader : Header → ℕ → Header
-commandHeader h c = record { frame = h .frame; long = h .long; primary = h .primary; burst = h .burst; address = h .address; command = c }
+commandHeader h c = record { kind = h .kind; long = h .long; primary = h .primary; burst = h .burst; address = h .address; command = c }
 
 unfoldable pub atCommand : Receiver → ℕ → Taken
 atCommand r c = next r (commandHeader (r .header) c) Count c
@@ -141,7 +141,7 @@ counted r c place =
     tells (record { place = place; header = r .header; expansion = r .expansion; count = c; sum = summed r c; damage = r .damage; gap = false }) Nothing
 
 unfoldable pub atCount : Receiver → ℕ → Taken
-atCount r c = if tooFew (r .header .frame) c then breaks else if c =? 0 then counted r c Check else counted r c (Data 0)
+atCount r c = if tooFew (r .header .kind) c then breaks else if c =? 0 then counted r c Check else counted r c (Data 0)
 
 -- a data byte: whatever it is, it starts no other frame
 unfoldable pub atData : Receiver → ℕ → ℕ → Taken

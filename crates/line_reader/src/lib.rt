@@ -20,7 +20,7 @@ pub fn copy_header(h: Header) -> Header
     ensures { λ r. ⌜ r ≡ h ⌝ }
 {
     Header {
-        frame: h.frame,
+        kind: h.kind,
         long: h.long,
         primary: h.primary,
         burst: h.burst,
@@ -77,7 +77,7 @@ fn blank_at(place: Place) -> Receiver
     ensures { λ r. ⌜ r ≡ blank place ⌝ }
 {
     let header = Header {
-        frame: 0,
+        kind: 0,
         long: false,
         primary: false,
         burst: false,
@@ -236,7 +236,7 @@ fn begun(c: u8, frame: u8, long: bool, expansion: u8) -> Taken
 {
     let damage = undamaged();
     let header = Header {
-        frame: frame,
+        kind: frame,
         long: long,
         primary: false,
         burst: false,
@@ -290,7 +290,7 @@ fn first_header(h: Header, c: u8) -> Header
     ensures { λ r. ⌜ r ≡ firstHeader h c ⌝ }
 {
     Header {
-        frame: h.frame,
+        kind: h.kind,
         long: h.long,
         primary: c / 128 == 1,
         burst: c / 64 % 2 == 1,
@@ -314,7 +314,7 @@ fn address_header(h: Header, c: u8) -> Header
     ensures { λ r. ⌜ r ≡ addressHeader h c ⌝ }
 {
     Header {
-        frame: h.frame,
+        kind: h.kind,
         long: h.long,
         primary: h.primary,
         burst: h.burst,
@@ -348,7 +348,7 @@ fn command_header(h: Header, c: u8) -> Header
     ensures { λ r. ⌜ r ≡ commandHeader h c ⌝ }
 {
     Header {
-        frame: h.frame,
+        kind: h.kind,
         long: h.long,
         primary: h.primary,
         burst: h.burst,
@@ -388,7 +388,7 @@ fn at_count(r: Receiver, c: u8) -> Taken
     ensures { λ t. ⌜ t ≡ atCount r c ⌝ }
 {
     let h = r.header;
-    if frame::too_few(h.frame, c as usize) {
+    if frame::too_few(h.kind, c as usize) {
         return broken();
     }
     if c == 0 {

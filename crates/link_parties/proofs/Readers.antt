@@ -119,12 +119,12 @@ places-equal p q e =
 headers-equal : (a b : Header) → sameHeader a b ≡ true → a ≡ b
 headers-equal a b e =
     let x = both (a .address =? b .address) _ e in
-    let y = both (a .frame =? b .frame) _ (x .1) in
+    let y = both (a .kind =? b .kind) _ (x .1) in
     let z = both (a .command =? b .command) _ (y .1) in
     let u = both (sameBit (a .long) (b .long)) _ (z .1) in
     let v = both (sameBit (a .primary) (b .primary)) _ (u .1) in
     λ i. record {
-      frame = eqb-true (a .frame) (b .frame) (y .0) i;
+      kind = eqb-true (a .kind) (b .kind) (y .0) i;
       long = bits-equal (a .long) (b .long) (u .0) i;
       primary = bits-equal (a .primary) (b .primary) (v .0) i;
       burst = bits-equal (a .burst) (b .burst) (v .1) i;

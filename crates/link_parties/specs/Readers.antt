@@ -60,7 +60,7 @@ sameHeaderFlags a b = if sameBit (a .long) (b .long) then (if sameBit (a .primar
 abbrev pub sameHeader : Header → Header → Bool
 sameHeader a b =
     if a .address =? b .address then
-    (if a .frame =? b .frame then
+    (if a .kind =? b .kind then
     (if a .command =? b .command then sameHeaderFlags a b else false) else false) else false
 
 abbrev pub sameCheckDamage : FrameDamage → FrameDamage → Bool

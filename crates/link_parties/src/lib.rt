@@ -357,7 +357,7 @@ fn same_header(a: Header, b: Header) -> bool
     ensures { λ r. ⌜ r ≡ sameHeader a b ⌝ }
 {
     if a.address == b.address {
-        if a.frame == b.frame {
+        if a.kind == b.kind {
             if a.command == b.command {
                 return same_header_flags(a, b);
             }

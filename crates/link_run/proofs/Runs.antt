@@ -78,13 +78,13 @@ silent = record { for-primary = no-request; for-secondary = no-request; for-devi
 
 -- in tick 35 the primary reports its message as answered
 pub reported : linkTick 255 (linkBehind 255 (lentFresh link) (take 35 calls)) (getD calls 35 silent) .for-primary .told
-    ≡ Answered (record { header = record { frame = ack; long = true; primary = true; burst = true; address = 2; command = 3 }; expansion = 0; count = 2 })
+    ≡ Answered (record { header = record { kind = ack; long = true; primary = true; burst = true; address = 2; command = 3 }; expansion = 0; count = 2 })
 unfolding linkBehind link bytes short devicesFrom ticksFrom callsIn slotsIn behind behindCall linkTick deviceTicks sides carried masterTick deviceTick requested requestedUpTo masterTakes masterSends deviceTakes deviceSends answered contentGiven taken takenData atIdle atPreamble atFirst atAddress atExpansion atCommand atCount atData atCheck writeBuffer writeAnswer frameBytes preambleBytes bodyBytes protectedBytes headerBytes xorFrom delimiterOf stored if_then_else_
 reported = refl
 
 -- in tick 51 it finds the BACK whole
 pub back-found : foundBy (linkBehind 255 (lentFresh link) (take 51 calls) .primary) (linkBehind 255 (lentFresh link) (take 51 calls) .line)
-    ≡ Frame (record { header = record { frame = back; long = true; primary = true; burst = true; address = 2; command = 3 }; expansion = 0; count = 2 })
+    ≡ Frame (record { header = record { kind = back; long = true; primary = true; burst = true; address = 2; command = 3 }; expansion = 0; count = 2 })
 unfolding linkBehind link bytes short devicesFrom ticksFrom callsIn slotsIn behind behindCall linkTick deviceTicks sides carried masterTick deviceTick requested requestedUpTo masterTakes masterSends deviceTakes deviceSends answered contentGiven taken takenData atIdle atPreamble atFirst atAddress atExpansion atCommand atCount atData atCheck writeBuffer writeAnswer frameBytes preambleBytes bodyBytes protectedBytes headerBytes xorFrom delimiterOf stored if_then_else_
 back-found = refl
 

@@ -38,7 +38,7 @@ abbrev pub absentRequest : Request
 absentRequest = record { preamble = 5; revision = 7; long = true; address = 8; command = 3 }
 
 abbrev pub toldRequest : Whole
-toldRequest = record { header = record { frame = stx; long = true; primary = false; burst = false; address = 3; command = 3 }; expansion = 0; count = 0 }
+toldRequest = record { header = record { kind = stx; long = true; primary = false; burst = false; address = 3; command = 3 }; expansion = 0; count = 0 }
 
 pub calls-long : length openingCalls ≡ 400
 unfolding openingCalls callsFrom

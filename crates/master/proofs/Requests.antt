@@ -66,7 +66,7 @@ module _ (preamble : ℕ) (h : Header) (bytes frame after : List ℕ) (r : Writt
       absurd (omega arith)
 
 -- an STX that no test refuses can be written
-pub stx-fits : (limit polling preamble : ℕ) (h : Header) (count : ℕ) (s : Bool) → limit < 256 → Fitting polling preamble → s ≡ addressAbove polling h → s ≡ false → count ≤ limit → h .frame ≡ stx → Fits preamble h count
+pub stx-fits : (limit polling preamble : ℕ) (h : Header) (count : ℕ) (s : Bool) → limit < 256 → Fitting polling preamble → s ≡ addressAbove polling h → s ≡ false → count ≤ limit → h .kind ≡ stx → Fits preamble h count
 stx-fits limit polling preamble h count s b w q f n t = record {
   preamble-low = w .preamble-low;
   preamble-high = w .preamble-high;

@@ -155,7 +155,7 @@ fn request_up_to(
     let g = m.message;
     let stage = g.stage;
     let h = Header {
-        frame: frame::STX,
+        kind: frame::STX,
         long: q.long,
         primary: m.primary,
         burst: false,
@@ -317,7 +317,7 @@ fn no_message() -> Message
     ensures { λ g. ⌜ g ≡ noMessage ⌝ }
 {
     let header = Header {
-        frame: 0,
+        kind: 0,
         long: false,
         primary: false,
         burst: false,

@@ -137,7 +137,7 @@ fn end_words(limit: u8, m: Master) -> [u64; 12]
     [
         n.long as u64,
         n.address,
-        h.frame as u64,
+        h.kind as u64,
         h.long as u64,
         h.primary as u64,
         h.burst as u64,

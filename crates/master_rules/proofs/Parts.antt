@@ -42,31 +42,31 @@ module _ (m : Master) (h : Header) (t : Timer) (burst : Bool) where
   behind-is e p q = q ∙ ap (λ (x : EndedForMaster). timerAfter (m .profile) (m .primary) x burst) (sym p)
 
   module _ (own : Bool) (is : own ≡ toItself m h) where
-    pub back-own : h .frame ≡ back → own ≡ true → t ≡ burstTimer (m .profile) (m .primary) 0 → t ≡ timerAfter (m .profile) (m .primary) (endedBy m h) burst
-    back-own f o = behind-is back-to-itself (if-is-true (h .frame =? back) _ _ (eq-eqb (h .frame) back f) ∙ if-is-true (toItself m h) _ _ (sym is ∙ o))
+    pub back-own : h .kind ≡ back → own ≡ true → t ≡ burstTimer (m .profile) (m .primary) 0 → t ≡ timerAfter (m .profile) (m .primary) (endedBy m h) burst
+    back-own f o = behind-is back-to-itself (if-is-true (h .kind =? back) _ _ (eq-eqb (h .kind) back f) ∙ if-is-true (toItself m h) _ _ (sym is ∙ o))
 
-    pub back-other : h .frame ≡ back → own ≡ false → t ≡ burstTimer (m .profile) (m .primary) 1 → t ≡ timerAfter (m .profile) (m .primary) (endedBy m h) burst
-    back-other f o = behind-is back-to-other (if-is-true (h .frame =? back) _ _ (eq-eqb (h .frame) back f) ∙ if-is-false (toItself m h) _ _ (sym is ∙ o))
+    pub back-other : h .kind ≡ back → own ≡ false → t ≡ burstTimer (m .profile) (m .primary) 1 → t ≡ timerAfter (m .profile) (m .primary) (endedBy m h) burst
+    back-other f o = behind-is back-to-other (if-is-true (h .kind =? back) _ _ (eq-eqb (h .kind) back f) ∙ if-is-false (toItself m h) _ _ (sym is ∙ o))
 
-    pub ack-own : (h .frame ≡ back → ⊥) → burst ≡ false → h .frame ≡ ack → own ≡ true → t ≡ timer (m .profile .rt2) → t ≡ timerAfter (m .profile) (m .primary) (endedBy m h) burst
+    pub ack-own : (h .kind ≡ back → ⊥) → burst ≡ false → h .kind ≡ ack → own ≡ true → t ≡ timer (m .profile .rt2) → t ≡ timerAfter (m .profile) (m .primary) (endedBy m h) burst
     ack-own b c f o q =
-        behind-is ack-to-itself (if-is-false (h .frame =? back) _ _ (ne-eqb (h .frame) back b) ∙ if-is-true (h .frame =? ack) _ _ (eq-eqb (h .frame) ack f) ∙ if-is-true (toItself m h) _ _ (sym is ∙ o))
+        behind-is ack-to-itself (if-is-false (h .kind =? back) _ _ (ne-eqb (h .kind) back b) ∙ if-is-true (h .kind =? ack) _ _ (eq-eqb (h .kind) ack f) ∙ if-is-true (toItself m h) _ _ (sym is ∙ o))
         (q ∙ ap (timerAfter (m .profile) (m .primary) ack-to-itself) (sym c))
 
-    pub ack-other : (h .frame ≡ back → ⊥) → burst ≡ false → h .frame ≡ ack → own ≡ false → t ≡ timer 1 → t ≡ timerAfter (m .profile) (m .primary) (endedBy m h) burst
+    pub ack-other : (h .kind ≡ back → ⊥) → burst ≡ false → h .kind ≡ ack → own ≡ false → t ≡ timer 1 → t ≡ timerAfter (m .profile) (m .primary) (endedBy m h) burst
     ack-other b c f o q =
-        behind-is ack-to-other (if-is-false (h .frame =? back) _ _ (ne-eqb (h .frame) back b) ∙ if-is-true (h .frame =? ack) _ _ (eq-eqb (h .frame) ack f) ∙ if-is-false (toItself m h) _ _ (sym is ∙ o))
+        behind-is ack-to-other (if-is-false (h .kind =? back) _ _ (ne-eqb (h .kind) back b) ∙ if-is-true (h .kind =? ack) _ _ (eq-eqb (h .kind) ack f) ∙ if-is-false (toItself m h) _ _ (sym is ∙ o))
         (q ∙ ap (timerAfter (m .profile) (m .primary) ack-to-other) (sym c))
 
-  pub other-clear : (h .frame ≡ back → ⊥) → burst ≡ false → (h .frame ≡ ack → ⊥) → t ≡ timer (ownRt1 (m .profile) (m .primary)) → t ≡ timerAfter (m .profile) (m .primary) (endedBy m h) burst
+  pub other-clear : (h .kind ≡ back → ⊥) → burst ≡ false → (h .kind ≡ ack → ⊥) → t ≡ timer (ownRt1 (m .profile) (m .primary)) → t ≡ timerAfter (m .profile) (m .primary) (endedBy m h) burst
   other-clear b c f q =
-      behind-is any-stx (if-is-false (h .frame =? back) _ _ (ne-eqb (h .frame) back b) ∙ if-is-false (h .frame =? ack) _ _ (ne-eqb (h .frame) ack f)) (q ∙ ap (timerAfter (m .profile) (m .primary) any-stx) (sym c))
+      behind-is any-stx (if-is-false (h .kind =? back) _ _ (ne-eqb (h .kind) back b) ∙ if-is-false (h .kind =? ack) _ _ (ne-eqb (h .kind) ack f)) (q ∙ ap (timerAfter (m .profile) (m .primary) any-stx) (sym c))
 
-  pub other-set : (h .frame ≡ back → ⊥) → burst ≡ true → t ≡ burstTimer (m .profile) (m .primary) 0 → t ≡ timerAfter (m .profile) (m .primary) (endedBy m h) burst
+  pub other-set : (h .kind ≡ back → ⊥) → burst ≡ true → t ≡ burstTimer (m .profile) (m .primary) 0 → t ≡ timerAfter (m .profile) (m .primary) (endedBy m h) burst
   unfolding if_then_else_
   other-set b c q =
-      let e : endedBy m h ≡ (if h .frame =? ack then (if toItself m h then ack-to-itself else ack-to-other) else any-stx) = if-is-false (h .frame =? back) _ _ (ne-eqb (h .frame) back b) in
-      q ∙ by (h .frame =? ack) (toItself m h) ∙ sym (λ i. timerAfter (m .profile) (m .primary) (e i) (c i))
+      let e : endedBy m h ≡ (if h .kind =? ack then (if toItself m h then ack-to-itself else ack-to-other) else any-stx) = if-is-false (h .kind =? back) _ _ (ne-eqb (h .kind) back b) in
+      q ∙ by (h .kind =? ack) (toItself m h) ∙ sym (λ i. timerAfter (m .profile) (m .primary) (e i) (c i))
     where
       by : (a own : Bool) → burstTimer (m .profile) (m .primary) 0 ≡ timerAfter (m .profile) (m .primary) (if a then (if own then ack-to-itself else ack-to-other) else any-stx) true
       by true true = refl

@@ -209,10 +209,10 @@ fn names_device(h: Header) -> bool
 pub fn burst_after(burst: bool, noted: Noted, h: Header) -> bool
     ensures { λ r. ⌜ r ≡ burstAfter burst noted h ⌝ }
 {
-    if h.frame == frame::BACK {
+    if h.kind == frame::BACK {
         return true;
     }
-    if h.frame == frame::ACK {
+    if h.kind == frame::ACK {
         if h.burst {
             return true;
         }
@@ -231,10 +231,10 @@ pub fn burst_after(burst: bool, noted: Noted, h: Header) -> bool
 pub fn noted_after(noted: Noted, h: Header) -> Noted
     ensures { λ n. ⌜ n ≡ notedAfter noted h ⌝ }
 {
-    if h.frame == frame::BACK {
+    if h.kind == frame::BACK {
         return address_of(h);
     }
-    if h.frame == frame::ACK {
+    if h.kind == frame::ACK {
         if h.burst {
             if names_device(h) {
                 return address_of(h);
@@ -264,7 +264,7 @@ pub fn timer_after(m: Master, burst: bool, h: Header) -> Timer
     ensures { λ t. ⌜ t ≡ timerAfter (m .profile) (m .primary) (endedBy m h) burst ⌝ }
 {
     let p = m.profile;
-    if h.frame == frame::BACK {
+    if h.kind == frame::BACK {
         if to_itself(m, h) {
             return burst_timer(m, 0);
         }
@@ -273,7 +273,7 @@ pub fn timer_after(m: Master, burst: bool, h: Header) -> Timer
     if burst {
         return burst_timer(m, 0);
     }
-    if h.frame == frame::ACK {
+    if h.kind == frame::ACK {
         if to_itself(m, h) {
             return timer_of(p.rt2 as u32);
         }
@@ -348,7 +348,7 @@ fn is_answer(m: Master, h: Header) -> bool
 {
     let g = m.message;
     let q = g.header;
-    if h.frame == frame::ACK {
+    if h.kind == frame::ACK {
         if to_itself(m, h) {
             return same_request(q, h);
         }

@@ -49,7 +49,7 @@ unfolding lineText
 line-most l =
     let tick = word (decimal (l .tick)) in
     let party = word (decimal (l .party)) in
-    let type = word (typeName (l .header .frame)) in
+    let type = word (typeName (l .header .kind)) in
     let master = word (masterDigit (l .header .primary) ∷ []) in
     let last = decimal (l .length) ++ (10 ∷ []) in
     omega (
@@ -61,11 +61,11 @@ line-most l =
       length-append (decimal (l .length)) (10 ∷ []),
       word-length (decimal (l .tick)),
       word-length (decimal (l .party)),
-      word-length (typeName (l .header .frame)),
+      word-length (typeName (l .header .kind)),
       word-length (masterDigit (l .header .primary) ∷ []),
       decimal-most 10 (l .tick),
       decimal-most 10 (l .party),
-      type-most (l .header .frame),
+      type-most (l .header .kind),
       decimal-most 10 (l .length),
     )
 

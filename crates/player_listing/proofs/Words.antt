@@ -13,17 +13,17 @@ put-word d e before between after at m r p q same = subst (λ (b : ℕ). PutIs (
 
 -- a line, word by word
 pub put-line : (l : Line) (before a b c d e after : List ℕ) (at i j k m n r : ℕ)
-    → PutIs (word (decimal (l .tick))) before at i a → PutIs (word (decimal (l .party))) a i j b → PutIs (word (typeName (l .header .frame))) b j k c
+    → PutIs (word (decimal (l .tick))) before at i a → PutIs (word (decimal (l .party))) a i j b → PutIs (word (typeName (l .header .kind))) b j k c
     → PutIs (word (masterDigit (l .header .primary) ∷ [])) c k m d → PutIs (decimal (l .length)) d m n e → PutIs (10 ∷ []) e n r after
     → PutIs (lineText l) before at r after
 unfolding lineText
 put-line l before a b c d e after at i j k m n r p q s t u v =
     let last = decimal (l .length) ++ (10 ∷ []) in
     let master = word (masterDigit (l .header .primary) ∷ []) ++ last in
-    let type = word (typeName (l .header .frame)) ++ master in
+    let type = word (typeName (l .header .kind)) ++ master in
     let party = word (decimal (l .party)) ++ type in
     put-then (word (decimal (l .tick))) party before a after at i r p
     (put-then (word (decimal (l .party))) type a b after i j r q
-    (put-then (word (typeName (l .header .frame))) master b c after j k r s
+    (put-then (word (typeName (l .header .kind))) master b c after j k r s
     (put-then (word (masterDigit (l .header .primary) ∷ [])) last c d after k m r t
     (put-then (decimal (l .length)) (10 ∷ []) d e after m n r u v))))

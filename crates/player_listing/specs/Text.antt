@@ -35,7 +35,7 @@ unfoldable pub lineText : Line → List ℕ
 lineText l =
     word (decimal (l .tick))
     ++ (word (decimal (l .party))
-    ++ (word (typeName (l .header .frame))
+    ++ (word (typeName (l .header .kind))
     ++ (word (masterDigit (l .header .primary) ∷ [])
     ++ (decimal (l .length) ++ (10 ∷ [])))))
 

@@ -106,7 +106,7 @@ pub fn put_master_word(primary: bool, out: &mut [u8], at: usize) -> usize
 fn put_line(tick: u32, party: u16, header: Header, length: u16, out: &mut [u8], at: usize) -> usize
     ensures { λ r. ⌜ PutIs (lineText (lineOf tick party header length)) (before out) at r (after out) ⌝ }
 {
-    let frame = header.frame;
+    let frame = header.kind;
     let primary = header.primary;
     let a = put_number_word(tick, out, at);
     let b = put_number_word(party as u32, out, a);

@@ -144,7 +144,7 @@ data Turned (k : Change) : Type 0 where
 
 frame-turned : (d : Device) → Plain d → (w : Whole) → Turned (D.afterFrame d w)
 frame-turned d p w =
-    if-both Turned (w .header .frame =? stx) _ _
+    if-both Turned (w .header .kind =? stx) _ _
     (if-both Turned (w .expansion =? 0) _ _
     (if-both Turned (mayAnswer d (w .header)) _ _ (is-asked (ap (λ (q : Profile). Asked (q .sto)) (p .profile-is))) (if-both Turned (isBroadcast (w .header)) _ _ (listens refl) (listens refl)))
     (listens refl)) (listens refl)

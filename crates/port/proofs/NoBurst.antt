@@ -63,10 +63,10 @@ phase-clear x (S.wakes n c l d s w) = c .no-burst
 same-frame : (v w : Whole) → Frame v ≡ Frame w → v ≡ w
 same-frame v w e = cc
 
-frame-or : (v : Whole) (d : FrameDamage) → (t : Bool) → (v .header .frame =? back) ≡ t → NoBack (if t then Event.Damaged v d else Frame v)
+frame-or : (v : Whole) (d : FrameDamage) → (t : Bool) → (v .header .kind =? back) ≡ t → NoBack (if t then Event.Damaged v d else Frame v)
 unfolding if_then_else_
 frame-or v d true e w q f = let z : _≡_ {A = ℕ} 0 1 = cc in omega arith
-frame-or v d false e w q f = true-false (sym (eq-eqb (v .header .frame) back (ap (λ (u : Whole). u .header .frame) (same-frame v w q) ∙ f)) ∙ e)
+frame-or v d false e w q f = true-false (sym (eq-eqb (v .header .kind) back (ap (λ (u : Whole). u .header .kind) (same-frame v w q) ∙ f)) ∙ e)
 
 no-back-found : (m : Master) (bytes : List ℕ) (t : MasterTaken) (e : Event) → t .event ≡ e → NoBack (byFound m bytes t e .event)
 unfolding afterPortFrame
@@ -75,8 +75,8 @@ no-back-found m bytes t PassedOver q = λ w i f. let z : _≡_ {A = ℕ} 0 1 = c
 no-back-found m bytes t Broken q = λ w i f. let z : _≡_ {A = ℕ} 0 1 = cc in omega arith
 no-back-found m bytes t (Event.Damaged v d) q = λ w i f. let z : _≡_ {A = ℕ} 0 1 = cc in omega arith
 no-back-found m bytes t (Frame v) q =
-    if-cases (λ (u : MasterTaken). NoBack (u .event)) (v .header .frame =? back) _ _ (λ z w i f. let k : _≡_ {A = ℕ} 0 1 = cc in omega arith)
-    (λ z w i f. true-false (sym (eq-eqb (v .header .frame) back (ap (λ (u : Whole). u .header .frame) (same-frame v w i) ∙ f)) ∙ z))
+    if-cases (λ (u : MasterTaken). NoBack (u .event)) (v .header .kind =? back) _ _ (λ z w i f. let k : _≡_ {A = ℕ} 0 1 = cc in omega arith)
+    (λ z w i f. true-false (sym (eq-eqb (v .header .kind) back (ap (λ (u : Whole). u .header .kind) (same-frame v w i) ∙ f)) ∙ z))
 
 -- what was found stands in the step
 found-is : (limit : ℕ) (x : PortMasterSide) (heard : Heard) (call : MasterCall) → portMasterTick limit x heard call .event ≡ took (x .master .master) heard (masterData x heard) .event
@@ -276,7 +276,7 @@ counted-no-back : (e : Event) → NoBack (countedAs e)
 counted-no-back Nothing = λ w q f. let z : _≡_ {A = ℕ} 0 1 = cc in omega arith
 counted-no-back PassedOver = λ w q f. let z : _≡_ {A = ℕ} 0 1 = cc in omega arith
 counted-no-back Broken = λ w q f. let z : _≡_ {A = ℕ} 0 1 = cc in omega arith
-counted-no-back (Frame v) = frame-or v noDamage (v .header .frame =? back) refl
+counted-no-back (Frame v) = frame-or v noDamage (v .header .kind =? back) refl
 counted-no-back (Event.Damaged v d) = λ w q f. let z : _≡_ {A = ℕ} 0 1 = cc in omega arith
 
 passed-no-back : (heard : Heard) → NoBack (passedOver heard)

@@ -55,7 +55,7 @@ lastResult (s ∷ (t ∷ ss)) = lastResult (t ∷ ss)
 unfoldable pub answeredAt : ℕ → ℕ → CallResult
 answeredAt command k =
     lastResult (portDeviceRun 255 (device Awake 0)
-    (replicate 2 (hears Silence) ++ (carried (frameBytes 5 (record { frame = stx; long = true; primary = true; burst = false; address = 7; command = command }) [])
+    (replicate 2 (hears Silence) ++ (carried (frameBytes 5 (record { kind = stx; long = true; primary = true; burst = false; address = 7; command = command }) [])
     ++ (replicate (k - 2) (hears Silence) ++ (record { heard = Silence; call = gives-answer Same (0 ∷ 0 ∷ []) } ∷ [])))))
 
 pub t-52 : (answeredAt 0 52 ≡ was-taken) × (answeredAt 0 53 ≡ was-refused 8)

@@ -73,7 +73,7 @@ port-took retries frame {log} m heard bytes same p = go (t .event)
     go PassedOver = plain
     go Broken = plain
     go (Frame w) =
-        if-cases (A.Took retries frame log m) (w .header .frame =? back) _ _ (λ q. A.after-break retries frame m (t .master .receiver) (Damaged w noDamage) same p)
+        if-cases (A.Took retries frame log m) (w .header .kind =? back) _ _ (λ q. A.after-break retries frame m (t .master .receiver) (Damaged w noDamage) same p)
         (λ q. record {
           same-primary = refl;
           same-retries = refl;

@@ -57,13 +57,13 @@ damaged-no-answer w m = refl
 
 -- ---- "a BACK counts as a damaged frame", and no frame changes BURST
 
-pub back-damaged : (m : Master) (r : Receiver) (w : Whole) (bytes : List ℕ) → w .header .frame ≡ back → afterPortFrame m r w bytes ≡ afterBreak m r (Damaged w noDamage)
+pub back-damaged : (m : Master) (r : Receiver) (w : Whole) (bytes : List ℕ) → w .header .kind ≡ back → afterPortFrame m r w bytes ≡ afterBreak m r (Damaged w noDamage)
 unfolding afterPortFrame
-back-damaged m r w bytes e = if-is-true (w .header .frame =? back) _ _ (eq-eqb (w .header .frame) back e)
+back-damaged m r w bytes e = if-is-true (w .header .kind =? back) _ _ (eq-eqb (w .header .kind) back e)
 
 pub burst-stays : (m : Master) (r : Receiver) (w : Whole) (bytes : List ℕ) → afterPortFrame m r w bytes .master .burst ≡ m .burst
 unfolding afterPortFrame
-burst-stays m r w bytes = if-cases (λ (t : MasterTaken). t .master .burst ≡ m .burst) (w .header .frame =? back) _ _ (λ q. refl) (λ q. refl)
+burst-stays m r w bytes = if-cases (λ (t : MasterTaken). t .master .burst ≡ m .burst) (w .header .kind =? back) _ _ (λ q. refl) (λ q. refl)
 
 -- ---- "another preamble with 3"
 

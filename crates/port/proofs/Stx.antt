@@ -135,10 +135,10 @@ told-is limit heard t (gives-answer wish put) frame bytes = go (portAnswered lim
 same-answer : (d e : Device) (h : Header) → d .unique ≡ e .unique → d .polling ≡ e .polling → mayAnswer d h ≡ mayAnswer e h
 same-answer d e h u p = λ i. (if seeksTag h then true else (if h .long then u i =? h .address else (if p i =? h .address then h .command =? 0 else false)))
 
-told-request : (d : Device) (w : Whole) → w .header .frame ≡ stx → w .expansion ≡ 0 → mayAnswer d (w .header) ≡ true → afterFrame d w .told ≡ Request w
+told-request : (d : Device) (w : Whole) → w .header .kind ≡ stx → w .expansion ≡ 0 → mayAnswer d (w .header) ≡ true → afterFrame d w .told ≡ Request w
 told-request d w f x m =
     ap (λ (c : Change). c .told)
-    (if-is-true (w .header .frame =? stx) _ _ (eq-eqb (w .header .frame) stx f) ∙ if-is-true (w .expansion =? 0) _ _ (eq-eqb (w .expansion) 0 x) ∙ if-is-true (mayAnswer d (w .header)) _ _ m)
+    (if-is-true (w .header .kind =? stx) _ _ (eq-eqb (w .header .kind) stx f) ∙ if-is-true (w .expansion =? 0) _ _ (eq-eqb (w .expansion) 0 x) ∙ if-is-true (mayAnswer d (w .header)) _ _ m)
 
 pub stx-told : StxTold
 unfolding portDeviceTick

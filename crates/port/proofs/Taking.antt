@@ -289,11 +289,11 @@ module _ (m : Master) (bytes : List ℕ) (hears : m .deaf ≡ false) (c : Calm m
   rt1-runs n o e = runs o (omega (arith, e)) (omega (arith, e))
 
   -- behind a frame that is no BACK
-  frame-timer : (h : Header) → (h .frame =? back) ≡ false → (1 ≤ timerAfter (m .profile) (m .primary) (endedBy m h) (m .burst) .next) × (timerAfter (m .profile) (m .primary) (endedBy m h) (m .burst) .next ≤ infraredProfile .rt1p)
+  frame-timer : (h : Header) → (h .kind =? back) ≡ false → (1 ≤ timerAfter (m .profile) (m .primary) (endedBy m h) (m .burst) .next) × (timerAfter (m .profile) (m .primary) (endedBy m h) (m .burst) .next ≤ infraredProfile .rt1p)
   frame-timer h f =
       subst P (sym (ap (λ (b : Bool). timerAfter (m .profile) (m .primary) (endedBy m h) b) (c .no-burst) ∙ ap (λ (p : Profile). timerAfter p (m .primary) (endedBy m h) false) (c .profile-is)))
-      (if-cases Q (h .frame =? back) _ _ (λ q. absurd (true-false (sym q ∙ f)))
-      (λ q. if-cases Q (h .frame =? ack) _ _ (λ z. if-cases Q (toItself m h) _ _ (λ y. (omega arith, omega arith)) (λ y. (omega arith, omega arith)))
+      (if-cases Q (h .kind =? back) _ _ (λ q. absurd (true-false (sym q ∙ f)))
+      (λ q. if-cases Q (h .kind =? ack) _ _ (λ z. if-cases Q (toItself m h) _ _ (λ y. (omega arith, omega arith)) (λ y. (omega arith, omega arith)))
       (λ z. (omega (arith, own-is (m .primary)), omega (arith, own-is (m .primary))))))
     where
       P : Timer → Type 0
@@ -314,7 +314,7 @@ module _ (m : Master) (bytes : List ℕ) (hears : m .deaf ≡ false) (c : Calm m
   character-ends r Broken x = rt1-runs _ (x .without (λ e. let z : _≡_ {A = ℕ} 0 1 = cc in omega arith)) (ap (λ (t : Timer). t .next) (broken-timer m c))
   character-ends r (Frame w) x =
       let o = x .without (λ e. let z : _≡_ {A = ℕ} 0 1 = cc in omega arith) in
-      if-cases (λ (t : MasterTaken). Ends (infraredProfile .rt1p) (t .master)) (w .header .frame =? back) _ _ (λ q. rt1-runs _ o (ap (λ (t : Timer). t .next) (broken-timer m c))) (λ q. let z = frame-timer (w .header) q in runs o (z .0) (z .1))
+      if-cases (λ (t : MasterTaken). Ends (infraredProfile .rt1p) (t .master)) (w .header .kind =? back) _ _ (λ q. rt1-runs _ o (ap (λ (t : Timer). t .next) (broken-timer m c))) (λ q. let z = frame-timer (w .header) q in runs o (z .0) (z .1))
   character-ends r (Damaged w k) x = rt1-runs _ (x .without (λ e. let z : _≡_ {A = ℕ} 0 1 = cc in omega arith)) (ap (λ (t : Timer). t .next) (broken-timer m c))
 
   break-stays : (r : Receiver) (e : Event) → Stays m (afterBreak m r e .master)
@@ -330,7 +330,7 @@ module _ (m : Master) (bytes : List ℕ) (hears : m .deaf ≡ false) (c : Calm m
   character-stays r PassedOver = break-stays r PassedOver
   character-stays r Broken = break-stays r Broken
   character-stays r (Frame w) =
-      if-cases (λ (t : MasterTaken). Stays m (t .master)) (w .header .frame =? back) _ _ (λ q. break-stays r (Damaged w noDamage))
+      if-cases (λ (t : MasterTaken). Stays m (t .master)) (w .header .kind =? back) _ _ (λ q. break-stays r (Damaged w noDamage))
       (λ q. record {
         calm = record { profile-is = c .profile-is; no-burst = c .no-burst };
         still = over-still _ (awaited-over (m .message) (atFrame m w bytes) (m .message .stage) refl v (frame-over m w bytes));

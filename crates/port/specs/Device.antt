@@ -131,7 +131,7 @@ abbrev pub countedAs : Event → Event
 countedAs Nothing = Nothing
 countedAs PassedOver = PassedOver
 countedAs Broken = Broken
-countedAs (Frame w) = if w .header .frame =? back then Event.Damaged w noDamage else Frame w
+countedAs (Frame w) = if w .header .kind =? back then Event.Damaged w noDamage else Frame w
 countedAs (Event.Damaged w d) = Event.Damaged w d
 
 abbrev pub reads : DeviceTaken → DeviceTaken

@@ -33,7 +33,7 @@ use Rattle.port.specs.declared.PortMasterSent.{PortMasterSent}
 -- After a whole frame without damage. "[No] BURST ever set, and a BACK counts as a damaged frame"; else document 01's timer and message.
 unfoldable pub afterPortFrame : Master → Receiver → Whole → List ℕ → MasterTaken
 afterPortFrame m r w bytes =
-    if w .header .frame =? back then afterBreak m r (Damaged w noDamage) else
+    if w .header .kind =? back then afterBreak m r (Damaged w noDamage) else
     tells (masterWith m r (m .burst) (m .noted)
     (timerAfter (m .profile) (m .primary) (endedBy m (w .header)) (m .burst))
     (ifAwaiting (m .message .stage) (m .message) (atFrame m w bytes) .message))
@@ -53,7 +53,7 @@ abbrev pub endsAnswer : Event → Bool
 endsAnswer Nothing = false
 endsAnswer PassedOver = false
 endsAnswer Broken = false
-endsAnswer (Frame w) = w .header .frame =? ack
+endsAnswer (Frame w) = w .header .kind =? ack
 endsAnswer (Damaged w d) = false
 
 -- ticks since an answer's last character, which is taken in the tick after it; they are counted as long as the count matters

@@ -17,7 +17,7 @@ use Rattle.port.specs.Ticks.{PortMasterSide, PortMasterStep, MasterInput
 
 -- no BACK is told as a frame; that it counts as a damaged one is `back-damaged` in proofs/Sentences
 abbrev pub NoBack : Event → Type 0
-NoBack e = (w : Whole) → e ≡ Frame w → w .header .frame ≡ back → ⊥
+NoBack e = (w : Whole) → e ≡ Frame w → w .header .kind ≡ back → ⊥
 
 -- in every tick the master's BURST is clear, and no BACK is told as a frame
 pub data NeverSet : List PortMasterStep → Type 0 where

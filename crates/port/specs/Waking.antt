@@ -75,16 +75,16 @@ StaysAwake =
 
 -- the fields of a frame that can be written, whatever its preamble
 pub record CanBeHeard (h : Header) (put : List ℕ) : Type 0 where
-  pub typed : isType (h .frame) ≡ true
+  pub typed : isType (h .kind) ≡ true
   pub address-high : h .address ≤ largestAddress (h .long)
   pub count-high : length put ≤ 255
-  pub enough : tooFew (h .frame) (length put) ≡ false
+  pub enough : tooFew (h .kind) (length put) ≡ false
 
 -- An STX behind a wake-up, from the second character of its preamble on: it is told to the host of each device that heard the wake-up and may answer it, in the tick that takes its check byte, and nothing is sent or told before.
 abbrev pub StxTold : Type 0
 StxTold =
     (limit : ℕ) (x : PortDeviceSide) (h : Header) (put : List ℕ) (front : List DeviceInput) (call : PortCall) → ReadsPreamble x → CanBeHeard h put
-    → h .frame ≡ stx → mayAnswer (x .device .device) h ≡ true
+    → h .kind ≡ stx → mayAnswer (x .device .device) h ≡ true
     → Carries front (preambleBytes 4 ++ protectedBytes h put)
     → Quietly (portDeviceRun limit x front) × (portDeviceTick limit (afterTicks limit x front) (Character (exclusiveOr (protectedBytes h put))) call .told
     ≡ Request (record { header = h; expansion = 0; count = length put }))

@@ -321,7 +321,7 @@ fn frame_as(w: Whole) -> Event
     ensures { λ r. ⌜ r ≡ countedAs (Event.Frame w) ⌝ }
 {
     let h = w.header;
-    if h.frame == frame::BACK {
+    if h.kind == frame::BACK {
         return Event::Damaged(w, no_damage());
     }
     Event::Frame(w)

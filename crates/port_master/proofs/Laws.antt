@@ -64,13 +64,13 @@ clear-parts m n r w bytes t x e u v y z =
     λ i. record { master = master i; told = ending i .told; event = Frame w }
 
 module _ (m : Master) (r : Receiver) (w : Whole) (bytes : List ℕ) (x : MasterTaken) where
-  pub behind-back : (d : FrameDamage) → w .header .frame ≡ back → d ≡ noDamage → x ≡ afterBreak m r (Damaged w d) → x ≡ afterPortFrame m r w bytes
+  pub behind-back : (d : FrameDamage) → w .header .kind ≡ back → d ≡ noDamage → x ≡ afterBreak m r (Damaged w d) → x ≡ afterPortFrame m r w bytes
   unfolding afterPortFrame
-  behind-back d f e p = if-true (w .header .frame =? back) x _ _ (eq-eqb (w .header .frame) back f) (p ∙ ap (λ (k : FrameDamage). afterBreak m r (Damaged w k)) e)
+  behind-back d f e p = if-true (w .header .kind =? back) x _ _ (eq-eqb (w .header .kind) back f) (p ∙ ap (λ (k : FrameDamage). afterBreak m r (Damaged w k)) e)
 
-  pub behind-other : (w .header .frame ≡ back → ⊥) → x ≡ afterOther m r w bytes → x ≡ afterPortFrame m r w bytes
+  pub behind-other : (w .header .kind ≡ back → ⊥) → x ≡ afterOther m r w bytes → x ≡ afterPortFrame m r w bytes
   unfolding afterPortFrame
-  behind-other f p = if-false (w .header .frame =? back) x _ _ (ne-eqb (w .header .frame) back f) p
+  behind-other f p = if-false (w .header .kind =? back) x _ _ (ne-eqb (w .header .kind) back f) p
 
 pub by-found-at : (m : Master) (bytes : List ℕ) (t x : MasterTaken) (e f : Event) → e ≡ f → x ≡ byFound m bytes t f → x ≡ byFound m bytes t e
 by-found-at m bytes t x e f p q = q ∙ ap (byFound m bytes t) (sym p)

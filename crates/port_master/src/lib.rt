@@ -89,7 +89,7 @@ fn after_port_frame(m: Master, r: Receiver, w: Whole, bytes: &[u8; 255]) -> Mast
     ensures { λ t. ⌜ t ≡ afterPortFrame m r w (before bytes) ⌝ }
 {
     let h = w.header;
-    if h.frame == frame::BACK {
+    if h.kind == frame::BACK {
         return master::after_break(m, r, Event::Damaged(w, no_damage()));
     }
     after_other(m, r, w, bytes)
@@ -128,7 +128,7 @@ fn is_ack(w: Whole) -> bool
     ensures { λ r. ⌜ r ≡ endsAnswer (Event.Frame w) ⌝ }
 {
     let h = w.header;
-    h.frame == frame::ACK
+    h.kind == frame::ACK
 }
 
 // Ticks since an answer's last character.

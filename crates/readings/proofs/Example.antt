@@ -15,7 +15,7 @@ use Rattle.readings.specs.declared.Row.{Row}
 
 -- an ACK of a device and command 3 with so many data bytes
 abbrev ack : ℕ → ℕ → Whole
-ack address count = record { header = record { frame = 6; long = true; primary = true; burst = false; address = address; command = 3 }; expansion = 0; count = count }
+ack address count = record { header = record { kind = 6; long = true; primary = true; burst = false; address = address; command = 3 }; expansion = 0; count = count }
 
 abbrev heard : ℕ → ℕ → ℕ → List ℕ → Op
 heard tick address count bytes = told tick (Frame (ack address count)) bytes
@@ -67,7 +67,7 @@ too-long = refl
 -- a BACK of device 2 and command 3 to a master, or an ACK of it
 abbrev to-master : ℕ → ℕ → Bool → ℕ → List ℕ → Op
 to-master tick kind primary count bytes = told tick (Frame (record {
-  header = record { frame = kind; long = true; primary = primary; burst = false; address = 2; command = 3 };
+  header = record { kind = kind; long = true; primary = primary; burst = false; address = 2; command = 3 };
   expansion = 0;
   count = count;
 })) bytes

@@ -37,7 +37,7 @@ isReading w bytes =
     if w .header .address =? 0 then false else
     if 2 ^ 38 ≤? w .header .address then false else
     if w .count <? 2 then false else
-    if w .header .long then fromDevice (w .header .frame) else
+    if w .header .long then fromDevice (w .header .kind) else
     false
 
 -- ---- which row

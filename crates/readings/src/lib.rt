@@ -160,7 +160,7 @@ fn is_reading(w: Whole, bytes: &[u8; 255]) -> bool
         return false;
     }
     if h.long {
-        return frame::from_device(h.frame);
+        return frame::from_device(h.kind);
     }
     false
 }

@@ -72,7 +72,7 @@ damaged-most first last = omega (arith, length-append (ticksText first last) (10
 fields-most : (h : Header) (count : ℕ) → length (fieldsText h count) ≤ 69
 unfolding fieldsText
 fields-most h count =
-    let type = word (typeName (h .frame)) in
+    let type = word (typeName (h .kind)) in
     let master = word (masterDigit (h .primary) ∷ []) in
     let address = word (decimal (h .address)) in
     let command = word (decimal (h .command)) in
@@ -82,8 +82,8 @@ fields-most h count =
       length-append master (address ++ (command ++ decimal count)),
       length-append address (command ++ decimal count),
       length-append command (decimal count),
-      word-length (typeName (h .frame)),
-      type-most (h .frame),
+      word-length (typeName (h .kind)),
+      type-most (h .kind),
       word-length (masterDigit (h .primary) ∷ []),
       number-most (h .address),
       number-most (h .command),

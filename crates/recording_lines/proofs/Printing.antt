@@ -45,11 +45,11 @@ unfolding damagedLine
 put-damaged first last before a after at i r p q = put-then (ticksText first last) _ before a after at i r p q
 
 pub put-fields : (h : Header) (count : ℕ) (before a b c d after : List ℕ) (at i j k m r : ℕ)
-    → PutIs (word (typeName (h .frame))) before at i a → PutIs (word (masterDigit (h .primary) ∷ [])) a i j b → PutIs (word (decimal (h .address))) b j k c
+    → PutIs (word (typeName (h .kind))) before at i a → PutIs (word (masterDigit (h .primary) ∷ [])) a i j b → PutIs (word (decimal (h .address))) b j k c
     → PutIs (word (decimal (h .command))) c k m d → PutIs (decimal count) d m r after → PutIs (fieldsText h count) before at r after
 unfolding fieldsText
 put-fields h count before a b c d after at i j k m r p q s t u =
-    put-then (word (typeName (h .frame))) _ before a after at i r p
+    put-then (word (typeName (h .kind))) _ before a after at i r p
     (put-then (word (masterDigit (h .primary) ∷ [])) _ a b after i j r q
     (put-then (word (decimal (h .address))) _ b c after j k r s
     (put-then (word (decimal (h .command))) (decimal count) c d after k m r t u)))

@@ -32,7 +32,7 @@ damagedLine first last = ticksText first last ++ (100 ∷ 97 ∷ 109 ∷ 97 ∷ 
 -- type, master (0 primary), address, command, byte count
 unfoldable pub fieldsText : Header → ℕ → List ℕ
 fieldsText h count =
-    word (typeName (h .frame))
+    word (typeName (h .kind))
     ++ (word (masterDigit (h .primary) ∷ [])
     ++ (word (decimal (h .address))
     ++ (word (decimal (h .command))

@@ -80,7 +80,7 @@ fn put_damaged(first: u64, last: u64, out: &mut [u8], at: usize) -> usize
 fn put_fields(header: Header, count: u8, out: &mut [u8], at: usize) -> usize
     ensures { λ r. ⌜ PutIs (fieldsText header count) (before out) at r (after out) ⌝ }
 {
-    let frame = header.frame;
+    let frame = header.kind;
     let primary = header.primary;
     let address = header.address;
     let command = header.command;

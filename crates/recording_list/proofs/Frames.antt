@@ -365,7 +365,7 @@ count-small : (frame s v : ℕ) (b : Bool) (r : Receiver) → InHead frame 0 s b
 unfolding taken atCount
 count-small frame s v b r i z f h (as-character e) =
     ap (λ (p : Place). character p r (v / 256)) (count-place frame s b r i)
-    ∙ if-is-true (tooFew (r .header .frame) (v / 256)) _ _ (ap (λ (x : ℕ). tooFew x (v / 256)) (i .of-frame) ∙ f)
+    ∙ if-is-true (tooFew (r .header .kind) (v / 256)) _ _ (ap (λ (x : ℕ). tooFew x (v / 256)) (i .of-frame) ∙ f)
 count-small frame s v b r i z f h (as-damaged kind e) = absurd (e z)
 
 pub count-few : (recording : List ℕ) (u v frame s c : ℕ) (b few : Bool) (o : Outcome) → badRecording recording ≡ false → TickIs recording u v → (v ≡ 0 → ⊥) → 2 * u + 2 ≤ length recording → v % 256 ≡ 32
@@ -387,7 +387,7 @@ pub count-on : (frame s c : ℕ) (b : Bool) (r : Receiver) → InHead frame 0 s 
 unfolding taken atCount
 count-on frame s c b r i f =
     ap (λ (p : Place). character p r c) (count-place frame s b r i)
-    ∙ if-is-false (tooFew (r .header .frame) c) _ _ (ap (λ (x : ℕ). tooFew x c) (i .of-frame) ∙ f)
+    ∙ if-is-false (tooFew (r .header .kind) c) _ _ (ap (λ (x : ℕ). tooFew x c) (i .of-frame) ∙ f)
     ∙ counted-choice r c (c =? 0)
 
 count-taken : (frame s v : ℕ) (b : Bool) (r : Receiver) → InHead frame 0 s b r → v % 256 ≡ 32 → tooFew frame (v / 256) ≡ false → (h : Heard) → SoundAs v h → taken r h ≡ counted r (v / 256) (countedPlace (v / 256))

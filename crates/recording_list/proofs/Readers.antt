@@ -179,11 +179,11 @@ pub record HeadStep (frame n s : ℕ) (b : Bool) (t : Taken) : Type 0 where
   pub is : t ≡ tells reader Nothing
   pub still : InHead frame n s b reader
 
-head-next : (frame n s c : ℕ) (b : Bool) (r : Receiver) (h : Header) (place : Place) → Inside s b r → h .frame ≡ frame → HeadPlace (next r h place c .receiver) n → HeadStep frame n (bitXor s c) b (next r h place c)
+head-next : (frame n s c : ℕ) (b : Bool) (r : Receiver) (h : Header) (place : Place) → Inside s b r → h .kind ≡ frame → HeadPlace (next r h place c .receiver) n → HeadStep frame n (bitXor s c) b (next r h place c)
 head-next frame n s c b r h place v f p = record { reader = next r h place c .receiver; is = refl; still = record { place = p; of-frame = f; inside = inside-next s c b r h place v } }
 
 -- behind the address: expansion bytes, or the command
-head-behind : (frame n s c : ℕ) (b : Bool) (r : Receiver) (h : Header) → Inside s b r → h .frame ≡ frame → n ≡ r .expansion + 1 → HeadStep frame n (bitXor s c) b (next r h (behindAddress r) c)
+head-behind : (frame n s c : ℕ) (b : Bool) (r : Receiver) (h : Header) → Inside s b r → h .kind ≡ frame → n ≡ r .expansion + 1 → HeadStep frame n (bitXor s c) b (next r h (behindAddress r) c)
 head-behind frame n s c b r h v f e = go (r .expansion =? 0) refl
   where
     go : (t : Bool) → (r .expansion =? 0) ≡ t → HeadStep frame n (bitXor s c) b (next r h (behindAddress r) c)

@@ -77,7 +77,7 @@ led-character First r c n = led-if (r .header .long) _ _ (led-next r _ (Address 
 led-character (Address k) r c n = led-if (1 <? k) _ _ (led-next r _ (Address (k - 1)) c refl) (led-behind r _ c)
 led-character (Expansion k) r c n = led-if (1 <? k) _ _ (led-next r _ (Expansion (k - 1)) c refl) (led-next r _ Command c refl)
 led-character Command r c n = led-next r _ Count c refl
-led-character Count r c n = led-if (tooFew (r .header .frame) c) _ _ (breaks-off refl) (led-if (c =? 0) _ _ (led-counted r c Check refl) (led-counted r c (Data 0) refl))
+led-character Count r c n = led-if (tooFew (r .header .kind) c) _ _ (breaks-off refl) (led-if (c =? 0) _ _ (led-counted r c Check refl) (led-counted r c (Data 0) refl))
 led-character (Data k) r c n = led-if (k + 1 <? r .count) _ _ (led-next r _ (Data (k + 1)) c refl) (led-next r _ Check c refl)
 led-character Check r c n = ends (wholeOf r) (withCheck (r .damage) _) refl
 

@@ -139,7 +139,7 @@ pub record Inside (s : ℕ) (b : Bool) (r : Receiver) : Type 0 where
 
 pub record InHead (frame n s : ℕ) (b : Bool) (r : Receiver) : Type 0 where
   pub place : HeadPlace r n
-  pub of-frame : r .header .frame ≡ frame
+  pub of-frame : r .header .kind ≡ frame
   pub inside : Inside s b r
 
 pub record InTail (n s : ℕ) (b : Bool) (r : Receiver) : Type 0 where

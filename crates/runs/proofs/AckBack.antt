@@ -168,16 +168,16 @@ module _ (limit : ℕ) (low : 2 ≤ limit) (high : limit ≤ 255) (p : Profile) 
 -- ---- the others at the frame's end
 
 -- "after timer 1 behind another's ACK"
-due-ack : (p : Profile) (w : Whole) → w .header .frame ≡ ack → dueAfter p (DV.endedBy (Frame w)) ≡ 1
-due-ack p w e = ap (dueAfter p) (if-is-true (w .header .frame =? ack) _ _ (eq-eqb (w .header .frame) ack e))
+due-ack : (p : Profile) (w : Whole) → w .header .kind ≡ ack → dueAfter p (DV.endedBy (Frame w)) ≡ 1
+due-ack p w e = ap (dueAfter p) (if-is-true (w .header .kind =? ack) _ _ (eq-eqb (w .header .kind) ack e))
 
-ack-stx : (h : Header) → h .frame ≡ ack → h .frame ≡ stx → ⊥
+ack-stx : (h : Header) → h .kind ≡ ack → h .kind ≡ stx → ⊥
 ack-stx h a e = let z : ack ≡ stx = sym a ∙ e in omega (arith, z)
 
-back-stx : (h : Header) → h .frame ≡ back → h .frame ≡ stx → ⊥
+back-stx : (h : Header) → h .kind ≡ back → h .kind ≡ stx → ⊥
 back-stx h a e = let z : back ≡ stx = sym a ∙ e in omega (arith, z)
 
-module _ (limit : ℕ) (low : 2 ≤ limit) (high : limit ≤ 255) (p : Profile) (some : 1 ≤ p .sto) (w : List ℕ) (message : Whole) (sp : Spoken w message) (k : ℕ) (last : suc k ≡ length w) (ne : message .expansion ≡ 0) (no-stx : message .header .frame ≡ stx → ⊥) where
+module _ (limit : ℕ) (low : 2 ≤ limit) (high : limit ≤ 255) (p : Profile) (some : 1 ≤ p .sto) (w : List ℕ) (message : Whole) (sp : Spoken w message) (k : ℕ) (last : suc k ≡ length w) (ne : message .expansion ≡ 0) (no-stx : message .header .kind ≡ stx → ⊥) where
   -- a frame that is no STX leaves nothing in hand
   hears-end : (x : DeviceSide) (c : DeviceCall) {u : ℕ} → DeviceHears p (readerAfter idle (take k w)) u x
       → Quietly (DeviceQuiet p 0 (message .header) (dueAfter p (DV.endedBy (Frame message)))) x (deviceTick limit x (Character (getD w k 0)) c) × (deviceTick limit x (Character (getD w k 0)) c .side .device .receiver ≡ idle)
@@ -210,12 +210,12 @@ module _ (limit : ℕ) (low : 2 ≤ limit) (high : limit ≤ 255) (p : Profile) 
       go (D.is-asked n q z o) = absurd (no-stx (e .only-stx (λ a. asked-listens n (sym q ∙ a))))
       go (D.is-accepted q z) = absurd (no-stx (e .only-stx (λ a. accepted-listens (sym q ∙ a))))
 
-      off : (b : Bool) → (message .header .frame =? stx) ≡ b → (message .header .frame =? stx) ≡ false
-      off true q = absurd (no-stx (borrow.Author.Tests.eqb-true (message .header .frame) stx q))
+      off : (b : Bool) → (message .header .kind =? stx) ≡ b → (message .header .kind =? stx) ≡ false
+      off true q = absurd (no-stx (borrow.Author.Tests.eqb-true (message .header .kind) stx q))
       off false q = q
 
   -- behind an ACK a BACK of another device is due in the next tick
-  hears-ack : message .header .frame ≡ ack → (u : ℕ) (x : DeviceSide) (c : DeviceCall) → DeviceHears p (readerAfter idle (take k w)) u x → Quietly (DeviceQuiet p 0 (message .header) 1) x (deviceTick limit x (Character (getD w k 0)) c)
+  hears-ack : message .header .kind ≡ ack → (u : ℕ) (x : DeviceSide) (c : DeviceCall) → DeviceHears p (readerAfter idle (take k w)) u x → Quietly (DeviceQuiet p 0 (message .header) 1) x (deviceTick limit x (Character (getD w k 0)) c)
   hears-ack a u x c h =
       let q = hears-end x c h in
       subst (λ (n : ℕ). Quietly (DeviceQuiet p 0 (message .header) n) x (deviceTick limit x (Character (getD w k 0)) c)) (due-ack p message a) (q .0)
@@ -316,7 +316,7 @@ record BackFollows (p : Profile) (u : ℕ) (next : Bool) (xs : List DeviceSide) 
   w : List ℕ
   message : Whole
   one : OneLoud (DeviceSpeaks p a-back 0 w message u true) (DeviceHears p idle u) (getD w 0 0) xs ss
-  type-is : message .header .frame ≡ back
+  type-is : message .header .kind ≡ back
   long-is : message .header .long ≡ true
   address-is : message .header .address ≡ u
   for-is : message .header .primary ≡ next
@@ -351,7 +351,7 @@ module _ (limit : ℕ) (low : 2 ≤ limit) (high : limit ≤ 255) (p : Profile) 
                 sound = n .begun .sound;
               };
             }) a;
-            type-is = ap (λ (h : Header). h .frame) (n .header-is);
+            type-is = ap (λ (h : Header). h .kind) (n .header-is);
             long-is = ap (λ (h : Header). h .long) (n .header-is);
             address-is = ap (λ (h : Header). h .address) (n .header-is) ∙ s .unique-is;
             for-is = ap (λ (h : Header). h .primary) (n .header-is) ∙ for;
@@ -386,19 +386,19 @@ module _ (limit : ℕ) (low : 2 ≤ limit) (high : limit ≤ 255) (p : Profile) 
 
 -- ---- the tick
 
-ack-timer : (p : Profile) (primary burst : Bool) (x : MasterSide) (h : Header) → x .master .profile ≡ p → x .master .primary ≡ primary → h .frame ≡ ack
+ack-timer : (p : Profile) (primary burst : Bool) (x : MasterSide) (h : Header) → x .master .profile ≡ p → x .master .primary ≡ primary → h .kind ≡ ack
     → timerAfter (x .master .profile) (x .master .primary) (endedBy (x .master) h) burst ≡ (if burst then slotTimer p primary 0 else (if itself primary h then timer (p .rt2) else timer 1))
 unfolding if_then_else_
 ack-timer p primary true x h a b e = ack-set-timer p primary (x .master) h a b e
 ack-timer p primary false x h a b e = ack-clear-timer p primary (x .master) h a b e
 
-back-sets : (burst : Bool) (noted : Noted) (h : Header) → h .frame ≡ back → burstAfter burst noted h ≡ true
-back-sets burst noted h e = if-is-true (h .frame =? back) _ _ (eq-eqb (h .frame) back e)
+back-sets : (burst : Bool) (noted : Noted) (h : Header) → h .kind ≡ back → burstAfter burst noted h ≡ true
+back-sets burst noted h e = if-is-true (h .kind =? back) _ _ (eq-eqb (h .kind) back e)
 
 -- a BACK of the noted device notes nobody else
-back-notes : (noted : Noted) (h : Header) (u : ℕ) → h .frame ≡ back → h .long ≡ true → h .address ≡ u → noted .long ≡ true → noted .address ≡ u → notedAfter noted h ≡ noted
+back-notes : (noted : Noted) (h : Header) (u : ℕ) → h .kind ≡ back → h .long ≡ true → h .address ≡ u → noted .long ≡ true → noted .address ≡ u → notedAfter noted h ≡ noted
 back-notes noted h u e l a nl na =
-    if-is-true (h .frame =? back) _ _ (eq-eqb (h .frame) back e) ∙ (λ i. record { long = (l ∙ sym nl) i; address = (a ∙ sym na) i })
+    if-is-true (h .kind =? back) _ _ (eq-eqb (h .kind) back e) ∙ (λ i. record { long = (l ∙ sym nl) i; address = (a ∙ sym na) i })
 
 -- the silent line behind an ACK: with BURST clear the master that it is not for comes first; with BURST set a BACK is due in the next tick
 pub data AckEnded (p : Profile) (e : ℕ) (burst next : Bool) (h : Header) (a b : MasterSide) (xs : List DeviceSide) : Type 0 where
@@ -467,7 +467,7 @@ module _ (limit : ℕ) (low : 2 ≤ limit) (high : limit ≤ 255) (p : Profile) 
   abbrev AckTicks : ℕ → Bool → Type 0
   AckTicks e on = AckTick p e burst noted next k w message u on a b (masterTick limit a heard ca) (masterTick limit b heard cb) (deviceTicks limit heard xs cs)
 
-  ack-off : (e : ℕ) → suc k ≡ length w → message .header .frame ≡ ack → OneDeviceSends p an-ack burst noted next k w message u false a b xs → AckTicks e false
+  ack-off : (e : ℕ) → suc k ≡ length w → message .header .kind ≡ ack → OneDeviceSends p an-ack burst noted next k w message u false a b xs → AckTicks e false
   unfolding if_then_else_
   ack-off e last type o =
       let sp = spoken-of (o .devices) in
@@ -504,7 +504,7 @@ module _ (limit : ℕ) (low : 2 ≤ limit) (high : limit ≤ 255) (p : Profile) 
       by true qa qb ta tb n qs d g = ended-set refl n (behind-ack-set p v who next h x y _ qa qb ta tb n qs d g) (no-slot true ta) (no-slot false tb)
       by false qa qb ta tb n qs d g = ended-clear refl n (behind-ack-clear p v e who next h h x y _ qa qb ta tb n qs d g) ta tb
 
-  ack-on : (e : ℕ) → suc k ≡ length w → message .header .frame ≡ ack → OneDeviceSends p an-ack burst noted next k w message u true a b xs → AckTicks e true
+  ack-on : (e : ℕ) → suc k ≡ length w → message .header .kind ≡ ack → OneDeviceSends p an-ack burst noted next k w message u true a b xs → AckTicks e true
   unfolding if_then_else_
   ack-on e last type o =
       let sp = spoken-of (o .devices) in
@@ -552,7 +552,7 @@ module _ (limit : ℕ) (low : 2 ≤ limit) (high : limit ≤ 255) (p : Profile) 
   abbrev BackTicks : Type 0
   BackTicks = BackTick p burst noted next k w message u a b (masterTick limit a heard ca) (masterTick limit b heard cb) (deviceTicks limit heard xs cs)
 
-  back-out : suc k ≡ length w → message .header .frame ≡ back → message .header .primary ≡ (if next then false else true) → OneDeviceSends p a-back burst noted next k w message u true a b xs → BackTicks
+  back-out : suc k ≡ length w → message .header .kind ≡ back → message .header .primary ≡ (if next then false else true) → OneDeviceSends p a-back burst noted next k w message u true a b xs → BackTicks
   back-out last type for o =
       let sp = spoken-of (o .devices) in
       let h = message .header in

@@ -175,7 +175,7 @@ module _ (d : Device) (f : NotBursts (d .turn)) where
   character-not r Broken = listens-not
   character-not r (Frame w) =
       let Q : Change → Type 0 = λ c. NotBursts (c .turn) in
-      if-both Q (w .header .frame =? stx) _ _
+      if-both Q (w .header .kind =? stx) _ _
       (if-both Q (w .expansion =? 0) _ _ (if-both Q (mayAnswer d (w .header)) _ _ (asked-not (d .profile .sto)) (if-both Q (isBroadcast (w .header)) _ _ listens-not listens-not)) listens-not) listens-not
   character-not r (Damaged w m) = if-both (λ (c : Change). NotBursts (c .turn)) (hasError d w m) _ _ accepted-not listens-not
 
@@ -190,7 +190,7 @@ module _ (d : Device) (f : NotBursts (d .turn)) where
 
 -- the header of a device's BACK
 abbrev pub backOf : DeviceSide → Bool → ℕ → Header
-backOf x primary command = record { frame = back; long = true; primary = primary; burst = true; address = x .device .unique; command = command }
+backOf x primary command = record { kind = back; long = true; primary = primary; burst = true; address = x .device .unique; command = command }
 
 -- the frame that it begins, with what it holds
 pub record BeginsBack (s : DeviceStep) : Type 0 where

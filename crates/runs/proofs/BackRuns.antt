@@ -48,7 +48,7 @@ given-last = refl
 
 -- in tick 51 the primary finds the BACK whole
 pub found-whole : foundBy (linkBehind 255 one-device content-changed .primary) (linkBehind 255 one-device content-changed .line)
-    ≡ Frame (record { header = record { frame = back; long = true; primary = true; burst = true; address = 2; command = 3 }; expansion = 0; count = 2 })
+    ≡ Frame (record { header = record { kind = back; long = true; primary = true; burst = true; address = 2; command = 3 }; expansion = 0; count = 2 })
 unfolding linkBehind content-changed host-gives ask P.content turn-on short one-device quiet linkTick deviceTicks sides carried masterTick deviceTick requested requestedUpTo masterTakes masterSends deviceTakes deviceSends answered contentGiven taken takenData atIdle atPreamble atFirst atAddress atExpansion atCommand atCount atData atCheck writeBuffer writeAnswer frameBytes preambleBytes bodyBytes protectedBytes headerBytes xorFrom delimiterOf stored if_then_else_
 found-whole = refl
 

@@ -108,7 +108,7 @@ found-event x heard w e = go (x .master .deaf) refl e
 
 -- no BACK
 NoBack : MasterSide → Heard → Type 0
-NoBack x heard = (v : Whole) → foundBy x heard ≡ Frame v → v .header .frame ≡ back → ⊥
+NoBack x heard = (v : Whole) → foundBy x heard ≡ Frame v → v .header .kind ≡ back → ⊥
 
 module _ (x : MasterSide) where
   quiet-finds : Ready (x .master .receiver) → NoBack x Silence
@@ -130,10 +130,10 @@ module _ (x : MasterSide) where
         same-frame (sym (found-event x (Character (getD w k 0)) v e .1) ∙ ap (λ (t : Taken). t .event) (subst (λ (z : Receiver). taken z (Character (getD w k 0)) ≡ tells idle (Frame message)) (sym r) (s .end k last)))
 
     -- a frame of another type
-    other-finds : (suc k < length w) ⊎ (suc k ≡ length w) → (message .header .frame ≡ back → ⊥) → NoBack x (Character (getD w k 0))
+    other-finds : (suc k < length w) ⊎ (suc k ≡ length w) → (message .header .kind ≡ back → ⊥) → NoBack x (Character (getD w k 0))
     unfolding NoBack
     other-finds (inl below) f = mid-finds below
-    other-finds (inr last) f = λ v e b. f (ap (λ (z : Whole). z .header .frame) (sym (end-finds last v e)) ∙ b)
+    other-finds (inr last) f = λ v e b. f (ap (λ (z : Whole). z .header .kind) (sym (end-finds last v e)) ∙ b)
 
 -- ---- the device that sends it
 
@@ -253,9 +253,9 @@ module _ (limit : ℕ) (p : Profile) (heard : Heard) (w : List ℕ) (message : W
               primary = o .primary;
               command = o .command;
               put = o .put;
-              w-is = o .w-is ∙ (λ i. frameBytes (pre i) (record { frame = back; long = true; primary = o .primary; burst = true; address = uni i; command = o .command }) (o .put));
-              message-is = o .message-is ∙ (λ i. wholeMessage (record { frame = back; long = true; primary = o .primary; burst = true; address = uni i; command = o .command }) (o .put));
-              fits = subst (λ (n : ℕ). Fits (s .side .device .preamble) (record { frame = back; long = true; primary = o .primary; burst = true; address = n; command = o .command }) (length (o .put))) uni
+              w-is = o .w-is ∙ (λ i. frameBytes (pre i) (record { kind = back; long = true; primary = o .primary; burst = true; address = uni i; command = o .command }) (o .put));
+              message-is = o .message-is ∙ (λ i. wholeMessage (record { kind = back; long = true; primary = o .primary; burst = true; address = uni i; command = o .command }) (o .put));
+              fits = subst (λ (n : ℕ). Fits (s .side .device .preamble) (record { kind = back; long = true; primary = o .primary; burst = true; address = n; command = o .command }) (length (o .put))) uni
                   (subst (λ (n : ℕ). Fits n (backOf x (o .primary) (o .command)) (length (o .put))) pre (o .fits));
               given-is = ap (λ (t : _). getD (sentBy t (givenBy c (s .result) (g .last)) (g .sent-with) .sent-with) (suc k) no-content) (y .character) ∙ o .given-is;
             }
@@ -314,7 +314,7 @@ abbrev logsBy : Calls → LinkStep → List ContentLog → List ContentLog
 logsBy c s gs = contentLogsAfter (c .for-devices) (s .for-devices) gs
 
 record Ticked (p : Profile) (gs : List ContentLog) (l : Link) (heard : Heard) (c : Calls) (s : LinkStep) : Type 0 where
-  backs : (primary : Bool) (w : Whole) → foundBy (masterOf primary l) heard ≡ Frame w → w .header .frame ≡ back → BackFound primary gs l s w
+  backs : (primary : Bool) (w : Whole) → foundBy (masterOf primary l) heard ≡ Frame w → w .header .kind ≡ back → BackFound primary gs l s w
   next : Phase p (logsBy c s gs) (linkAfter s)
 
 -- no master finds a BACK
@@ -322,7 +322,7 @@ no-back : (p : Profile) (gs : List ContentLog) (l : Link) (heard : Heard) (c : C
 unfolding NoBack
 no-back p gs l heard c s a b n = record { backs = none-found; next = n }
   where
-    none-found : (primary : Bool) (w : Whole) → foundBy (masterOf primary l) heard ≡ Frame w → w .header .frame ≡ back → BackFound primary gs l s w
+    none-found : (primary : Bool) (w : Whole) → foundBy (masterOf primary l) heard ≡ Frame w → w .header .kind ≡ back → BackFound primary gs l s w
     none-found true w e f = absurd (a w e f)
     none-found false w e f = absurd (b w e f)
 
@@ -450,7 +450,7 @@ module _ (limit : ℕ) (low : 2 ≤ limit) (high : limit ≤ 255) (p : Profile) 
       (other-finds (l .secondary) w message k sp (o .secondary .receiver-is) (place-of (o .devices)) (ack-back (is-it (o .frame-is))))
       (go (ack-tick limit low high p v burst noted next k w message u (l .primary) (l .secondary) (l .devices) (c .for-primary) (c .for-secondary) (c .for-devices) 0 on o))
     where
-      is-it : FrameIs on burst next (message .header) (l .primary) (l .secondary) an-ack → message .header .frame ≡ ack
+      is-it : FrameIs on burst next (message .header) (l .primary) (l .secondary) an-ack → message .header .kind ≡ ack
       is-it (is-ack type pa pb) = type
 
       nots : suc k ≡ length w → All (λ (x : DeviceSide). NotBursts (x .device .turn)) (l .devices)
@@ -497,7 +497,7 @@ module _ (limit : ℕ) (low : 2 ≤ limit) (high : limit ≤ 255) (p : Profile) 
       sp : Spoken w message
       sp = spoken-of (o .devices)
 
-      whole : suc k ≡ length w → (primary : Bool) (t : Whole) → foundBy (masterOf primary l) (Character (getD w k 0)) ≡ Frame t → t .header .frame ≡ back → BackFound primary gs l (heard w k) t
+      whole : suc k ≡ length w → (primary : Bool) (t : Whole) → foundBy (masterOf primary l) (Character (getD w k 0)) ≡ Frame t → t .header .kind ≡ back → BackFound primary gs l (heard w k) t
       whole last true t e b = let r = finds (l .primary) (c .for-primary) k w message u last (found last (o .devices) out) (o .primary .receiver-is) ha t e in record { long-is = r .0; sent = r .1 }
       whole last false t e b = let r = finds (l .secondary) (c .for-secondary) k w message u last (found last (o .devices) out) (o .secondary .receiver-is) hb t e in record { long-is = r .0; sent = r .1 }
 

@@ -106,7 +106,7 @@ pub record BeginsBack (p : Profile) (x : DeviceSide) (s : DeviceStep) : Type 0 w
   pub speaks : DeviceSpeaks p a-back 0 w message (x .device .unique) true (s .side)
   pub character : s .sent ≡ Sent.Character (getD w 0 0)
   pub same : SameDevice (x .device) (s .side .device)
-  pub type-is : message .header .frame ≡ back
+  pub type-is : message .header .kind ≡ back
   pub long-is : message .header .long ≡ true
   pub address-is : message .header .address ≡ x .device .unique
   pub no-expansion : message .expansion ≡ 0

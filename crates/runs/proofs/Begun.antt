@@ -174,10 +174,10 @@ module _ {p : Profile} {g : ℕ} {h : Header} {n : ℕ} {B : DeviceSide → Devi
   }
 
   -- behind a BACK
-  pub back-agreed : (header : Header) (for : Bool) → header .frame ≡ back → header .long ≡ true → header .address ≡ y .device .unique → y .device .burst ≡ true → y .device .primary ≡ for → Agreed (burstAfter burst noted header) (notedAfter noted header) for (sides ss)
+  pub back-agreed : (header : Header) (for : Bool) → header .kind ≡ back → header .long ≡ true → header .address ≡ y .device .unique → y .device .burst ≡ true → y .device .primary ≡ for → Agreed (burstAfter burst noted header) (notedAfter noted header) for (sides ss)
   back-agreed header for f l e on q =
-      subst (λ (c : Bool). Agreed c (notedAfter noted header) for (sides ss)) (sym (if-is-true (header .frame =? back) _ _ (eq-eqb (header .frame) back f)))
-      (subst (λ (c : Noted). Agreed true c for (sides ss)) (sym (if-is-true (header .frame =? back) _ _ (eq-eqb (header .frame) back f)))
+      subst (λ (c : Bool). Agreed c (notedAfter noted header) for (sides ss)) (sym (if-is-true (header .kind =? back) _ _ (eq-eqb (header .kind) back f)))
+      (subst (λ (c : Noted). Agreed true c for (sides ss)) (sym (if-is-true (header .kind =? back) _ _ (eq-eqb (header .kind) back f)))
       (noted-anew (record { long = header .long; address = header .address }) for on l e q))
 
   -- behind an ACK

@@ -102,12 +102,12 @@ module _ (limit : ℕ) (x : MasterSide) (call : MasterCall) where
       )
 
 -- not at the end of another frame
-other-reports : (limit : ℕ) (x : MasterSide) (call : MasterCall) (w : List ℕ) (message : Whole) (k : ℕ) → Spoken w message → suc k ≡ length w → x .master .receiver ≡ readerAfter idle (take k w) → (message .header .frame ≡ ack → ⊥)
+other-reports : (limit : ℕ) (x : MasterSide) (call : MasterCall) (w : List ℕ) (message : Whole) (k : ℕ) → Spoken w message → suc k ≡ length w → x .master .receiver ≡ readerAfter idle (take k w) → (message .header .kind ≡ ack → ⊥)
     → NoReport (masterTick limit x (Character (getD w k 0)) call)
 unfolding NoReport
 other-reports limit x call w message k s last q f v e =
     let r = end-reports limit x call w message k s last q v e in
-    f (ap (λ (z : Whole). z .header .frame) (sym (r .0)) ∙ answer-repeats (x .master) (v .header) (r .1) .is-ack)
+    f (ap (λ (z : Whole). z .header .kind) (sym (r .0)) ∙ answer-repeats (x .master) (v .header) (r .1) .is-ack)
 
 -- ---- the device that answers, and what the masters have heard of its ACK
 
@@ -367,7 +367,7 @@ module _ (limit : ℕ) (low : 2 ≤ limit) (high : limit ≤ 255) (p : Profile) 
     hear-books w message k u s (inr last) plain qs gl = owe-anew limit (Character (getD w k 0)) (c .for-devices) (λ x d g q. end-owes limit high p (v .some-sto) x d g (q .listens) w message k s last (q .receiver-is) plain) qs gl
 
     -- and a listening master: nothing to report of a frame that is no ACK
-    hears-reports : (x : MasterSide) (d : MasterCall) (w : List ℕ) (message : Whole) (k : ℕ) → Spoken w message → (suc k < length w) ⊎ (suc k ≡ length w) → x .master .receiver ≡ readerAfter idle (take k w) → (message .header .frame ≡ ack → ⊥) → NoReport (masterTick limit x (Character (getD w k 0)) d)
+    hears-reports : (x : MasterSide) (d : MasterCall) (w : List ℕ) (message : Whole) (k : ℕ) → Spoken w message → (suc k < length w) ⊎ (suc k ≡ length w) → x .master .receiver ≡ readerAfter idle (take k w) → (message .header .kind ≡ ack → ⊥) → NoReport (masterTick limit x (Character (getD w k 0)) d)
     hears-reports x d w message k s (inl below) r f = mid-reports limit x d w message k s below r
     hears-reports x d w message k s (inr last) r f = other-reports limit x d w message k s last r f
 
@@ -450,7 +450,7 @@ module _ (limit : ℕ) (low : 2 ≤ limit) (high : limit ≤ 255) (p : Profile) 
         unreported p gs l c (heard w k) (hears-reports (l .primary) (c .for-primary) w message k s place (o .primary .receiver-is) (back-ack (is-it (o .frame-is)))) (hears-reports (l .secondary) (c .for-secondary) w message k s place (o .secondary .receiver-is) (back-ack (is-it (o .frame-is))))
         (go (back-tick limit low high p v burst noted next k w message u (l .primary) (l .secondary) (l .devices) (c .for-primary) (c .for-secondary) (c .for-devices) o) (end-books a-back w message k u true s place (o .no-expansion) (λ x g q. back-owes q) (o .devices) os))
       where
-        is-it : FrameIs true burst next (message .header) (l .primary) (l .secondary) a-back → message .header .frame ≡ back
+        is-it : FrameIs true burst next (message .header) (l .primary) (l .secondary) a-back → message .header .kind ≡ back
         is-it (is-back type z b e) = type
 
         go : BackTick p burst noted next k w message u (l .primary) (l .secondary) (heard w k .for-primary) (heard w k .for-secondary) (heard w k .for-devices)

@@ -95,7 +95,7 @@ module _ {g : Ledger} {d : Device} {frame : List ℕ} where
 frame-owes : (g : Ledger) (d : Device) (frame : List ℕ) (r : Receiver) (w : Whole) → DeviceOwes (toldBy (onCharacter d r (Frame w) .told) g) (onCharacter d r (Frame w) .device) frame
 frame-owes g d frame r w =
     let P : Change → Type 0 = λ c. DeviceOwes (toldBy (c .told) g) (changed d r (Frame w) c .device) frame in
-    if-both P (w .header .frame =? stx) _ _
+    if-both P (w .header .kind =? stx) _ _
     (if-both P (w .expansion =? 0) _ _
     (if-both P (mayAnswer d (w .header)) _ _ (record { asked = λ n q. refl; gives = λ z. absurd (true-false (sym z)) })
     (if-both P (isBroadcast (w .header)) _ _ (none-owed (λ n q. listens-asked n q) refl) (none-owed (λ n q. listens-asked n q) refl)))

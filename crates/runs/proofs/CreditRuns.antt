@@ -58,7 +58,7 @@ answers put = record { for-primary = no-request; for-secondary = no-request; for
 
 -- the message of both runs: command 3 to the device with the unique address 2
 abbrev pub asked : Header
-asked = record { frame = stx; long = true; primary = true; burst = false; address = 2; command = 3 }
+asked = record { kind = stx; long = true; primary = true; burst = false; address = 2; command = 3 }
 
 -- ---- a report
 
@@ -73,7 +73,7 @@ booked-answer = refl
 
 -- and in it the primary reports its message as answered
 pub reported-answer : linkTick 255 (linkBehind 255 one-device answered-run) quiet .for-primary .told
-    ≡ Answered (record { header = record { frame = ack; long = true; primary = true; burst = false; address = 2; command = 3 }; expansion = 0; count = 3 })
+    ≡ Answered (record { header = record { kind = ack; long = true; primary = true; burst = false; address = 2; command = 3 }; expansion = 0; count = 3 })
 unfolding linkBehind answered-run answers ask short one-device quiet linkTick deviceTicks sides carried masterTick deviceTick requested requestedUpTo masterTakes masterSends deviceTakes deviceSends answered contentGiven taken takenData atIdle atPreamble atFirst atAddress atExpansion atCommand atCount atData atCheck writeBuffer writeAnswer frameBytes preambleBytes bodyBytes protectedBytes headerBytes xorFrom delimiterOf stored if_then_else_
 reported-answer = refl
 

@@ -59,7 +59,7 @@ module _ (limit : ℕ) (low : 2 ≤ limit) (d : Device) (k : DeviceKept limit d)
   character r Broken = same refl refl refl
   character r (Frame w) =
       let P : Change → Type 0 = λ c. DeviceKept limit (changed d r (Frame w) c .device) in
-      if-both P (w .header .frame =? stx) _ _
+      if-both P (w .header .kind =? stx) _ _
       (if-both P (w .expansion =? 0) _ _ (if-both P (mayAnswer d (w .header)) _ _ (same refl refl refl) (if-both P (isBroadcast (w .header)) _ _ (same refl refl refl) (same refl refl refl))) (same refl refl refl))
       (same refl refl refl)
   character r (Damaged w m) =

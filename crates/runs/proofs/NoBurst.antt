@@ -79,7 +79,7 @@ sender-off true (and f fs) (further s a) = sender-off true fs a
 -- an ACK that leaves BURST clear notes nobody
 same-noted : (noted : Noted) (h : Header) → burstAfter false noted h ≡ false → notedAfter noted h ≡ noted
 unfolding if_then_else_
-same-noted noted h e = go (h .frame =? back) (h .frame =? ack) (h .burst) (namesDevice h) refl refl refl refl
+same-noted noted h e = go (h .kind =? back) (h .kind =? ack) (h .burst) (namesDevice h) refl refl refl refl
   where
     B : Bool → Bool → Bool → Bool → Bool
     B a b c d = if a then true else if b then (if c then true else if d then (if Rattle.turns.specs.Master.isNoted noted h then false else false) else false) else false
@@ -87,7 +87,7 @@ same-noted noted h e = go (h .frame =? back) (h .frame =? ack) (h .burst) (names
     M : Bool → Bool → Bool → Bool → Noted
     M a b c d = if a then Rattle.turns.specs.Master.notedFrom h else if b then (if c then (if d then Rattle.turns.specs.Master.notedFrom h else noted) else noted) else noted
 
-    go : (a b c d : Bool) → (h .frame =? back) ≡ a → (h .frame =? ack) ≡ b → h .burst ≡ c → namesDevice h ≡ d → notedAfter noted h ≡ noted
+    go : (a b c d : Bool) → (h .kind =? back) ≡ a → (h .kind =? ack) ≡ b → h .burst ≡ c → namesDevice h ≡ d → notedAfter noted h ≡ noted
     go a b c d ea eb ec ed = (λ i. M (ea i) (eb i) (ec i) (ed i)) ∙ by a b c d ((λ i. B (sym ea i) (sym eb i) (sym ec i) (sym ed i)) ∙ e)
       where
         by : (a b c d : Bool) → B a b c d ≡ false → M a b c d ≡ noted

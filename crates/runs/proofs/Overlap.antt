@@ -52,7 +52,7 @@ spoke-out : (limit : ℕ) → limit ≤ 255 → (p : Profile) → Valid p → (p
     → Still (x .master .message .stage)
     → left (x .master .message .stage) ≡ ownRt1 (x .master .profile) (x .master .primary) → MasterSpeaks p primary false nobody k w message x → SpokeOut p primary x (masterTick limit x heard call)
 spoke-out limit small p v primary w message k x heard call t still l s =
-    let formed : Formed (x .master .primary) (x .frame) (x .master .message) = stands w message (s .held) (s .header-is) (s .no-expansion) (ap (λ (h : Header). h .frame) (sym (s .header-is)) ∙ s .type-is)
+    let formed : Formed (x .master .primary) (x .frame) (x .master .message) = stands w message (s .held) (s .header-is) (s .no-expansion) (ap (λ (h : Header). h .kind) (sym (s .header-is)) ∙ s .type-is)
     (ap (λ (h : Header). h .primary) (sym (s .header-is)) ∙ s .bit-is ∙ sym (s .is-it .primary-is)) in
     let f = master-finished limit p primary x heard call small (s .is-it) (s .deaf-is) still formed (ap (λ (t : Timer). t .window) t ∙ timer-shut (x .master .profile) (x .master .primary) any-stx (x .master .burst)) in
     let is = f .rested .same-left ∙ l ∙ own-is p primary (x .master) (s .is-it .profile-is) (s .is-it .primary-is) in

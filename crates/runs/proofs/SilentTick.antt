@@ -43,8 +43,8 @@ use Rattle.runs.proofs.Stx.{OneMasterSends, WaitsOn}
 
 -- what a device sends: an ACK, which the master with its bit awaits, or a BACK, for the master that the next one is not for. `burst` is the masters' BURST, `on` the sender's burst.
 pub data FrameIs (on burst next : Bool) (h : Header) (a b : MasterSide) : Frames → Type 0 where
-  is-ack : h .frame ≡ ack → (h .primary ≡ true → 1 ≤ left (a .master .message .stage)) → (h .primary ≡ false → 1 ≤ left (b .master .message .stage)) → FrameIs on burst next h a b an-ack
-  is-back : h .frame ≡ back → on ≡ true → burst ≡ true → h .primary ≡ (if next then false else true) → FrameIs on burst next h a b a-back
+  is-ack : h .kind ≡ ack → (h .primary ≡ true → 1 ≤ left (a .master .message .stage)) → (h .primary ≡ false → 1 ≤ left (b .master .message .stage)) → FrameIs on burst next h a b an-ack
+  is-back : h .kind ≡ back → on ≡ true → burst ≡ true → h .primary ≡ (if next then false else true) → FrameIs on burst next h a b a-back
 
 -- a device sends, behind k + 1 characters of its frame w; `burst` and `noted` are the masters' before it
 pub record OneDeviceSends (p : Profile) (f : Frames) (burst : Bool) (noted : Noted) (next : Bool) (k : ℕ) (w : List ℕ) (message : Whole) (u : ℕ) (on : Bool) (a b : MasterSide) (xs : List DeviceSide) : Type 0 where

@@ -50,7 +50,7 @@ module _ (limit : ℕ) (low : 2 ≤ limit) (high : limit ≤ 255) (p : Profile) 
       }
 
   -- and the last one of an STX
-  device-hears-stx : suc k ≡ length w → message .expansion ≡ 0 → message .header .frame ≡ stx → (x : DeviceSide) (c : DeviceCall) → DeviceHears p (readerAfter idle (take k w)) 0 x
+  device-hears-stx : suc k ≡ length w → message .expansion ≡ 0 → message .header .kind ≡ stx → (x : DeviceSide) (c : DeviceCall) → DeviceHears p (readerAfter idle (take k w)) 0 x
       → Quietly (DeviceQuiet p (p .sto) (message .header) (p .rt1p)) x (deviceTick limit x (Character (getD w k 0)) c)
   device-hears-stx last ne type x c h =
       let f = device-frame limit low high p some x c (h .listens) w message k sp last (h .receiver-is) ne in
@@ -65,7 +65,7 @@ module _ (limit : ℕ) (low : 2 ≤ limit) (high : limit ≤ 255) (p : Profile) 
           in-time = f .in-time;
           asked-own = λ z. own-kept (message .header) (f .same) (f .asked-own z);
           asked-for = f .request-is;
-          back-due = λ z. f .due-is ∙ ap (dueAfter p) (if-is-false (message .header .frame =? ack) _ _ (ap (λ (n : ℕ). n =? ack) type));
+          back-due = λ z. f .due-is ∙ ap (dueAfter p) (if-is-false (message .header .kind =? ack) _ _ (ap (λ (n : ℕ). n =? ack) type));
         };
       }
 

@@ -73,7 +73,7 @@ module _ (g : Ledger) (d : Device) (some : 1 ≤ d .unique) (r : Receiver) where
   on-character Broken = nothing some (λ n q. listens-asked n q) refl
   on-character (Frame w) =
       let Q : Change → Type 0 = λ c. By (changed d r (Frame w) c) in
-      if-both Q (w .header .frame =? stx) _ _
+      if-both Q (w .header .kind =? stx) _ _
       (if-both Q (w .expansion =? 0) _ _
       (if-both Q (mayAnswer d (w .header)) _ _ (record { asked = λ n q. refl; gives = λ z. absurd (true-false (sym z)); some = some })
       (if-both Q (isBroadcast (w .header)) _ _ (nothing some (λ n q. listens-asked n q) refl) (nothing some (λ n q. listens-asked n q) refl)))

@@ -116,24 +116,24 @@ module _ (d : Device) where
   hears-character c t e q = if-is-false (d .deaf) _ _ e ∙ ap (λ (z : Taken). onCharacter d (z .receiver) (z .event)) q
 
   -- every device may answer a command 11
-  stx-told : (w : Whole) → w .header .frame ≡ stx → w .expansion ≡ 0 → seeksTag (w .header) ≡ true → afterFrame d w .told ≡ Request w
+  stx-told : (w : Whole) → w .header .kind ≡ stx → w .expansion ≡ 0 → seeksTag (w .header) ≡ true → afterFrame d w .told ≡ Request w
   stx-told w type none-more tag =
       ap (λ (c : Change). c .told)
-      (if-is-true (w .header .frame =? stx) _ _ (eq-eqb (w .header .frame) stx type)
+      (if-is-true (w .header .kind =? stx) _ _ (eq-eqb (w .header .kind) stx type)
       ∙ (if-is-true (w .expansion =? 0) _ _ (eq-eqb (w .expansion) 0 none-more) ∙ if-is-true (mayAnswer d (w .header)) _ _ (if-is-true (seeksTag (w .header)) true _ tag)))
 
   other-told : (w : Whole) → seeksTag (w .header) ≡ false → NoTag (afterFrame d w .told)
   other-told w other =
       let P : Change → Type 0 = λ c. NoTag (c .told) in
-      if-both P (w .header .frame =? stx) _ _
+      if-both P (w .header .kind =? stx) _ _
       (if-both P (w .expansion =? 0) _ _
       (if-both P (mayAnswer d (w .header)) _ _ (λ v e. ap (λ (z : Whole). seeksTag (z .header)) (sym (same-request w v e)) ∙ other)
       (if-both P (isBroadcast (w .header)) _ _ (λ v e. absurd (let z : _≡_ {A = ℕ} 0 1 = cc in omega arith)) no-request))
       no-request)
       no-request
 
-  not-stx-told : (w : Whole) → (w .header .frame =? stx) ≡ false → NoTag (afterFrame d w .told)
-  not-stx-told w other = is-nothing (ap (λ (c : Change). c .told) (if-is-false (w .header .frame =? stx) _ _ other))
+  not-stx-told : (w : Whole) → (w .header .kind =? stx) ≡ false → NoTag (afterFrame d w .told)
+  not-stx-told w other = is-nothing (ap (λ (c : Change). c .told) (if-is-false (w .header .kind =? stx) _ _ other))
 
 -- ---- all devices
 
@@ -174,7 +174,7 @@ module _ (limit : ℕ) (p : Profile) (w : List ℕ) (message : Whole) (k : ℕ) 
   stx-untold (inl below) tag hs = each-told limit (Character (getD w k 0)) cs (mid-told below) hs
   stx-untold (inr last) tag hs = each-told limit (Character (getD w k 0)) cs (λ x h. subst NoTag (sym (end-told last x h)) (other-told (x .device) message tag)) hs
 
-  stx-together : (suc k < length w) ⊎ (suc k ≡ length w) → message .header .frame ≡ stx → message .expansion ≡ 0 → {xs : List DeviceSide} → All (DeviceHears p (readerAfter idle (take k w)) u) xs → ToldTogether (deviceTicks limit (Character (getD w k 0)) xs cs)
+  stx-together : (suc k < length w) ⊎ (suc k ≡ length w) → message .header .kind ≡ stx → message .expansion ≡ 0 → {xs : List DeviceSide} → All (DeviceHears p (readerAfter idle (take k w)) u) xs → ToldTogether (deviceTicks limit (Character (getD w k 0)) xs cs)
   unfolding Hears
   stx-together (inl below) type none-more hs = none-told (each-told limit (Character (getD w k 0)) cs (mid-told below) hs)
   stx-together (inr last) type none-more {xs} hs = go (seeksTag (message .header)) refl
@@ -184,7 +184,7 @@ module _ (limit : ℕ) (p : Profile) (w : List ℕ) (message : Whole) (k : ℕ) 
       go false tag = none-told (stx-untold (inr last) tag hs)
 
   -- an ACK or a BACK
-  pub device-untold : (f : Frames) (on : Bool) → (message .header .frame =? stx) ≡ false → {xs : List DeviceSide} → OneOf (DeviceSpeaks p f k w message u on) (DeviceHears p (readerAfter idle (take k w)) u) xs → EachTold NoTag (deviceTicks limit (Character (getD w k 0)) xs cs)
+  pub device-untold : (f : Frames) (on : Bool) → (message .header .kind =? stx) ≡ false → {xs : List DeviceSide} → OneOf (DeviceSpeaks p f k w message u on) (DeviceHears p (readerAfter idle (take k w)) u) xs → EachTold NoTag (deviceTicks limit (Character (getD w k 0)) xs cs)
   unfolding Hears
   device-untold f on type {xs} o = each-told limit (Character (getD w k 0)) cs (λ x q. by x (place-of o) q) (one-all o)
     where
@@ -199,7 +199,7 @@ pub master-place : {k : ℕ} {w : List ℕ} {x : MasterSide} → MasterPlace k w
 master-place (S.MasterPlace.inside below t) = inl below
 master-place (S.MasterPlace.finished last t u v) = inr last
 
-pub is-not-stx : {on burst next : Bool} {h : Header} {a b : MasterSide} {f : Frames} → FrameIs on burst next h a b f → (h .frame =? stx) ≡ false
+pub is-not-stx : {on burst next : Bool} {h : Header} {a b : MasterSide} {f : Frames} → FrameIs on burst next h a b f → (h .kind =? stx) ≡ false
 is-not-stx {h = h} (is-ack e pa pb) = ap (λ (n : ℕ). n =? stx) e
 is-not-stx {h = h} (is-back e on set turn) = ap (λ (n : ℕ). n =? stx) e
 

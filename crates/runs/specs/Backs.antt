@@ -89,7 +89,7 @@ pub record BackFound (primary : Bool) (gs : List ContentLog) (l : Link) (s : Lin
 pub data EachBack (limit : ℕ) : List ContentLog → Link → List Calls → Type 0 where
   no-tick : {gs : List ContentLog} {l : Link} → EachBack limit gs l []
   tick-and : {gs : List ContentLog} {l : Link} {c : Calls} {cs : List Calls}
-      → ((primary : Bool) (w : Whole) → foundBy (masterOf primary l) (l .line) ≡ Frame w → w .header .frame ≡ back
+      → ((primary : Bool) (w : Whole) → foundBy (masterOf primary l) (l .line) ≡ Frame w → w .header .kind ≡ back
       → BackFound primary gs l (linkTick limit l c) w)
       → EachBack limit (contentLogsAfter (c .for-devices) (linkTick limit l c .for-devices) gs) (linkAfter (linkTick limit l c)) cs
       → EachBack limit gs l (c ∷ cs)

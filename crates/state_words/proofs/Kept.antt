@@ -34,7 +34,7 @@ case-kept f bits number n h k =
 
 pub header-kept : (h : Header) → HeaderFits h → headerAt (headerWords h) 0 ≡ h
 header-kept h f = λ i. record {
-  frame = number-kept 8 (h .frame) (f .frame) i;
+  kind = number-kept 8 (h .kind) (f .kind) i;
   long = flag-kept (h .long) i;
   primary = flag-kept (h .primary) i;
   burst = flag-kept (h .burst) i;

@@ -24,7 +24,7 @@ refusal-shown result why r e p = p ∙ ap (λ (x : CallStatus). callNumber (resu
 whole-kept : (sent told attempts event : ℕ) (w : Whole) (m : FrameDamage) → WholeFits w → wholeAt (sent ∷ told ∷ attempts ∷ event ∷ frameNumbers w m) ≡ w
 whole-kept sent told attempts event w m f = λ i. record {
   header = record {
-    frame = number-kept 8 (w .header .frame) (f .header .frame) i;
+    kind = number-kept 8 (w .header .kind) (f .header .kind) i;
     long = flag-kept (w .header .long) i;
     primary = flag-kept (w .header .primary) i;
     burst = flag-kept (w .header .burst) i;

@@ -11,7 +11,7 @@ use Rattle.line.specs.declared.Receiver.{Receiver}
 use Rattle.line.specs.declared.Whole.{Whole}
 
 pub record HeaderFits (h : Header) : Type 0 where
-  pub frame : h .frame < 2 ^ 8
+  pub kind : h .kind < 2 ^ 8
   pub command : h .command < 2 ^ 8
 
 pub record ProfileFits (p : Profile) : Type 0 where

@@ -18,7 +18,7 @@ use Rattle.state_words.specs.Reader.{damageWords, damageAt}
 -- the fields of a frame, and its damage
 abbrev pub frameNumbers : Whole → FrameDamage → List ℕ
 frameNumbers w m =
-    w .header .frame ∷
+    w .header .kind ∷
     flagWord (w .header .long) ∷
     flagWord (w .header .primary) ∷
     flagWord (w .header .burst) ∷
@@ -49,7 +49,7 @@ tickNumbers sent told attempts event = sent ∷ told ∷ attempts ∷ eventNumbe
 abbrev pub wholeAt : List ℕ → Whole
 wholeAt numbers = record {
   header = record {
-    frame = numberAt 8 numbers 4;
+    kind = numberAt 8 numbers 4;
     long = flagAt numbers 5;
     primary = flagAt numbers 6;
     burst = flagAt numbers 7;

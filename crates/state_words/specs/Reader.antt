@@ -14,11 +14,11 @@ use Rattle.state_words.specs.Fields.{wordAt, numberAt, flagWord, flagAt}
 -- ---- a header: 6 words
 
 abbrev pub headerWords : Header → List ℕ
-headerWords h = h .frame ∷ flagWord (h .long) ∷ flagWord (h .primary) ∷ flagWord (h .burst) ∷ h .address ∷ h .command ∷ []
+headerWords h = h .kind ∷ flagWord (h .long) ∷ flagWord (h .primary) ∷ flagWord (h .burst) ∷ h .address ∷ h .command ∷ []
 
 abbrev pub headerAt : List ℕ → ℕ → Header
 headerAt words i = record {
-  frame = numberAt 8 words i;
+  kind = numberAt 8 words i;
   long = flagAt words (i + 1);
   primary = flagAt words (i + 2);
   burst = flagAt words (i + 3);

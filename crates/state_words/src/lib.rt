@@ -77,7 +77,7 @@ pub fn header_at(words: &[u64], place: u16) -> Header
 {
     let i = place as usize;
     Header {
-        frame: u8_at(words, i),
+        kind: u8_at(words, i),
         long: flag_at(words, i + 1),
         primary: flag_at(words, i + 2),
         burst: flag_at(words, i + 3),
@@ -169,7 +169,7 @@ pub fn receiver_words(r: Receiver) -> [u64; 16]
     let place = r.place;
     let m = r.damage;
     [
-        h.frame as u64,
+        h.kind as u64,
         h.long as u64,
         h.primary as u64,
         h.burst as u64,
@@ -284,7 +284,7 @@ fn whole_frame(sent: u64, told: u64, attempts: u64, w: Whole) -> [u64; 17]
         told,
         attempts,
         3,
-        h.frame as u64,
+        h.kind as u64,
         h.long as u64,
         h.primary as u64,
         h.burst as u64,
@@ -309,7 +309,7 @@ fn damaged_frame(sent: u64, told: u64, attempts: u64, w: Whole, m: FrameDamage) 
         told,
         attempts,
         4,
-        h.frame as u64,
+        h.kind as u64,
         h.long as u64,
         h.primary as u64,
         h.burst as u64,
@@ -342,7 +342,7 @@ fn whole_at(numbers: &[u64]) -> Whole
     ensures { λ r. ⌜ r ≡ wholeAt (before numbers) ⌝ }
 {
     let h = Header {
-        frame: u8_at(numbers, 4),
+        kind: u8_at(numbers, 4),
         long: flag_at(numbers, 5),
         primary: flag_at(numbers, 6),
         burst: flag_at(numbers, 7),

@@ -122,8 +122,8 @@ module _ (p : Profile) (v : Valid p) (on : Bool) (pending : Wished) (d : Device)
   unfolding Turned
   listens x due n = record { profile-is = l .profile-is; on-is = l .on-is; turned = refl }
 
-  stx-due : (w : Whole) → (w .header .frame =? stx) ≡ true → dueAfter (d .profile) (endedBy (Frame w)) ≡ p .rt1p
-  stx-due w q = ap (dueAfter (d .profile)) (if-is-false (w .header .frame =? ack) _ _ (ap (λ (n : ℕ). n =? ack) (eqb-true (w .header .frame) stx q))) ∙ rt1p-is
+  stx-due : (w : Whole) → (w .header .kind =? stx) ≡ true → dueAfter (d .profile) (endedBy (Frame w)) ≡ p .rt1p
+  stx-due w q = ap (dueAfter (d .profile)) (if-is-false (w .header .kind =? ack) _ _ (ap (λ (n : ℕ). n =? ack) (eqb-true (w .header .kind) stx q))) ∙ rt1p-is
 
   character-logged : (x : Receiver) (e : Event) → Logged p on no-wish (onCharacter d x e .device)
   unfolding Turned
@@ -132,7 +132,7 @@ module _ (p : Profile) (v : Valid p) (on : Bool) (pending : Wished) (d : Device)
   character-logged x Broken = listens x (d .profile .rt1p) (d .length)
   character-logged x (Frame w) =
       let P : Change → Type 0 = λ c. Logged p on no-wish (changed d x (Frame w) c .device) in
-      if-cases P (w .header .frame =? stx) _ _
+      if-cases P (w .header .kind =? stx) _ _
       (λ q. if-both P (w .expansion =? 0) _ _
       (if-both P (mayAnswer d (w .header)) _ _
       (record { profile-is = l .profile-is; on-is = l .on-is; turned = (refl, omega (arith, ap (λ (q : Profile). q .sto) (l .profile-is)), λ z. stx-due w q) })

@@ -52,7 +52,7 @@ pub record TookMid (frame contents : List ℕ) (d : Device) (t : DeviceTaken) (r
 
 -- a frame's last character: an STX that its host may answer is in hand
 pub data FrameTurn (d : Device) (t : DeviceTaken) (w : Whole) : Type 0 where
-  asked-by : w .header .frame ≡ stx → mayAnswer d (w .header) ≡ true → t .device .turn ≡ Asked (d .profile .sto) → t .device .request ≡ w .header → t .device .due ≡ dueAfter (d .profile) (endedBy (Frame w)) → FrameTurn d t w
+  asked-by : w .header .kind ≡ stx → mayAnswer d (w .header) ≡ true → t .device .turn ≡ Asked (d .profile .sto) → t .device .request ≡ w .header → t .device .due ≡ dueAfter (d .profile) (endedBy (Frame w)) → FrameTurn d t w
   listens-on : t .device .turn ≡ Listens → t .device .due ≡ dueAfter (d .profile) (endedBy (Frame w)) → FrameTurn d t w
 
 pub record TookFrame (frame contents : List ℕ) (d : Device) (t : DeviceTaken) (w : Whole) : Type 0 where
@@ -142,7 +142,7 @@ module _ (frame contents : List ℕ) (d : Device) (hears : d .deaf ≡ false) (h
   takes-frame c w e x some-sto =
       let same : deviceTakes d (Heard.Character c) ≡ changed d idle (Frame w) (afterFrame d w) = heard-is (Heard.Character c) ∙ ap (λ (t : Taken). onCharacter d (t .receiver) (t .event)) e in
       subst (λ (t : DeviceTaken). TookFrame frame contents d t w) (sym same)
-      (if-cases After (w .header .frame =? stx) _ _
+      (if-cases After (w .header .kind =? stx) _ _
       (λ q. if-cases After (w .expansion =? 0) _ _
       (λ z. if-cases After (mayAnswer d (w .header)) _ _ (own q) (λ o. if-cases After (isBroadcast (w .header)) _ _ (λ b. listening w (Broadcast w)) (λ b. listening w DeviceTold.Nothing)))
       (λ z. listening w DeviceTold.Nothing))
@@ -151,7 +151,7 @@ module _ (frame contents : List ℕ) (d : Device) (hears : d .deaf ≡ false) (h
       After : Change → Type 0
       After k = TookFrame frame contents d (changed d idle (Frame w) k) w
 
-      own : (w .header .frame =? stx) ≡ true → mayAnswer d (w .header) ≡ true → TookFrame frame contents d (changed d idle (Frame w) (record { turn = Asked (d .profile .sto); request = w .header; length = d .length; told = Request w })) w
+      own : (w .header .kind =? stx) ≡ true → mayAnswer d (w .header) ≡ true → TookFrame frame contents d (changed d idle (Frame w) (record { turn = Asked (d .profile .sto); request = w .header; length = d .length; told = Request w })) w
       own q o = record {
         took = record {
           same = record { same-profile = refl; same-preamble = refl; same-polling = refl; same-unique = refl };
@@ -162,7 +162,7 @@ module _ (frame contents : List ℕ) (d : Device) (hears : d .deaf ≡ false) (h
         };
         event-is = refl;
         receiver-is = refl;
-        turn-is = asked-by (eqb-true (w .header .frame) stx q) o refl refl refl;
+        turn-is = asked-by (eqb-true (w .header .kind) stx q) o refl refl refl;
       }
 
   -- behind a break, and behind characters that are passed over

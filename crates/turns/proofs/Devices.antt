@@ -120,7 +120,7 @@ pub record Begun (d : Device) (step : DeviceStep) (turn : ℕ → Turn) (burst :
 
 -- a BACK with this command
 abbrev pub backFor : Device → ℕ → Header
-backFor d command = record { frame = back; long = true; primary = d .primary; burst = true; address = d .unique; command = command }
+backFor d command = record { kind = back; long = true; primary = d .primary; burst = true; address = d .unique; command = command }
 
 pub data Goes (d : Device) (step : DeviceStep) : Type 0 where
   rests : SameDevice d (step .side .device) → step .sent ≡ Silent → step .side .device .deaf ≡ false → step .side .device .receiver ≡ d .receiver
@@ -405,7 +405,7 @@ module _ (d e : Device) (frame bytes contents : List ℕ) (told : DeviceTold) (r
           })
           (e .content .command)
           (after .follows-same q)
-          (λ i. record { frame = back; long = true; primary = after .same-primary i; burst = true; address = after .same .same-unique i; command = e .content .command })
+          (λ i. record { kind = back; long = true; primary = after .same-primary i; burst = true; address = after .same .same-unique i; command = e .content .command })
           (ap (λ (b : Bool). if b then false else true) (after .same-primary)))
       go false r = absurd (omega (arith, ltb-false (0 + 1) (backLength e) r))
 

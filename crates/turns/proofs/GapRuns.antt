@@ -60,7 +60,7 @@ each [] = []
 each (c ∷ cs) = hears (Character c) ∷ each cs
 
 unfoldable pub aBack : List ℕ
-aBack = frameBytes 5 (record { frame = back; long = true; primary = true; burst = true; address = 2; command = 3 }) (0 ∷ 0 ∷ [])
+aBack = frameBytes 5 (record { kind = back; long = true; primary = true; burst = true; address = 2; command = 3 }) (0 ∷ 0 ∷ [])
 
 -- the 0xFF comes in tick 18, so T is 17: the STX begins in tick 17 + 66 + 1
 pub cut-set : marks (masterSents 255 primary (asks ∷ hears Silence ∷ (each aBack ++ (hears (Character 0xFF) ∷ replicate 67 (hears Silence))))) ≡ replicate 84 0 ++ (1 ∷ 1 ∷ [])
@@ -76,7 +76,7 @@ told x (i ∷ is) = masterTells (masterTick 255 x (i .heard) (i .call) .told) .n
 
 -- its ACK, of 12 characters
 unfoldable pub anAck : List ℕ
-anAck = frameBytes 5 (record { frame = ack; long = false; primary = true; burst = false; address = 0; command = 0 }) (0 ∷ 0 ∷ [])
+anAck = frameBytes 5 (record { kind = ack; long = false; primary = true; burst = false; address = 0; command = 0 }) (0 ∷ 0 ∷ [])
 
 -- asked in tick 0, its STX goes out in ticks 33 to 42, and it takes the ACK's first character in tick 45
 unfoldable pub awaits : List MasterInput → List MasterInput
@@ -113,7 +113,7 @@ eachTaken (c ∷ cs) = takes (Character c) ∷ eachTaken cs
 
 -- a long command 3 for it, of 14 characters, in ticks 2 to 15
 unfoldable pub aRequest : List ℕ
-aRequest = frameBytes 5 (record { frame = stx; long = true; primary = true; burst = false; address = 2; command = 3 }) []
+aRequest = frameBytes 5 (record { kind = stx; long = true; primary = true; burst = false; address = 2; command = 3 }) []
 
 -- its host gives burst content in tick 0, and in tick 16 an answer that turns burst on: ACK and BACK of 16 characters each, one directly behind the other. It takes a lone 0xFF in tick 50, so T is 49: the next BACK begins in tick 49 + 33 + 1
 pub cut-bursting : marks (deviceSents 255 device

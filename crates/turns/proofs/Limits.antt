@@ -79,7 +79,7 @@ fresh = freshDevice fskProfile 5 0 2
 
 -- with a request in hand
 abbrev pub asked : Device → Bool → ℕ → ℕ → Device
-asked d long address command = D.deviceWith d idle (Asked 28) (record { frame = stx; long = long; primary = true; burst = false; address = address; command = command }) Same 0 33
+asked d long address command = D.deviceWith d idle (Asked 28) (record { kind = stx; long = long; primary = true; burst = false; address = address; command = command }) Same 0 33
 
 abbrev pub with-content : Device
 with-content = deviceWithContent fresh (record { given = true; command = 3; count = 2 })

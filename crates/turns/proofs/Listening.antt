@@ -84,7 +84,7 @@ pub record Starts (p : Profile) (primary : Bool) (t : Master) (step : MasterStep
   pub character : step .sent ≡ Sent.Character (getD w 0 0)
   pub header-is : message .header ≡ step .side .master .message .header
   pub no-expansion : message .expansion ≡ 0
-  pub type-is : message .header .frame ≡ stx
+  pub type-is : message .header .kind ≡ stx
   pub bit-is : message .header .primary ≡ primary
   pub same-burst : step .side .master .burst ≡ t .burst
   pub same-noted : step .side .master .noted ≡ t .noted
@@ -148,7 +148,7 @@ master-does limit p primary x heard call small is took = go (master-goes limit t
           character = c;
           header-is = a ∙ ap (λ (m : Master). m .message .header) (sym e);
           no-expansion = y;
-          type-is = ap (λ (h : Header). h .frame) a ∙ k;
+          type-is = ap (λ (h : Header). h .kind) a ∙ k;
           bit-is = ap (λ (h : Header). h .primary) a ∙ u ∙ took .same-primary ∙ is .primary-is;
           same-burst = ap (λ (m : Master). m .burst) e;
           same-noted = ap (λ (m : Master). m .noted) e;
@@ -447,7 +447,7 @@ module _ (limit : ℕ) (low : 2 ≤ limit) (high : limit ≤ 255) (p : Profile) 
     pub due-is : step .side .device .due ≡ dueAfter p (DV.endedBy (Frame message))
     pub in-time : inHand (step .side .device .turn) ≤ p .sto
     pub asked-own : (step .side .device .turn ≡ Listens → ⊥) → mayAnswer (x .device) (message .header) ≡ true
-    pub only-stx : (step .side .device .turn ≡ Listens → ⊥) → message .header .frame ≡ stx
+    pub only-stx : (step .side .device .turn ≡ Listens → ⊥) → message .header .kind ≡ stx
     pub request-is : (step .side .device .turn ≡ Listens → ⊥) → step .side .device .request ≡ message .header
 
   pub device-frame : (w : List ℕ) (message : Whole) (k : ℕ) → Spoken w message → suc k ≡ length w → x .device .receiver ≡ readerAfter idle (take k w) → message .expansion ≡ 0

@@ -73,7 +73,7 @@ holds-written preamble h bytes frame fits room =
 -- the master's message, if it has one, stands in its frame buffer as an STX with its own master bit
 pub data Formed (primary : Bool) (frame : List ℕ) (g : Message) : Type 0 where
   no-message : g .stage ≡ Free → Formed primary frame g
-  stands : (w : List ℕ) (message : Whole) → Holds frame (g .length) w message → message .header ≡ g .header → message .expansion ≡ 0 → g .header .frame ≡ stx → g .header .primary ≡ primary → Formed primary frame g
+  stands : (w : List ℕ) (message : Whole) → Holds frame (g .length) w message → message .header ≡ g .header → message .expansion ≡ 0 → g .header .kind ≡ stx → g .header .primary ≡ primary → Formed primary frame g
 
 -- the silent ticks left for the ACK; 0 where none is awaited
 abbrev pub left : Stage → ℕ
@@ -132,7 +132,7 @@ pub data Goes (m : Master) (step : MasterStep) : Type 0 where
       → (g .stage ≡ Waiting → m .timer .window ≡ 0) → Rested m g → Goes m step
   -- it begins its STX in an open window
   begins : (g : Message) (w : List ℕ) (message : Whole) → step .side .master ≡ speaking m g → g .stage ≡ Sending 1 → step .sent ≡ Character (getD w 0 0)
-      → Holds (step .side .frame) (g .length) w message → message .header ≡ g .header → message .expansion ≡ 0 → g .header .frame ≡ stx → g .header .primary ≡ m .primary
+      → Holds (step .side .frame) (g .length) w message → message .header ≡ g .header → message .expansion ≡ 0 → g .header .kind ≡ stx → g .header .primary ≡ m .primary
       → 0 < m .timer .window → Counts m g → Goes m step
 
 -- what holds in each case of a choice holds of the choice

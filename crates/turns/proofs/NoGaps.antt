@@ -190,7 +190,7 @@ module _ (limit : ℕ) (small : limit ≤ 255) (p : Profile) (primary : Bool) wh
       go (inside below stage) = speaks burst noted k w message below stage s
       go (finished e t still l) =
           subst (λ (z : List ℕ). MasterState z x) (sym (drop-of-length-le w {i = suc k} (omega arith)))
-          (listens (s .is-it) still (stands w message (s .held) (s .header-is) (s .no-expansion) (ap (λ (h : Header). h .frame) (sym (s .header-is)) ∙ s .type-is) (ap (λ (h : Header). h .primary) (sym (s .header-is)) ∙ s .bit-is ∙ sym (s .is-it .primary-is))))
+          (listens (s .is-it) still (stands w message (s .held) (s .header-is) (s .no-expansion) (ap (λ (h : Header). h .kind) (sym (s .header-is)) ∙ s .type-is) (ap (λ (h : Header). h .primary) (sym (s .header-is)) ∙ s .bit-is ∙ sym (s .is-it .primary-is))))
 
   master-steps : {left : List ℕ} {x : MasterSide} → MasterState left x → (heard : Heard) (call : MasterCall) → Steps MasterState left (masterTick limit x heard call .sent) (masterTick limit x heard call .side)
   master-steps {left} {x} (listens is still formed) heard call = go (master-does limit p primary x heard call small is took)
@@ -338,7 +338,7 @@ module _ (frame contents : List ℕ) (d : Device) (sound : Sound d frame content
   own-took : (r : Receiver) (w : Whole) → Took frame contents d (D.changed d r (Frame w) (D.afterFrame d w))
   own-took r w =
       let P : Change → Type 0 = λ c. Took frame contents d (D.changed d r (Frame w) c) in
-      if-both P (w .header .frame =? stx) _ _
+      if-both P (w .header .kind =? stx) _ _
       (if-both P (w .expansion =? 0) _ _
       (if-cases P (mayAnswer d (w .header)) _ _
       (λ o. record {
@@ -354,7 +354,7 @@ module _ (frame contents : List ℕ) (d : Device) (sound : Sound d frame content
   error-own : (w : Whole) (m : FrameDamage) → hasError d w m ≡ true → mayAnswer d (w .header) ≡ true
   error-own w m e =
       let no : false ≡ true → ⊥ = λ z. true-false (sym z) in
-      let a = went-then (w .header .frame =? stx) _ false true e no in
+      let a = went-then (w .header .kind =? stx) _ false true e no in
       let b = went-then (w .expansion =? 0) _ false true (a .1) no in
       if-both (λ (o : Bool). o ≡ true) (seeksTag (w .header)) _ _ refl (went-else (m .address) false (isOwn d (w .header)) true (b .1) no .1)
 

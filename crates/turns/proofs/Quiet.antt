@@ -109,22 +109,22 @@ stx-is p primary false = refl
 pub sent-is : (p : Profile) (primary burst : Bool) (m : Master) → m .profile ≡ p → m .primary ≡ primary → m .burst ≡ burst → timerAfter (m .profile) (m .primary) any-stx (m .burst) ≡ breakTimer p primary burst
 sent-is p primary burst m a b c = (λ i. timerAfter (a i) (b i) any-stx (c i)) ∙ stx-is p primary burst
 
-stx-back : (h : Header) → h .frame ≡ stx → (h .frame =? back) ≡ false
+stx-back : (h : Header) → h .kind ≡ stx → (h .kind =? back) ≡ false
 stx-back h e = ap (λ (n : ℕ). n =? back) e
 
-stx-ack : (h : Header) → h .frame ≡ stx → (h .frame =? ack) ≡ false
+stx-ack : (h : Header) → h .kind ≡ stx → (h .kind =? ack) ≡ false
 stx-ack h e = ap (λ (n : ℕ). n =? ack) e
 
 -- an STX leaves BURST and whom it is set for
-pub stx-burst : (burst : Bool) (noted : Noted) (h : Header) → h .frame ≡ stx → burstAfter burst noted h ≡ burst
-stx-burst burst noted h e = if-is-false (h .frame =? back) _ _ (stx-back h e) ∙ if-is-false (h .frame =? ack) _ _ (stx-ack h e)
+pub stx-burst : (burst : Bool) (noted : Noted) (h : Header) → h .kind ≡ stx → burstAfter burst noted h ≡ burst
+stx-burst burst noted h e = if-is-false (h .kind =? back) _ _ (stx-back h e) ∙ if-is-false (h .kind =? ack) _ _ (stx-ack h e)
 
-pub stx-noted : (noted : Noted) (h : Header) → h .frame ≡ stx → notedAfter noted h ≡ noted
-stx-noted noted h e = if-is-false (h .frame =? back) _ _ (stx-back h e) ∙ if-is-false (h .frame =? ack) _ _ (stx-ack h e)
+pub stx-noted : (noted : Noted) (h : Header) → h .kind ≡ stx → notedAfter noted h ≡ noted
+stx-noted noted h e = if-is-false (h .kind =? back) _ _ (stx-back h e) ∙ if-is-false (h .kind =? ack) _ _ (stx-ack h e)
 
-pub stx-timer : (p : Profile) (primary burst : Bool) (m : Master) (h : Header) → m .profile ≡ p → m .primary ≡ primary → h .frame ≡ stx → timerAfter (m .profile) (m .primary) (endedBy m h) burst ≡ breakTimer p primary burst
+pub stx-timer : (p : Profile) (primary burst : Bool) (m : Master) (h : Header) → m .profile ≡ p → m .primary ≡ primary → h .kind ≡ stx → timerAfter (m .profile) (m .primary) (endedBy m h) burst ≡ breakTimer p primary burst
 stx-timer p primary burst m h a b e =
-    let ended : endedBy m h ≡ any-stx = if-is-false (h .frame =? back) _ _ (stx-back h e) ∙ if-is-false (h .frame =? ack) _ _ (stx-ack h e) in
+    let ended : endedBy m h ≡ any-stx = if-is-false (h .kind =? back) _ _ (stx-back h e) ∙ if-is-false (h .kind =? ack) _ _ (stx-ack h e) in
     (λ i. timerAfter (a i) (b i) (ended i) burst) ∙ stx-is p primary burst
 
 -- who awaits an ACK behind an STX or at the start: the sender of the STX, for RT1
@@ -219,12 +219,12 @@ itself-is primary m h e = λ i. if e i then h .primary else (if h .primary then 
 abbrev pub slotTimer : Profile → Bool → ℕ → Timer
 slotTimer p primary n = burstTimer p primary n
 
-ack-ended : (primary : Bool) (m : Master) (h : Header) → m .primary ≡ primary → h .frame ≡ ack → endedBy m h ≡ (if itself primary h then ack-to-itself else ack-to-other)
+ack-ended : (primary : Bool) (m : Master) (h : Header) → m .primary ≡ primary → h .kind ≡ ack → endedBy m h ≡ (if itself primary h then ack-to-itself else ack-to-other)
 ack-ended primary m h b e =
-    if-is-false (h .frame =? back) _ _ (ap (λ (n : ℕ). n =? back) e) ∙ if-is-true (h .frame =? ack) _ _ (eq-eqb (h .frame) ack e)
+    if-is-false (h .kind =? back) _ _ (ap (λ (n : ℕ). n =? back) e) ∙ if-is-true (h .kind =? ack) _ _ (eq-eqb (h .kind) ack e)
     ∙ ap (λ (t : Bool). if t then ack-to-itself else ack-to-other) (itself-is primary m h b)
 
-pub ack-clear-timer : (p : Profile) (primary : Bool) (m : Master) (h : Header) → m .profile ≡ p → m .primary ≡ primary → h .frame ≡ ack
+pub ack-clear-timer : (p : Profile) (primary : Bool) (m : Master) (h : Header) → m .profile ≡ p → m .primary ≡ primary → h .kind ≡ ack
     → timerAfter (m .profile) (m .primary) (endedBy m h) false ≡ (if itself primary h then timer (p .rt2) else timer 1)
 unfolding if_then_else_
 ack-clear-timer p primary m h a b e = (λ i. timerAfter (a i) (b i) (ack-ended primary m h b e i) false) ∙ go (itself primary h)
@@ -233,7 +233,7 @@ ack-clear-timer p primary m h a b e = (λ i. timerAfter (a i) (b i) (ack-ended p
     go true = refl
     go false = refl
 
-pub ack-set-timer : (p : Profile) (primary : Bool) (m : Master) (h : Header) → m .profile ≡ p → m .primary ≡ primary → h .frame ≡ ack → timerAfter (m .profile) (m .primary) (endedBy m h) true ≡ slotTimer p primary 0
+pub ack-set-timer : (p : Profile) (primary : Bool) (m : Master) (h : Header) → m .profile ≡ p → m .primary ≡ primary → h .kind ≡ ack → timerAfter (m .profile) (m .primary) (endedBy m h) true ≡ slotTimer p primary 0
 unfolding if_then_else_
 ack-set-timer p primary m h a b e = (λ i. timerAfter (a i) (b i) (ack-ended primary m h b e i) true) ∙ go (itself primary h)
   where
@@ -241,13 +241,13 @@ ack-set-timer p primary m h a b e = (λ i. timerAfter (a i) (b i) (ack-ended pri
     go true = refl
     go false = refl
 
-pub back-timer : (p : Profile) (primary : Bool) (m : Master) (h : Header) → m .profile ≡ p → m .primary ≡ primary → h .frame ≡ back
+pub back-timer : (p : Profile) (primary : Bool) (m : Master) (h : Header) → m .profile ≡ p → m .primary ≡ primary → h .kind ≡ back
     → timerAfter (m .profile) (m .primary) (endedBy m h) true ≡ (if itself primary h then slotTimer p primary 0 else slotTimer p primary 1)
 unfolding if_then_else_
 back-timer p primary m h a b e = (λ i. timerAfter (a i) (b i) (ended i) true) ∙ go (itself primary h)
   where
     ended : endedBy m h ≡ (if itself primary h then back-to-itself else back-to-other)
-    ended = if-is-true (h .frame =? back) _ _ (eq-eqb (h .frame) back e) ∙ ap (λ (t : Bool). if t then back-to-itself else back-to-other) (itself-is primary m h b)
+    ended = if-is-true (h .kind =? back) _ _ (eq-eqb (h .kind) back e) ∙ ap (λ (t : Bool). if t then back-to-itself else back-to-other) (itself-is primary m h b)
 
     go : (t : Bool) → timerAfter p primary (if t then back-to-itself else back-to-other) true ≡ (if t then slotTimer p primary 0 else slotTimer p primary 1)
     go true = refl

@@ -53,18 +53,18 @@ begins-behind primary bytes = ticks-before (masterSents 255 (master primary) (as
 
 -- an STX to polling address 1, 10 characters in ticks 1 to 10
 abbrev pub aRequest : List ℕ
-aRequest = frameBytes 5 (record { frame = stx; long = false; primary = true; burst = false; address = 1; command = 0 }) []
+aRequest = frameBytes 5 (record { kind = stx; long = false; primary = true; burst = false; address = 1; command = 0 }) []
 
 -- an ACK of polling address 1, 12 characters in ticks 1 to 12
 abbrev pub shortAck : Bool → Bool → List ℕ
-shortAck primary burst = frameBytes 5 (record { frame = ack; long = false; primary = primary; burst = burst; address = 1; command = 0 }) (0 ∷ 0 ∷ [])
+shortAck primary burst = frameBytes 5 (record { kind = ack; long = false; primary = primary; burst = burst; address = 1; command = 0 }) (0 ∷ 0 ∷ [])
 
 -- an ACK of this device, or a BACK of device 3, 16 characters in ticks 1 to 16
 abbrev pub longAck : Bool → Bool → ℕ → List ℕ
-longAck primary burst unique = frameBytes 5 (record { frame = ack; long = true; primary = primary; burst = burst; address = unique; command = 3 }) (0 ∷ 0 ∷ [])
+longAck primary burst unique = frameBytes 5 (record { kind = ack; long = true; primary = primary; burst = burst; address = unique; command = 3 }) (0 ∷ 0 ∷ [])
 
 abbrev pub aBack : Bool → List ℕ
-aBack primary = frameBytes 5 (record { frame = back; long = true; primary = primary; burst = true; address = 3; command = 3 }) (0 ∷ 0 ∷ [])
+aBack primary = frameBytes 5 (record { kind = back; long = true; primary = primary; burst = true; address = 3; command = 3 }) (0 ∷ 0 ∷ [])
 
 -- with a wrong check byte
 unfoldable pub wrong : List ℕ → List ℕ
@@ -140,7 +140,7 @@ quiet-runs-on = refl
 -- what stands on the line from tick 44 on behind the STX of ticks 33 to 42: an ACK of 12 characters with this first data byte; RT2 behind it a failed attempt is repeated, an answered one is not
 unfoldable pub behind-status : ℕ → List Sent
 behind-status status =
-    masterSents 255 (master true) (asks ∷ (replicate 44 (hears Silence) ++ (all-heard (frameBytes 5 (record { frame = ack; long = false; primary = true; burst = false; address = 0; command = 0 }) (status ∷ 0 ∷ [])) ++ replicate 17 (hears Silence))))
+    masterSents 255 (master true) (asks ∷ (replicate 44 (hears Silence) ++ (all-heard (frameBytes 5 (record { kind = ack; long = false; primary = true; burst = false; address = 0; command = 0 }) (status ∷ 0 ∷ [])) ++ replicate 17 (hears Silence))))
 
 pub bit-seven : (behind-status 0x80 ≡ replicate 33 Silent ++ (stx-0 ++ (replicate 21 Silent ++ stx-0))) × (behind-status 0x7F ≡ replicate 33 Silent ++ (stx-0 ++ replicate 31 Silent))
 unfolding all-heard each behind-status masterSents masterTick requested requestedUpTo masterTakes masterSends taken takenData silentInside atIdle atPreamble atFirst atAddress atExpansion atCommand atCount atData atCheck frameBytes preambleBytes bodyBytes protectedBytes headerBytes xorFrom delimiterOf stored if_then_else_

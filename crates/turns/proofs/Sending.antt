@@ -45,7 +45,7 @@ pub record MasterSpeaks (p : Profile) (primary burst : Bool) (noted : Noted) (k 
   pub held : Holds (x .frame) (x .master .message .length) w message
   pub header-is : message .header ≡ x .master .message .header
   pub no-expansion : message .expansion ≡ 0
-  pub type-is : message .header .frame ≡ stx
+  pub type-is : message .header .kind ≡ stx
   pub bit-is : message .header .primary ≡ primary
   pub place : MasterPlace k w x
 
@@ -107,7 +107,7 @@ module _ (limit : ℕ) (small : limit ≤ 255) (p : Profile) (primary burst : Bo
       × (left (masterTick limit x heard call .side .master .message .stage) ≡ ownRt1 (x .master .profile) (x .master .primary)) × (1 ≤ ownRt1 (x .master .profile) (x .master .primary) → masterTick limit x heard call .side .master .message .attempts ≡ x .master .message .attempts)
       × (1 ≤ ownRt1 (x .master .profile) (x .master .primary) → masterTick limit x heard call .side .master .message .header ≡ x .master .message .header)
   speaks-out k x heard call t still l s =
-      let formed : Formed (x .master .primary) (x .frame) (x .master .message) = stands w message (s .held) (s .header-is) (s .no-expansion) (ap (λ (h : Header). h .frame) (sym (s .header-is)) ∙ s .type-is)
+      let formed : Formed (x .master .primary) (x .frame) (x .master .message) = stands w message (s .held) (s .header-is) (s .no-expansion) (ap (λ (h : Header). h .kind) (sym (s .header-is)) ∙ s .type-is)
       (ap (λ (h : Header). h .primary) (sym (s .header-is)) ∙ s .bit-is ∙ sym (s .is-it .primary-is)) in
       let f = master-finished limit p primary x heard call small (s .is-it) (s .deaf-is) still formed (ap (λ (t : Timer). t .window) t ∙ timer-shut (x .master .profile) (x .master .primary) any-stx (x .master .burst)) in (
         f .silent,

@@ -40,7 +40,7 @@ false-true e = true-false (sym e)
 
 -- "the ACK with its master bit, address and command"
 pub record Repeats (m : Master) (h : Header) : Type 0 where
-  pub is-ack : h .frame ≡ ack
+  pub is-ack : h .kind ≡ ack
   pub own-bit : toItself m h ≡ true
   pub same-form : sameBit (m .message .header .long) (h .long) ≡ true
   pub same-address : m .message .header .address ≡ h .address
@@ -48,12 +48,12 @@ pub record Repeats (m : Master) (h : Header) : Type 0 where
 
 pub answer-repeats : (m : Master) (h : Header) → isAnswer m h ≡ true → Repeats m h
 answer-repeats m h e =
-    let a = went-then (h .frame =? ack) _ false true e false-true in
+    let a = went-then (h .kind =? ack) _ false true e false-true in
     let b = went-then (toItself m h) _ false true (a .1) false-true in
     let c = went-then (sameBit (m .message .header .long) (h .long)) _ false true (b .1) false-true in
     let d = went-then (m .message .header .address =? h .address) _ false true (c .1) false-true in
     record {
-      is-ack = eqb-true (h .frame) ack (a .0);
+      is-ack = eqb-true (h .kind) ack (a .0);
       own-bit = b .0;
       same-form = c .0;
       same-address = eqb-true (m .message .header .address) (h .address) (d .0);
@@ -78,7 +78,7 @@ own-polling d h short e =
 -- "Expansion bytes ..: no answer"
 pub expansion-unanswered : (d : Device) (w : Whole) → (w .expansion =? 0) ≡ false → afterFrame d w .turn ≡ Listens
 expansion-unanswered d w x =
-    if-both (λ (c : Change). c .turn ≡ Listens) (w .header .frame =? stx) _ _ (ap (λ (c : Change). c .turn) (if-is-false (w .expansion =? 0) _ _ x)) refl
+    if-both (λ (c : Change). c .turn ≡ Listens) (w .header .kind =? stx) _ _ (ap (λ (c : Change). c .turn) (if-is-false (w .expansion =? 0) _ _ x)) refl
 
 -- "T+2 to T+STO": in the last of its ticks a request is dropped
 pub last-tick : (n : ℕ) → n ≤ 1 → waited (Asked n) ≡ Listens
@@ -105,7 +105,7 @@ pub damaged-address : (d : Device) (w : Whole) (m : FrameDamage) → m .address 
     → (afterDamage d w m .told ≡ DeviceTold.Nothing) × ((frame : List ℕ) → errorFrame d (Damaged w m) frame ≡ frame) × (afterDamage d w m .turn ≡ Listens)
 damaged-address d w m damaged =
     let no : Bool → Type 0 = λ (t : Bool). t ≡ false in
-    let e : hasError d w m ≡ false = if-both no (w .header .frame =? stx) _ _ (if-both no (w .expansion =? 0) _ _ (if-is-true (m .address) false _ damaged) refl) refl in
+    let e : hasError d w m ≡ false = if-both no (w .header .kind =? stx) _ _ (if-both no (w .expansion =? 0) _ _ (if-is-true (m .address) false _ damaged) refl) refl in
     let t = if-is-false (hasError d w m) _ _ e in
     (ap (λ (c : Change). c .told) t, (λ frame. if-is-false (hasError d w m) _ frame e), ap (λ (c : Change). c .turn) t)
 
@@ -156,12 +156,12 @@ pub none-due : (d : Device) → backDue d 0 ≡ false
 none-due d = if-both (λ (b : Bool). b ≡ false) (d .burst) _ _ refl refl
 
 -- "or a BACK, sets BURST and notes its address"
-pub back-notes : (burst : Bool) (noted : Noted) (h : Header) → h .frame ≡ back → (burstAfter burst noted h ≡ true) × (notedAfter noted h ≡ notedFrom h)
-back-notes burst noted h e = (if-is-true (h .frame =? back) true _ (eq-eqb (h .frame) back e), if-is-true (h .frame =? back) (notedFrom h) _ (eq-eqb (h .frame) back e))
+pub back-notes : (burst : Bool) (noted : Noted) (h : Header) → h .kind ≡ back → (burstAfter burst noted h ≡ true) × (notedAfter noted h ≡ notedFrom h)
+back-notes burst noted h e = (if-is-true (h .kind =? back) true _ (eq-eqb (h .kind) back e), if-is-true (h .kind =? back) (notedFrom h) _ (eq-eqb (h .kind) back e))
 
-module _ (noted : Noted) (h : Header) (type : h .frame ≡ ack) where
-  by-ack : {A : Type 0} (a b c : A) → (if h .frame =? back then a else (if h .frame =? ack then b else c)) ≡ b
-  by-ack a b c = if-is-false (h .frame =? back) a _ (ap (λ (n : ℕ). n =? back) type) ∙ if-is-true (h .frame =? ack) b c (eq-eqb (h .frame) ack type)
+module _ (noted : Noted) (h : Header) (type : h .kind ≡ ack) where
+  by-ack : {A : Type 0} (a b c : A) → (if h .kind =? back then a else (if h .kind =? ack then b else c)) ≡ b
+  by-ack a b c = if-is-false (h .kind =? back) a _ (ap (λ (n : ℕ). n =? back) type) ∙ if-is-true (h .kind =? ack) b c (eq-eqb (h .kind) ack type)
 
   -- "A long ACK with the burst flag .. notes its address"; that it sets BURST is `flag-sets` in TagSentences
   pub long-notes : h .burst ≡ true → namesDevice h ≡ true → notedAfter noted h ≡ notedFrom h
@@ -212,9 +212,9 @@ module _ (m : Master) (w : Whole) (bytes : List ℕ) where
       let e : atBreak m ≡ ends (m .message) BroadcastSent = if-is-true (isBroadcast (m .message .header)) _ _ all in
       (if-is-false (answersMessage m (w .header)) _ _ (if-is-true (isBroadcast (m .message .header)) _ _ all ∙ if-is-false (seeksTag (m .message .header)) _ _ other) ∙ e, e)
 
-module _ (d : Device) (w : Whole) (request : w .header .frame ≡ stx) (plain : w .expansion ≡ 0) where
+module _ (d : Device) (w : Whole) (request : w .header .kind ≡ stx) (plain : w .expansion ≡ 0) where
   as-request : afterFrame d w ≡ afterRequest d w
-  as-request = if-is-true (w .header .frame =? stx) _ _ (eq-eqb (w .header .frame) stx request) ∙ if-is-true (w .expansion =? 0) _ _ (eq-eqb (w .expansion) 0 plain)
+  as-request = if-is-true (w .header .kind =? stx) _ _ (eq-eqb (w .header .kind) stx request) ∙ if-is-true (w .expansion =? 0) _ _ (eq-eqb (w .expansion) 0 plain)
 
   -- "STX to its unique address, or with command 0 to its polling address: told to the host"
   pub own-told : isOwn d (w .header) ≡ true → (afterFrame d w .told ≡ DeviceTold.Request w) × (afterFrame d w .request ≡ w .header)

@@ -48,8 +48,8 @@ pub all-settled : AllSettled table
 unfolding hearing requested requestedUpTo deviceTick deviceTakes deviceSends answered taken takenData atIdle atPreamble atFirst atAddress atExpansion atCommand atCount atData atCheck writeBuffer writeAnswer frameBytes preambleBytes bodyBytes protectedBytes headerBytes xorFrom delimiterOf stored if_then_else_
 all-settled =
     row-and (check-byte-is (frame-with request [] refl))
-    (row-and (check-byte-is (frame-with (record { frame = stx; long = true; primary = true; burst = false; address = 2; command = 3 }) [] refl))
-    (row-and (check-byte-is (frame-with (record { frame = ack; long = false; primary = true; burst = false; address = 0; command = 0 }) (0 ∷ 0 ∷ []) refl))
+    (row-and (check-byte-is (frame-with (record { kind = stx; long = true; primary = true; burst = false; address = 2; command = 3 }) [] refl))
+    (row-and (check-byte-is (frame-with (record { kind = ack; long = false; primary = true; burst = false; address = 0; command = 0 }) (0 ∷ 0 ∷ []) refl))
     (row-and (polling-is refl)
     (row-and (polling-is refl)
     (row-and (data-is refl)

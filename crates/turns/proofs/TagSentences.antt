@@ -71,7 +71,7 @@ module _ (d : Device) (some : 1 ≤ d .unique) where
   no-error : (w : Whole) (m : FrameDamage) → isBroadcast (w .header) ≡ true → hasError d w m ≡ false
   no-error w m b =
       let no : Bool → Type 0 = λ (t : Bool). t ≡ false in
-      if-both no (w .header .frame =? stx) _ _ (if-both no (w .expansion =? 0) _ _ (if-both no _ _ _ refl (broadcast-not-own (w .header) b)) refl) refl
+      if-both no (w .header .kind =? stx) _ _ (if-both no (w .expansion =? 0) _ _ (if-both no _ _ _ refl (broadcast-not-own (w .header) b)) refl) refl
 
   -- nothing is told, nothing is prepared in the frame buffer, and no request is in hand
   pub damaged-unanswered : (w : Whole) (m : FrameDamage) → isBroadcast (w .header) ≡ true
@@ -86,7 +86,7 @@ module _ (d : Device) (some : 1 ≤ d .unique) where
   other-unanswered w b other =
       let no : Change → Type 0 = λ (c : Change). c .turn ≡ Listens in
       let none : mayAnswer d (w .header) ≡ false = if-is-false (seeksTag (w .header)) true (isOwn d (w .header)) other ∙ broadcast-not-own (w .header) b in
-      if-both no (w .header .frame =? stx) _ _
+      if-both no (w .header .kind =? stx) _ _
       (if-both no (w .expansion =? 0) _ _ (ap (λ (c : Change). c .turn) (if-is-false (mayAnswer d (w .header)) _ _ none) ∙ if-both no (isBroadcast (w .header)) _ _ refl refl) refl)
       refl
 
@@ -113,28 +113,28 @@ other-has-none m h b other = if-is-true (isBroadcast (m .message .header)) _ _ b
 
 -- ---- "with the flag it sets BURST and notes nothing, and it never clears it"
 
-module _ (noted : Noted) (h : Header) (type : h .frame ≡ ack) where
-  not-back : (h .frame =? back) ≡ false
+module _ (noted : Noted) (h : Header) (type : h .kind ≡ ack) where
+  not-back : (h .kind =? back) ≡ false
   not-back = ap (λ (n : ℕ). n =? back) type
 
-  is-ack : (h .frame =? ack) ≡ true
-  is-ack = eq-eqb (h .frame) ack type
+  is-ack : (h .kind =? ack) ≡ true
+  is-ack = eq-eqb (h .kind) ack type
 
   no-name : seeksTag h ≡ true → namesDevice h ≡ false
   no-name tag = if-is-true (seeksTag h) false (h .long) tag
 
   pub flag-sets : (burst : Bool) → h .burst ≡ true → burstAfter burst noted h ≡ true
-  flag-sets burst flag = if-is-false (h .frame =? back) _ _ not-back ∙ if-is-true (h .frame =? ack) _ _ is-ack ∙ if-is-true (h .burst) _ _ flag
+  flag-sets burst flag = if-is-false (h .kind =? back) _ _ not-back ∙ if-is-true (h .kind =? ack) _ _ is-ack ∙ if-is-true (h .burst) _ _ flag
 
   pub tag-notes-nothing : seeksTag h ≡ true → notedAfter noted h ≡ noted
   tag-notes-nothing tag =
       let same : Noted → Type 0 = λ (n : Noted). n ≡ noted in
-      if-is-false (h .frame =? back) _ _ not-back ∙ if-is-true (h .frame =? ack) _ _ is-ack ∙ if-both same (h .burst) _ _ (if-is-false (namesDevice h) _ _ (no-name tag)) refl
+      if-is-false (h .kind =? back) _ _ not-back ∙ if-is-true (h .kind =? ack) _ _ is-ack ∙ if-both same (h .burst) _ _ (if-is-false (namesDevice h) _ _ (no-name tag)) refl
 
   pub tag-never-clears : seeksTag h ≡ true → burstAfter true noted h ≡ true
   tag-never-clears tag =
       let set : Bool → Type 0 = λ (b : Bool). b ≡ true in
-      if-is-false (h .frame =? back) _ _ not-back ∙ if-is-true (h .frame =? ack) _ _ is-ack ∙ if-both set (h .burst) _ _ refl (if-is-false (namesDevice h) _ _ (no-name tag))
+      if-is-false (h .kind =? back) _ _ not-back ∙ if-is-true (h .kind =? ack) _ _ is-ack ∙ if-both set (h .burst) _ _ refl (if-is-false (namesDevice h) _ _ (no-name tag))
 
 -- ---- "Unanswered, or answered with bit 7 set, the message is reported after its one attempt as document 01's broadcast is"
 

@@ -44,7 +44,7 @@ behindReport BroadcastSent g = no-message
 
 -- the header of a request's STX
 abbrev pub stxHeader : Bool → Request → Header
-stxHeader primary q = record { frame = stx; long = q .long; primary = primary; burst = false; address = q .address; command = q .command }
+stxHeader primary q = record { kind = stx; long = q .long; primary = primary; burst = false; address = q .address; command = q .command }
 
 -- what the host asks: a request is taken only where no message is in hand; it is then the message in hand, with no STX sent yet
 pub data Asked (primary : Bool) : MasterCall → CallResult → MessageLog → MessageLog → Type 0 where

@@ -81,7 +81,7 @@ abbrev pub endedBy : Event → EndedForDevice
 endedBy Nothing = inside
 endedBy PassedOver = anything-else
 endedBy Broken = anything-else
-endedBy (Frame w) = if w .header .frame =? ack then another's-ack else anything-else
+endedBy (Frame w) = if w .header .kind =? ack then another's-ack else anything-else
 endedBy (Damaged w m) = anything-else
 
 -- the silent line ticks before the next BACK; 0 where no timer runs
@@ -109,12 +109,12 @@ errorData m = errorStatus m ∷ 0 ∷ []
 
 -- an ACK to a request repeats the form of its address, its master bit and its command, and has the burst flag if the device bursts. Item 6: "Our transmitters repeat the request's address bytes, with their burst flag."
 abbrev pub answerHeader : Header → Bool → Header
-answerHeader h burst = record { frame = ack; long = h .long; primary = h .primary; burst = burst; address = h .address; command = h .command }
+answerHeader h burst = record { kind = ack; long = h .long; primary = h .primary; burst = burst; address = h .address; command = h .command }
 
 -- "Expansion bytes or damage in the address: no answer." Other damage in an STX "that as heard is for this device" is answered without the host. A damaged broadcast is for no device, so item 6's "A damaged one is never answered" holds (`damaged-unanswered` in proofs/TagSentences).
 abbrev pub hasError : Device → Whole → FrameDamage → Bool
 hasError d w m =
-    if w .header .frame =? stx then
+    if w .header .kind =? stx then
     (if w .expansion =? 0 then
     (if m .address then false else isOwn d (w .header)) else false) else false
 
@@ -136,7 +136,7 @@ afterRequest d w =
 
 abbrev pub afterFrame : Device → Whole → Change
 afterFrame d w =
-    if w .header .frame =? stx then
+    if w .header .kind =? stx then
     (if w .expansion =? 0 then afterRequest d w else listensOn d DeviceTold.Nothing)
     else listensOn d DeviceTold.Nothing
 
@@ -304,7 +304,7 @@ sends d deaf turn length burst primary due r sent = record {
 
 -- "BACKs use the long address", and "carry the burst flag"; their content is what the host gave last
 abbrev pub backHeader : Device → Header
-backHeader d = record { frame = back; long = true; primary = d .primary; burst = true; address = d .unique; command = d .content .command }
+backHeader d = record { kind = back; long = true; primary = d .primary; burst = true; address = d .unique; command = d .content .command }
 
 -- "The first after burst goes from off to on is for the primary, then they alternate."
 abbrev pub firstFor : Device → Bool

@@ -110,16 +110,16 @@ isNoted n h = if n .long then n .address =? h .address else false
 -- "A long ACK with the burst flag, or a BACK, sets BURST and notes its address. A long ACK from the noted address without the flag clears it. A short ACK with the flag sets BURST and notes nothing." Item 6, of the ACK to command 11 by broadcast: "with the flag it sets BURST and notes nothing, and it never clears it."
 abbrev pub burstAfter : Bool → Noted → Header → Bool
 burstAfter burst noted h =
-    if h .frame =? back then true else
-    if h .frame =? ack then
+    if h .kind =? back then true else
+    if h .kind =? ack then
     (if h .burst then true else
     if namesDevice h then (if isNoted noted h then false else burst) else burst)
     else burst
 
 abbrev pub notedAfter : Noted → Header → Noted
 notedAfter noted h =
-    if h .frame =? back then notedFrom h else
-    if h .frame =? ack then (if h .burst then (if namesDevice h then notedFrom h else noted) else noted)
+    if h .kind =? back then notedFrom h else
+    if h .kind =? ack then (if h .burst then (if namesDevice h then notedFrom h else noted) else noted)
     else noted
 
 -- ---- the timer after what ended
@@ -145,8 +145,8 @@ toItself m h = if m .primary then h .primary else (if h .primary then false else
 -- a whole frame without damage
 abbrev pub endedBy : Master → Header → EndedForMaster
 endedBy m h =
-    if h .frame =? back then (if toItself m h then back-to-itself else back-to-other) else
-    if h .frame =? ack then (if toItself m h then ack-to-itself else ack-to-other) else
+    if h .kind =? back then (if toItself m h then back-to-itself else back-to-other) else
+    if h .kind =? ack then (if toItself m h then ack-to-itself else ack-to-other) else
     any-stx
 
 -- by what ended, and BURST after it: "BURST is brought up to date before the frame's timer is chosen." A BACK has set it, and a fresh master's is clear.
@@ -185,7 +185,7 @@ sameBit a b = if a then b else (if b then false else true)
 
 abbrev pub isAnswer : Master → Header → Bool
 isAnswer m h =
-    if h .frame =? ack then
+    if h .kind =? ack then
     (if toItself m h then
     (if sameBit (m .message .header .long) (h .long) then
     (if m .message .header .address =? h .address then
@@ -305,7 +305,7 @@ masterTakes m heard bytes = if m .deaf then tells m MasterTold.Nothing Nothing e
 -- ---- the host's request
 
 abbrev pub requestHeader : Master → Request → Header
-requestHeader m q = record { frame = stx; long = q .long; primary = m .primary; burst = false; address = q .address; command = q .command }
+requestHeader m q = record { kind = stx; long = q .long; primary = m .primary; burst = false; address = q .address; command = q .command }
 
 abbrev pub hasMessage : Stage → Bool
 hasMessage Free = false

@@ -70,7 +70,7 @@ askData count =
 
 -- an STX with command 0 to polling address 0
 abbrev pub request : Header
-request = record { frame = stx; long = false; primary = true; burst = false; address = 0; command = 0 }
+request = record { kind = stx; long = false; primary = true; burst = false; address = 0; command = 0 }
 
 -- a device that hears all of this, one thing a tick, and whose host gives nothing
 unfoldable pub hearing : DeviceSide → List Heard → DeviceSide

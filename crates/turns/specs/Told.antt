@@ -14,7 +14,7 @@ pub record Told : Type 0 where
 -- a frame that was heard: its type, long or short address, master bit, burst flag, address, expansion bytes, command and byte count; its data stand in the lent data buffer
 abbrev pub heardValues : Whole → List ℕ
 heardValues w =
-    w .header .frame ∷
+    w .header .kind ∷
     bit (w .header .long) ∷
     bit (w .header .primary) ∷
     bit (w .header .burst) ∷
