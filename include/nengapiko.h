@@ -40,6 +40,7 @@
  *   nengapiko_device_tick          608
  *   nengapiko_data_length           64
  *   nengapiko_longest_wait           8
+ *   nengapiko_ticks                488
  *   nengapiko_list                 280
  *   nengapiko_join                  72
  *   nengapiko_port_master_start    336
@@ -412,6 +413,20 @@ uint32_t nengapiko_longest_wait(uint16_t sto, uint16_t hold, uint16_t rt2, uint1
  * the character in the second, zero for silence. It may have any length: a program may map a file and
  * lend the mapping.
  */
+
+/*
+ * What a tick reader tells in each tick of a recording from its start on: an enum nengapiko_event for
+ * each. It refuses nothing: kinds 5 to 7 are heard as silence; bits 4 to 0 of a first byte, the character
+ * of a silent tick and a last odd byte are not looked at.
+ *
+ *   recording, size   the recording
+ *   events, room      a number for each tick, for as many ticks as both the recording and the room hold;
+ *                     the rest is left as it was
+ *
+ * Returns how many ticks these are: size / 2 or room, whichever is less.
+ */
+size_t nengapiko_ticks(const uint8_t *NENGAPIKO_RESTRICT recording, size_t size,
+                       uint8_t *NENGAPIKO_RESTRICT events, size_t room) NENGAPIKO_NONNULL;
 
 /* An entry of a list, so many bytes: the tick, 8 bytes, most significant first, and an enum nengapiko_entry. */
 #define NENGAPIKO_SIZE_ENTRY 9

@@ -21,17 +21,6 @@ uint8_t nengapiko_check_bytes(uint8_t x, const uint8_t *bytes, size_t size, size
                               size_t count) NENGAPIKO_NONNULL;
 
 /*
- * The tick reader from its start on, over a recording of two bytes for each tick: 32 times an enum
- * nengapiko_heard in the first, the character in the second. The kinds 5 to 7 are heard as silence; the
- * five low bits of the first byte, the character of a silent tick and a last odd byte are not looked
- * at. An enum nengapiko_event is set for each tick, from events[0] on, for as many ticks as both the
- * recording and the room hold; the events behind them are left as they were. Returned is how many ticks
- * these are: size / 2 or room, whichever is less.
- */
-size_t nengapiko_ticks(const uint8_t *NENGAPIKO_RESTRICT recording, size_t size,
-                       uint8_t *NENGAPIKO_RESTRICT events, size_t room) NENGAPIKO_NONNULL;
-
-/*
  * The modem chip over a script of accesses of two bytes each, encoded as
  * crates/modem_c/specs/Script.antt says, with a number for each.
  */

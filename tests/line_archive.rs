@@ -2,7 +2,7 @@
 
 use crate::called::over;
 
-#[link(name = "nengapiko_tests", kind = "static")]
+#[link(name = "nengapiko", kind = "static")]
 extern "C" {
     fn nengapiko_ticks(from: *const u8, size: usize, to: *mut u8, room: usize) -> usize;
 }
