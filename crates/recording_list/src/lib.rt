@@ -110,13 +110,13 @@ fn harmed(harm: bool, v: u16) -> bool
 }
 
 // So many characters from a tick on, one by one.
-fn one_by_one(recording: &[u8], from: usize, need: usize, so_far: u8, hurt: bool) -> Run
+fn one_by_one(recording: &[u8], from: usize, need: usize, prior: u8, hurt: bool) -> Run
     requires { ⌜ badRecording (now recording) ≡ false ⌝ }
-    ensures { λ r. ⌜ RunIs (before recording) from need so_far hurt r ⌝ }
+    ensures { λ r. ⌜ RunIs (before recording) from need prior hurt r ⌝ }
 {
     let mut t = from;
     let mut count = 0;
-    let mut sum = so_far;
+    let mut sum = prior;
     let mut harm = hurt;
     while count < need {
         let next = next_character(recording, t);
@@ -149,12 +149,12 @@ struct Plain {
 }
 
 // It goes on to the end, whatever it finds: so the loop is compiled to vectors.
-fn plain_run(recording: &[u8], t: usize, need: usize, so_far: u8) -> Plain
+fn plain_run(recording: &[u8], t: usize, need: usize, prior: u8) -> Plain
     requires { ⌜ 2 * (t + need) ≤ length (now recording) ⌝ }
-    ensures { λ r. ⌜ PlainIs (before recording) t need so_far r ⌝ }
+    ensures { λ r. ⌜ PlainIs (before recording) t need prior r ⌝ }
 {
     let mut other = 0u16;
-    let mut sum = 256 * wide(so_far);
+    let mut sum = 256 * wide(prior);
     let mut i = 0;
     while i < need {
         let v = tick_at(recording, t + i);
@@ -169,18 +169,18 @@ fn plain_run(recording: &[u8], t: usize, need: usize, so_far: u8) -> Plain
 }
 
 // So many characters from a tick on: at once, where no tick among them is silent or damaged.
-fn characters(recording: &[u8], t: usize, need: usize, so_far: u8, hurt: bool) -> Run
+fn characters(recording: &[u8], t: usize, need: usize, prior: u8, hurt: bool) -> Run
     requires { ⌜ (badRecording (now recording) ≡ false) × (2 * t ≤ length (now recording)) ⌝ }
-    ensures { λ r. ⌜ RunIs (before recording) t need so_far hurt r ⌝ }
+    ensures { λ r. ⌜ RunIs (before recording) t need prior hurt r ⌝ }
 {
     if need <= recording.len() / 2 - t {
-        let p = plain_run(recording, t, need, so_far);
+        let p = plain_run(recording, t, need, prior);
         if p.plain {
             return Run::To(t + need, p.sum, hurt);
         }
-        return one_by_one(recording, t, need, so_far, hurt);
+        return one_by_one(recording, t, need, prior, hurt);
     }
-    one_by_one(recording, t, need, so_far, hurt)
+    one_by_one(recording, t, need, prior, hurt)
 }
 
 // The verdict at a frame's last character: 1 whole, 2 damaged.
@@ -320,13 +320,13 @@ fn preamble_step(recording: &[u8], t: usize, two: bool) -> Step
 }
 
 // The preamble, after one 0xFF or after two, from a tick on.
-fn preamble_with_gaps(recording: &[u8], from: usize, so_far: bool) -> Outcome
+fn preamble_with_gaps(recording: &[u8], from: usize, prior: bool) -> Outcome
     requires { ⌜ (badRecording (now recording) ≡ false) × (2 * from ≤ length (now recording)) ⌝ }
-    ensures { λ r. ⌜ FrameIs (before recording) from (inPreamble so_far) r ⌝ }
+    ensures { λ r. ⌜ FrameIs (before recording) from (inPreamble prior) r ⌝ }
 {
     let ticks = recording.len() / 2;
     let mut t = from;
-    let mut two = so_far;
+    let mut two = prior;
     while t < ticks {
         let step = preamble_step(recording, t, two);
         match step {
@@ -448,14 +448,14 @@ fn put_if(put: bool, out: &mut [u8], n: usize, tick: usize, verdict: u8)
 }
 
 // The entries from a tick on at which the reader is before a frame, after some others: put or only counted. Returns how many there are then.
-fn entries_from(recording: &[u8], from: usize, so_far: usize, put: bool, out: &mut [u8]) -> usize
-    requires { ⌜ (badRecording (now recording) ≡ false) × (2 * from ≤ length (now recording)) × (so_far ≤ from) ⌝ }
-    requires { ⌜ HasRoom put (9 * so_far + length (foundFrom (now recording) from idle)) (now out) ⌝ }
-    ensures { λ r. ⌜ EntriesAre put (foundFrom (before recording) from idle) so_far (before out) r (after out) ⌝ }
+fn entries_from(recording: &[u8], from: usize, prior: usize, put: bool, out: &mut [u8]) -> usize
+    requires { ⌜ (badRecording (now recording) ≡ false) × (2 * from ≤ length (now recording)) × (prior ≤ from) ⌝ }
+    requires { ⌜ HasRoom put (9 * prior + length (foundFrom (now recording) from idle)) (now out) ⌝ }
+    ensures { λ r. ⌜ EntriesAre put (foundFrom (before recording) from idle) prior (before out) r (after out) ⌝ }
 {
     let ticks = recording.len() / 2;
     let mut t = from;
-    let mut n = so_far;
+    let mut n = prior;
     while t < ticks {
         let s = sound_from(recording, t);
         if ticks <= s {

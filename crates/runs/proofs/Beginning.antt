@@ -200,7 +200,7 @@ device-does limit low high p some g h n x call q = go (device-silence limit low 
           };
           character = b .character;
           same = L.joined same (b .same);
-          type-is = ap (λ (z : Header). z .frame) hd;
+          type-is = ap (λ (z : Header). z .kind) hd;
           long-is = ap (λ (z : Header). z .long) hd;
           address-is = ap (λ (z : Header). z .address) hd ∙ same .same-unique;
           no-expansion = b .no-expansion;

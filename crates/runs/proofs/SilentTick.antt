@@ -225,7 +225,7 @@ module _ (p : Profile) (g : ℕ) (h : Header) (n : ℕ) (burst : Bool) (noted : 
         distinct = one-distinct one distinct;
         agreed = subst (λ (z : Header). Agreed (burstAfter burst noted z) (notedAfter noted z) (nextAfter burst next) (sides ss)) (sym (k .header-is))
             (ack-agreed o distinct sole agreed (k .request) (k .burst) (k .speaks .burst-is) (k .same .same-unique) (k .primary-is) (own-long (picked o .x .device) (k .request) (k .own)) (k .short-same));
-        frame-is = is-ack (ap (λ (z : Header). z .frame) (k .header-is))
+        frame-is = is-ack (ap (λ (z : Header). z .kind) (k .header-is))
             (λ z. omega (arith, ra .one-less, asked .by-primary some (sym bit ∙ z)))
             (λ z. omega (arith, rb .one-less, asked .by-secondary some (sym bit ∙ z)));
         no-expansion = k .no-expansion;
