@@ -30,7 +30,8 @@ def heard_from(line, start):
 
 
 def body(heard):
-    """The frame behind the preamble, its last tick, and whether it is undamaged; or None, and where it breaks."""
+    """The frame behind the preamble, or None, the last tick that was looked at, and whether the frame is undamaged, or
+    whether a character broke it."""
     preamble, bytes_, good, size = 0, [], True, None
     for tick, kind, character in heard:
         if not bytes_:
@@ -38,19 +39,19 @@ def body(heard):
                 preamble += 1
                 continue
             if kind != 1 or preamble < 2 or character & 0x1F not in TYPES:
-                return None, tick, False
+                return None, tick, True
             size = (7 if character & 0x80 else 3) + (character >> 5 & 3)  # up to the byte count
         bytes_.append(character)
         good = good and kind == 1
         if len(bytes_) == size + 1:
             if kind != 1 or (bytes_[0] & 0x1F != 2 and character < 2):
-                return None, tick, False
+                return None, tick, True
         if len(bytes_) > size + 1 and len(bytes_) == size + 2 + bytes_[size]:
             check = 0
             for value in bytes_:
                 check ^= value
             return bytes_, tick, good and check == 0
-    return None, None, False
+    return None, tick, False
 
 
 def frames(line):
@@ -62,18 +63,13 @@ def frames(line):
         if line[tick][0] == 0:
             tick += 1
             continue
-        heard = list(heard_from(line, tick))
-        message, last, good = body(heard)
-        if message is not None:
-            if good:
-                yield last, bytes(message)
-            tick = last + 1
-        elif last is not None:  # a character broke it: up to the next silent tick
-            tick = last
+        message, last, flag = body(heard_from(line, tick))
+        tick = last + 1
+        if message is not None and flag:
+            yield last, bytes(message)
+        elif message is None and flag:  # a character broke it: up to the next silent tick
             while tick < len(line) and line[tick][0]:
                 tick += 1
-        else:  # silence broke it, or the recording ends
-            tick = heard[-1][0] + 1
 
 
 def addresses(message):
