@@ -16,10 +16,10 @@ use Rattle.player_script.proofs.Records.{width-some, records-more}
 use Rattle.player_script.proofs.Places.{places, most-places, Placed, walk-places}
 use Rattle.player_input.specs.Input.{pieceOf, endKept, EndStays}
 
--- ---- a piece is the front of the room
+-- ---- the front of a room
 
-pub piece-walked : (f : Form) (gone walked : Gone) (piece room : List ℕ) → piece ≡ take 3145728 room → walked ≡ walkedBy gone (recordsIn f piece) → walked ≡ walkedBy gone (recordsIn f (pieceOf room))
-piece-walked f gone walked piece room e p = p ∙ ap (λ (l : List ℕ). walkedBy gone (recordsIn f l)) e
+pub front-walked : (f : Form) (gone walked : Gone) (piece room : List ℕ) (count : ℕ) → piece ≡ take count room → walked ≡ walkedBy gone (recordsIn f piece) → walked ≡ walkedBy gone (recordsIn f (take count room))
+front-walked f gone walked piece room count e p = p ∙ ap (λ (l : List ℕ). walkedBy gone (recordsIn f l)) e
 
 -- ---- the end is kept
 

@@ -6,11 +6,11 @@ use player_script::Form;
 use player_script::Walked;
 ghost use mathlib.Core.Path.{_≡_};
 ghost use Prim.Native.Nat.{_<_};
-ghost use lib.ListN.{length};
+ghost use lib.ListN.{length, take};
 ghost use Rattle.base.specs.Lent.{before, after};
 ghost use Rattle.player_script.specs.Script.{recordsIn};
 ghost use Rattle.player_script.specs.Pieces.{upTo, walkedBy, walkedAs};
-ghost use Rattle.player_input.specs.Input.{heldIn, pieceOf, endKept, EndStays, endOf};
+ghost use Rattle.player_input.specs.Input.{heldIn, endKept, EndStays, endOf};
 
 // Room for 524,290 records of the new form: one more than the longest good old script has.
 pub const ROOM: usize = 3_145_740;
@@ -33,11 +33,11 @@ pub fn print_refusal(why: Refusal) {
     io::write_all(STDOUT_FILENO, texts::front(&text, b));
 }
 
-// A full room's first bytes are walked as calls before more is read.
-fn walk_piece(form: Form, room: &[u8], last: usize, marks: &mut [usize; 8]) -> Walked
-    ensures { λ r. ⌜ walkedAs r (after marks) ≡ walkedBy (upTo last (before marks)) (recordsIn form (pieceOf (before room))) ⌝ }
+// The first bytes of a room, so many, are walked as calls.
+fn walk_front(form: Form, room: &[u8], count: usize, last: usize, marks: &mut [usize; 8]) -> Walked
+    ensures { λ r. ⌜ walkedAs r (after marks) ≡ walkedBy (upTo last (before marks)) (recordsIn form (take count (before room))) ⌝ }
 {
-    player_script::walk(form, texts::front(room, PIECE), last, marks)
+    player_script::walk(form, texts::front(room, count), last, marks)
 }
 
 // Its other bytes, at least one record, go to the front.
@@ -79,7 +79,7 @@ fn read_long(form: Form, room: &mut [u8]) -> Input
     let mut marks = [0usize; 8];
     let mut last = 0;
     while last < 4_294_967_296 {
-        let walked = walk_piece(form, room, last, &mut marks);
+        let walked = walk_front(form, room, PIECE, last, &mut marks);
         match walked {
             Walked::Bad => return Input::LongBad,
             Walked::UpTo(tick) => last = tick,

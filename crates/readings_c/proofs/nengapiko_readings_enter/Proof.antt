@@ -341,7 +341,7 @@ nengapiko-readings-enter-spec 𝓤 H 𝓜 𝓖 𝓡 =
     entered 𝓤 H (tripleOf 𝓤 H (𝓖 .A) enter′.signature (enter′.spec 𝓤 H (𝓖 .A) (𝓜 .mem) (𝓡 .run)))
     (tables 𝓤 H 𝓜 𝓡 code.env .C) (tables 𝓤 H 𝓜 𝓡 code.env .Λ) #readings_c·nengapiko-readings-enter code.function (code.unfolded 𝓤 H 𝓜 𝓡)
     (enter-meets 𝓤 H (𝓖 .A) (givenOf 𝓤 H 𝓜 𝓖) (𝓜 .mem) (𝓡 .run) (tablesOf 𝓤 H 𝓜 (tables 𝓤 H 𝓜 𝓡 code.env))
-    (cited 𝓤 H (EventAt 𝓤 H (𝓖 .A) (𝓜 .mem) (𝓡 .run)) 𝓜 𝓡 code.env #words·event-at event-at-def.routine code.calls-words·event-at (event-at-thm.met 𝓤 H 𝓜 𝓖 𝓡))
+    (cited 𝓤 H (EventAt 𝓤 H (𝓖 .A) (𝓜 .mem) (𝓡 .run)) 𝓜 𝓡 code.env #words·event-at event-at-def.routine code.calls-state_words·event-at (event-at-thm.met 𝓤 H 𝓜 𝓖 𝓡))
     (cited 𝓤 H (ToldKey 𝓤 H (𝓖 .A) (𝓜 .mem) (𝓡 .run)) 𝓜 𝓡 code.env #readings·told-key told-key-def.routine code.calls-readings·told-key (told-key-thm.met 𝓤 H 𝓜 𝓖 𝓡))
     (cited 𝓤 H (Search 𝓤 H (𝓖 .A) (𝓜 .mem) (𝓡 .run)) 𝓜 𝓡 code.env #readings_rows·search search-def.routine code.calls-readings-rows·search (search-thm.met 𝓤 H 𝓜 𝓖 𝓡))
     (cited 𝓤 H (Store 𝓤 H (𝓖 .A) (𝓜 .mem) (𝓡 .run)) 𝓜 𝓡 code.env #readings·store store-def.routine code.calls-readings·store (store-thm.met 𝓤 H 𝓜 𝓖 𝓡))
