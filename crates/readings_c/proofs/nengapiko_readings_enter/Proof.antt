@@ -62,7 +62,7 @@ use Rattle.readings.proofs.Put.Laws as P′
 use Rattle.state_words.specs.Numbers.{eventAt}
 use Rattle.state_words.proofs.event_at as event-at
 use Rattle.state_words.proofs.event_at.Symbol as event-at-def
-use Rattle.state_words.proofs.event_at.Symbol.{name as #words·event-at}
+use Rattle.state_words.proofs.event_at.Symbol.{name as #state_words·event-at}
 use Rattle.state_words.proofs.event_at.Met as event-at-thm
 use Rattle.readings.proofs.told_key as told-key
 use Rattle.readings.proofs.told_key.Symbol as told-key-def
@@ -248,7 +248,7 @@ module _ {M : Type 1} (𝓤 : URA M) (H : Heap 𝓤) (A : Atoms 𝓤) (W : Given
         nothing ! $ owned ! T.the-row (Is T.the-row) (LL.makes T.the-type T′.the-plain 𝓤 H A) (p .row) _ gr $ fjoin ! $ owned ! usize (Is usize) (uint-makes 𝓤 H A W w64) (p .at) _ (refl, gp) $ fjoin ! $ move ! (2 ∷ 0 ∷ []) $ fjoin ! $
         nothing ! $ move ! (2 ∷ 0 ∷ []) $ join ! $ join ! $ frame ! $ done !
 
-    module _ (C : Calls 𝓤 H) (Λ : Loops 𝓤 H) (fm : FmC 𝓤 H (W .laws) C) (known-event : Triple 𝓤 (C #words·event-at) (EventAt 𝓤 H A at-mem run)) (known-key : Triple 𝓤 (C #readings·told-key) (ToldKey 𝓤 H A at-mem run)) (known-search : Triple 𝓤 (C #readings_rows·search) (Search 𝓤 H A at-mem run))
+    module _ (C : Calls 𝓤 H) (Λ : Loops 𝓤 H) (fm : FmC 𝓤 H (W .laws) C) (known-event : Triple 𝓤 (C #state_words·event-at) (EventAt 𝓤 H A at-mem run)) (known-key : Triple 𝓤 (C #readings·told-key) (ToldKey 𝓤 H A at-mem run)) (known-search : Triple 𝓤 (C #readings_rows·search) (Search 𝓤 H A at-mem run))
         (known-store : Triple 𝓤 (C #readings·store) (Store 𝓤 H A at-mem run)) (known-put : Triple 𝓤 (C #readings_rows·put) (PutRow 𝓤 H A at-mem run)) where
       walk : ent 𝓤 (onEntry 𝓤 H A enter′.signature (κ₀, (κ₁, (κ₂, (κ₃, tt)))) (q₀, (q₁, (q₂, (q₃, tt)))) x at) (WpFn 𝓤 H C Λ code.function (yv ∷ av ∷ vint w64 tick ∷ vptr b₂ o₂ ∷ vptr b₃ o₃ ∷ []) Post)
       walk =
@@ -318,7 +318,7 @@ module _ {M : Type 1} (𝓤 : URA M) (H : Heap 𝓤) (A : Atoms 𝓤) (W : Given
           move ! (39 ∷ 40 ∷ []) $ free1 ! $ move ! (37 ∷ 38 ∷ []) $ free1 ! $ move ! (35 ∷ 36 ∷ []) $ free1 ! $ move ! (33 ∷ 34 ∷ []) $ free1 ! $ move ! (31 ∷ 32 ∷ []) $ free1 ! $ move ! (29 ∷ 30 ∷ []) $ free1 ! $ move ! (27 ∷ 28 ∷ []) $ free1 ! $ move ! (25 ∷ 26 ∷ []) $ free1 ! $ move ! (23 ∷ 24 ∷ []) $ free1 ! $ move ! (21 ∷ 22 ∷ []) $ free1 ! $ move ! (19 ∷ 20 ∷ []) $ free1 ! $ move ! (17 ∷ 18 ∷ []) $ free1 ! $ move ! (15 ∷ 16 ∷ []) $ free1 ! $ move ! (13 ∷ 14 ∷ []) $ free1 ! $ move ! (11 ∷ 12 ∷ []) $ free1 ! $ move ! (9 ∷ 10 ∷ []) $ free1 ! $ move ! (7 ∷ 8 ∷ []) $ free1 ! $ move ! (5 ∷ 6 ∷ []) $ free1 ! $ free0 ! $
           by ! (exits (zs .0) (cs .0) (p .refusal) (LL.owed P.the-type P′.the-laws p _ ip .1 .1 .0 .1) lz lc (is-entered ys xs tick bs event s p (zs .0) (cs .0) (found ∙ ap (sought ys) keyed) stored was-put))))))))))))))))))))))))))))))))))))))))))))))
 
-module _ {M : Type 1} (𝓤 : URA M) (H : Heap 𝓤) (A : Atoms 𝓤) (W : Given 𝓤 H A) (at-mem : Memory → SProp 𝓤) (run : Routine → Fun 𝓤) (𝓣 : Tables 𝓤 H) (known-event : Triple 𝓤 (𝓣 .C #words·event-at) (EventAt 𝓤 H A at-mem run)) (known-key : Triple 𝓤 (𝓣 .C #readings·told-key) (ToldKey 𝓤 H A at-mem run))
+module _ {M : Type 1} (𝓤 : URA M) (H : Heap 𝓤) (A : Atoms 𝓤) (W : Given 𝓤 H A) (at-mem : Memory → SProp 𝓤) (run : Routine → Fun 𝓤) (𝓣 : Tables 𝓤 H) (known-event : Triple 𝓤 (𝓣 .C #state_words·event-at) (EventAt 𝓤 H A at-mem run)) (known-key : Triple 𝓤 (𝓣 .C #readings·told-key) (ToldKey 𝓤 H A at-mem run))
     (known-search : Triple 𝓤 (𝓣 .C #readings_rows·search) (Search 𝓤 H A at-mem run)) (known-store : Triple 𝓤 (𝓣 .C #readings·store) (Store 𝓤 H A at-mem run)) (known-put : Triple 𝓤 (𝓣 .C #readings_rows·put) (PutRow 𝓤 H A at-mem run)) where
   enter-walks : Walks 𝓤 H A enter′.ended stayed (WpFn 𝓤 H (𝓣 .C) (𝓣 .Λ) code.function) (enter′.clauses 𝓤 H A at-mem run)
   enter-walks = walked 𝓤 H A enter′.ended stayed (enter′.clauses 𝓤 H A at-mem run) (WpFn 𝓤 H (𝓣 .C) (𝓣 .Λ) code.function)
@@ -341,7 +341,7 @@ nengapiko-readings-enter-spec 𝓤 H 𝓜 𝓖 𝓡 =
     entered 𝓤 H (tripleOf 𝓤 H (𝓖 .A) enter′.signature (enter′.spec 𝓤 H (𝓖 .A) (𝓜 .mem) (𝓡 .run)))
     (tables 𝓤 H 𝓜 𝓡 code.env .C) (tables 𝓤 H 𝓜 𝓡 code.env .Λ) #readings_c·nengapiko-readings-enter code.function (code.unfolded 𝓤 H 𝓜 𝓡)
     (enter-meets 𝓤 H (𝓖 .A) (givenOf 𝓤 H 𝓜 𝓖) (𝓜 .mem) (𝓡 .run) (tablesOf 𝓤 H 𝓜 (tables 𝓤 H 𝓜 𝓡 code.env))
-    (cited 𝓤 H (EventAt 𝓤 H (𝓖 .A) (𝓜 .mem) (𝓡 .run)) 𝓜 𝓡 code.env #words·event-at event-at-def.routine code.calls-state_words·event-at (event-at-thm.met 𝓤 H 𝓜 𝓖 𝓡))
+    (cited 𝓤 H (EventAt 𝓤 H (𝓖 .A) (𝓜 .mem) (𝓡 .run)) 𝓜 𝓡 code.env #state_words·event-at event-at-def.routine code.calls-state-words·event-at (event-at-thm.met 𝓤 H 𝓜 𝓖 𝓡))
     (cited 𝓤 H (ToldKey 𝓤 H (𝓖 .A) (𝓜 .mem) (𝓡 .run)) 𝓜 𝓡 code.env #readings·told-key told-key-def.routine code.calls-readings·told-key (told-key-thm.met 𝓤 H 𝓜 𝓖 𝓡))
     (cited 𝓤 H (Search 𝓤 H (𝓖 .A) (𝓜 .mem) (𝓡 .run)) 𝓜 𝓡 code.env #readings_rows·search search-def.routine code.calls-readings-rows·search (search-thm.met 𝓤 H 𝓜 𝓖 𝓡))
     (cited 𝓤 H (Store 𝓤 H (𝓖 .A) (𝓜 .mem) (𝓡 .run)) 𝓜 𝓡 code.env #readings·store store-def.routine code.calls-readings·store (store-thm.met 𝓤 H 𝓜 𝓖 𝓡))
