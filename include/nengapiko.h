@@ -40,7 +40,7 @@
  *   nengapiko_device_tick          608
  *   nengapiko_data_length           64
  *   nengapiko_longest_wait           8
- *   nengapiko_ticks                488
+ *   nengapiko_ticks                120
  *   nengapiko_list                 280
  *   nengapiko_join                  72
  *   nengapiko_port_master_start    336
