@@ -1,10 +1,8 @@
 -- Theorem: a packet's body is what was heard from the frame's delimiter on.
-use Prim.Native.Nat.{ℕ, _≤_}
-use mathlib.Core.Bool.{Bool, true, false}
+use Prim.Native.Nat.{ℕ}
+use mathlib.Core.Bool.{true, false}
 use mathlib.Core.Path.{_≡_, refl, sym, ap, subst, _∙_}
 use mathlib.Core.List.{List, [], _∷_, _++_, append-nil, append-assoc}
-use lib.ListN.{length}
-use Rattle.base.specs.Choice.{if_then_else_}
 use Rattle.base.proofs.Choices.{if-is-true, if-is-false, went-then, true-false}
 use Rattle.line.specs.Reader.{taken}
 use Rattle.line.specs.declared.Heard.{Heard}

@@ -1,21 +1,20 @@
 -- Laws of the packets: by what a tick tells, a tick, and the loop over a piece.
-use Prim.Native.Nat.{ℕ, suc, _+_, _-_, _*_, _/_, _≤_, _<_}
+use Prim.Native.Nat.{ℕ, _+_, _*_, _/_, _≤_, _<_}
 use native.Mathlib.Omega.{arith}
 use mathlib.Core.Path.{_≡_, refl, sym, ap, subst, _∙_}
 use mathlib.Core.List.{List, [], _∷_, _++_, append-nil, append-assoc}
 use lib.ListN.{length, take, drop, getD}
-use Rattle.line.specs.Reader.{passing, taken, takenData, ReaderTakeIs}
+use Rattle.line.specs.Reader.{passing, taken, ReaderTakeIs}
 use Rattle.line.specs.declared.Damage.{Damage}
 use Rattle.line.specs.declared.Event.{Event}
 use Rattle.line.specs.declared.Event.the-variants.{Nothing, PassedOver, Broken, Frame, Damaged}
 use Rattle.line.specs.declared.FrameDamage.{FrameDamage}
 use Rattle.line.specs.declared.Heard.{Heard}
 use Rattle.line.specs.declared.Heard.the-variants as Variant
-use Rattle.line.specs.declared.Place.{Place}
 use Rattle.line.specs.declared.Receiver.{Receiver}
 use Rattle.line.specs.declared.Taken.{Taken}
 use Rattle.line.specs.declared.Whole.{Whole}
-use Rattle.texts.specs.Put.{Out, outOf, put, PutIs}
+use Rattle.texts.specs.Put.{Out, put, PutIs}
 use Rattle.texts.proofs.Puts.{put-then, put-none, put-length}
 use Rattle.line.specs.Heard.{heardOf}
 use Rattle.recording.specs.Form.{ticksOf}

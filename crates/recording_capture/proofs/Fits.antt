@@ -11,11 +11,11 @@ use Rattle.line.specs.Reader.{taken}
 use Rattle.line.specs.declared.Event.{Event}
 use Rattle.line.specs.declared.Event.the-variants.{Nothing, PassedOver, Broken, Frame, Damaged}
 use Rattle.line.specs.declared.Heard.{Heard}
-use Rattle.texts.specs.Put.{Out, outOf, put, PutIs}
+use Rattle.texts.specs.Put.{Out, outOf, PutIs}
 use Rattle.texts.proofs.Puts.{put-front, put-length}
 use Rattle.recording_capture.specs.Capture.{heardText, grown, messageOf, packetBy, Kept, stepped, packetAt, packetsFrom}
 use Rattle.recording_capture.specs.Claims.{PacketsFit}
-use Rattle.recording_capture.specs.Packet.{big16, big32, secondsOf, microsecondsOf, recordHeader, sourceOf, targetOf, ipFront, checksumOf, ipEnds, udpHeader, messageType, hartHeader, packetOf, packet}
+use Rattle.recording_capture.specs.Packet.{big16, big32, secondsOf, microsecondsOf, recordHeader, sourceOf, targetOf, ipFront, checksumOf, ipEnds, udpHeader, hartHeader, packetOf}
 use Rattle.recording_capture.specs.Promises.{keep}
 use Rattle.recording_capture.specs.declared.Clock.{Clock}
 

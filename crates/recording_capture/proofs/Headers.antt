@@ -1,7 +1,6 @@
 -- Laws of a packet as it is put into the output, header by header.
 use Prim.Native.Nat.{ℕ, _+_, _-_, _*_, _/_, _%_}
 use native.Mathlib.Omega.{arith}
-use mathlib.Core.Bool.{Bool}
 use mathlib.Core.Path.{_≡_, refl, sym, ap, _∙_}
 use mathlib.Core.List.{List, [], _∷_, _++_}
 use lib.Arith.{digits-mod}
@@ -11,7 +10,6 @@ use Rattle.texts.specs.Put.{PutIs}
 use Rattle.texts.proofs.Puts.{put-then, put-same}
 use Rattle.recording_capture.specs.Packet.{big16, big32, secondsOf, microsecondsOf, recordHeader, sourceOf, targetOf, ipFront, sumOf, folded, checksumOf, ipEnds, udpHeader, messageType, hartHeader, packetOf}
 use Rattle.recording_capture.specs.declared.Clock.{Clock}
-use Rattle.recording_capture.specs.declared.Clock.the-variants.{Fsk, C8psk}
 
 -- ---- numbers
 

@@ -39,13 +39,17 @@ tick-requires : tie.Need-tick-requires Inv-loop μ-loop
 tick-requires c κs = search (needs, capturings)
 
 add-t : tie.Need-add-t Inv-loop μ-loop
-add-t c = search (needs, c .before .before .before .before .before .before .before .before .before .before .before .before .before .loop .inv .small, c .before .before .before .before .before .before .before .before .before .before .before .before .loop-test .taken)
+add-t c =
+    let here = c .before .before .before .before .before .before .before .before .before .before .before .before in
+    search (needs, here .before .loop .inv .small, here .loop-test .taken)
 
 loop-less : tie.Need-loop-less Inv-loop μ-loop
 loop-less c = search (needs, capturings)
 
 loop-again : tie.Need-loop-again Inv-loop μ-loop
-loop-again c = capturing-more _ _ _ _ _ _ _ _ _ _ _ _ _ _ _ _ _ _ _ (c .before .before .before .before .before .before .before .before .before .before .before .before .before .loop .inv) (c .before .before .before .before .before .before .before .before .before .before .before .before .loop-test .taken) (c .before .before .before .before .before .before .before .before .before .heard-of .ensures) (c .before .before .before .before .before .tick .ensures) refl refl
+loop-again c =
+    let here = c .before .before .before .before .before .before .before .before .before .before .before .before in
+    capturing-more _ _ _ _ _ _ _ _ _ _ _ _ _ _ _ _ _ _ _ (here .before .loop .inv) (here .loop-test .taken) (c .before .before .before .before .before .before .before .before .before .heard-of .ensures) (c .before .before .before .before .before .tick .ensures) refl refl
 
 same-length : tie.Need-same-length Inv-loop μ-loop
 same-length c = search (needs, capturings)

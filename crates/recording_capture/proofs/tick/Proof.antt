@@ -25,12 +25,16 @@ same-length-2 : tie.Need-same-length-2
 same-length-2 c = search needs
 
 returns : tie.Need-returns
-returns c = record {
-  progress-is = taken-progress _ _ _ _ _ _ _ _ _ (c .before .before .before .before .before .before .before .before .before .before .before .take .ensures) (c .before .before .before .before .before .before .before .before .before .put-heard .ensures) (c .behind-tick .ensures);
-  bytes-are = c .before .before .before .before .before .before .before .before .before .before .before .take .ensures .buffer;
-  frame-is = grown-at _ _ _ _ _ (c .before .before .before .before .before .before .before .before .before .put-heard .ensures);
-  text = taken-packet _ _ _ _ _ _ _ _ _ _ _ _ _ (c .before .before .before .before .before .before .before .before .before .before .before .take .ensures) (c .before .before .before .before .before .before .before .before .before .put-heard .ensures) (c .before .before .before .before .before .front .ensures) (c .before .before .before .put-event .ensures);
-}
+returns c =
+    let read = c .before .before .before .before .before .before .before .before .before .before .before .take .ensures in
+    let grew = c .before .before .before .before .before .before .before .before .before .put-heard .ensures in
+    let message = c .before .before .before .before .before .front .ensures in
+    record {
+      progress-is = taken-progress _ _ _ _ _ _ _ _ _ read grew (c .behind-tick .ensures);
+      bytes-are = read .buffer;
+      frame-is = grown-at _ _ _ _ _ grew;
+      text = taken-packet _ _ _ _ _ _ _ _ _ _ _ _ _ read grew message (c .before .before .before .put-event .ensures);
+    }
 
 pub tick-spec : {M : Type 1} → statement M
 tick-spec =
