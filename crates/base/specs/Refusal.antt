@@ -12,7 +12,7 @@ number BadProfile = 1
 number BadRetries = 2
 -- preamble outside 5 to 20; on the infrared port any other than 5
 number PreambleLength = 3
--- polling above 63 or unique above 38 bits
+-- polling above 63, of a request to revision 3 to 5 above 15 (document 02, item 2), or unique above 38 bits
 number Address = 4
 -- command 254, or a short address with a command but 0
 number Command = 5

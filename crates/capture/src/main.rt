@@ -86,7 +86,7 @@ fn write_header(out: &mut [u8]) -> bool {
     write_out(texts::front(out, n))
 }
 
-// What is kept behind a piece, and whether its packets were written.
+// What is kept after a piece, and whether its packets were written.
 struct Went {
     progress: Progress,
     on: bool,

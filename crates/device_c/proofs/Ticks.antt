@@ -7,20 +7,20 @@ use Rattle.turns.specs.Device.{deviceTakes}
 use Rattle.turns.specs.Link.{DeviceStep, deviceTick}
 use Rattle.turns.specs.Told.{deviceTells}
 use Rattle.turns.specs.declared.Device.{Device}
-use Rattle.party.specs.Calls.{resultOf}
 use Rattle.device_tick.specs.Tick.{callOf, sideOf, DeviceTickIs}
-use Rattle.device_tick.specs.declared.DeviceHostCall.{DeviceHostCall}
+use Rattle.device_tick.specs.declared.DeviceCall.{DeviceCall}
 use Rattle.device_tick.specs.declared.DeviceTicked.{DeviceTicked}
-use Rattle.state_words.specs.Numbers.{tickNumbers, sentNumber, callNumber}
+use Rattle.party.specs.Numbers.{sentNumber, callNumber}
+use Rattle.state_words.specs.Numbers.{tickNumbers}
 use Rattle.device_c.specs.Words.{packed, unpacked, limitAt}
 use Rattle.device_c.specs.Fits.{DeviceFits}
 use Rattle.device_c.specs.Tick.{StepIs}
 use Rattle.device_c.proofs.Kept.{device-kept, limit-kept}
 
 -- a tick of the device that the words were
-pub tick-is : (limit : ℕ) (before frame bytes contents : List ℕ) (d : Device) (heard : Heard) (call : DeviceHostCall) (put : List ℕ) (t : DeviceTicked) (frame-after bytes-after contents-after words results : List ℕ) (sent told r : ℕ)
+pub tick-is : (limit : ℕ) (before frame bytes contents : List ℕ) (d : Device) (heard : Heard) (call : DeviceCall) (put : List ℕ) (t : DeviceTicked) (frame-after bytes-after contents-after words results : List ℕ) (sent told r : ℕ)
     → limit ≡ limitAt before → limit < 2 ^ 8 → d ≡ unpacked before → DeviceTickIs limit d heard call put frame bytes contents t frame-after bytes-after contents-after → DeviceFits (t .device) → words ≡ packed limit (t .device)
-    → results ≡ tickNumbers sent told 0 (t .event) → sent ≡ sentNumber (t .sent) → told ≡ deviceTells (t .told) .number → r ≡ callNumber (resultOf (t .result))
+    → results ≡ tickNumbers sent told 0 (t .event) → sent ≡ sentNumber (t .sent) → told ≡ deviceTells (t .told) .number → r ≡ callNumber (t .result)
     → StepIs (limitAt before) (deviceTick (limitAt before) (sideOf (unpacked before) frame bytes contents) heard (callOf call put)) (deviceTakes (unpacked before) heard .event) words frame-after bytes-after contents-after results r
 tick-is limit before frame bytes contents d heard call put t frame-after bytes-after contents-after words results sent told r same small e v f w n a b q =
     let step : _ = v .step ∙ (λ i. deviceTick (same i) (sideOf (e i) frame bytes contents) heard (callOf call put)) in
@@ -39,14 +39,14 @@ tick-is limit before frame bytes contents d heard call put t frame-after bytes-a
       returned = q ∙ ap (λ (s : DeviceStep). callNumber (s .result)) step;
     }
 
-abbrev Steps : List ℕ → List ℕ → List ℕ → List ℕ → List ℕ → List ℕ → List ℕ → List ℕ → List ℕ → List ℕ → ℕ → Heard → DeviceHostCall → Type 0
+abbrev Steps : List ℕ → List ℕ → List ℕ → List ℕ → List ℕ → List ℕ → List ℕ → List ℕ → List ℕ → List ℕ → ℕ → Heard → DeviceCall → Type 0
 Steps before frame bytes contents put words frame-after bytes-after contents-after results r heard call =
     StepIs (limitAt before) (deviceTick (limitAt before) (sideOf (unpacked before) frame bytes contents) heard (callOf call put)) (deviceTakes (unpacked before) heard .event)
     words frame-after bytes-after contents-after results r
 
-pub tick-called : (before frame bytes contents put words frame-after bytes-after contents-after results : List ℕ) (r : ℕ) (h heard : Heard) (c call : DeviceHostCall) → h ≡ heard → c ≡ call
+pub tick-called : (before frame bytes contents put words frame-after bytes-after contents-after results : List ℕ) (r : ℕ) (h heard : Heard) (c call : DeviceCall) → h ≡ heard → c ≡ call
     → Steps before frame bytes contents put words frame-after bytes-after contents-after results r h c
     → Steps before frame bytes contents put words frame-after bytes-after contents-after results r heard call
 tick-called before frame bytes contents put words frame-after bytes-after contents-after results r h heard c call d e v =
-    subst (λ (x : DeviceHostCall). Steps before frame bytes contents put words frame-after bytes-after contents-after results r heard x) e
+    subst (λ (x : DeviceCall). Steps before frame bytes contents put words frame-after bytes-after contents-after results r heard x) e
     (subst (λ (x : Heard). Steps before frame bytes contents put words frame-after bytes-after contents-after results r x c) d v)

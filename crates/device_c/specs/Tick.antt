@@ -13,8 +13,9 @@ use Rattle.turns.specs.Told.{deviceTells}
 use Rattle.turns.specs.declared.DeviceTold.{DeviceTold}
 use Rattle.turns.specs.declared.DeviceTold.the-variants.{Nothing, Request, Broadcast}
 use Rattle.device_tick.specs.Tick.{callOf, sideOf}
-use Rattle.device_tick.specs.declared.DeviceHostCall.{DeviceHostCall}
-use Rattle.state_words.specs.Numbers.{tickNumbers, sentNumber, callNumber}
+use Rattle.device_tick.specs.declared.DeviceCall.{DeviceCall}
+use Rattle.party.specs.Numbers.{sentNumber, callNumber}
+use Rattle.state_words.specs.Numbers.{tickNumbers}
 use Rattle.device_c.specs.Words.{packed, unpacked, limitAt}
 
 -- what a call leaves after a tick: the words and the three lent buffers, the results and what it returns
@@ -30,7 +31,7 @@ pub record StepIs (limit : ℕ) (s : DeviceStep) (event : Event) (words frame by
 
 -- the step of the device that the words stood for before the call, and what its reader found; the data of the host's call are `put`
 abbrev pub DeviceTicks : Lent (List ℕ) → Lent (List ℕ) → Lent (List ℕ) → Lent (List ℕ)
-    → Heard → DeviceHostCall → Lent (List ℕ) → Lent (List ℕ) → ℕ → Type 0
+    → Heard → DeviceCall → Lent (List ℕ) → Lent (List ℕ) → ℕ → Type 0
 DeviceTicks words frame bytes contents heard call put results r =
     StepIs
     (limitAt (before words))

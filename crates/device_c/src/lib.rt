@@ -1,5 +1,5 @@
 // A device for programs in C: its state as words that the caller lends, and its tick.
-use device_tick::DeviceHostCall;
+use device_tick::DeviceCall;
 use frame::Header;
 use line::Heard;
 use line::Profile;
@@ -335,7 +335,7 @@ fn tick(
     bytes: &mut [u8; 255],
     contents: &mut [u8; 255],
     heard: Heard,
-    call: DeviceHostCall,
+    call: DeviceCall,
     put: &[u8],
     results: &mut [u64; 17],
 ) -> u32
@@ -353,12 +353,12 @@ fn tick(
     limit_fits(limit);
     pack(words, limit, next);
     *results = state_words::tick_numbers(
-        state_words::sent_number(sent),
+        party::sent_number(sent) as u64,
         told_number(told),
         0,
         event,
     );
-    state_words::call_number(result)
+    party::call_number(result)
 }
 
 // A tick of a device; returns 0, or the number with which its host's answer or burst content is refused.

@@ -3,7 +3,7 @@ use base::Refusal;
 use device::DeviceCalled;
 use line::Event;
 use line::Heard;
-use party::CallStatus;
+use turns::CallResult;
 use turns::Content;
 use turns::Device;
 use turns::DeviceTold;
@@ -22,7 +22,7 @@ ghost use Rattle.device_tick.specs.Content.{ContentIs};
 ghost use Rattle.device_tick.specs.Tick.{hostCallBy, uncalled, calledBy, DeviceCalledIs, DeviceTickIs};
 
 // A host's call in a tick.
-pub enum DeviceHostCall {
+pub enum DeviceCall {
     Nothing,
     Answers(Wish),
     // a burst content of this command
@@ -30,28 +30,28 @@ pub enum DeviceHostCall {
 }
 
 // A host's call by its number: 1 answers, 2 with burst on, 3 with burst off; 4 gives burst content of this command.
-pub fn host_call_by(number: u8, command: u8) -> DeviceHostCall
+pub fn host_call_by(number: u8, command: u8) -> DeviceCall
     ensures { λ r. ⌜ r ≡ hostCallBy number command ⌝ }
 {
     if number == 1 {
-        return DeviceHostCall::Answers(Wish::Same);
+        return DeviceCall::Answers(Wish::Same);
     }
     if number == 2 {
-        return DeviceHostCall::Answers(Wish::On);
+        return DeviceCall::Answers(Wish::On);
     }
     if number == 3 {
-        return DeviceHostCall::Answers(Wish::Off);
+        return DeviceCall::Answers(Wish::Off);
     }
     if number == 4 {
-        return DeviceHostCall::Content(command);
+        return DeviceCall::Content(command);
     }
-    DeviceHostCall::Nothing
+    DeviceCall::Nothing
 }
 
 // A device after its host's call.
 struct DeviceCallTaken {
     device: Device,
-    result: CallStatus,
+    result: CallResult,
 }
 
 // A device after a tick, what it sends, and what it tells its host.
@@ -60,7 +60,7 @@ pub struct DeviceTicked {
     pub sent: Sent,
     pub told: DeviceTold,
     pub event: Event,
-    pub result: CallStatus,
+    pub result: CallResult,
 }
 
 // The device with this content, and no other change.
@@ -147,11 +147,11 @@ fn called_by(d: Device, r: DeviceCalled) -> DeviceCallTaken
     match r {
         DeviceCalled::Accepted(e) => DeviceCallTaken {
             device: e,
-            result: CallStatus::Taken,
+            result: CallResult::Taken,
         },
         DeviceCalled::Refused(why) => DeviceCallTaken {
             device: d,
-            result: CallStatus::Refused(why),
+            result: CallResult::Refused(why.number()),
         },
     }
 }
@@ -161,14 +161,14 @@ fn no_call(d: Device) -> DeviceCallTaken
 {
     DeviceCallTaken {
         device: d,
-        result: CallStatus::Nothing,
+        result: CallResult::Nothing,
     }
 }
 
 fn take_call(
     limit: u8,
     d: Device,
-    call: DeviceHostCall,
+    call: DeviceCall,
     put: &[u8],
     contents: &mut [u8; 255],
     frame: &mut [u8; 284],
@@ -177,9 +177,9 @@ fn take_call(
         (after frame) (after contents) ⌝ }
 {
     match call {
-        DeviceHostCall::Nothing => no_call(d),
-        DeviceHostCall::Answers(wish) => called_by(d, device::answer(limit, d, wish, put, frame)),
-        DeviceHostCall::Content(command) => called_by(d, content(limit, d, command, put, contents)),
+        DeviceCall::Nothing => no_call(d),
+        DeviceCall::Answers(wish) => called_by(d, device::answer(limit, d, wish, put, frame)),
+        DeviceCall::Content(command) => called_by(d, content(limit, d, command, put, contents)),
     }
 }
 
@@ -188,7 +188,7 @@ pub fn tick(
     limit: u8,
     d: Device,
     heard: Heard,
-    call: DeviceHostCall,
+    call: DeviceCall,
     put: &[u8],
     contents: &mut [u8; 255],
     frame: &mut [u8; 284],

@@ -2,7 +2,7 @@
 use base::Refusal;
 use frame::Header;
 ghost use mathlib.Core.Path.{_≡_};
-ghost use Rattle.line.specs.Heard.{damageNumber, heardOf};
+ghost use Rattle.line.specs.Heard.{heardOf};
 ghost use Rattle.line.specs.Told.{eventNumber};
 ghost use Rattle.line.specs.Profile.{fskProfile, c8pskProfile, infraredProfile, valueRefused, orderRefused, profileMade, madeAs};
 
@@ -119,19 +119,6 @@ impl Event {
             Event::Broken => 2,
             Event::Frame(_) => 3,
             Event::Damaged(_, _) => 4,
-        }
-    }
-}
-
-impl Damage {
-    // The kind's number in document 01.
-    pub fn number(self) -> u8
-        ensures { λ r. ⌜ r ≡ damageNumber self ⌝ }
-    {
-        match self {
-            Damage::Parity => 1,
-            Damage::Overrun => 2,
-            Damage::Framing => 3,
         }
     }
 }

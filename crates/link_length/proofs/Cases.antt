@@ -16,13 +16,13 @@ use Rattle.frame.specs.Write.{writeBuffer, writeAnswer}
 use Rattle.line.specs.Profile.{fskProfile, c8pskProfile}
 use Rattle.line.specs.Reader.{taken, takenData, atIdle, atPreamble, atFirst, atAddress, atExpansion, atCommand, atCount, atData, atCheck}
 use Rattle.line.specs.declared.Profile.{Profile}
-use Rattle.turns.specs.Party.{was-refused}
 use Rattle.turns.specs.Master.{requested, requestedUpTo, masterTakes, masterSends}
 use Rattle.turns.specs.Device.{deviceTakes, deviceSends, answered, contentGiven}
 use Rattle.turns.specs.Link.{no-request, requests, Calls, masterTick, deviceTick, deviceTicks, sides, carried, linkTick, linkAfter, run}
 use Rattle.turns.specs.Run.{none, and}
 use Rattle.turns.specs.Ledgers.{blanks}
 use Rattle.turns.specs.Demand3.{Premises, BeginsWithin, NoneBursts, until-it-begins, and-on}
+use Rattle.turns.specs.declared.CallResult.{CallResult}
 use Rattle.turns.proofs.Example as E
 use Rattle.turns.proofs.Example.{quiet}
 use Rattle.runs.proofs.Premises.{short, one-device, one-device-starts, short-taken, lone, lone-finds}
@@ -125,7 +125,7 @@ long-ask = record {
 }
 
 -- on the link with the length for this wait that is 6
-pub long-refused : linkTick 2 one-device long-ask .for-primary .result ≡ was-refused 6
+pub long-refused : linkTick 2 one-device long-ask .for-primary .result ≡ CallResult.Refused 6
 unfolding long-ask one-device short run linkTick deviceTicks sides carried masterTick deviceTick requested requestedUpTo masterTakes masterSends deviceTakes deviceSends answered contentGiven taken takenData atIdle atPreamble atFirst atAddress atExpansion atCommand atCount atData atCheck writeBuffer writeAnswer frameBytes preambleBytes bodyBytes protectedBytes headerBytes xorFrom delimiterOf stored if_then_else_
 long-refused = refl
 

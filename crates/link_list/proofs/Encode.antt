@@ -10,8 +10,8 @@ use lib.Seq.{take-at, drop-at}
 use Rattle.base.specs.Choice.{if_then_else_, _=?_}
 use Rattle.base.proofs.Choices.{if-unequal}
 use Rattle.turns.proofs.Bursting.{if-both}
-use Rattle.turns.specs.Party.{Request}
 use Rattle.turns.specs.Link.{MasterCall, no-request, requests, DeviceCall, no-call, gives-answer, gives-content, Calls}
+use Rattle.turns.specs.declared.Request.{Request}
 use Rattle.turns.specs.declared.Wish.{Wish}
 use Rattle.turns.specs.declared.Wish.the-variants.{Same, On, Off}
 use Rattle.master.specs.Tick as M

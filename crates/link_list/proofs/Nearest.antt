@@ -14,12 +14,13 @@ use Rattle.frame.specs.Limits.{largestPolling}
 use Rattle.frame.specs.Address.{largestWith, addressAbove}
 use Rattle.frame.specs.Frame.{frameLength, frameBytes}
 use Rattle.line.specs.declared.Heard.{Heard}
-use Rattle.turns.specs.Party.{Request, CallResult, was-refused}
 use Rattle.turns.specs.Master.{requested, requestedUpTo, pollingUpTo, requestHeader, commandRefused, hasMessage, masterWith, masterTakes}
 use Rattle.turns.specs.Device.{answeredBy, answered, answerFrame, deviceTakes, answersAt, answerHeader, wished, contentGiven, deviceWithContent, wishRefused}
 use Rattle.turns.specs.Device as D
 use Rattle.turns.specs.Link.{MasterCall, no-request, requests, DeviceCall, no-call, gives-answer, gives-content, Calls, MasterSide, masterData, masterCalled, masterCalls, masterTick, DeviceSide, DeviceStep, deviceData, heardFrame, answerCalled, contentCalled, deviceCalls, deviceTick, Link, LinkStep, deviceTicks, sides, linkTick, linkAfter, run}
+use Rattle.turns.specs.declared.CallResult.{CallResult}
 use Rattle.turns.specs.declared.Master.{Master}
+use Rattle.turns.specs.declared.Request.{Request}
 use Rattle.turns.specs.declared.Stage.the-variants.{Waiting}
 use Rattle.turns.specs.declared.Device.{Device}
 use Rattle.turns.specs.declared.MasterTold.{MasterTold}
@@ -308,7 +309,7 @@ nearest-codable here (c ∷ cs) =
 
 -- ---- a tick goes as with the nearest calls
 
-was-refused-is : {A : Type 0} (x : Called A) (why : ℕ) → outcome x ≡ was-refused why → x ≡ refused why
+was-refused-is : {A : Type 0} (x : Called A) (why : ℕ) → outcome x ≡ CallResult.Refused why → x ≡ refused why
 was-refused-is (accepted a) why e = absurd (let k : _≡_ {A = ℕ} 0 1 = cc in omega arith)
 was-refused-is (refused w) why e = ap refused cc
 

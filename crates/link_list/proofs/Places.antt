@@ -9,8 +9,8 @@ use lib.Seq.{getD-drop}
 use Rattle.base.specs.Choice.{if_then_else_, _=?_}
 use Rattle.base.proofs.Choices.{if-below, if-not-below, if-equal, if-unequal}
 use Rattle.frame.specs.Address.{byteAt}
-use Rattle.master.specs.declared.MasterHostCall.{MasterHostCall}
-use Rattle.device_tick.specs.declared.DeviceHostCall as DeviceHost
+use Rattle.master.specs.declared.MasterCall.{MasterCall}
+use Rattle.device_tick.specs.declared.DeviceCall.{DeviceCall}
 use Rattle.device_tick.specs.Tick.{hostCallBy}
 use Rattle.link_list.specs.Ticks.{kindIn, addressIn, lengthIn, requestOf, requestBy, requestIn, answerIn}
 use Rattle.link_list.specs.Read.{partIn, forward, nextIn}
@@ -44,13 +44,13 @@ address-is rest a b c d e n p q r s t f = f ∙ (λ i. p i * 2 ^ 32 + q i * 2 ^ 
 
 -- calls
 pub wanted-is : (rest : List ℕ) (long : Bool) (kind preamble command address : ℕ) → kind ≡ byteAt rest 0 → preamble ≡ byteAt rest 1 → command ≡ byteAt rest 2 → address ≡ addressIn rest
-    → MasterHostCall.Requests (record { preamble = preamble; revision = kind / 4; long = long; address = address; command = command }) ≡ requestOf long rest
-wanted-is rest long kind preamble command address k p q r = λ i. MasterHostCall.Requests (record { preamble = p i; revision = k i / 4; long = long; address = r i; command = q i })
+    → MasterCall.Requests (record { preamble = preamble; revision = kind / 4; long = long; address = address; command = command }) ≡ requestOf long rest
+wanted-is rest long kind preamble command address k p q r = λ i. MasterCall.Requests (record { preamble = p i; revision = k i / 4; long = long; address = r i; command = q i })
 
-pub request-is : (rest : List ℕ) (kind : ℕ) (r : MasterHostCall) → kind ≡ byteAt rest 0 → r ≡ requestBy (kind % 4) rest → r ≡ requestIn rest
+pub request-is : (rest : List ℕ) (kind : ℕ) (r : MasterCall) → kind ≡ byteAt rest 0 → r ≡ requestBy (kind % 4) rest → r ≡ requestIn rest
 request-is rest kind r p q = q ∙ ap (λ (k : ℕ). requestBy (k % 4) rest) p
 
-pub answer-is : (rest : List ℕ) (kind command : ℕ) (r : DeviceHost.DeviceHostCall) → kind ≡ byteAt rest 0 → command ≡ byteAt rest 2 → r ≡ hostCallBy kind command → r ≡ answerIn rest
+pub answer-is : (rest : List ℕ) (kind command : ℕ) (r : DeviceCall) → kind ≡ byteAt rest 0 → command ≡ byteAt rest 2 → r ≡ hostCallBy kind command → r ≡ answerIn rest
 answer-is rest kind command r p q e = e ∙ (λ i. hostCallBy (p i) (q i))
 
 pub ruleset calls = (refl, length-is, length-same, length-small, address-is, wanted-is, request-is, answer-is)

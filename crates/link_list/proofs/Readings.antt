@@ -11,26 +11,26 @@ use Rattle.base.specs.Choice.{if_then_else_, _<?_, _=?_}
 use Rattle.base.proofs.Choices.{if-is-true, if-is-false, if-below, if-not-below}
 use Rattle.base.proofs.Lists.{front-more}
 use Rattle.master.specs.Tick as M
-use Rattle.master.specs.declared.MasterHostCall as MasterHost
+use Rattle.master.specs.declared.MasterCall.{MasterCall}
 use Rattle.device_tick.specs.Tick as D
-use Rattle.device_tick.specs.declared.DeviceHostCall as DeviceHost
+use Rattle.device_tick.specs.declared.DeviceCall.{DeviceCall}
 use Rattle.link_parties.specs.Part.{dataOf}
 use Rattle.link_parties.specs.Stands.{ifHere, noDeviceCall, deviceCallOf, deviceCallsFrom, callsOf}
 use Rattle.link_parties.proofs.Parts.{past-end}
-use Rattle.link_parties.specs.declared.DeviceCall.{DeviceCall}
-use Rattle.link_parties.specs.declared.MasterCall.{MasterCall}
+use Rattle.link_parties.specs.declared.DeviceCallWithPart.{DeviceCallWithPart}
+use Rattle.link_parties.specs.declared.MasterCallWithPart.{MasterCallWithPart}
 use Rattle.link_parties.specs.declared.Part.{Part}
 use Rattle.link_list.specs.Ticks.{kindIn, lengthIn, dataIn, requestIn, answerIn, behindCall, Here, slotsIn, behind, callsIn}
 use Rattle.link_list.specs.Read.{partIn, masterCallAt, deviceCallAt, forward, nextIn, callsFrom, placeBehind, CallsRead, tickFrom, tickAt}
 use Rattle.link_list.specs.declared.TickRead.{TickRead}
 
 -- a call, its parts told
-pub master-call-is : (ticks : List ℕ) (at : ℕ) (call : MasterHost.MasterHostCall) (part : Part) → call ≡ requestIn (drop at ticks) → part ≡ partIn ticks at
-    → _≡_ {A = MasterCall} (record { call = call; part = part }) (masterCallAt ticks at)
+pub master-call-is : (ticks : List ℕ) (at : ℕ) (call : MasterCall) (part : Part) → call ≡ requestIn (drop at ticks) → part ≡ partIn ticks at
+    → _≡_ {A = MasterCallWithPart} (record { call = call; part = part }) (masterCallAt ticks at)
 master-call-is ticks at call part e f = λ i. record { call = e i; part = f i }
 
-pub device-call-is : (ticks : List ℕ) (at : ℕ) (call : DeviceHost.DeviceHostCall) (part : Part) → call ≡ answerIn (drop at ticks) → part ≡ partIn ticks at
-    → _≡_ {A = DeviceCall} (record { call = call; part = part }) (deviceCallAt ticks at)
+pub device-call-is : (ticks : List ℕ) (at : ℕ) (call : DeviceCall) (part : Part) → call ≡ answerIn (drop at ticks) → part ≡ partIn ticks at
+    → _≡_ {A = DeviceCallWithPart} (record { call = call; part = part }) (deviceCallAt ticks at)
 device-call-is ticks at call part e f = λ i. record { call = e i; part = f i }
 
 -- ---- a loop: the first n calls are read, of so many
@@ -85,7 +85,7 @@ module _ {A : Type 0} where
           inside = v .inside;
         }
 
-pub tick-is : (ticks : List ℕ) (at middle next : ℕ) (ms : List MasterCall) (ds : List DeviceCall) → CallsRead masterCallAt ticks 2 at ms middle → CallsRead deviceCallAt ticks 6 middle ds next
+pub tick-is : (ticks : List ℕ) (at middle next : ℕ) (ms : List MasterCallWithPart) (ds : List DeviceCallWithPart) → CallsRead masterCallAt ticks 2 at ms middle → CallsRead deviceCallAt ticks 6 middle ds next
     → record { calls = record { masters = ms; devices = ds }; next = next } ≡ tickFrom ticks at
 unfolding placeBehind
 tick-is ticks at middle next ms ds m d = λ i. record {
@@ -146,7 +146,7 @@ place-rest ticks zero at = refl
 place-rest ticks (suc n) at = place-rest ticks n (nextIn ticks at) ∙ ap (behind n) (next-rest ticks at)
 
 -- the calls of the slots, from slot i on
-devices-read : (ticks : List ℕ) (cs : List DeviceCall) (i n at : ℕ) (hs : Here) → drop i cs ≡ callsFrom deviceCallAt ticks n at → length hs ≤ n → deviceCallsFrom ticks cs i hs ≡ slotsIn hs (drop at ticks)
+devices-read : (ticks : List ℕ) (cs : List DeviceCallWithPart) (i n at : ℕ) (hs : Here) → drop i cs ≡ callsFrom deviceCallAt ticks n at → length hs ≤ n → deviceCallsFrom ticks cs i hs ≡ slotsIn hs (drop at ticks)
 unfolding deviceCallsFrom slotsIn callsFrom
 devices-read ticks cs i n at [] e h = refl
 devices-read ticks cs i zero at (x ∷ hs) e h = absurd (omega arith)
@@ -156,19 +156,19 @@ devices-read ticks cs i (suc n) at (x ∷ hs) e h =
     ((ap (deviceCallOf ticks) (first-one cs i (deviceCallAt ticks at) (callsFrom deviceCallAt ticks n (nextIn ticks at)) e) ∙ ap (D.callOf (answerIn (drop at ticks))) (part-data ticks at)) j)
     ((rest ∙ ap (slotsIn hs) (next-rest ticks at)) j)
   where
-    empty : (c : DeviceCall) (ys : List DeviceCall) → [] ≡ c ∷ ys → ⊥
-    empty c ys e = let k : _≡_ {A = ℕ} 0 (suc (length ys)) = ap (λ (l : List DeviceCall). length l) e in omega (arith, k)
+    empty : (c : DeviceCallWithPart) (ys : List DeviceCallWithPart) → [] ≡ c ∷ ys → ⊥
+    empty c ys e = let k : _≡_ {A = ℕ} 0 (suc (length ys)) = ap (λ (l : List DeviceCallWithPart). length l) e in omega (arith, k)
 
-    first-one : (xs : List DeviceCall) (k : ℕ) (c : DeviceCall) (ys : List DeviceCall) → drop k xs ≡ c ∷ ys → getD xs k noDeviceCall ≡ c
+    first-one : (xs : List DeviceCallWithPart) (k : ℕ) (c : DeviceCallWithPart) (ys : List DeviceCallWithPart) → drop k xs ≡ c ∷ ys → getD xs k noDeviceCall ≡ c
     first-one [] zero c ys e = absurd (empty c ys e)
     first-one [] (suc k) c ys e = absurd (empty c ys e)
-    first-one (x ∷ xs) zero c ys e = ap (λ (l : List DeviceCall). getD l 0 noDeviceCall) e
+    first-one (x ∷ xs) zero c ys e = ap (λ (l : List DeviceCallWithPart). getD l 0 noDeviceCall) e
     first-one (x ∷ xs) (suc k) c ys e = first-one xs k c ys e
 
-    behind-one : (xs : List DeviceCall) (k : ℕ) (c : DeviceCall) (ys : List DeviceCall) → drop k xs ≡ c ∷ ys → drop (suc k) xs ≡ ys
+    behind-one : (xs : List DeviceCallWithPart) (k : ℕ) (c : DeviceCallWithPart) (ys : List DeviceCallWithPart) → drop k xs ≡ c ∷ ys → drop (suc k) xs ≡ ys
     behind-one [] zero c ys e = absurd (empty c ys e)
     behind-one [] (suc k) c ys e = absurd (empty c ys e)
-    behind-one (x ∷ xs) zero c ys e = ap (λ (l : List DeviceCall). drop 1 l) e
+    behind-one (x ∷ xs) zero c ys e = ap (λ (l : List DeviceCallWithPart). drop 1 l) e
     behind-one (x ∷ xs) (suc k) c ys e = behind-one xs k c ys e
 
 module _ (ticks : List ℕ) where

@@ -6,8 +6,9 @@ use mathlib.Core.List.{List, [], _∷_, map}
 use lib.ListN.{take}
 use Rattle.base.specs.Refusal.{Called, accepted, refused}
 use Rattle.base.specs.Choice.{if_then_else_, _<?_}
-use Rattle.turns.specs.Party.{Request, CallResult, was-taken, was-refused}
 use Rattle.turns.specs.Link.{MasterCall, no-request, requests, DeviceCall, no-call, gives-answer, gives-content, Calls}
+use Rattle.turns.specs.declared.CallResult.{CallResult}
+use Rattle.turns.specs.declared.Request.{Request}
 use Rattle.turns.specs.declared.Wish.{Wish}
 use Rattle.link_list.specs.Ticks.{Here}
 use Rattle.link_list.specs.Encode.{Bytes}
@@ -65,12 +66,12 @@ nearestTicks here (c ∷ cs) = nearestTick here c ∷ nearestTicks here cs
 
 -- what became of a call: taken, or refused with a number
 abbrev pub outcome : {A : Type 0} → Called A → CallResult
-outcome (accepted a) = was-taken
-outcome (refused why) = was-refused why
+outcome (accepted a) = CallResult.Taken
+outcome (refused why) = CallResult.Refused why
 
 -- it was refused
 pub data IsRefused : CallResult → Type 0 where
-  is-refused : (why : ℕ) → IsRefused (was-refused why)
+  is-refused : (why : ℕ) → IsRefused (CallResult.Refused why)
 
 -- ---- calls whose command and data are bytes, whatever else they hold
 

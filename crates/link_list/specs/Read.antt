@@ -5,8 +5,8 @@ use mathlib.Core.List.{List, [], _∷_}
 use mathlib.Core.Path.{_≡_}
 use lib.ListN.{length, drop}
 use Rattle.base.specs.Choice.{if_then_else_, _<?_, _=?_}
-use Rattle.link_parties.specs.declared.DeviceCall.{DeviceCall}
-use Rattle.link_parties.specs.declared.MasterCall.{MasterCall}
+use Rattle.link_parties.specs.declared.DeviceCallWithPart.{DeviceCallWithPart}
+use Rattle.link_parties.specs.declared.MasterCallWithPart.{MasterCallWithPart}
 use Rattle.link_parties.specs.declared.Part.{Part}
 use Rattle.link_list.specs.Ticks.{kindIn, lengthIn, requestIn, answerIn}
 use Rattle.link_list.specs.declared.TickRead.{TickRead}
@@ -17,10 +17,10 @@ use Rattle.link_list.specs.declared.TickRead.{TickRead}
 abbrev pub partIn : List ℕ → ℕ → Part
 partIn ticks at = if length ticks - at <? 10 then record { from = at; count = 0 } else record { from = at + 10; count = lengthIn (drop at ticks) }
 
-abbrev pub masterCallAt : List ℕ → ℕ → MasterCall
+abbrev pub masterCallAt : List ℕ → ℕ → MasterCallWithPart
 masterCallAt ticks at = record { call = requestIn (drop at ticks); part = partIn ticks at }
 
-abbrev pub deviceCallAt : List ℕ → ℕ → DeviceCall
+abbrev pub deviceCallAt : List ℕ → ℕ → DeviceCallWithPart
 deviceCallAt ticks at = record { call = answerIn (drop at ticks); part = partIn ticks at }
 
 -- so many places further, or the end

@@ -9,10 +9,10 @@ use Rattle.base.specs.Choice.{if_then_else_, _=?_}
 use Rattle.frame.specs.Address.{byteAt}
 use Rattle.turns.specs.Link.{DeviceCall, Calls}
 use Rattle.master.specs.Tick as M
-use Rattle.master.specs.declared.MasterHostCall as MasterHost
+use Rattle.master.specs.declared.MasterCall.{MasterCall}
 use Rattle.device_tick.specs.Tick as D
 use Rattle.device_tick.specs.Tick.{hostCallBy}
-use Rattle.device_tick.specs.declared.DeviceHostCall as DeviceHost
+use Rattle.device_tick.specs.declared.DeviceCall as DeviceHost
 use Rattle.link_parties.specs.Stands.{ifHere}
 
 -- ---- a call, in front of the rest of the list
@@ -30,8 +30,8 @@ abbrev pub dataIn : List ℕ → List ℕ
 dataIn rest = take (lengthIn rest) (drop 10 rest)
 
 -- a master's call: the kind is four times the revision, plus 1 for a request with a short address or 2 for one with a long address; any other kind is no call
-abbrev pub requestOf : Bool → List ℕ → MasterHost.MasterHostCall
-requestOf long rest = MasterHost.MasterHostCall.Requests (record {
+abbrev pub requestOf : Bool → List ℕ → MasterCall
+requestOf long rest = MasterCall.Requests (record {
   preamble = byteAt rest 1;
   revision = kindIn rest / 4;
   long = long;
@@ -39,14 +39,14 @@ requestOf long rest = MasterHost.MasterHostCall.Requests (record {
   command = byteAt rest 2;
 })
 
-abbrev pub requestBy : ℕ → List ℕ → MasterHost.MasterHostCall
-requestBy form rest = if form =? 1 then requestOf false rest else (if form =? 2 then requestOf true rest else MasterHost.MasterHostCall.Nothing)
+abbrev pub requestBy : ℕ → List ℕ → MasterCall
+requestBy form rest = if form =? 1 then requestOf false rest else (if form =? 2 then requestOf true rest else MasterCall.Nothing)
 
-abbrev pub requestIn : List ℕ → MasterHost.MasterHostCall
+abbrev pub requestIn : List ℕ → MasterCall
 requestIn rest = requestBy (kindIn rest % 4) rest
 
 -- a device's call, by its kind
-abbrev pub answerIn : List ℕ → DeviceHost.DeviceHostCall
+abbrev pub answerIn : List ℕ → DeviceHost.DeviceCall
 answerIn rest = hostCallBy (kindIn rest) (byteAt rest 2)
 
 -- the rest of the list after a call

@@ -1,9 +1,9 @@
 // A list of ticks as bytes, and the calls of each tick. Every byte string is some list of ticks (specs/Ticks.antt).
 use link_parties::Calls;
-use link_parties::DeviceCall;
-use link_parties::MasterCall;
+use link_parties::DeviceCallWithPart;
+use link_parties::MasterCallWithPart;
 use link_parties::Part;
-use master::RequestFields;
+use turns::Request;
 ghost use mathlib.Core.Path.{_≡_};
 ghost use Prim.Native.Nat.{_+_, _*_, _%_, _^_, _≤_, _<_};
 ghost use lib.ListN.{length, drop};
@@ -104,7 +104,7 @@ fn next_in(ticks: &[u8], at: usize) -> usize
 }
 
 // A master's request.
-fn wanted_in(ticks: &[u8], at: usize, long: bool) -> master::MasterHostCall
+fn wanted_in(ticks: &[u8], at: usize, long: bool) -> master::MasterCall
     requires { ⌜ at ≤ length (now ticks) ⌝ }
     ensures { λ r. ⌜ r ≡ requestOf long (drop at (before ticks)) ⌝ }
 {
@@ -112,18 +112,18 @@ fn wanted_in(ticks: &[u8], at: usize, long: bool) -> master::MasterHostCall
     let preamble = byte_in(ticks, at, 1);
     let command = byte_in(ticks, at, 2);
     let address = address_in(ticks, at);
-    let q = RequestFields {
+    let q = Request {
         preamble: preamble as usize,
         revision: kind / 4,
         long: long,
         address: address,
         command: command,
     };
-    master::MasterHostCall::Requests(q)
+    master::MasterCall::Requests(q)
 }
 
 // A master's call, by its form.
-fn request_by(form: u8, ticks: &[u8], at: usize) -> master::MasterHostCall
+fn request_by(form: u8, ticks: &[u8], at: usize) -> master::MasterCall
     requires { ⌜ at ≤ length (now ticks) ⌝ }
     ensures { λ r. ⌜ r ≡ requestBy form (drop at (before ticks)) ⌝ }
 {
@@ -133,10 +133,10 @@ fn request_by(form: u8, ticks: &[u8], at: usize) -> master::MasterHostCall
     if form == 2 {
         return wanted_in(ticks, at, true);
     }
-    master::MasterHostCall::Nothing
+    master::MasterCall::Nothing
 }
 
-fn request_in(ticks: &[u8], at: usize) -> master::MasterHostCall
+fn request_in(ticks: &[u8], at: usize) -> master::MasterCall
     requires { ⌜ at ≤ length (now ticks) ⌝ }
     ensures { λ r. ⌜ r ≡ requestIn (drop at (before ticks)) ⌝ }
 {
@@ -145,28 +145,28 @@ fn request_in(ticks: &[u8], at: usize) -> master::MasterHostCall
 }
 
 // A device's call, by its kind.
-fn answer_in(ticks: &[u8], at: usize) -> device_tick::DeviceHostCall
+fn answer_in(ticks: &[u8], at: usize) -> device_tick::DeviceCall
     requires { ⌜ at ≤ length (now ticks) ⌝ }
     ensures { λ r. ⌜ r ≡ answerIn (drop at (before ticks)) ⌝ }
 {
     device_tick::host_call_by(byte_in(ticks, at, 0), byte_in(ticks, at, 2))
 }
 
-fn master_call(ticks: &[u8], at: usize) -> MasterCall
+fn master_call(ticks: &[u8], at: usize) -> MasterCallWithPart
     requires { ⌜ at ≤ length (now ticks) ⌝ }
     ensures { λ r. ⌜ r ≡ masterCallAt (before ticks) at ⌝ }
 {
-    MasterCall {
+    MasterCallWithPart {
         call: request_in(ticks, at),
         part: part_in(ticks, at),
     }
 }
 
-fn device_call(ticks: &[u8], at: usize) -> DeviceCall
+fn device_call(ticks: &[u8], at: usize) -> DeviceCallWithPart
     requires { ⌜ at ≤ length (now ticks) ⌝ }
     ensures { λ r. ⌜ r ≡ deviceCallAt (before ticks) at ⌝ }
 {
-    DeviceCall {
+    DeviceCallWithPart {
         call: answer_in(ticks, at),
         part: part_in(ticks, at),
     }
@@ -174,12 +174,12 @@ fn device_call(ticks: &[u8], at: usize) -> DeviceCall
 
 // Calls that were read, and the place after them.
 struct MastersRead {
-    calls: [MasterCall; 2],
+    calls: [MasterCallWithPart; 2],
     next: usize,
 }
 
 struct DevicesRead {
-    calls: [DeviceCall; 6],
+    calls: [DeviceCallWithPart; 6],
     next: usize,
 }
 

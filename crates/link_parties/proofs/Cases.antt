@@ -20,18 +20,18 @@ use Rattle.turns.specs.declared.Sent.{Sent}
 use Rattle.turns.specs.declared.Timer.{Timer}
 use Rattle.turns.specs.declared.Turn.the-variants.{Listens}
 use Rattle.master.specs.Tick as M
-use Rattle.master.specs.declared.MasterHostCall as MasterHost
+use Rattle.master.specs.declared.MasterCall.{MasterCall}
 use Rattle.master.specs.declared.MasterTicked.{MasterTicked}
 use Rattle.device_tick.specs.Tick as D
 use Rattle.device_tick.specs.declared.DeviceTicked.{DeviceTicked}
-use Rattle.device_tick.specs.declared.DeviceHostCall as DeviceHost
+use Rattle.device_tick.specs.declared.DeviceCall.{DeviceCall}
 use Rattle.link_parties.specs.Part.{dataOf, PartIs}
 use Rattle.link_parties.specs.Readers.{sameReader}
 use Rattle.link_parties.specs.Stands.{noPart, noMasterCall, noDeviceCall}
 use Rattle.link_parties.specs.Ways.{hearsIf, countsIf, callsDevice, deviceCounts, deviceHears, deviceWay, countedDevice, inSlot, callsMaster, masterCounts, masterCharacter, masterHears, masterWay, countedMaster, heardMaster}
 use Rattle.link_parties.specs.declared.Bounds.{Bounds}
-use Rattle.link_parties.specs.declared.DeviceCall.{DeviceCall}
-use Rattle.link_parties.specs.declared.MasterCall.{MasterCall}
+use Rattle.link_parties.specs.declared.DeviceCallWithPart.{DeviceCallWithPart}
+use Rattle.link_parties.specs.declared.MasterCallWithPart.{MasterCallWithPart}
 use Rattle.link_parties.specs.declared.Part.{Part}
 use Rattle.link_parties.specs.declared.Slot.{Slot}
 use Rattle.link_parties.specs.declared.Way.{Way}
@@ -66,7 +66,7 @@ pub ruleset cases = (refl, joins-sent, joins-heard)
 
 module _ (follows quiet : Bool) (reader : Receiver) (heard : Heard) (w : Way) where
   module _ (d : Device) where
-    pub device-way-is : (call : DeviceHost.DeviceHostCall) → w ≡ (if d .deaf then Acts else if callsDevice call then Acts else deviceHears d heard follows quiet reader) → w ≡ deviceWay d heard call follows quiet reader
+    pub device-way-is : (call : DeviceCall) → w ≡ (if d .deaf then Acts else if callsDevice call then Acts else deviceHears d heard follows quiet reader) → w ≡ deviceWay d heard call follows quiet reader
     unfolding deviceWay
     device-way-is call e = e
 
@@ -80,7 +80,7 @@ module _ (follows quiet : Bool) (reader : Receiver) (heard : Heard) (w : Way) wh
     device-damage c kind e f = f ∙ ap (λ (h : Heard). deviceHears d h follows quiet reader) (sym e)
 
   module _ (m : Master) where
-    pub master-way-is : (call : MasterHost.MasterHostCall) → w ≡ (if m .deaf then Acts else if callsMaster call then Acts else masterHears m heard follows quiet reader) → w ≡ masterWay m heard call follows quiet reader
+    pub master-way-is : (call : MasterCall) → w ≡ (if m .deaf then Acts else if callsMaster call then Acts else masterHears m heard follows quiet reader) → w ≡ masterWay m heard call follows quiet reader
     unfolding masterWay
     master-way-is call e = e
 
@@ -109,24 +109,24 @@ counted-master-is m k r t p q e = e ∙ (λ i. MM.masterWith m (p i) (m .burst) 
 pub heard-master-is : (m k : Master) (r : Receiver) (t : Timer) → t ≡ timer 0 → k ≡ MM.masterWith m r (m .burst) (m .noted) t (m .message) → k ≡ heardMaster m r
 heard-master-is m k r t q e = e ∙ (λ i. MM.masterWith m r (m .burst) (m .noted) (q i) (m .message))
 
-pub no-master-call-is : (p : Part) → p ≡ noPart → _≡_ {A = MasterCall} (record { call = MasterHost.MasterHostCall.Nothing; part = p }) noMasterCall
-no-master-call-is p e = λ i. record { call = MasterHost.MasterHostCall.Nothing; part = e i }
+pub no-master-call-is : (p : Part) → p ≡ noPart → _≡_ {A = MasterCallWithPart} (record { call = MasterCall.Nothing; part = p }) noMasterCall
+no-master-call-is p e = λ i. record { call = MasterCall.Nothing; part = e i }
 
-pub no-device-call-is : (p : Part) → p ≡ noPart → _≡_ {A = DeviceCall} (record { call = DeviceHost.DeviceHostCall.Nothing; part = p }) noDeviceCall
-no-device-call-is p e = λ i. record { call = DeviceHost.DeviceHostCall.Nothing; part = e i }
+pub no-device-call-is : (p : Part) → p ≡ noPart → _≡_ {A = DeviceCallWithPart} (record { call = DeviceCall.Nothing; part = p }) noDeviceCall
+no-device-call-is p e = λ i. record { call = DeviceCall.Nothing; part = e i }
 
 pub ruleset equals = (refl, in-slot, counted-device-is, counted-master-is, heard-master-is, no-master-call-is, no-device-call-is)
 
 -- ---- the part of what is put
 
 module _ (put : List ℕ) (b : Bounds) where
-  pub master-part : (limit : ℕ) (m : Master) (heard : Heard) (c : MasterCall) (frame bytes : List ℕ) (r : MasterTicked) (frame-after bytes-after : List ℕ)
+  pub master-part : (limit : ℕ) (m : Master) (heard : Heard) (c : MasterCallWithPart) (frame bytes : List ℕ) (r : MasterTicked) (frame-after bytes-after : List ℕ)
       → PartIs (c .part .from) (c .part .count) (length put) b
       → M.MasterTickIs limit m heard (c .call) (take (b .end - b .start) (drop (b .start) put)) frame bytes r frame-after bytes-after
       → M.MasterTickIs limit m heard (c .call) (dataOf (c .part) put) frame bytes r frame-after bytes-after
   master-part limit m heard c frame bytes r frame-after bytes-after p q = subst (λ (l : List ℕ). M.MasterTickIs limit m heard (c .call) l frame bytes r frame-after bytes-after) (p .is put refl) q
 
-  pub device-part : (limit : ℕ) (d : Device) (heard : Heard) (c : DeviceCall) (frame bytes contents : List ℕ) (r : DeviceTicked) (frame-after bytes-after contents-after : List ℕ)
+  pub device-part : (limit : ℕ) (d : Device) (heard : Heard) (c : DeviceCallWithPart) (frame bytes contents : List ℕ) (r : DeviceTicked) (frame-after bytes-after contents-after : List ℕ)
       → PartIs (c .part .from) (c .part .count) (length put) b
       → D.DeviceTickIs limit d heard (c .call) (take (b .end - b .start) (drop (b .start) put)) frame bytes contents r frame-after bytes-after contents-after
       → D.DeviceTickIs limit d heard (c .call) (dataOf (c .part) put) frame bytes contents r frame-after bytes-after contents-after

@@ -19,8 +19,8 @@ use Rattle.turns.specs.Device as D
 use Rattle.turns.specs.Device.{deviceTakes, deviceSends, errorFrame}
 use Rattle.turns.specs.Master as M
 use Rattle.turns.specs.Master.{masterTakes, masterSends}
-use Rattle.turns.specs.Party.{none}
 use Rattle.turns.specs.Link.{no-call, no-request, MasterSide, MasterStep, masterCalls, masterTick, DeviceSide, DeviceStep, deviceCalls, deviceTick}
+use Rattle.turns.specs.declared.CallResult.{CallResult}
 use Rattle.turns.specs.declared.Device.{Device}
 use Rattle.turns.specs.declared.DeviceTold.{DeviceTold}
 use Rattle.turns.specs.declared.Master.{Master}
@@ -31,9 +31,9 @@ use Rattle.turns.specs.declared.Stage.the-variants.{Free, Waiting, Sending, Awa
 use Rattle.turns.specs.declared.Turn.{Turn}
 use Rattle.turns.specs.declared.Turn.the-variants.{Listens, Asked, AnswerWaits, Begins, Answers, Follows, Bursts}
 use Rattle.master.specs.Tick as MT
-use Rattle.master.specs.declared.MasterHostCall as MasterHost
+use Rattle.master.specs.declared.MasterCall.{MasterCall}
 use Rattle.device_tick.specs.Tick as DT
-use Rattle.device_tick.specs.declared.DeviceHostCall as DeviceHost
+use Rattle.device_tick.specs.declared.DeviceCall.{DeviceCall}
 use Rattle.link_parties.specs.Readers.{sameReader}
 use Rattle.link_parties.specs.Ways.{hearsIf, countsIf, callsDevice, isListening, deviceCounts, deviceHears, deviceWay, countedDevice, heardDevice}
 use Rattle.link_parties.specs.Ways.{callsMaster, isFree, isSending, masterCounts, masterHears, masterWay, countedMaster, heardMaster}
@@ -105,7 +105,7 @@ at-place r p e = λ i. record { place = e i; header = r .header; expansion = r .
 
 -- its step where it sends, tells and answers nothing
 abbrev pub quietDevice : DeviceSide → DeviceStep
-quietDevice x = record { side = x; sent = Silent; told = DeviceTold.Nothing; result = none }
+quietDevice x = record { side = x; sent = Silent; told = DeviceTold.Nothing; result = CallResult.Nothing }
 
 abbrev pub withDevice : DeviceSide → Device → List ℕ → DeviceSide
 withDevice x d bytes = record { device = d; frame = x .frame; bytes = bytes; contents = x .contents }
@@ -224,7 +224,7 @@ module _ (limit : ℕ) (x : DeviceSide) (deaf : x .device .deaf ≡ false) where
       ∙ whole
       ∙ ap (λ (y : Device). deviceTick limit (withDevice x y (x .bytes)) (Character c) no-call) (sym e)
 
-module _ (limit : ℕ) (x : DeviceSide) (heard : Heard) (call : DeviceHost.DeviceHostCall) (put : List ℕ) (follows quiet : Bool) (reader : Receiver) where
+module _ (limit : ℕ) (x : DeviceSide) (heard : Heard) (call : DeviceCall) (put : List ℕ) (follows quiet : Bool) (reader : Receiver) where
   -- what is left of a way that is not to act
   open-way : (w : Way) → deviceWay (x .device) heard call follows quiet reader ≡ w → (Acts ≡ w → ⊥) → (x .device .deaf ≡ false) × ((callsDevice call ≡ false) × (deviceHears (x .device) heard follows quiet reader ≡ w))
   unfolding deviceWay
@@ -238,17 +238,17 @@ module _ (limit : ℕ) (x : DeviceSide) (heard : Heard) (call : DeviceHost.Devic
       let o = open-way Counts e acts-counts in
       by call heard (o .1 .0) (o .1 .1)
     where
-      by : (c : DeviceHost.DeviceHostCall) (h : Heard) → callsDevice c ≡ false → deviceHears (x .device) h follows quiet reader ≡ Counts
+      by : (c : DeviceCall) (h : Heard) → callsDevice c ≡ false → deviceHears (x .device) h follows quiet reader ≡ Counts
           → quietDevice (withDevice x (countedDevice (x .device)) (x .bytes)) ≡ deviceTick limit x h (DT.callOf c put)
-      by DeviceHost.DeviceHostCall.Nothing Silence k l =
+      by DeviceCall.Nothing Silence k l =
           let o = open-way Counts e acts-counts in
           let a = not-first (x .device .burst) (if insideFrame (x .device .receiver .place) then false else isListening (x .device .turn)) (went-then (deviceCounts (x .device)) Counts Acts Counts l acts-counts .0) in
           let b = not-first (insideFrame (x .device .receiver .place)) (isListening (x .device .turn)) (a .1) in
           counts-at limit x (o .0) (x .device .receiver .place) (b .0) refl (a .0) (listening-is (x .device .turn) (b .1))
-      by DeviceHost.DeviceHostCall.Nothing (Character c) k l = absurd (character-counts follows quiet (sameReader (x .device .receiver) reader) l)
-      by DeviceHost.DeviceHostCall.Nothing (Heard.Damaged c kind) k l = absurd (acts-counts l)
-      by (DeviceHost.DeviceHostCall.Answers w) h k l = absurd (true-false k)
-      by (DeviceHost.DeviceHostCall.Content n) h k l = absurd (true-false k)
+      by DeviceCall.Nothing (Character c) k l = absurd (character-counts follows quiet (sameReader (x .device .receiver) reader) l)
+      by DeviceCall.Nothing (Heard.Damaged c kind) k l = absurd (acts-counts l)
+      by (DeviceCall.Answers w) h k l = absurd (true-false k)
+      by (DeviceCall.Content n) h k l = absurd (true-false k)
 
   pub device-hears : (r : Receiver) → deviceWay (x .device) heard call follows quiet reader ≡ Hears
       → (follows ≡ true → x .device .receiver ≡ reader) → (quiet ≡ true → taken reader heard ≡ R.tells r Nothing)
@@ -257,22 +257,22 @@ module _ (limit : ℕ) (x : DeviceSide) (heard : Heard) (call : DeviceHost.Devic
       let o = open-way Hears e acts-hears in
       by call heard (o .1 .0) (o .1 .1) step
     where
-      by : (c : DeviceHost.DeviceHostCall) (h : Heard) → callsDevice c ≡ false → deviceHears (x .device) h follows quiet reader ≡ Hears
+      by : (c : DeviceCall) (h : Heard) → callsDevice c ≡ false → deviceHears (x .device) h follows quiet reader ≡ Hears
           → (quiet ≡ true → taken reader h ≡ R.tells r Nothing)
           → quietDevice (withDevice x (heardDevice (x .device) r) (takenData (x .device .receiver) h (x .bytes))) ≡ deviceTick limit x h (DT.callOf c put)
-      by DeviceHost.DeviceHostCall.Nothing Silence k l f = absurd (silence-hears (deviceCounts (x .device)) l)
-      by DeviceHost.DeviceHostCall.Nothing (Character c) k l f =
+      by DeviceCall.Nothing Silence k l f = absurd (silence-hears (deviceCounts (x .device)) l)
+      by DeviceCall.Nothing (Character c) k l f =
           let o = open-way Hears e acts-hears in
           let both = character-hears follows quiet (sameReader (x .device .receiver) reader) (x .device .receiver ≡ reader) same (readers-equal (x .device .receiver) reader) l in
           hears-at limit x (o .0) c r (ap (λ (q : Receiver). taken q (Character c)) (both .0) ∙ f (both .1))
-      by DeviceHost.DeviceHostCall.Nothing (Heard.Damaged c kind) k l f = absurd (acts-hears l)
-      by (DeviceHost.DeviceHostCall.Answers w) h k l f = absurd (true-false k)
-      by (DeviceHost.DeviceHostCall.Content n) h k l f = absurd (true-false k)
+      by DeviceCall.Nothing (Heard.Damaged c kind) k l f = absurd (acts-hears l)
+      by (DeviceCall.Answers w) h k l f = absurd (true-false k)
+      by (DeviceCall.Content n) h k l f = absurd (true-false k)
 
 -- ---- a master
 
 abbrev pub quietMaster : MasterSide → MasterStep
-quietMaster x = record { side = x; sent = Silent; told = MasterTold.Nothing; result = none }
+quietMaster x = record { side = x; sent = Silent; told = MasterTold.Nothing; result = CallResult.Nothing }
 
 abbrev pub withMaster : MasterSide → Master → List ℕ → MasterSide
 withMaster x m bytes = record { master = m; frame = x .frame; bytes = bytes }
@@ -381,7 +381,7 @@ module _ (limit : ℕ) (x : MasterSide) (deaf : x .master .deaf ≡ false) where
       ∙ whole
       ∙ ap (λ (y : Master). masterTick limit (withMaster x y (x .bytes)) (Character c) no-request) (sym e)
 
-module _ (limit : ℕ) (x : MasterSide) (heard : Heard) (call : MasterHost.MasterHostCall) (put : List ℕ) (follows quiet : Bool) (reader : Receiver) where
+module _ (limit : ℕ) (x : MasterSide) (heard : Heard) (call : MasterCall) (put : List ℕ) (follows quiet : Bool) (reader : Receiver) where
   opened-way : (w : Way) → masterWay (x .master) heard call follows quiet reader ≡ w → (Acts ≡ w → ⊥) → (x .master .deaf ≡ false) × ((callsMaster call ≡ false) × (masterHears (x .master) heard follows quiet reader ≡ w))
   unfolding masterWay
   opened-way w e f =
@@ -394,17 +394,17 @@ module _ (limit : ℕ) (x : MasterSide) (heard : Heard) (call : MasterHost.Maste
       let o = opened-way Counts e acts-counts in
       by call heard (o .1 .0) (o .1 .1)
     where
-      by : (c : MasterHost.MasterHostCall) (h : Heard) → callsMaster c ≡ false → masterHears (x .master) h follows quiet reader ≡ Counts
+      by : (c : MasterCall) (h : Heard) → callsMaster c ≡ false → masterHears (x .master) h follows quiet reader ≡ Counts
           → quietMaster (withMaster x (countedMaster (x .master)) (x .bytes)) ≡ masterTick limit x h (MT.callOf c put)
-      by MasterHost.MasterHostCall.Nothing Silence k l =
+      by MasterCall.Nothing Silence k l =
           let o = opened-way Counts e acts-counts in
           let a = not-first (x .master .burst) (if insideFrame (x .master .receiver .place) then false else isFree (x .master .message .stage)) (went-then (masterCounts (x .master)) Counts Acts Counts l acts-counts .0) in
           let b = not-first (insideFrame (x .master .receiver .place)) (isFree (x .master .message .stage)) (a .1) in
           clear-at limit x (o .0) (x .master .receiver .place) (b .0) refl (a .0) (free-is (x .master .message .stage) (b .1))
-      by MasterHost.MasterHostCall.Nothing (Character c) k l =
+      by MasterCall.Nothing (Character c) k l =
           absurd (character-counts follows quiet (sameReader (x .master .receiver) reader) (went-else (isSending (x .master .message .stage)) Acts _ Counts l acts-counts .1))
-      by MasterHost.MasterHostCall.Nothing (Heard.Damaged c kind) k l = absurd (acts-counts l)
-      by (MasterHost.MasterHostCall.Requests q) h k l = absurd (true-false k)
+      by MasterCall.Nothing (Heard.Damaged c kind) k l = absurd (acts-counts l)
+      by (MasterCall.Requests q) h k l = absurd (true-false k)
 
   pub master-hears : (r : Receiver) → masterWay (x .master) heard call follows quiet reader ≡ Hears
       → (follows ≡ true → x .master .receiver ≡ reader) → (quiet ≡ true → taken reader heard ≡ R.tells r Nothing)
@@ -413,14 +413,14 @@ module _ (limit : ℕ) (x : MasterSide) (heard : Heard) (call : MasterHost.Maste
       let o = opened-way Hears e acts-hears in
       by call heard (o .1 .0) (o .1 .1) step
     where
-      by : (c : MasterHost.MasterHostCall) (h : Heard) → callsMaster c ≡ false → masterHears (x .master) h follows quiet reader ≡ Hears
+      by : (c : MasterCall) (h : Heard) → callsMaster c ≡ false → masterHears (x .master) h follows quiet reader ≡ Hears
           → (quiet ≡ true → taken reader h ≡ R.tells r Nothing)
           → quietMaster (withMaster x (heardMaster (x .master) r) (takenData (x .master .receiver) h (x .bytes))) ≡ masterTick limit x h (MT.callOf c put)
-      by MasterHost.MasterHostCall.Nothing Silence k l f = absurd (silence-hears (masterCounts (x .master)) l)
-      by MasterHost.MasterHostCall.Nothing (Character c) k l f =
+      by MasterCall.Nothing Silence k l f = absurd (silence-hears (masterCounts (x .master)) l)
+      by MasterCall.Nothing (Character c) k l f =
           let o = opened-way Hears e acts-hears in
           let s = went-else (isSending (x .master .message .stage)) Acts _ Hears l acts-hears in
           let both = character-hears follows quiet (sameReader (x .master .receiver) reader) (x .master .receiver ≡ reader) same (readers-equal (x .master .receiver) reader) (s .1) in
           heard-at limit x (o .0) c r (s .0) (ap (λ (q : Receiver). taken q (Character c)) (both .0) ∙ f (both .1))
-      by MasterHost.MasterHostCall.Nothing (Heard.Damaged c kind) k l f = absurd (acts-hears l)
-      by (MasterHost.MasterHostCall.Requests q) h k l f = absurd (true-false k)
+      by MasterCall.Nothing (Heard.Damaged c kind) k l f = absurd (acts-hears l)
+      by (MasterCall.Requests q) h k l f = absurd (true-false k)

@@ -11,19 +11,17 @@ use Rattle.turns.specs.Link.{MasterSide, DeviceSide, no-request}
 use Rattle.turns.specs.Link as L
 use Rattle.turns.specs.declared.Device.{Device}
 use Rattle.turns.specs.declared.Master.{Master}
-use Rattle.turns.specs.declared.Sent.{Sent}
-use Rattle.turns.specs.declared.Sent.the-variants.{Silent, Character}
 use Rattle.master.specs.Tick as M
-use Rattle.master.specs.declared.MasterHostCall as MasterHost
+use Rattle.master.specs.declared.MasterCall.{MasterCall}
 use Rattle.master.specs.declared.MasterTicked.{MasterTicked}
 use Rattle.device_tick.specs.Tick as D
 use Rattle.device_tick.specs.declared.DeviceTicked.{DeviceTicked}
-use Rattle.device_tick.specs.declared.DeviceHostCall as DeviceHost
+use Rattle.device_tick.specs.declared.DeviceCall.{DeviceCall}
 use Rattle.link_parties.specs.Part.{dataOf}
 use Rattle.link_parties.specs.declared.Calls.{Calls}
-use Rattle.link_parties.specs.declared.DeviceCall.{DeviceCall}
+use Rattle.link_parties.specs.declared.DeviceCallWithPart.{DeviceCallWithPart}
 use Rattle.link_parties.specs.declared.Link.{Link}
-use Rattle.link_parties.specs.declared.MasterCall.{MasterCall}
+use Rattle.link_parties.specs.declared.MasterCallWithPart.{MasterCallWithPart}
 use Rattle.link_parties.specs.declared.Part.{Part}
 use Rattle.link_parties.specs.declared.Slot.{Slot}
 
@@ -76,20 +74,20 @@ heres ss = map (λ (s : Slot). s .here) ss
 abbrev pub noPart : Part
 noPart = record { from = 0; count = 0 }
 
-abbrev pub noMasterCall : MasterCall
-noMasterCall = record { call = MasterHost.MasterHostCall.Nothing; part = noPart }
+abbrev pub noMasterCall : MasterCallWithPart
+noMasterCall = record { call = MasterCall.Nothing; part = noPart }
 
-abbrev pub noDeviceCall : DeviceCall
-noDeviceCall = record { call = DeviceHost.DeviceHostCall.Nothing; part = noPart }
+abbrev pub noDeviceCall : DeviceCallWithPart
+noDeviceCall = record { call = DeviceCall.Nothing; part = noPart }
 
-abbrev pub masterCallOf : List ℕ → MasterCall → L.MasterCall
+abbrev pub masterCallOf : List ℕ → MasterCallWithPart → L.MasterCall
 masterCallOf put c = M.callOf (c .call) (dataOf (c .part) put)
 
-abbrev pub deviceCallOf : List ℕ → DeviceCall → L.DeviceCall
+abbrev pub deviceCallOf : List ℕ → DeviceCallWithPart → L.DeviceCall
 deviceCallOf put c = D.callOf (c .call) (dataOf (c .part) put)
 
 -- a call to an absent device does nothing
-unfoldable pub deviceCallsFrom : List ℕ → List DeviceCall → ℕ → List Bool → List L.DeviceCall
+unfoldable pub deviceCallsFrom : List ℕ → List DeviceCallWithPart → ℕ → List Bool → List L.DeviceCall
 deviceCallsFrom put cs i [] = []
 deviceCallsFrom put cs i (h ∷ hs) = ifHere h (deviceCallOf put (getD cs i noDeviceCall)) (deviceCallsFrom put cs (suc i) hs)
 
@@ -104,18 +102,12 @@ callsOf put hs c = record {
 abbrev pub uncalled : L.Calls
 uncalled = record { for-primary = no-request; for-secondary = no-request; for-devices = [] }
 
--- ---- what is sent, as a number: the character, or 256 for none
-
-abbrev pub codeOf : Sent → ℕ
-codeOf Silent = 256
-codeOf (Character c) = c
-
 -- ---- a tick of a party, whose call names its data in what is put
 
-abbrev pub MasterIs : ℕ → Master → Heard → MasterCall → List ℕ → Lent (List ℕ) → Lent (List ℕ) → MasterTicked → Type 0
+abbrev pub MasterIs : ℕ → Master → Heard → MasterCallWithPart → List ℕ → Lent (List ℕ) → Lent (List ℕ) → MasterTicked → Type 0
 MasterIs limit m heard c put frame bytes r =
     M.MasterTickIs limit m heard (c .call) (dataOf (c .part) put) (before frame) (before bytes) r (after frame) (after bytes)
 
-abbrev pub DeviceIs : ℕ → Device → Heard → DeviceCall → List ℕ → Lent (List ℕ) → Lent (List ℕ) → Lent (List ℕ) → DeviceTicked → Type 0
+abbrev pub DeviceIs : ℕ → Device → Heard → DeviceCallWithPart → List ℕ → Lent (List ℕ) → Lent (List ℕ) → Lent (List ℕ) → DeviceTicked → Type 0
 DeviceIs limit d heard c put frame bytes contents r =
     D.DeviceTickIs limit d heard (c .call) (dataOf (c .part) put) (before frame) (before bytes) (before contents) r (after frame) (after bytes) (after contents)

@@ -17,8 +17,8 @@ use Rattle.turns.specs.declared.Stage.the-variants.{Free, Waiting, Sending, Awa
 use Rattle.turns.specs.declared.Turn.{Turn}
 use Rattle.turns.specs.declared.Turn.the-variants.{Listens, Asked, AnswerWaits, Begins, Answers, Follows, Bursts}
 use Rattle.turns.specs.declared.Wish.the-variants.{Same}
-use Rattle.master.specs.declared.MasterHostCall as MasterHost
-use Rattle.device_tick.specs.declared.DeviceHostCall as DeviceHost
+use Rattle.master.specs.declared.MasterCall.{MasterCall}
+use Rattle.device_tick.specs.declared.DeviceCall.{DeviceCall}
 use Rattle.link_parties.specs.Readers.{sameReader}
 use Rattle.link_parties.specs.declared.Slot.{Slot}
 use Rattle.link_parties.specs.declared.Way.{Way}
@@ -33,10 +33,10 @@ countsIf counts = if counts then Counts else Acts
 
 -- ---- a device
 
-abbrev pub callsDevice : DeviceHost.DeviceHostCall → Bool
-callsDevice DeviceHost.DeviceHostCall.Nothing = false
-callsDevice (DeviceHost.DeviceHostCall.Answers wish) = true
-callsDevice (DeviceHost.DeviceHostCall.Content command) = true
+abbrev pub callsDevice : DeviceCall → Bool
+callsDevice DeviceCall.Nothing = false
+callsDevice (DeviceCall.Answers wish) = true
+callsDevice (DeviceCall.Content command) = true
 
 abbrev pub isListening : Turn → Bool
 isListening Listens = true
@@ -56,7 +56,7 @@ deviceHears d Silence follows quiet reader = countsIf (deviceCounts d)
 deviceHears d (Character c) follows quiet reader = hearsIf follows quiet (sameReader (d .receiver) reader)
 deviceHears d (Heard.Damaged c kind) follows quiet reader = Acts
 
-unfoldable pub deviceWay : Device → Heard → DeviceHost.DeviceHostCall → Bool → Bool → Receiver → Way
+unfoldable pub deviceWay : Device → Heard → DeviceCall → Bool → Bool → Receiver → Way
 deviceWay d heard call follows quiet reader = if d .deaf then Acts else if callsDevice call then Acts else deviceHears d heard follows quiet reader
 
 abbrev pub countedDevice : Device → Device
@@ -70,9 +70,9 @@ inSlot d = record { device = d; here = true }
 
 -- ---- a master
 
-abbrev pub callsMaster : MasterHost.MasterHostCall → Bool
-callsMaster MasterHost.MasterHostCall.Nothing = false
-callsMaster (MasterHost.MasterHostCall.Requests q) = true
+abbrev pub callsMaster : MasterCall → Bool
+callsMaster MasterCall.Nothing = false
+callsMaster (MasterCall.Requests q) = true
 
 abbrev pub isFree : Stage → Bool
 isFree Free = true
@@ -98,7 +98,7 @@ masterHears m Silence follows quiet reader = countsIf (masterCounts m)
 masterHears m (Character c) follows quiet reader = masterCharacter m follows quiet reader
 masterHears m (Heard.Damaged c kind) follows quiet reader = Acts
 
-unfoldable pub masterWay : Master → Heard → MasterHost.MasterHostCall → Bool → Bool → Receiver → Way
+unfoldable pub masterWay : Master → Heard → MasterCall → Bool → Bool → Receiver → Way
 masterWay m heard call follows quiet reader = if m .deaf then Acts else if callsMaster call then Acts else masterHears m heard follows quiet reader
 
 abbrev pub countedMaster : Master → Master

@@ -9,6 +9,7 @@ use line::Place;
 use line::Receiver;
 use line::Taken;
 use master::MasterTicked;
+use turns::CallResult;
 use turns::Device;
 use turns::DeviceTold;
 use turns::Master;
@@ -76,21 +77,21 @@ fn bounds_of(part: Part, room: usize) -> Bounds
 }
 
 // A host's call to a master in a tick, with the data of a request.
-pub struct MasterCall {
-    pub call: master::MasterHostCall,
+pub struct MasterCallWithPart {
+    pub call: master::MasterCall,
     pub part: Part,
 }
 
 // A host's call to a device in a tick, with the data of an answer or of a burst content.
-pub struct DeviceCall {
-    pub call: device_tick::DeviceHostCall,
+pub struct DeviceCallWithPart {
+    pub call: device_tick::DeviceCall,
     pub part: Part,
 }
 
 // A tick's calls, at most one for each party.
 pub struct Calls {
-    pub masters: [MasterCall; 2],
-    pub devices: [DeviceCall; 6],
+    pub masters: [MasterCallWithPart; 2],
+    pub devices: [DeviceCallWithPart; 6],
 }
 
 // A place for a device. Where it has none, any value may stand in `device`.
@@ -106,22 +107,15 @@ pub struct Link {
     pub line: Heard,
 }
 
-// What became of a host's call: a refusal by its number in document 01's table.
-pub enum CallOutcome {
-    Nothing,
-    Taken,
-    Refused(u32),
-}
-
 // What a host was told, and what became of its call.
 pub struct MasterDid {
     pub told: MasterTold,
-    pub result: CallOutcome,
+    pub result: CallResult,
 }
 
 pub struct DeviceDid {
     pub told: DeviceTold,
-    pub result: CallOutcome,
+    pub result: CallResult,
 }
 
 // A link after so many ticks, and what the hosts were told and answered in them.
@@ -159,44 +153,44 @@ fn no_part() -> Part
     Part { from: 0, count: 0 }
 }
 
-pub fn no_master_call() -> MasterCall
+pub fn no_master_call() -> MasterCallWithPart
     ensures { λ r. ⌜ r ≡ noMasterCall ⌝ }
 {
     let part = no_part();
-    MasterCall {
-        call: master::MasterHostCall::Nothing,
+    MasterCallWithPart {
+        call: master::MasterCall::Nothing,
         part: part,
     }
 }
 
-pub fn no_device_call() -> DeviceCall
+pub fn no_device_call() -> DeviceCallWithPart
     ensures { λ r. ⌜ r ≡ noDeviceCall ⌝ }
 {
     let part = no_part();
-    DeviceCall {
-        call: device_tick::DeviceHostCall::Nothing,
+    DeviceCallWithPart {
+        call: device_tick::DeviceCall::Nothing,
         part: part,
     }
 }
 
-fn calls_master(c: MasterCall) -> bool
+fn calls_master(c: MasterCallWithPart) -> bool
     ensures { λ r. ⌜ r ≡ callsMaster (c .call) ⌝ }
 {
     let call = c.call;
     match call {
-        master::MasterHostCall::Nothing => false,
-        master::MasterHostCall::Requests(_) => true,
+        master::MasterCall::Nothing => false,
+        master::MasterCall::Requests(_) => true,
     }
 }
 
-fn calls_device(c: DeviceCall) -> bool
+fn calls_device(c: DeviceCallWithPart) -> bool
     ensures { λ r. ⌜ r ≡ callsDevice (c .call) ⌝ }
 {
     let call = c.call;
     match call {
-        device_tick::DeviceHostCall::Nothing => false,
-        device_tick::DeviceHostCall::Answers(_) => true,
-        device_tick::DeviceHostCall::Content(_) => true,
+        device_tick::DeviceCall::Nothing => false,
+        device_tick::DeviceCall::Answers(_) => true,
+        device_tick::DeviceCall::Content(_) => true,
     }
 }
 
@@ -483,7 +477,7 @@ fn device_counts(d: Device) -> bool
 pub fn device_way(
     d: Device,
     heard: Heard,
-    call: DeviceCall,
+    call: DeviceCallWithPart,
     follows: bool,
     quiet: bool,
     reader: Receiver,
@@ -587,7 +581,7 @@ fn master_character(m: Master, follows: bool, quiet: bool, reader: Receiver) -> 
 pub fn master_way(
     m: Master,
     heard: Heard,
-    call: MasterCall,
+    call: MasterCallWithPart,
     follows: bool,
     quiet: bool,
     reader: Receiver,
@@ -635,7 +629,7 @@ pub fn master_tick(
     limit: u8,
     m: Master,
     heard: Heard,
-    called: MasterCall,
+    called: MasterCallWithPart,
     put: &[u8],
     frame: &mut [u8; 284],
     bytes: &mut [u8; 255],
@@ -655,7 +649,7 @@ pub fn device_tick(
     limit: u8,
     d: Device,
     heard: Heard,
-    called: DeviceCall,
+    called: DeviceCallWithPart,
     put: &[u8],
     frame: &mut [u8; 284],
     bytes: &mut [u8; 255],

@@ -22,9 +22,9 @@ use Rattle.turns.specs.declared.Timer.{Timer}
 use Rattle.turns.specs.declared.Turn.the-variants.{Listens}
 use Rattle.link_parties.specs.Stands.{anyMaster, noMasterCall, noDeviceCall}
 use Rattle.link_parties.specs.Ways.{deviceWay, masterWay}
-use Rattle.link_parties.specs.declared.DeviceCall.{DeviceCall}
+use Rattle.link_parties.specs.declared.DeviceCallWithPart.{DeviceCallWithPart}
 use Rattle.link_parties.specs.declared.Link.{Link}
-use Rattle.link_parties.specs.declared.MasterCall.{MasterCall}
+use Rattle.link_parties.specs.declared.MasterCallWithPart.{MasterCallWithPart}
 use Rattle.link_parties.specs.declared.Slot.{Slot}
 use Rattle.link_parties.specs.declared.Way.{Way}
 use Rattle.link_rests.specs.Rests.{onlyCounts, deviceRests, masterRests, slotRests, slotsRest, mastersRest, deviceRested, timerRested, masterRested, slotRested, mastersRested}
@@ -34,11 +34,11 @@ use Rattle.link_rests.specs.Rests.{onlyCounts, deviceRests, masterRests,
 pub counts-at : (p q : Way) (r : Bool) → p ≡ q → r ≡ onlyCounts q → r ≡ onlyCounts p
 counts-at p q r e f = f ∙ ap onlyCounts (sym e)
 
-pub device-rests-by : (d : Device) (c : DeviceCall) (w : Way) (r : Bool) → c ≡ noDeviceCall → w ≡ deviceWay d Silence (c .call) false false (d .receiver) → r ≡ onlyCounts w → r ≡ deviceRests d
-device-rests-by d c w r e f g = g ∙ ap onlyCounts f ∙ ap (λ (x : DeviceCall). onlyCounts (deviceWay d Silence (x .call) false false (d .receiver))) e
+pub device-rests-by : (d : Device) (c : DeviceCallWithPart) (w : Way) (r : Bool) → c ≡ noDeviceCall → w ≡ deviceWay d Silence (c .call) false false (d .receiver) → r ≡ onlyCounts w → r ≡ deviceRests d
+device-rests-by d c w r e f g = g ∙ ap onlyCounts f ∙ ap (λ (x : DeviceCallWithPart). onlyCounts (deviceWay d Silence (x .call) false false (d .receiver))) e
 
-pub master-rests-by : (m : Master) (c : MasterCall) (w : Way) (r : Bool) → c ≡ noMasterCall → w ≡ masterWay m Silence (c .call) false false (m .receiver) → r ≡ onlyCounts w → r ≡ masterRests m
-master-rests-by m c w r e f g = g ∙ ap onlyCounts f ∙ ap (λ (x : MasterCall). onlyCounts (masterWay m Silence (x .call) false false (m .receiver))) e
+pub master-rests-by : (m : Master) (c : MasterCallWithPart) (w : Way) (r : Bool) → c ≡ noMasterCall → w ≡ masterWay m Silence (c .call) false false (m .receiver) → r ≡ onlyCounts w → r ≡ masterRests m
+master-rests-by m c w r e f g = g ∙ ap onlyCounts f ∙ ap (λ (x : MasterCallWithPart). onlyCounts (masterWay m Silence (x .call) false false (m .receiver))) e
 
 -- what stands at a place of two masters does not depend on what would stand behind them
 at-place : (ms : List Master) (i : ℕ) (d : Master) → i < length ms → getD ms i d ≡ getD ms i anyMaster

@@ -13,8 +13,8 @@ use Rattle.turns.specs.Link.{no-request, no-call, MasterSide, masterTick, Devic
 use Rattle.turns.specs.declared.Device.{Device}
 use Rattle.turns.specs.declared.Master.{Master}
 use Rattle.turns.specs.declared.Turn.the-variants.{Listens}
-use Rattle.master.specs.declared.MasterHostCall as MasterHost
-use Rattle.device_tick.specs.declared.DeviceHostCall as DeviceHost
+use Rattle.master.specs.declared.MasterCall.{MasterCall}
+use Rattle.device_tick.specs.declared.DeviceCall.{DeviceCall}
 use Rattle.link_parties.specs.Ways.{countsIf, isListening, isFree, deviceWay, masterWay}
 use Rattle.link_parties.specs.declared.Way.{Way}
 use Rattle.link_parties.specs.declared.Way.the-variants.{Counts, Hears, Acts}
@@ -30,13 +30,13 @@ counts-is Acts e = absurd (true-false (sym e))
 -- ---- a device
 
 abbrev pub DeviceRests : Device → Type 0
-DeviceRests d = deviceWay d Silence DeviceHost.DeviceHostCall.Nothing false false (d .receiver) ≡ Counts
+DeviceRests d = deviceWay d Silence DeviceCall.Nothing false false (d .receiver) ≡ Counts
 
 abbrev pub deviceSide : ℕ → DeviceSide → DeviceSide
 deviceSide n x = withDevice x (deviceRested n (x .device)) (x .bytes)
 
 pub device-tick : (x : DeviceSide) → DeviceRests (x .device) → deviceTick 255 x Silence no-call ≡ quietDevice (deviceSide 1 x)
-device-tick x r = sym (device-counts 255 x Silence DeviceHost.DeviceHostCall.Nothing [] false false (x .device .receiver) r)
+device-tick x r = sym (device-counts 255 x Silence DeviceCall.Nothing [] false false (x .device .receiver) r)
 
 -- it rests on
 pub device-rests-on : (n : ℕ) (d : Device) → DeviceRests d → DeviceRests (deviceRested n d)
@@ -54,14 +54,14 @@ device-one-more n d = let k : d .due - n - 1 ≡ d .due - suc n = omega arith in
 -- ---- the same of a master
 
 abbrev pub MasterRests : Master → Type 0
-MasterRests m = masterWay m Silence MasterHost.MasterHostCall.Nothing false false (m .receiver) ≡ Counts
+MasterRests m = masterWay m Silence MasterCall.Nothing false false (m .receiver) ≡ Counts
 
 abbrev pub masterSide : ℕ → MasterSide → MasterSide
 masterSide n x = withMaster x (masterRested n (x .master)) (x .bytes)
 
 pub master-tick : (x : MasterSide) → MasterRests (x .master) → masterTick 255 x Silence no-request ≡ quietMaster (masterSide 1 x)
 unfolding timerRested
-master-tick x r = sym (master-counts 255 x Silence MasterHost.MasterHostCall.Nothing [] false false (x .master .receiver) r)
+master-tick x r = sym (master-counts 255 x Silence MasterCall.Nothing [] false false (x .master .receiver) r)
 
 pub master-rests-on : (n : ℕ) (m : Master) → MasterRests m → MasterRests (masterRested n m)
 unfolding masterWay if_then_else_

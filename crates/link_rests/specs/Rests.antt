@@ -16,8 +16,8 @@ use Rattle.turns.specs.declared.Master.{Master}
 use Rattle.turns.specs.declared.Timer.{Timer}
 use Rattle.turns.specs.declared.Turn.the-variants.{Listens}
 use Rattle.party.specs.Hears.{isSilence}
-use Rattle.master.specs.declared.MasterHostCall as MasterHost
-use Rattle.device_tick.specs.declared.DeviceHostCall as DeviceHost
+use Rattle.master.specs.declared.MasterCall.{MasterCall}
+use Rattle.device_tick.specs.declared.DeviceCall.{DeviceCall}
 use Rattle.link_parties.specs.Stands.{anyMaster}
 use Rattle.link_parties.specs.Ways.{deviceWay, masterWay}
 use Rattle.link_parties.specs.declared.Link.{Link}
@@ -33,10 +33,10 @@ onlyCounts Hears = false
 onlyCounts Acts = false
 
 abbrev pub deviceRests : Device → Bool
-deviceRests d = onlyCounts (deviceWay d Silence DeviceHost.DeviceHostCall.Nothing false false (d .receiver))
+deviceRests d = onlyCounts (deviceWay d Silence DeviceCall.Nothing false false (d .receiver))
 
 abbrev pub masterRests : Master → Bool
-masterRests m = onlyCounts (masterWay m Silence MasterHost.MasterHostCall.Nothing false false (m .receiver))
+masterRests m = onlyCounts (masterWay m Silence MasterCall.Nothing false false (m .receiver))
 
 -- in a slot without a device nothing changes
 abbrev pub slotRests : Slot → Bool

@@ -15,7 +15,7 @@ use Rattle.link_parties.specs.declared.Slot.{Slot}
 use Rattle.link_list.specs.Ticks.{Here, behind, callsIn, ticksOf}
 use Rattle.link_list.proofs.Whole.{ticks-more, ticks-none}
 use Rattle.link_run.specs.Run.{tickNumber, numbersOf}
-use Rattle.link_run.specs.Step.{startsBehind, LateReady, lateNumbers, stepAt, LateStepping}
+use Rattle.link_run.specs.Step.{startsLeft, LateReady, lateNumbers, stepAt, LateStepping}
 use Rattle.link_run.specs.declared.StartTicks.{StartTicks}
 use Rattle.link_run.specs.declared.Stepped.{Stepped}
 
@@ -44,7 +44,7 @@ going-begun limit l starts x ticks before k = record {
 }
 
 module _ (limit : ℕ) (here : Here) (numbers ticks before : List ℕ) (l : Link) (starts : StartTicks) (x : Rows) (events : List ℕ) (at i : ℕ) (g : Going limit here numbers ticks before l starts x events at i) where
-  pub going-on : (r : Stepped) (onward : StartTicks) (x-after : Rows) → i < length events → at < length ticks → (LateReady starts l → LateStepping limit l starts ticks at x r x-after) → onward ≡ startsBehind starts
+  pub going-on : (r : Stepped) (onward : StartTicks) (x-after : Rows) → i < length events → at < length ticks → (LateReady starts l → LateStepping limit l starts ticks at x r x-after) → onward ≡ startsLeft starts
       → Going limit here numbers ticks before (r .link) onward x-after (set events i (r .number)) (r .next) (i + 1)
   unfolding numbersOf lateRun
   going-on r onward x-after h k is e =
@@ -57,7 +57,7 @@ module _ (limit : ℕ) (here : Here) (numbers ticks before : List ℕ) (l : Link
         here-is = t .slots ∙ g .here-is;
         filling = filling-more (left limit) numbers before (starts, linkOf l x, ticksOf here (drop at ticks)) (onward, linkOf (r .link) x-after, ticksOf here (drop (r .next) ticks)) events i (r .number) (g .filling) h
             (ap (λ (cs : List Calls). left limit (starts, linkOf l x, cs)) first
-            ∙ (λ j. tickNumber (step j) ∷ left limit (startsBehind starts, linkAfter (step j), ticksOf here (behind 8 (drop at ticks))))
+            ∙ (λ j. tickNumber (step j) ∷ left limit (startsLeft starts, linkAfter (step j), ticksOf here (behind 8 (drop at ticks))))
             ∙ (λ j. sym (t .number-is) j ∷ left limit (sym e j, sym (t .behind-is) j, ticksOf here (sym (t .next) j))));
       }
 

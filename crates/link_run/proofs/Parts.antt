@@ -8,33 +8,33 @@ use Rattle.line.specs.declared.Heard.{Heard}
 use Rattle.turns.specs.declared.Master.{Master}
 use Rattle.link_parties.specs.Stands.{anyMaster, noMasterCall}
 use Rattle.link_parties.specs.declared.Calls.{Calls}
-use Rattle.link_parties.specs.declared.DeviceCall.{DeviceCall}
+use Rattle.link_parties.specs.declared.DeviceCallWithPart.{DeviceCallWithPart}
 use Rattle.link_parties.specs.declared.Link.{Link}
-use Rattle.link_parties.specs.declared.MasterCall.{MasterCall}
+use Rattle.link_parties.specs.declared.MasterCallWithPart.{MasterCallWithPart}
 use Rattle.link_parties.specs.declared.Slot.{Slot}
 use Rattle.link_ticks.proofs.Lists.{any-default}
-use Rattle.link_run.specs.Step.{startsBehind, callTaken, masterBehind}
+use Rattle.link_run.specs.Step.{startsLeft, callTaken, tickedMaster}
 use Rattle.link_run.specs.declared.StartTicks.{StartTicks}
 
-pub starts-later : (s : StartTicks) (p q : ℕ) → p ≡ s .primary - 1 → q ≡ s .secondary - 1 → _≡_ {A = StartTicks} (record { primary = p; secondary = q }) (startsBehind s)
+pub starts-later : (s : StartTicks) (p q : ℕ) → p ≡ s .primary - 1 → q ≡ s .secondary - 1 → _≡_ {A = StartTicks} (record { primary = p; secondary = q }) (startsLeft s)
 starts-later s p q e f = λ i. record { primary = e i; secondary = f i }
 
 -- x and y are in how many ticks the masters start
 module _ (x y : ℕ) where
-  pub requests-are-taken : (cs : List MasterCall) (d e : MasterCall) (p q : MasterCall) → length cs ≡ 2 → p ≡ callTaken x (getD cs 0 d) → q ≡ callTaken y (getD cs 1 e)
+  pub requests-are-taken : (cs : List MasterCallWithPart) (d e : MasterCallWithPart) (p q : MasterCallWithPart) → length cs ≡ 2 → p ≡ callTaken x (getD cs 0 d) → q ≡ callTaken y (getD cs 1 e)
       → p ∷ q ∷ [] ≡ callTaken x (getD cs 0 noMasterCall) ∷ callTaken y (getD cs 1 noMasterCall) ∷ []
   requests-are-taken cs d e p q two f g = λ i.
       (f ∙ ap (callTaken x) (any-default cs 0 d noMasterCall (omega (arith, two)))) i ∷ (g ∙ ap (callTaken y) (any-default cs 1 e noMasterCall (omega (arith, two)))) i ∷ []
 
   pub masters-are-behind : (ms ts : List Master) (a b c d : Master) (p q : Master) → length ms ≡ 2 → length ts ≡ 2
-      → p ≡ masterBehind x (getD ms 0 a) (getD ts 0 b) → q ≡ masterBehind y (getD ms 1 c) (getD ts 1 d)
-      → p ∷ q ∷ [] ≡ masterBehind x (getD ms 0 anyMaster) (getD ts 0 anyMaster) ∷ masterBehind y (getD ms 1 anyMaster) (getD ts 1 anyMaster) ∷ []
+      → p ≡ tickedMaster x (getD ms 0 a) (getD ts 0 b) → q ≡ tickedMaster y (getD ms 1 c) (getD ts 1 d)
+      → p ∷ q ∷ [] ≡ tickedMaster x (getD ms 0 anyMaster) (getD ts 0 anyMaster) ∷ tickedMaster y (getD ms 1 anyMaster) (getD ts 1 anyMaster) ∷ []
   masters-are-behind ms ts a b c d p q two ticked f g = λ i.
-      (f ∙ (λ j. masterBehind x (any-default ms 0 a anyMaster (omega (arith, two)) j) (any-default ts 0 b anyMaster (omega (arith, ticked)) j))) i
-      ∷ (g ∙ (λ j. masterBehind y (any-default ms 1 c anyMaster (omega (arith, two)) j) (any-default ts 1 d anyMaster (omega (arith, ticked)) j))) i
+      (f ∙ (λ j. tickedMaster x (any-default ms 0 a anyMaster (omega (arith, two)) j) (any-default ts 0 b anyMaster (omega (arith, ticked)) j))) i
+      ∷ (g ∙ (λ j. tickedMaster y (any-default ms 1 c anyMaster (omega (arith, two)) j) (any-default ts 1 d anyMaster (omega (arith, ticked)) j))) i
       ∷ []
 
-pub calls-made : (cs ds : List MasterCall) (others : List DeviceCall) → cs ≡ ds → _≡_ {A = Calls} (record { masters = cs; devices = others }) (record { masters = ds; devices = others })
+pub calls-made : (cs ds : List MasterCallWithPart) (others : List DeviceCallWithPart) → cs ≡ ds → _≡_ {A = Calls} (record { masters = cs; devices = others }) (record { masters = ds; devices = others })
 calls-made cs ds others e = λ i. record { masters = e i; devices = others }
 
 pub link-made : (ms ns : List Master) (others : List Slot) (line : Heard) → ms ≡ ns

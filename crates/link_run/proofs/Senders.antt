@@ -6,10 +6,10 @@ use mathlib.Core.List.{List, [], _∷_}
 use lib.ListN.{length, take, drop, getD, take-append-drop, List·getD-append}
 use Rattle.base.specs.Store.{stored}
 use Rattle.base.proofs.Stores.{stored-between}
-use Rattle.turns.specs.Party.{CallResult, none, was-taken, was-refused}
 use Rattle.turns.specs.Link.{LinkStep}
 use Rattle.turns.specs.Run.{count, deviceSenders, senders, EachTick, tick-and, NoTwoSend}
 use Rattle.runs.specs.Late.{inTick}
+use Rattle.turns.specs.declared.CallResult.{CallResult}
 use Rattle.turns.specs.declared.Sent.{Sent}
 use Rattle.turns.specs.declared.Sent.the-variants.{Silent, Character}
 use Rattle.link_run.specs.Run.{taken, tickNumber, numbersOf, sendersTold, primaryTold, secondaryTold, OneSender, written}
@@ -37,9 +37,9 @@ module _ (p s d for-p for-s : ℕ) (at-most : p + (s + d) ≤ 15) (p-once : p �
   made-senders = omega arith
 
 taken-once : (a : CallResult) → taken a ≤ 1
-taken-once none = omega arith
-taken-once was-taken = omega arith
-taken-once (was-refused why) = omega arith
+taken-once CallResult.Nothing = omega arith
+taken-once CallResult.Taken = omega arith
+taken-once (CallResult.Refused why) = omega arith
 
 counts-once : (x : Sent) → count x ≤ 1
 counts-once Silent = omega arith

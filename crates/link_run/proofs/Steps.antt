@@ -8,25 +8,25 @@ use mathlib.Core.List.{List, [], _∷_}
 use lib.ListN.{length, drop, getD, replicate, drop-of-length-le}
 use lib.Seq.{drop-cons}
 use Rattle.base.specs.Choice.{if_then_else_, _<?_}
-use Rattle.base.proofs.Choices.{if-below, if-not-below}
+use Rattle.base.proofs.Choices.{if-not-below}
 use Rattle.line.specs.declared.Heard.{Heard}
-use Rattle.turns.specs.Party.{CallResult, none, was-taken, was-refused}
 use Rattle.turns.specs.Link.{DeviceSide, DeviceStep, LinkStep, deviceTicks, linkTick}
 use Rattle.turns.specs.Link as L
 use Rattle.turns.specs.Run.{count, deviceSenders}
+use Rattle.turns.specs.declared.CallResult.{CallResult}
 use Rattle.turns.specs.declared.Sent.{Sent}
 use Rattle.turns.specs.declared.Sent.the-variants.{Silent, Character}
-use Rattle.link_parties.specs.Stands.{Rows, ifHere, deviceAt, devicesFrom, heres, callsOf, codeOf}
-use Rattle.link_parties.specs.declared.CallOutcome.{CallOutcome}
+use Rattle.party.specs.Numbers.{sentNumber}
+use Rattle.link_parties.specs.Stands.{Rows, ifHere, deviceAt, devicesFrom, heres, callsOf}
 use Rattle.link_parties.specs.declared.Calls.{Calls}
 use Rattle.link_parties.specs.declared.Link.{Link}
 use Rattle.link_parties.specs.declared.MasterDid.{MasterDid}
 use Rattle.link_parties.specs.declared.Slot.{Slot}
 use Rattle.link_parties.specs.declared.Ticked.{Ticked}
-use Rattle.link_ticks.specs.Ticks.{onHere, deviceCode, codes, SendsByte, sends-none, sends-byte, DevicesSendBytes, no-device, device-and, SendBytes, answerKept, masterNothing, mastersDo}
+use Rattle.link_ticks.specs.Ticks.{onHere, deviceCode, codes, answerKept, masterNothing, mastersDo}
 use Rattle.link_ticks.specs.Ticks as T
 use Rattle.link_ticks.proofs.Lists.{any-default}
-use Rattle.link_ticks.proofs.Answers.{ticked-each, stepWith, one-row, one-bytes, one-masters}
+use Rattle.link_ticks.proofs.Answers.{ticked-each, stepWith, one-row, one-masters}
 use Rattle.link_list.specs.Ticks.{Here, behind, callsIn}
 use Rattle.link_list.specs.Read.{tickAt}
 use Rattle.link_list.specs.Nearest.{present}
@@ -72,39 +72,39 @@ pub ruleset counting = (refl, counting-none, counting-more, counting-all, number
 
 -- ---- a row of numbers, of a tick
 
-count-is : (s : Sent) → SendsByte s → countIn (codeOf s) ≡ count s
+count-is : (s : Sent) → countIn (sentNumber s) ≡ count s
 unfolding if_then_else_
-count-is Silent sends-none = refl
-count-is (Character c) (sends-byte h) = sym (if-below c 256 1 1 0 h refl)
+count-is Silent = refl
+count-is (Character c) = sym (if-not-below (256 + c) 256 1 0 1 (omega arith) refl)
 
-blank-senders : (n : ℕ) → sendersIn (replicate n 256) ≡ 0
+blank-senders : (n : ℕ) → sendersIn (replicate n 0) ≡ 0
 unfolding sendersIn if_then_else_
 blank-senders zero = refl
 blank-senders (suc n) = omega (arith, blank-senders n)
 
-device-senders : (hs : Here) (n : ℕ) (xs : List DeviceStep) → length xs ≡ present hs → length hs ≤ n → DevicesSendBytes xs → sendersIn (onHere deviceCode hs xs (replicate n 256)) ≡ deviceSenders xs
+device-senders : (hs : Here) (n : ℕ) (xs : List DeviceStep) → length xs ≡ present hs → length hs ≤ n → sendersIn (onHere deviceCode hs xs (replicate n 0)) ≡ deviceSenders xs
 unfolding onHere sendersIn deviceSenders if_then_else_
-device-senders [] zero [] e h no-device = refl
-device-senders [] (suc n) [] e h no-device = blank-senders (suc n)
-device-senders [] n (x ∷ xs) e h b = absurd (omega (arith, e))
-device-senders (false ∷ hs) zero xs e h b = absurd (omega arith)
-device-senders (false ∷ hs) (suc n) xs e h b = omega (arith, device-senders hs n xs e (omega (arith, h)) b)
-device-senders (true ∷ hs) zero xs e h b = absurd (omega arith)
-device-senders (true ∷ hs) (suc n) [] e h b = absurd (omega (arith, e))
-device-senders (true ∷ hs) (suc n) (x ∷ xs) e h (device-and s b) = λ i. count-is (x .sent) s i + device-senders hs n xs (omega (arith, e)) (omega (arith, h)) b i
+device-senders [] zero [] e h = refl
+device-senders [] (suc n) [] e h = blank-senders (suc n)
+device-senders [] n (x ∷ xs) e h = absurd (omega (arith, e))
+device-senders (false ∷ hs) zero xs e h = absurd (omega arith)
+device-senders (false ∷ hs) (suc n) xs e h = omega (arith, device-senders hs n xs e (omega (arith, h)))
+device-senders (true ∷ hs) zero xs e h = absurd (omega arith)
+device-senders (true ∷ hs) (suc n) [] e h = absurd (omega (arith, e))
+device-senders (true ∷ hs) (suc n) (x ∷ xs) e h = λ i. count-is (x .sent) i + device-senders hs n xs (omega (arith, e)) (omega (arith, h)) i
 
-taken-is : (r : CallResult) → takenIn (answerKept CallOutcome.Nothing r) ≡ taken r
-taken-is none = refl
-taken-is was-taken = refl
-taken-is (was-refused why) = refl
+taken-is : (r : CallResult) → takenIn (answerKept CallResult.Nothing r) ≡ taken r
+taken-is CallResult.Nothing = refl
+taken-is CallResult.Taken = refl
+taken-is (CallResult.Refused why) = refl
 
-number-is : (hs : Here) (s : LinkStep) → length hs ≡ 6 → length (s .for-devices) ≡ present hs → SendBytes s
+number-is : (hs : Here) (s : LinkStep) → length hs ≡ 6 → length (s .for-devices) ≡ present hs
     → rowNumber (codes hs s) (mastersDo s (replicate 2 masterNothing)) ≡ tickNumber s
 unfolding sendersIn
-number-is hs s h e b = λ i.
-    (count-is (s .for-primary .sent) (b .primary) i + (count-is (s .for-secondary .sent) (b .secondary) i + device-senders hs 6 (s .for-devices) e (omega (arith, h)) (b .devices) i))
-    + 16 * (taken-is (s .for-primary .result) i + 4 * count-is (s .for-primary .sent) (b .primary) i)
-    + 32 * (taken-is (s .for-secondary .result) i + 4 * count-is (s .for-secondary .sent) (b .secondary) i)
+number-is hs s h e = λ i.
+    (count-is (s .for-primary .sent) i + (count-is (s .for-secondary .sent) i + device-senders hs 6 (s .for-devices) e (omega (arith, h)) i))
+    + 16 * (taken-is (s .for-primary .result) i + 4 * count-is (s .for-primary .sent) i)
+    + 32 * (taken-is (s .for-secondary .result) i + 4 * count-is (s .for-secondary .sent) i)
 
 -- ---- the devices are those that are here
 
@@ -127,7 +127,6 @@ module _ (limit : ℕ) (l : Link) (ticks : List ℕ) (at : ℕ) (x x-after : Row
       (λ i. rowNumber (one-row limit l c ticks x x-after sent sent-after t is i) (one-masters limit l c ticks x x-after sent sent-after t is i))
       ∙ number-is (heres (l .devices)) s (heres-length (l .devices) ∙ six)
       (ticked-each limit (l .line) (devicesFrom x 0 (l .devices)) _ ∙ devices-here x 0 (l .devices))
-      (one-bytes limit l c ticks x x-after sent sent-after t is)
 
   module _ (reads : read ≡ tickAt ticks at) (six : length (l .devices) ≡ 6) where
     pub calls-read : callsOf ticks (heres (l .devices)) (read .calls) ≡ callsIn (heres (l .devices)) (drop at ticks)

@@ -8,12 +8,12 @@ use Rattle.base.specs.Refusal.{number, Called, accepted, refused}
 use Rattle.base.specs.Store.{stored}
 use Rattle.line.specs.Profile.{profileMade}
 use Rattle.line.specs.declared.Profile.{Profile}
-use Rattle.turns.specs.Party.{CallResult, none, was-taken, was-refused}
 use Rattle.turns.specs.Link.{DeviceSide, LinkStep, Calls}
 use Rattle.turns.specs.Link as L
 use Rattle.turns.specs.Run.{Distinct, EachTick, OneBursts, NoTwoSend, count, senders}
 use Rattle.turns.specs.Ledgers.{blanks, OneFinds}
 use Rattle.turns.specs.Demand3.{WaitIn}
+use Rattle.turns.specs.declared.CallResult.{CallResult}
 use Rattle.runs.specs.Credit.{noneAsked, EachCredited}
 use Rattle.runs.specs.Backs.{noContents, EachBack}
 use Rattle.link_parties.specs.Stands.{heres}
@@ -55,9 +55,9 @@ FindsBy limit c ticks = OneFinds (blanks (devicesBy c)) (callsBy c ticks) (steps
 
 -- 1 for a request that was taken
 abbrev pub taken : CallResult → ℕ
-taken none = 0
-taken was-taken = 1
-taken (was-refused why) = 0
+taken CallResult.Nothing = 0
+taken CallResult.Taken = 1
+taken (CallResult.Refused why) = 0
 
 -- a tick's number: how many send, plus 16 for a request of the primary that was taken and 32 for one of the secondary, plus 64 if the primary sends and 128 if the secondary does
 abbrev pub tickNumber : LinkStep → ℕ

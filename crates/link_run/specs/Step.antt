@@ -1,5 +1,5 @@
 -- Inner contracts: nothing that is to be believed rests on them.
--- One tick of a run: its number, the link behind it, and the place behind it in the list. The code ticks all parties; a master that has not started has no call in that tick, and behind it is what it was before.
+-- One tick of a run: its number, the link after it, and the place after it in the list. The code ticks all parties; a master that has not started has no call in that tick, and after it is what it was before.
 use Prim.Native.Nat.{ℕ, _+_, _-_, _*_, _<_}
 use mathlib.Core.Path.{_≡_}
 use mathlib.Core.Bool.{true}
@@ -13,12 +13,12 @@ use Rattle.turns.specs.Link.{LinkStep, linkAfter}
 use Rattle.runs.specs.Late.{lateTick, lateRun}
 use Rattle.turns.specs.declared.Master.{Master}
 use Rattle.turns.specs.declared.Stage.the-variants.{Free}
-use Rattle.master.specs.declared.MasterHostCall.{MasterHostCall}
+use Rattle.master.specs.declared.MasterCall.{MasterCall}
 use Rattle.link_parties.specs.Stands.{Rows, rowsOf, anyMaster, linkOf, heres, noMasterCall}
-use Rattle.link_parties.specs.declared.CallOutcome.{CallOutcome}
+use Rattle.turns.specs.declared.CallResult.{CallResult}
 use Rattle.link_parties.specs.declared.Calls.{Calls}
 use Rattle.link_parties.specs.declared.Link.{Link}
-use Rattle.link_parties.specs.declared.MasterCall.{MasterCall}
+use Rattle.link_parties.specs.declared.MasterCallWithPart.{MasterCallWithPart}
 use Rattle.link_parties.specs.declared.MasterDid.{MasterDid}
 use Rattle.link_ticks.specs.Ticks.{masterNothing}
 use Rattle.link_list.specs.Ticks.{behind, callsIn, ticksOf}
@@ -30,17 +30,17 @@ use Rattle.link_run.specs.declared.Stepped.{Stepped}
 
 -- 1 for a party that sends
 abbrev pub countIn : ℕ → ℕ
-countIn code = if code <? 256 then 1 else 0
+countIn code = if code <? 256 then 0 else 1
 
 unfoldable pub sendersIn : List ℕ → ℕ
 sendersIn [] = 0
 sendersIn (c ∷ cs) = countIn c + sendersIn cs
 
 -- 1 for a request that was taken
-abbrev pub takenIn : CallOutcome → ℕ
-takenIn CallOutcome.Nothing = 0
-takenIn CallOutcome.Taken = 1
-takenIn (CallOutcome.Refused why) = 0
+abbrev pub takenIn : CallResult → ℕ
+takenIn CallResult.Nothing = 0
+takenIn CallResult.Taken = 1
+takenIn (CallResult.Refused why) = 0
 
 -- what a master adds, in units of 16
 abbrev pub masterNumber : List ℕ → List MasterDid → ℕ → ℕ
@@ -52,31 +52,31 @@ rowNumber row dids = sendersIn row + 16 * masterNumber row dids 0 + 32 * masterN
 -- ---- masters that have not started
 
 -- in how many ticks each master starts, a tick later
-abbrev pub startsBehind : StartTicks → StartTicks
-startsBehind s = record { primary = s .primary - 1; secondary = s .secondary - 1 }
+abbrev pub startsLeft : StartTicks → StartTicks
+startsLeft s = record { primary = s .primary - 1; secondary = s .secondary - 1 }
 
 -- the calls that are taken: none of a master that has not started
-abbrev pub callTaken : ℕ → MasterCall → MasterCall
-callTaken start c = if start =? 0 then c else record { call = MasterHostCall.Nothing; part = c .part }
+abbrev pub callTaken : ℕ → MasterCallWithPart → MasterCallWithPart
+callTaken start c = if start =? 0 then c else record { call = MasterCall.Nothing; part = c .part }
 
-abbrev pub requestsTaken : StartTicks → List MasterCall → List MasterCall
+abbrev pub requestsTaken : StartTicks → List MasterCallWithPart → List MasterCallWithPart
 requestsTaken s cs = callTaken (s .primary) (getD cs 0 noMasterCall) ∷ callTaken (s .secondary) (getD cs 1 noMasterCall) ∷ []
 
 abbrev pub callsTaken : StartTicks → Calls → Calls
 callsTaken s c = record { masters = requestsTaken s (c .masters); devices = c .devices }
 
--- the link behind a tick: a master that has not started is what it was before
-abbrev pub masterBehind : ℕ → Master → Master → Master
-masterBehind start before ticked = if start =? 0 then ticked else before
+-- the link after a tick: a master that has not started is what it was before
+abbrev pub tickedMaster : ℕ → Master → Master → Master
+tickedMaster start before ticked = if start =? 0 then ticked else before
 
-abbrev pub mastersBehind : StartTicks → List Master → List Master → List Master
-mastersBehind s before ticked =
-    masterBehind (s .primary) (getD before 0 anyMaster) (getD ticked 0 anyMaster)
-    ∷ masterBehind (s .secondary) (getD before 1 anyMaster) (getD ticked 1 anyMaster)
+abbrev pub tickedMasters : StartTicks → List Master → List Master → List Master
+tickedMasters s before ticked =
+    tickedMaster (s .primary) (getD before 0 anyMaster) (getD ticked 0 anyMaster)
+    ∷ tickedMaster (s .secondary) (getD before 1 anyMaster) (getD ticked 1 anyMaster)
     ∷ []
 
-abbrev pub linkBehind : StartTicks → Link → Link → Link
-linkBehind s l t = record { masters = mastersBehind s (l .masters) (t .masters); devices = t .devices; line = t .line }
+abbrev pub tickedLink : StartTicks → Link → Link → Link
+tickedLink s l t = record { masters = tickedMasters s (l .masters) (t .masters); devices = t .devices; line = t .line }
 
 -- a fresh master: it hears nothing in its first tick, and has no message
 pub record Fresh (m : Master) : Type 0 where
@@ -107,7 +107,7 @@ stepAt limit l starts x ticks at = lateTick limit (starts .primary) (starts .sec
 pub record LateStepping (limit : ℕ) (l : Link) (starts : StartTicks) (ticks : List ℕ) (at : ℕ) (x : Rows) (r : Stepped) (x-after : Rows) : Type 0 where
   pub behind-is : linkOf (r .link) x-after ≡ linkAfter (stepAt limit l starts x ticks at)
   pub number-is : r .number ≡ tickNumber (stepAt limit l starts x ticks at)
-  pub ready : LateReady (startsBehind starts) (r .link)
+  pub ready : LateReady (startsLeft starts) (r .link)
   pub slots : heres (r .link .devices) ≡ heres (l .devices)
   pub next : drop (r .next) ticks ≡ behind 8 (drop at ticks)
 

@@ -1,14 +1,14 @@
 // A run of the link over a lent list of ticks, in which each master starts at a tick of its own: item 14 is promised of it, and where both start in tick 0 demand 3, the credited answer and the BACKs.
 use base::Refusal;
 use line::Profile;
-use link_parties::CallOutcome;
 use link_parties::Calls;
 use link_parties::Link;
-use link_parties::MasterCall;
+use link_parties::MasterCallWithPart;
 use link_parties::MasterDid;
 use link_start::Setting;
 use link_start::StartAnswer;
 use link_ticks::Most;
+use turns::CallResult;
 use turns::Master;
 ghost use mathlib.Core.Path.{_≡_};
 ghost use Prim.Native.Nat.{_+_, _-_, _*_, _≤_};
@@ -18,26 +18,26 @@ ghost use Rattle.base.specs.Lent.{before, after};
 ghost use Rattle.link_start.specs.Fresh.{rowsFresh};
 ghost use Rattle.link_run.specs.Run.{RunKeeps};
 ghost use Rattle.link_run.specs.Late.{LateKeeps};
-ghost use Rattle.link_run.specs.Step.{countIn, sendersIn, takenIn, rowNumber, callTaken, requestsTaken, callsTaken, masterBehind, mastersBehind, linkBehind, startsBehind, LateReady, LateStepIs, lateNumbers, LateRunIs};
+ghost use Rattle.link_run.specs.Step.{countIn, sendersIn, takenIn, rowNumber, callTaken, requestsTaken, callsTaken, tickedMaster, tickedMasters, tickedLink, startsLeft, LateReady, LateStepIs, lateNumbers, LateRunIs};
 
-// 1 for a party that sends: its number is the character, or 256 for none.
+// 1 for a party that sends: its number is the character with 256 added, or 0 for none.
 fn count_of(code: u16) -> u8
     ensures { λ r. ⌜ (r ≡ countIn code) × (r ≤ 1) ⌝ }
 {
     if code < 256 {
-        return 1;
+        return 0;
     }
-    0
+    1
 }
 
 // 1 for a request that was taken.
-fn taken_of(result: CallOutcome) -> u8
+fn taken_of(result: CallResult) -> u8
     ensures { λ r. ⌜ (r ≡ takenIn result) × (r ≤ 1) ⌝ }
 {
     match result {
-        CallOutcome::Nothing => 0,
-        CallOutcome::Taken => 1,
-        CallOutcome::Refused(_) => 0,
+        CallResult::Nothing => 0,
+        CallResult::Taken => 1,
+        CallResult::Refused(_) => 0,
     }
 }
 
@@ -97,7 +97,7 @@ fn less_one(n: u64) -> u64
 
 // The same a tick later.
 fn starts_behind(s: StartTicks) -> StartTicks
-    ensures { λ r. ⌜ r ≡ startsBehind s ⌝ }
+    ensures { λ r. ⌜ r ≡ startsLeft s ⌝ }
 {
     StartTicks {
         primary: less_one(s.primary),
@@ -106,20 +106,20 @@ fn starts_behind(s: StartTicks) -> StartTicks
 }
 
 // The call that is taken of a master's host: none before the master has started.
-fn call_taken(start: u64, c: MasterCall) -> MasterCall
+fn call_taken(start: u64, c: MasterCallWithPart) -> MasterCallWithPart
     ensures { λ r. ⌜ r ≡ callTaken start c ⌝ }
 {
     if start == 0 {
         return c;
     }
     let part = c.part;
-    MasterCall {
-        call: master::MasterHostCall::Nothing,
+    MasterCallWithPart {
+        call: master::MasterCall::Nothing,
         part: part,
     }
 }
 
-fn requests_taken(s: StartTicks, requests: [MasterCall; 2]) -> [MasterCall; 2]
+fn requests_taken(s: StartTicks, requests: [MasterCallWithPart; 2]) -> [MasterCallWithPart; 2]
     ensures { λ r. ⌜ r ≡ requestsTaken s requests ⌝ }
 {
     let p = call_taken(s.primary, requests[0]);
@@ -139,9 +139,9 @@ fn calls_taken(s: StartTicks, calls: Calls) -> Calls
     }
 }
 
-// A master behind a tick: the same as before it while it has not started.
+// A master after a tick: the same as before it while it has not started.
 fn master_behind(start: u64, before: Master, ticked: Master) -> Master
-    ensures { λ r. ⌜ r ≡ masterBehind start before ticked ⌝ }
+    ensures { λ r. ⌜ r ≡ tickedMaster start before ticked ⌝ }
 {
     if start == 0 {
         return ticked;
@@ -150,16 +150,16 @@ fn master_behind(start: u64, before: Master, ticked: Master) -> Master
 }
 
 fn masters_behind(s: StartTicks, before: [Master; 2], ticked: [Master; 2]) -> [Master; 2]
-    ensures { λ r. ⌜ r ≡ mastersBehind s before ticked ⌝ }
+    ensures { λ r. ⌜ r ≡ tickedMasters s before ticked ⌝ }
 {
     let p = master_behind(s.primary, before[0], ticked[0]);
     let q = master_behind(s.secondary, before[1], ticked[1]);
     [p, q]
 }
 
-// The link behind a tick.
+// The link after a tick.
 fn link_behind(s: StartTicks, l: Link, t: Link) -> Link
-    ensures { λ r. ⌜ r ≡ linkBehind s l t ⌝ }
+    ensures { λ r. ⌜ r ≡ tickedLink s l t ⌝ }
 {
     let before = l.masters;
     let ticked = t.masters;
@@ -173,7 +173,7 @@ fn link_behind(s: StartTicks, l: Link, t: Link) -> Link
     }
 }
 
-// A link behind a tick of a list, the tick's number, and the place behind it.
+// A link after a tick of a list, the tick's number, and the place after it.
 struct Stepped {
     link: Link,
     number: u8,
@@ -233,7 +233,7 @@ fn run_from(
     requires { ⌜ LateReady starts start ⌝ }
     ensures { λ r. ⌜ LateRunIs limit start starts (before ticks) events frames bytes contents r ⌝ }
 {
-    let mut sent = [[256u16; 8]; 64];
+    let mut sent = [[0u16; 8]; 64];
     let mut l = start;
     let mut s = starts;
     let mut at = 0;

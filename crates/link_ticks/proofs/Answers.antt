@@ -3,26 +3,25 @@ use Prim.Native.Nat.{ℕ, zero, suc, _-_, _<_}
 use native.Mathlib.Omega.{arith}
 use mathlib.Core.Bool.{Bool, true, false}
 use mathlib.Core.List.{List, [], _∷_, _++_}
-use mathlib.Core.Path.{_≡_, refl, sym, ap, subst, _∙_}
+use mathlib.Core.Path.{_≡_, refl, sym, ap, _∙_}
 use lib.ListN.{length, drop, getD, replicate}
 use Rattle.base.specs.Choice.{if_then_else_, _<?_}
 use Rattle.base.proofs.Choices.{true-false}
-use Rattle.turns.specs.Party.{CallResult, none}
 use Rattle.line.specs.declared.Heard.{Heard}
 use Rattle.turns.proofs.Bursting.{if-both}
 use Rattle.turns.specs.Link.{DeviceSide, MasterStep, DeviceStep, LinkStep, sides, masterTick, deviceTick, deviceTicks, linkTick, linkAfter, run}
 use Rattle.turns.specs.Link as L
-use Rattle.turns.specs.Run.{EachTick, no-tick, tick-and}
+use Rattle.turns.specs.Run.{no-tick}
+use Rattle.turns.specs.declared.CallResult.{CallResult}
 use Rattle.turns.specs.declared.DeviceTold.{DeviceTold}
 use Rattle.turns.specs.declared.MasterTold.{MasterTold}
 use Rattle.link_parties.specs.Stands.{Rows, linkOf, heres, callsOf, uncalled}
-use Rattle.link_parties.specs.declared.CallOutcome.{CallOutcome}
 use Rattle.link_parties.specs.declared.Calls.{Calls}
 use Rattle.link_parties.specs.declared.Link.{Link}
 use Rattle.link_parties.specs.declared.DeviceDid.{DeviceDid}
 use Rattle.link_parties.specs.declared.MasterDid.{MasterDid}
 use Rattle.link_parties.specs.declared.Ticked.{Ticked}
-use Rattle.link_ticks.specs.Ticks.{masterTells, deviceTells, devicesTell, tells, upToTold, callsFirst, atMost, stepsOf, linkBehind, onHere, codes, codesOf, SendBytes, answerKept, masterToldKept, deviceToldKept, masterDid, deviceDid, masterNothing, deviceNothing, mastersDo, mastersDid, devicesDid, RunIs}
+use Rattle.link_ticks.specs.Ticks.{masterHostTold, deviceHostTold, devicesTell, aHostTold, upToTold, callsFirst, atMost, stepsOf, linkBehind, onHere, codes, codesOf, answerKept, masterToldKept, deviceToldKept, masterDid, deviceDid, masterNothing, deviceNothing, mastersDo, mastersDid, devicesDid, RunIs}
 
 -- ---- of one tick
 
@@ -37,10 +36,7 @@ no-more false = refl
 
 one-step : (limit : ℕ) (l : Link) (c : Calls) (put : List ℕ) (x : Rows) → stepsOf limit l c put 1 x ≡ stepWith limit l c put x ∷ []
 unfolding upToTold callsFirst run if_then_else_
-one-step limit l c put x = ap (λ (ss : List LinkStep). stepWith limit l c put x ∷ ss) (no-more (tells (stepWith limit l c put x)))
-
-first-holds : {P : LinkStep → Type 0} {s : LinkStep} {ss : List LinkStep} → EachTick P (s ∷ ss) → P s
-first-holds (tick-and p ps) = p
+one-step limit l c put x = ap (λ (ss : List LinkStep). stepWith limit l c put x ∷ ss) (no-more (aHostTold (stepWith limit l c put x)))
 
 module _ (limit : ℕ) (l : Link) (c : Calls) (put : List ℕ) (x x-after : Rows) (sent sent-after : List (List ℕ)) (r : Ticked) (is : RunIs limit l c put 1 x sent r x-after sent-after) where
   pub one-link : linkOf (r .link) x-after ≡ linkAfter (stepWith limit l c put x)
@@ -52,9 +48,6 @@ module _ (limit : ℕ) (l : Link) (c : Calls) (put : List ℕ) (x x-after : Rows
   one-row =
       ap (λ (rows : List (List ℕ)). getD rows 0 [])
       (is .sent-is ∙ ap (λ (ss : List LinkStep). codesOf (heres (l .devices)) ss ++ drop (length ss) sent) (one-step limit l c put x))
-
-  pub one-bytes : SendBytes (stepWith limit l c put x)
-  one-bytes = first-holds (subst (EachTick SendBytes) (one-step limit l c put x) (is .bytes-sent))
 
   pub one-masters : r .masters ≡ mastersDo (stepWith limit l c put x) (replicate 2 masterNothing)
   unfolding mastersDid
@@ -69,21 +62,21 @@ lastOf s (t ∷ ss) = lastOf t ss
 
 -- what was told in one tick, and answered in another
 abbrev pub toldAnswered : MasterStep → MasterStep → MasterDid
-toldAnswered last first = record { told = last .told; result = answerKept CallOutcome.Nothing (first .result) }
+toldAnswered last first = record { told = last .told; result = answerKept CallResult.Nothing (first .result) }
 
 -- steps behind one another: one that tells is the last, and only the first has calls
 data Quiet : List DeviceStep → Type 0 where
   quiet-none : Quiet []
-  quiet-and : {s : DeviceStep} {ss : List DeviceStep} → s .result ≡ none → Quiet ss → Quiet (s ∷ ss)
+  quiet-and : {s : DeviceStep} {ss : List DeviceStep} → s .result ≡ CallResult.Nothing → Quiet ss → Quiet (s ∷ ss)
 
 record Unanswered (s : LinkStep) : Type 0 where
-  primary-none : s .for-primary .result ≡ none
-  secondary-none : s .for-secondary .result ≡ none
+  primary-none : s .for-primary .result ≡ CallResult.Nothing
+  secondary-none : s .for-secondary .result ≡ CallResult.Nothing
   devices-none : Quiet (s .for-devices)
 
 data Course : LinkStep → List LinkStep → Type 0 where
   ends : {s : LinkStep} → Course s []
-  goes-on : {s t : LinkStep} {ss : List LinkStep} → tells s ≡ false → length (t .for-devices) ≡ length (s .for-devices) → Unanswered t → Course t ss → Course s (t ∷ ss)
+  goes-on : {s t : LinkStep} {ss : List LinkStep} → aHostTold s ≡ false → length (t .for-devices) ≡ length (s .for-devices) → Unanswered t → Course t ss → Course s (t ∷ ss)
 
 no-answers : (limit : ℕ) (heard : Heard) (xs : List DeviceSide) → Quiet (deviceTicks limit heard xs [])
 unfolding deviceTicks deviceTick
@@ -115,18 +108,18 @@ abbrev pub next : ℕ → LinkStep → LinkStep
 next limit s = linkTick limit (linkAfter s) uncalled
 
 abbrev pub further : ℕ → ℕ → LinkStep → List LinkStep
-further limit n s = if tells s then [] else upToTold (run limit (linkAfter s) (replicate n uncalled))
+further limit n s = if aHostTold s then [] else upToTold (run limit (linkAfter s) (replicate n uncalled))
 
 course : (limit n : ℕ) (s : LinkStep) → Course s (further limit n s)
 unfolding upToTold run if_then_else_
-course limit zero s = by (tells s)
+course limit zero s = by (aHostTold s)
   where
     by : (b : Bool) → Course s (if b then [] else [])
     by true = ends
     by false = ends
-course limit (suc n) s = by (tells s) refl (course limit n (next limit s))
+course limit (suc n) s = by (aHostTold s) refl (course limit n (next limit s))
   where
-    by : (b : Bool) → tells s ≡ b → Course (next limit s) (further limit n (next limit s)) → Course s (if b then [] else (next limit s ∷ further limit n (next limit s)))
+    by : (b : Bool) → aHostTold s ≡ b → Course (next limit s) (further limit n (next limit s)) → Course s (if b then [] else (next limit s ∷ further limit n (next limit s)))
     by true e c = ends
     by false e c = goes-on e (as-many limit s) (unanswered limit (linkAfter s)) c
 
@@ -138,17 +131,17 @@ master-told (MasterTold.Answered w) = refl
 master-told (MasterTold.GivenUp n) = refl
 master-told MasterTold.BroadcastSent = refl
 
-tells-nothing : (t : MasterTold) (others : Bool) → masterTells t others ≡ false → (t ≡ MasterTold.Nothing) × (others ≡ false)
+tells-nothing : (t : MasterTold) (others : Bool) → masterHostTold t others ≡ false → (t ≡ MasterTold.Nothing) × (others ≡ false)
 tells-nothing MasterTold.Nothing others e = (refl, e)
 tells-nothing (MasterTold.Answered w) others e = absurd (true-false e)
 tells-nothing (MasterTold.GivenUp n) others e = absurd (true-false e)
 tells-nothing MasterTold.BroadcastSent others e = absurd (true-false e)
 
 -- a tick more of one master: it tells what it tells, and its answer stays
-master-on : (s t : MasterStep) (a : CallOutcome) → s .told ≡ MasterTold.Nothing → t .result ≡ none → masterDid t (record { told = s .told; result = a }) ≡ record { told = t .told; result = a }
+master-on : (s t : MasterStep) (a : CallResult) → s .told ≡ MasterTold.Nothing → t .result ≡ CallResult.Nothing → masterDid t (record { told = s .told; result = a }) ≡ record { told = t .told; result = a }
 master-on s t a e f = (λ i. record { told = masterToldKept (e i) (t .told); result = answerKept a (f i) }) ∙ (λ i. record { told = master-told (t .told) i; result = a })
 
-masters-on : (s : LinkStep) (ss : List LinkStep) (a b : CallOutcome) → Course s ss
+masters-on : (s : LinkStep) (ss : List LinkStep) (a b : CallResult) → Course s ss
     → mastersDid ss (record { told = s .for-primary .told; result = a } ∷ record { told = s .for-secondary .told; result = b } ∷ [])
     ≡ record { told = lastOf s ss .for-primary .told; result = a } ∷ record { told = lastOf s ss .for-secondary .told; result = b } ∷ []
 unfolding mastersDid lastOf
@@ -175,7 +168,7 @@ unfolding devicesTell
 tell-nothing [] e = silent-none
 tell-nothing (s ∷ ss) e = by (s .told) refl e (λ f. tell-nothing ss f)
   where
-    by : (t : DeviceTold) → s .told ≡ t → deviceTells t (devicesTell ss false) ≡ false → (devicesTell ss false ≡ false → Silent ss) → Silent (s ∷ ss)
+    by : (t : DeviceTold) → s .told ≡ t → deviceHostTold t (devicesTell ss false) ≡ false → (devicesTell ss false ≡ false → Silent ss) → Silent (s ∷ ss)
     by DeviceTold.Nothing k f others = silent-and k (others f)
     by (DeviceTold.Request w) k f others = absurd (true-false f)
     by (DeviceTold.Broadcast w) k f others = absurd (true-false f)
@@ -184,7 +177,7 @@ tell-nothing (s ∷ ss) e = by (s .told) refl e (λ f. tell-nothing ss f)
 abbrev pub deviceTold : DeviceStep → DeviceDid → DeviceDid
 deviceTold s old = record { told = s .told; result = old .result }
 
-device-on : (s t : DeviceStep) (old : DeviceDid) → s .told ≡ DeviceTold.Nothing → t .result ≡ none → deviceDid t (deviceTold s old) ≡ deviceTold t old
+device-on : (s t : DeviceStep) (old : DeviceDid) → s .told ≡ DeviceTold.Nothing → t .result ≡ CallResult.Nothing → deviceDid t (deviceTold s old) ≡ deviceTold t old
 device-on s t old e f = (λ i. record { told = deviceToldKept (e i) (t .told); result = answerKept (old .result) (f i) }) ∙ (λ i. record { told = device-told (t .told) i; result = old .result })
 
 slots-on : (hs : List Bool) (xs ys : List DeviceStep) (ds : List DeviceDid) → length ys ≡ length xs → Silent xs → Quiet ys → onHere deviceDid hs ys (onHere deviceTold hs xs ds) ≡ onHere deviceTold hs ys ds
@@ -209,7 +202,7 @@ devices-on hs s (t ∷ ss) ds (goes-on e k u c) =
 
 -- a host that was told nothing yet and had no answer
 abbrev pub deviceAnswered : DeviceStep → DeviceDid → DeviceDid
-deviceAnswered s old = record { told = DeviceTold.Nothing; result = answerKept CallOutcome.Nothing (s .result) }
+deviceAnswered s old = record { told = DeviceTold.Nothing; result = answerKept CallResult.Nothing (s .result) }
 
 slots-first : (hs : List Bool) (xs : List DeviceStep) (n : ℕ)
     → onHere deviceDid hs xs (replicate n deviceNothing) ≡ onHere deviceTold hs xs (onHere deviceAnswered hs xs (replicate n deviceNothing))
@@ -218,7 +211,7 @@ slots-first hs xs zero = refl
 slots-first [] xs (suc n) = refl
 slots-first (false ∷ hs) xs (suc n) = ap (λ (l : List DeviceDid). deviceNothing ∷ l) (slots-first hs xs n)
 slots-first (true ∷ hs) [] (suc n) = ap (λ (l : List DeviceDid). deviceNothing ∷ l) (slots-first hs [] n)
-slots-first (true ∷ hs) (x ∷ xs) (suc n) = λ i. record { told = device-told (x .told) i; result = answerKept CallOutcome.Nothing (x .result) } ∷ slots-first hs xs n i
+slots-first (true ∷ hs) (x ∷ xs) (suc n) = λ i. record { told = device-told (x .told) i; result = answerKept CallResult.Nothing (x .result) } ∷ slots-first hs xs n i
 
 -- ---- the ticks of one call
 
@@ -247,8 +240,8 @@ module _ (limit : ℕ) (l : Link) (c : Calls) (put : List ℕ) (x x-after : Rows
       is .masters-are
       ∙ ap (λ (ss : List LinkStep). mastersDid ss (replicate 2 masterNothing)) steps-are
       ∙ (λ i. mastersDid later
-      (record { told = master-told (first .for-primary .told) i; result = answerKept CallOutcome.Nothing (first .for-primary .result) }
-      ∷ record { told = master-told (first .for-secondary .told) i; result = answerKept CallOutcome.Nothing (first .for-secondary .result) } ∷ []))
+      (record { told = master-told (first .for-primary .told) i; result = answerKept CallResult.Nothing (first .for-primary .result) }
+      ∷ record { told = master-told (first .for-secondary .told) i; result = answerKept CallResult.Nothing (first .for-secondary .result) } ∷ []))
       ∙ masters-on first later _ _ (course limit (atMost (suc most) - 1) first)
 
   -- each device's host alike

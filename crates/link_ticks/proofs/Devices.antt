@@ -4,30 +4,31 @@ use native.Mathlib.Omega.{arith}
 use mathlib.Core.Bool.{Bool, true, false}
 use mathlib.Core.List.{List, [], _∷_, map}
 use mathlib.Core.Path.{_≡_, refl, sym, ap, subst, _∙_}
-use lib.ListN.{length, drop, getD, set, replicate, length-set, length-replicate, getD-replicate, drop-of-length-le}
+use lib.ListN.{length, drop, getD, set, replicate, length-set, length-map, length-replicate, getD-replicate, List·getD-map, drop-of-length-le}
 use lib.Seq.{drop-cons, getD-set-same, getD-set-other, set-getD, map-set-same}
+use Rattle.base.proofs.Choices.{true-false}
 use Rattle.line.specs.Reader.{taken, takenData}
 use Rattle.line.specs.Reader as R
 use Rattle.line.specs.declared.Event.the-variants.{Nothing}
 use Rattle.line.specs.declared.Heard.{Heard}
 use Rattle.line.specs.declared.Heard.the-variants.{Silence}
 use Rattle.line.specs.declared.Receiver.{Receiver}
-use Rattle.party.specs.Calls.{resultOf}
 use Rattle.turns.specs.Link.{DeviceSide, DeviceStep, joins, sides, carried, deviceTick, deviceTicks}
 use Rattle.turns.specs.Link as L
 use Rattle.turns.specs.declared.Device.{Device}
 use Rattle.device_tick.specs.Tick as D
 use Rattle.device_tick.specs.declared.DeviceTicked.{DeviceTicked}
-use Rattle.link_parties.specs.Stands.{Rows, rowsOf, deviceAt, ifHere, devicesFrom, heres, deviceCallOf, deviceCallsFrom, noDeviceCall, codeOf}
+use Rattle.party.specs.Numbers.{sentNumber}
+use Rattle.link_parties.specs.Stands.{Rows, rowsOf, deviceAt, ifHere, devicesFrom, heres, deviceCallOf, deviceCallsFrom, noDeviceCall}
 use Rattle.link_parties.specs.Part.{dataOf}
 use Rattle.link_parties.specs.Ways.{deviceWay, countedDevice, heardDevice, inSlot}
 use Rattle.link_parties.proofs.Ways.{quietDevice, withDevice, device-counts, device-hears}
-use Rattle.link_parties.specs.declared.DeviceCall.{DeviceCall}
+use Rattle.link_parties.specs.declared.DeviceCallWithPart.{DeviceCallWithPart}
 use Rattle.link_parties.specs.declared.DeviceDid.{DeviceDid}
 use Rattle.link_parties.specs.declared.Slot.{Slot}
 use Rattle.link_parties.specs.declared.Way.{Way}
 use Rattle.link_parties.specs.declared.Way.the-variants.{Counts, Hears}
-use Rattle.link_ticks.specs.Ticks.{deviceTells, devicesTell, onHere, deviceCode, SendsByte, sends-none, DevicesSendBytes, no-device, device-and, CodeIs, deviceDidBy, deviceDid, deviceNothing}
+use Rattle.link_ticks.specs.Ticks.{deviceHostTold, devicesTell, onHere, deviceCode, SendsByte, sends-none, DevicesSendBytes, no-device, device-and, CodeIs, deviceDidBy, deviceDid, deviceNothing, SlotStays}
 use Rattle.link_ticks.proofs.Lists.{Same, same-set, same-less, drop-set, any-default, on-here, on-none, on-end}
 
 -- where the loop stands
@@ -57,7 +58,7 @@ below x i k f y z (s ∷ ss) h = λ n. ifHere (s .here)
     (getD-set-other (x .contents) i k z [] (λ q. omega (arith, q, h)) n))
     (below x i (suc k) f y z ss (omega arith) n)
 
-module _ (limit : ℕ) (heard : Heard) (put : List ℕ) (call : ℕ → DeviceCall) where
+module _ (limit : ℕ) (heard : Heard) (put : List ℕ) (call : ℕ → DeviceCallWithPart) where
   abbrev pub stepAt : Rows → ℕ → Device → DeviceStep
   stepAt x i d = deviceTick limit (deviceAt x i d) heard (deviceCallOf put (call i))
 
@@ -79,10 +80,11 @@ module _ (limit : ℕ) (heard : Heard) (put : List ℕ) (call : ℕ → DeviceCa
     pub dids-six : length (b .dids) ≡ 6
     pub dids-before : length (a .dids) ≡ 6
     pub within : n ≤ 6
-    pub blank : (j : ℕ) → j < 8 → getD (a .row) j 256 ≡ 256
+    pub blank : (j : ℕ) → j < 8 → getD (a .row) j 0 ≡ 0
     -- those that have ticked
     pub sides-are : devicesFrom (b .rows) n (drop n (b .slots)) ≡ sides (steps a n)
     pub flags : heres (b .slots) ≡ heres (a .slots)
+    pub absent-stay : (j : ℕ) → getD (heres (a .slots)) j true ≡ false → SlotStays j (a .slots) (a .rows) (b .slots) (b .rows)
     pub codes-are : drop (n + 2) (b .row) ≡ onHere deviceCode (heres (drop n (a .slots))) (steps a n) (drop (n + 2) (a .row))
     pub bytes-sent : DevicesSendBytes (steps a n)
     pub dids-are : drop n (b .dids) ≡ onHere deviceDid (heres (drop n (a .slots))) (steps a n) (drop n (a .dids))
@@ -99,10 +101,10 @@ module _ (limit : ℕ) (heard : Heard) (put : List ℕ) (call : ℕ → DeviceCa
   none-left : {A : Type 0} (xs : List A) (n : ℕ) → length xs ≡ n → drop n xs ≡ []
   none-left xs n e = drop-of-length-le xs {i = n} (omega (arith, e))
 
-  pub ticking-none : (a : At) → length (a .slots) ≡ 6 → length (a .rows .frames) ≡ 8 → length (a .rows .bytes) ≡ 8 → length (a .rows .contents) ≡ 6 → a .row ≡ replicate 8 256 → length (a .dids) ≡ 6 → a .line ≡ Silence → Ticking a a 6
+  pub ticking-none : (a : At) → length (a .slots) ≡ 6 → length (a .rows .frames) ≡ 8 → length (a .rows .bytes) ≡ 8 → length (a .rows .contents) ≡ 6 → a .row ≡ replicate 8 0 → length (a .dids) ≡ 6 → a .line ≡ Silence → Ticking a a 6
   unfolding devicesFrom sides stepsFrom carried devicesTell onHere
   ticking-none a s f y z w d e =
-      let r : length (a .row) ≡ 8 = ap length w ∙ length-replicate {A = ℕ} 8 256 in
+      let r : length (a .row) ≡ 8 = ap length w ∙ length-replicate {A = ℕ} 8 0 in
       let u = none-left (a .slots) 6 s in
       record {
         six = s;
@@ -115,9 +117,10 @@ module _ (limit : ℕ) (heard : Heard) (put : List ℕ) (call : ℕ → DeviceCa
         dids-six = d;
         dids-before = d;
         within = omega arith;
-        blank = λ j h. ap (λ (l : List ℕ). getD l j 256) w ∙ getD-replicate {A = ℕ} 8 j 256 256 h;
+        blank = λ j h. ap (λ (l : List ℕ). getD l j 0) w ∙ getD-replicate {A = ℕ} 8 j 0 0 h;
         sides-are = ap (devicesFrom (a .rows) 6) u ∙ ap (λ (ss : List Slot). sides (stepsFrom (a .rows) 6 ss)) (sym u);
         flags = refl;
+        absent-stay = λ j h. record { slot = λ x. refl; frame = refl; bytes = refl; contents = refl };
         codes-are =
             none-left (a .row) 8 r
             ∙ ap (λ (ss : List Slot). onHere deviceCode (heres ss) (stepsFrom (a .rows) 6 ss) []) (sym u)
@@ -188,6 +191,7 @@ module _ (limit : ℕ) (heard : Heard) (put : List ℕ) (call : ℕ → DeviceCa
           ∙ v .sides-are
           ∙ ap sides (sym (steps-at false k));
       flags = v .flags;
+      absent-stay = v .absent-stay;
       codes-are =
           drop-cons (b .row) (i + 2) 0 (omega (arith, v .row-eight, in-six))
           ∙ (λ n. v .row-left (i + 2) 0 (omega arith) n ∷ codes-next n)
@@ -214,9 +218,30 @@ module _ (limit : ℕ) (heard : Heard) (put : List ℕ) (call : ℕ → DeviceCa
       abbrev own : Device
       own = getD (b .slots) i d .device
 
+      flag-here : getD (heres (a .slots)) i true ≡ true
+      flag-here =
+          ap (λ (hs : List Bool). getD hs i true) (sym (v .flags))
+          ∙ any-default (heres (b .slots)) i true (d .here) (omega (arith, length-map (b .slots) (λ (s : Slot). s .here), v .six, in-six))
+          ∙ List·getD-map (λ (s : Slot). s .here) (b .slots) i d
+          ∙ k
+
+      -- so a slot without a device is another
+      another : (j : ℕ) → getD (heres (a .slots)) j true ≡ false → i ≡ j → ⊥
+      another j gone same = true-false (sym flag-here ∙ ap (λ (n : ℕ). getD (heres (a .slots)) n true) same ∙ gone)
+
+      others-stay : (f y z : List ℕ) (j : ℕ) → getD (heres (a .slots)) j true ≡ false → SlotStays j (a .slots) (a .rows) (set (b .slots) i e) (stored (b .rows) i f y z)
+      others-stay f y z j gone =
+          let old = v .absent-stay j gone in
+          record {
+            slot = λ x. getD-set-other (b .slots) i j e x (λ q. another j gone (omega (arith, q))) ∙ old .slot x;
+            frame = getD-set-other (b .rows .frames) (i + 2) (j + 2) f [] (λ q. another j gone (omega (arith, q))) ∙ old .frame;
+            bytes = getD-set-other (b .rows .bytes) (i + 2) (j + 2) y [] (λ q. another j gone (omega (arith, q))) ∙ old .bytes;
+            contents = getD-set-other (b .rows .contents) i j z [] (λ q. another j gone (omega (arith, q))) ∙ old .contents;
+          }
+
       pub acts : (f y z : List ℕ) (c : ℕ) (q : DeviceDid) (told : Bool) (line : Heard) (s : DeviceStep)
-          → s ≡ stepAt (b .rows) i own → D.sideOf (e .device) f y z ≡ s .side → c ≡ codeOf (s .sent) → SendsByte (s .sent) → q ≡ deviceDid s (getD (b .dids) i deviceNothing)
-          → told ≡ deviceTells (s .told) (b .told) → line ≡ joins (s .sent) (b .line)
+          → s ≡ stepAt (b .rows) i own → D.sideOf (e .device) f y z ≡ s .side → c ≡ sentNumber (s .sent) → SendsByte (s .sent) → q ≡ deviceDid s (getD (b .dids) i deviceNothing)
+          → told ≡ deviceHostTold (s .told) (b .told) → line ≡ joins (s .sent) (b .line)
           → Ticking a (record { slots = set (b .slots) i e; rows = stored (b .rows) i f y z; row = set (b .row) (i + 2) c; dids = set (b .dids) i q; told = told; line = line }) i
       unfolding devicesFrom sides carried devicesTell
       acts f y z c q told line s p side-is code-is byte did-is told-is line-is =
@@ -245,6 +270,7 @@ module _ (limit : ℕ) (heard : Heard) (put : List ℕ) (call : ℕ → DeviceCa
                 ∙ (λ n. side-is n ∷ v .sides-are n)
                 ∙ ap sides (sym steps-are);
             flags = map-set-same (λ (u : Slot). u .here) (b .slots) i e d (h ∙ sym k) ∙ v .flags;
+            absent-stay = others-stay f y z;
             codes-are =
                 drop-set (b .row) (i + 2) c (omega (arith, v .row-eight, in-six))
                 ∙ (λ n. code-is n ∷ codes-next n)
@@ -257,7 +283,7 @@ module _ (limit : ℕ) (heard : Heard) (put : List ℕ) (call : ℕ → DeviceCa
                 ∙ sym (on-here deviceDid _ s (steps a (suc i)) (getD (a .dids) i deviceNothing) (drop (suc i) (a .dids)))
                 ∙ (λ n. onHere deviceDid (sym (heres-at true k) n) (sym steps-are n) (sym (drop-cons (a .dids) i deviceNothing (omega (arith, v .dids-before, in-six))) n));
             line-is = line-is ∙ ap (joins (s .sent)) (v .line-is) ∙ ap carried (sym steps-are);
-            told-is = told-is ∙ ap (deviceTells (s .told)) (v .told-is) ∙ ap (λ (ss : List DeviceStep). devicesTell ss (a .told)) (sym steps-are);
+            told-is = told-is ∙ ap (deviceHostTold (s .told)) (v .told-is) ∙ ap (λ (ss : List DeviceStep). devicesTell ss (a .told)) (sym steps-are);
             slots-left = same-set (suc i) i i (b .slots) (a .slots) e (v .slots-left) (omega arith) (omega arith);
             frames-left = same-set (suc i + 2) (i + 2) (i + 2) (b .rows .frames) (a .rows .frames) f (v .frames-left) (omega arith) (omega arith);
             bytes-left = same-set (suc i + 2) (i + 2) (i + 2) (b .rows .bytes) (a .rows .bytes) y (v .bytes-left) (omega arith) (omega arith);
@@ -272,10 +298,10 @@ module _ (limit : ℕ) (heard : Heard) (put : List ℕ) (call : ℕ → DeviceCa
       quiet y p =
           let f = getD (b .rows .frames) (i + 2) [] in
           let z = getD (b .rows .contents) i [] in
-          let c : set (b .row) (i + 2) 256 ≡ b .row = ap (set (b .row) (i + 2)) (sym (v .row-left (i + 2) 256 (omega arith) ∙ v .blank (i + 2) (omega (arith, in-six)))) ∙ set-getD (b .row) (i + 2) 256 in
+          let c : set (b .row) (i + 2) 0 ≡ b .row = ap (set (b .row) (i + 2)) (sym (v .row-left (i + 2) 0 (omega arith) ∙ v .blank (i + 2) (omega (arith, in-six)))) ∙ set-getD (b .row) (i + 2) 0 in
           subst (λ (x : At). Ticking a x i)
           (λ n. record { slots = set (b .slots) i e; rows = rowsOf (set-getD (b .rows .frames) (i + 2) [] n) (set (b .rows .bytes) (i + 2) y) (set-getD (b .rows .contents) i [] n); row = c n; dids = set-getD (b .dids) i deviceNothing n; told = b .told; line = b .line })
-          (acts f y z 256 (getD (b .dids) i deviceNothing) (b .told) (b .line) (quietDevice (D.sideOf (e .device) f y z)) p refl refl sends-none refl refl refl)
+          (acts f y z 0 (getD (b .dids) i deviceNothing) (b .told) (b .line) (quietDevice (D.sideOf (e .device) f y z)) p refl refl sends-none refl refl refl)
 
       -- and only its state
       pub still : quietDevice (D.sideOf (e .device) (getD (b .rows .frames) (i + 2) []) (getD (b .rows .bytes) (i + 2) []) (getD (b .rows .contents) i [])) ≡ stepAt (b .rows) i own
@@ -294,15 +320,15 @@ module _ (limit : ℕ) (heard : Heard) (put : List ℕ) (call : ℕ → DeviceCa
     pub device-absent : getD (b .slots) (n - 1) d .here ≡ false → Ticking a b (n - 1)
     device-absent k = absent a b (n - 1) d at-last k
 
-    module _ (k : getD (b .slots) (n - 1) d .here ≡ true) (c : DeviceCall) (own : c ≡ call (n - 1)) where
+    module _ (k : getD (b .slots) (n - 1) d .here ≡ true) (c : DeviceCallWithPart) (own : c ≡ call (n - 1)) where
       abbrev this : Device
       this = getD (b .slots) (n - 1) d .device
 
       abbrev lent : DeviceSide
       lent = deviceAt (b .rows) (n - 1) this
 
-      as-called : (c : DeviceCall) → c ≡ call (n - 1) → deviceTick limit lent heard (deviceCallOf put c) ≡ stepAt (b .rows) (n - 1) this
-      as-called c e = ap (λ (q : DeviceCall). deviceTick limit lent heard (deviceCallOf put q)) e
+      as-called : (c : DeviceCallWithPart) → c ≡ call (n - 1) → deviceTick limit lent heard (deviceCallOf put c) ≡ stepAt (b .rows) (n - 1) this
+      as-called c e = ap (λ (q : DeviceCallWithPart). deviceTick limit lent heard (deviceCallOf put q)) e
 
       pub device-counted : (w : Way) (e : Slot) (follows hears : Bool) (reader : Receiver) → w ≡ deviceWay this heard (c .call) follows hears reader → w ≡ Counts → e ≡ inSlot (countedDevice this)
           → Ticking a (record { slots = set (b .slots) (n - 1) e; rows = b .rows; row = b .row; dids = b .dids; told = b .told; line = b .line }) (n - 1)
@@ -321,10 +347,10 @@ module _ (limit : ℕ) (heard : Heard) (put : List ℕ) (call : ℕ → DeviceCa
 
       pub device-acted : (r : DeviceTicked) (f y z : List ℕ) (e : Slot) (x : ℕ) (q : DeviceDid) (u : DeviceDid) (told : Bool) (line : Heard)
           → D.DeviceTickIs limit this heard (c .call) (dataOf (c .part) put) (getD (b .rows .frames) (n - 1 + 2) []) (getD (b .rows .bytes) (n - 1 + 2) []) (getD (b .rows .contents) (n - 1) []) r f y z
-          → e ≡ inSlot (r .device) → CodeIs (r .sent) x → q ≡ deviceDidBy (getD (b .dids) (n - 1) u) (r .told) (resultOf (r .result))
-          → told ≡ deviceTells (r .told) (b .told) → line ≡ joins (r .sent) (b .line)
+          → e ≡ inSlot (r .device) → CodeIs (r .sent) x → q ≡ deviceDidBy (getD (b .dids) (n - 1) u) (r .told) (r .result)
+          → told ≡ deviceHostTold (r .told) (b .told) → line ≡ joins (r .sent) (b .line)
           → Ticking a (record { slots = set (b .slots) (n - 1) e; rows = stored (b .rows) (n - 1) f y z; row = set (b .row) (n - 1 + 2) x; dids = set (b .dids) (n - 1) q; told = told; line = line }) (n - 1)
       device-acted r f y z e x q u told line p e-is x-is q-is told-is line-is =
           subst (λ (s : Slot). Ticking a (record { slots = set (b .slots) (n - 1) s; rows = stored (b .rows) (n - 1) f y z; row = set (b .row) (n - 1 + 2) x; dids = set (b .dids) (n - 1) q; told = told; line = line }) (n - 1)) (sym e-is)
           (acts a b (n - 1) d at-last k (inSlot (r .device)) refl f y z x q told line (D.stepOf r f y z) (p .step ∙ as-called c own) refl (x-is .is) (x-is .byte)
-          (q-is ∙ ap (λ (o : DeviceDid). deviceDidBy o (r .told) (resultOf (r .result))) (any-default (b .dids) (n - 1) u deviceNothing (omega (arith, v .dids-six, v .within, h)))) told-is line-is)
+          (q-is ∙ ap (λ (o : DeviceDid). deviceDidBy o (r .told) (r .result)) (any-default (b .dids) (n - 1) u deviceNothing (omega (arith, v .dids-six, v .within, h)))) told-is line-is)

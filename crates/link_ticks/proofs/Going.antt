@@ -18,16 +18,17 @@ use Rattle.turns.specs.Link as L
 use Rattle.turns.specs.Run.{EachTick, no-tick, tick-and}
 use Rattle.turns.specs.declared.Master.{Master}
 use Rattle.master.specs.Tick as M
-use Rattle.link_parties.specs.Stands.{Rows, rowsOf, masterAt, anyMaster, deviceAt, ifHere, devicesFrom, linkOf, heres, masterCallOf, deviceCallOf, deviceCallsFrom, callsOf, uncalled, noMasterCall, noDeviceCall, codeOf}
+use Rattle.party.specs.Numbers.{sentNumber}
+use Rattle.link_parties.specs.Stands.{Rows, rowsOf, masterAt, anyMaster, deviceAt, ifHere, devicesFrom, linkOf, heres, masterCallOf, deviceCallOf, deviceCallsFrom, callsOf, uncalled, noMasterCall, noDeviceCall}
 use Rattle.link_parties.specs.declared.Calls.{Calls}
-use Rattle.link_parties.specs.declared.DeviceCall.{DeviceCall}
+use Rattle.link_parties.specs.declared.DeviceCallWithPart.{DeviceCallWithPart}
 use Rattle.link_parties.specs.declared.DeviceDid.{DeviceDid}
 use Rattle.link_parties.specs.declared.Link.{Link}
-use Rattle.link_parties.specs.declared.MasterCall.{MasterCall}
+use Rattle.link_parties.specs.declared.MasterCallWithPart.{MasterCallWithPart}
 use Rattle.link_parties.specs.declared.MasterDid.{MasterDid}
 use Rattle.link_parties.specs.declared.Slot.{Slot}
 use Rattle.link_parties.specs.declared.Ticked.{Ticked}
-use Rattle.link_ticks.specs.Ticks.{masterTells, tells, devicesTell, upToTold, callsFirst, masterCallIn, deviceCallIn, goesOn, atMost, stepsOf, linkBehind, onHere, deviceCode, deviceDid, codes, codesOf, SendsByte, SendBytes, masterDid, masterNothing, deviceNothing, mastersDo, devicesDo, mastersDid, devicesDid, linkWith, callsWith, RunIs}
+use Rattle.link_ticks.specs.Ticks.{masterHostTold, aHostTold, devicesTell, upToTold, callsFirst, masterCallIn, deviceCallIn, goesOn, atMost, stepsOf, linkBehind, onHere, deviceCode, deviceDid, codes, codesOf, SendsByte, SendBytes, masterDid, masterNothing, deviceNothing, mastersDo, devicesDo, mastersDid, devicesDid, linkWith, callsWith, SlotStays, RunIs}
 use Rattle.link_ticks.proofs.Lists.{Same, any-default}
 use Rattle.link_ticks.proofs.Devices.{At, stepAt, stepsFrom, Ticking, ticking-none}
 use Rattle.link_ticks.proofs.Masters.{MastersAt, stepOf, lineFrom, toldFrom, MastersTicking, masters-none}
@@ -35,14 +36,14 @@ use Rattle.link_ticks.proofs.Masters.{MastersAt, stepOf, lineFrom, told
 -- ---- a tick's calls
 
 -- the devices' steps are the ticks of turns
-abbrev pub deviceCallAt : ℕ → List DeviceCall → ℕ → DeviceCall
+abbrev pub deviceCallAt : ℕ → List DeviceCallWithPart → ℕ → DeviceCallWithPart
 deviceCallAt t cs i = deviceCallIn t (getD cs i noDeviceCall)
 
-abbrev pub masterCallAt : ℕ → List MasterCall → ℕ → MasterCall
+abbrev pub masterCallAt : ℕ → List MasterCallWithPart → ℕ → MasterCallWithPart
 masterCallAt t cs i = masterCallIn t (getD cs i noMasterCall)
 
 module _ (limit : ℕ) (heard : Heard) (put : List ℕ) (x : Rows) where
-  first-steps : (cs : List DeviceCall) (i : ℕ) (ss : List Slot) → stepsFrom limit heard put (deviceCallAt 0 cs) x i ss ≡ deviceTicks limit heard (devicesFrom x i ss) (deviceCallsFrom put cs i (heres ss))
+  first-steps : (cs : List DeviceCallWithPart) (i : ℕ) (ss : List Slot) → stepsFrom limit heard put (deviceCallAt 0 cs) x i ss ≡ deviceTicks limit heard (devicesFrom x i ss) (deviceCallsFrom put cs i (heres ss))
   unfolding stepsFrom deviceTicks devicesFrom deviceCallsFrom if_then_else_
   first-steps cs i [] = refl
   first-steps cs i (s ∷ ss) = by (s .here) (first-steps cs (suc i) ss)
@@ -53,7 +54,7 @@ module _ (limit : ℕ) (heard : Heard) (put : List ℕ) (x : Rows) where
       by true e = ap (λ (l : List DeviceStep). deviceTick limit (deviceAt x i (s .device)) heard (deviceCallOf put (getD cs i noDeviceCall)) ∷ l) e
       by false e = e
 
-  later-steps : (t : ℕ) (cs : List DeviceCall) (i : ℕ) (ss : List Slot) → stepsFrom limit heard put (deviceCallAt (suc t) cs) x i ss ≡ deviceTicks limit heard (devicesFrom x i ss) []
+  later-steps : (t : ℕ) (cs : List DeviceCallWithPart) (i : ℕ) (ss : List Slot) → stepsFrom limit heard put (deviceCallAt (suc t) cs) x i ss ≡ deviceTicks limit heard (devicesFrom x i ss) []
   unfolding stepsFrom deviceTicks devicesFrom if_then_else_
   later-steps t cs i [] = refl
   later-steps t cs i (s ∷ ss) = by (s .here) (later-steps t cs (suc i) ss)
@@ -65,19 +66,19 @@ module _ (limit : ℕ) (heard : Heard) (put : List ℕ) (x : Rows) where
       by false e = e
 
 -- the calls of the tick with this number
-abbrev pub callsIn : ℕ → List ℕ → List Bool → List MasterCall → List DeviceCall → L.Calls
+abbrev pub callsIn : ℕ → List ℕ → List Bool → List MasterCallWithPart → List DeviceCallWithPart → L.Calls
 callsIn zero put hs ms ds = callsOf put hs (callsWith ms ds)
 callsIn (suc t) put hs ms ds = uncalled
 
 -- what all do in it
-abbrev pub stepIn : ℕ → ℕ → List ℕ → List MasterCall → List DeviceCall → Heard → Rows → List Master → List Slot → LinkStep
+abbrev pub stepIn : ℕ → ℕ → List ℕ → List MasterCallWithPart → List DeviceCallWithPart → Heard → Rows → List Master → List Slot → LinkStep
 stepIn limit t put ms-calls ds-calls heard x ms ss = record {
   for-primary = stepOf limit heard put (masterCallAt t ms-calls) (record { masters = ms; rows = x; row = []; dids = []; told = false; line = Silence }) 0;
   for-secondary = stepOf limit heard put (masterCallAt t ms-calls) (record { masters = ms; rows = x; row = []; dids = []; told = false; line = Silence }) 1;
   for-devices = stepsFrom limit heard put (deviceCallAt t ds-calls) x 0 ss;
 }
 
-step-is : (limit t : ℕ) (put : List ℕ) (ms-calls : List MasterCall) (ds-calls : List DeviceCall) (heard : Heard) (x : Rows) (ms : List Master) (ss : List Slot)
+step-is : (limit t : ℕ) (put : List ℕ) (ms-calls : List MasterCallWithPart) (ds-calls : List DeviceCallWithPart) (heard : Heard) (x : Rows) (ms : List Master) (ss : List Slot)
     → stepIn limit t put ms-calls ds-calls heard x ms ss ≡ linkTick limit (linkOf (linkWith ms ss heard) x) (callsIn t put (heres ss) ms-calls ds-calls)
 unfolding linkTick if_then_else_
 step-is limit zero put ms-calls ds-calls heard x ms ss = λ n. record {
@@ -97,7 +98,7 @@ unfolding callsFirst
 calls-length zero c = refl
 calls-length (suc n) c = ap suc (length-replicate n uncalled)
 
-calls-left : (t n : ℕ) (put : List ℕ) (hs : List Bool) (ms : List MasterCall) (ds : List DeviceCall) → t < n
+calls-left : (t n : ℕ) (put : List ℕ) (hs : List Bool) (ms : List MasterCallWithPart) (ds : List DeviceCallWithPart) → t < n
     → drop t (callsFirst n (callsOf put hs (callsWith ms ds))) ≡ callsIn t put hs ms ds ∷ drop (suc t) (callsFirst n (callsOf put hs (callsWith ms ds)))
 unfolding callsFirst
 calls-left t zero put hs ms ds h = absurd (omega arith)
@@ -177,7 +178,7 @@ standing ms ss line frames bytes contents sent mdids ddids told = record { maste
 abbrev pub linkNow : Stand → L.Link
 linkNow a = linkOf (linkWith (a .masters) (a .slots) (a .line)) (a .rows)
 
-module _ (limit : ℕ) (put : List ℕ) (most : ℕ) (ms-calls : List MasterCall) (ds-calls : List DeviceCall) where
+module _ (limit : ℕ) (put : List ℕ) (most : ℕ) (ms-calls : List MasterCallWithPart) (ds-calls : List DeviceCallWithPart) where
   abbrev pub leftOf : Stand → Stand → ℕ → List LinkStep
   leftOf a b t = if b .told then [] else upToTold (run limit (linkNow b) (drop t (callsFirst (atMost most) (callsOf put (heres (a .slots)) (callsWith ms-calls ds-calls)))))
 
@@ -201,6 +202,7 @@ module _ (limit : ℕ) (put : List ℕ) (most : ℕ) (ms-calls : List MasterCall
     pub count-is : length steps ≡ t
     pub link-is : linkNow b ≡ linkBehind (linkNow a) steps
     pub flags : heres (b .slots) ≡ heres (a .slots)
+    pub absent-stay : (i : ℕ) → getD (heres (a .slots)) i true ≡ false → SlotStays i (a .slots) (a .rows) (b .slots) (b .rows)
     pub sent-is : b .sent ≡ codesOf (heres (a .slots)) steps ++ drop t (a .sent)
     pub bytes-sent : EachTick SendBytes steps
     pub masters-are : b .masters-did ≡ mastersDid steps (replicate 2 masterNothing)
@@ -226,6 +228,7 @@ module _ (limit : ℕ) (put : List ℕ) (most : ℕ) (ms-calls : List MasterCall
     count-is = refl;
     link-is = refl;
     flags = refl;
+    absent-stay = λ i h. record { slot = λ x. refl; frame = refl; bytes = refl; contents = refl };
     sent-is = refl;
     bytes-sent = no-tick;
     masters-are = p;
@@ -240,10 +243,10 @@ module _ (limit : ℕ) (put : List ℕ) (most : ℕ) (ms-calls : List MasterCall
     abbrev heardAt : Heard
     heardAt = b .line
 
-    abbrev dcall : ℕ → DeviceCall
+    abbrev dcall : ℕ → DeviceCallWithPart
     dcall = deviceCallAt t ds-calls
 
-    abbrev mcall : ℕ → MasterCall
+    abbrev mcall : ℕ → MasterCallWithPart
     mcall = masterCallAt t ms-calls
 
     abbrev step : LinkStep
@@ -255,14 +258,14 @@ module _ (limit : ℕ) (put : List ℕ) (most : ℕ) (ms-calls : List MasterCall
         ∙ ap (λ (hs : List Bool). linkTick limit (linkNow b) (callsIn t put hs ms-calls ds-calls)) (v .flags)
 
     -- what the ticks left are, with this one in front
-    left-is : leftOf a b t ≡ step ∷ (if tells step then [] else upToTold (run limit (linkAfter step) (leftCalls a (suc t))))
+    left-is : leftOf a b t ≡ step ∷ (if aHostTold step then [] else upToTold (run limit (linkAfter step) (leftCalls a (suc t))))
     unfolding run upToTold
     left-is =
         if-is-false (b .told) [] _ calm
         ∙ ap (λ (cs : List L.Calls). upToTold (run limit (linkNow b) cs)) (calls-left t (atMost most) put (heres (a .slots)) ms-calls ds-calls goes)
-        ∙ ap (λ (s : LinkStep). s ∷ (if tells s then [] else upToTold (run limit (linkAfter s) (leftCalls a (suc t))))) (sym step-turns)
+        ∙ ap (λ (s : LinkStep). s ∷ (if aHostTold s then [] else upToTold (run limit (linkAfter s) (leftCalls a (suc t))))) (sym step-turns)
 
-    module _ (row : List ℕ) (d : At) (m : MastersAt) (blank : row ≡ replicate 8 256)
+    module _ (row : List ℕ) (d : At) (m : MastersAt) (blank : row ≡ replicate 8 0)
         (w : Ticking limit (b .line) put dcall (record { slots = b .slots; rows = b .rows; row = row; dids = b .devices-did; told = b .told; line = Silence }) d 0)
         (z : MastersTicking limit (b .line) put mcall (record { masters = b .masters; rows = d .rows; row = d .row; dids = b .masters-did; told = d .told; line = d .line }) m 0) where
       abbrev before-masters : MastersAt
@@ -292,18 +295,18 @@ module _ (limit : ℕ) (put : List ℕ) (most : ℕ) (ms-calls : List MasterCall
         line = (z .line-is ∙ (λ i. joins (primary-is i .sent) (joins (secondary-is i .sent) (w .line-is i)))) n;
       }
 
-      tells-is : m .told ≡ tells step
+      tells-is : m .told ≡ aHostTold step
       unfolding toldFrom
       tells-is =
           z .told-is
-          ∙ (λ i. masterTells (primary-is i .told) (masterTells (secondary-is i .told) (w .told-is i)))
-          ∙ ap (λ (x : Bool). masterTells (step .for-primary .told) (masterTells (step .for-secondary .told) (devicesTell (step .for-devices) x))) calm
+          ∙ (λ i. masterHostTold (primary-is i .told) (masterHostTold (secondary-is i .told) (w .told-is i)))
+          ∙ ap (λ (x : Bool). masterHostTold (step .for-primary .told) (masterHostTold (step .for-secondary .told) (devicesTell (step .for-devices) x))) calm
 
       row-is : m .row ≡ codes (heres (a .slots)) step
       row-is =
-          two-in-front (m .row) _ _ 256 _ (omega (arith, z .row-eight))
-          (z .done 0 (omega arith) (omega arith) .code-is ∙ ap (λ (s : MasterStep). codeOf (s .sent)) primary-is)
-          (z .done 1 (omega arith) (omega arith) .code-is ∙ ap (λ (s : MasterStep). codeOf (s .sent)) secondary-is)
+          two-in-front (m .row) _ _ 0 _ (omega (arith, z .row-eight))
+          (z .done 0 (omega arith) (omega arith) .code-is ∙ ap (λ (s : MasterStep). sentNumber (s .sent)) primary-is)
+          (z .done 1 (omega arith) (omega arith) .code-is ∙ ap (λ (s : MasterStep). sentNumber (s .sent)) secondary-is)
           (z .row-stays ∙ w .codes-are ∙ (λ i. onHere deviceCode (v .flags i) (step .for-devices) (drop 2 (blank i))))
 
       send-bytes : SendBytes step
@@ -321,6 +324,17 @@ module _ (limit : ℕ) (put : List ℕ) (most : ℕ) (ms-calls : List MasterCall
 
       devices-do : d .dids ≡ devicesDo (heres (a .slots)) step (b .devices-did)
       devices-do = w .dids-are ∙ ap (λ (hs : List Bool). onHere deviceDid hs (step .for-devices) (b .devices-did)) (v .flags)
+
+      stays-on : (i : ℕ) → getD (heres (a .slots)) i true ≡ false → SlotStays i (a .slots) (a .rows) (d .slots) (m .rows)
+      stays-on i gone =
+          let old = v .absent-stay i gone in
+          let own = w .absent-stay i (ap (λ (hs : List Bool). getD hs i true) (v .flags) ∙ gone) in
+          record {
+            slot = λ x. own .slot x ∙ old .slot x;
+            frame = z .frames-stay i ∙ own .frame ∙ old .frame;
+            bytes = z .bytes-stay i ∙ own .bytes ∙ old .bytes;
+            contents = ap (λ (l : List (List ℕ)). getD l i []) (z .contents-stay) ∙ own .contents ∙ old .contents;
+          }
 
       pub going-more : t < 64 → Going a next (t + 1)
       going-more below = record {
@@ -344,6 +358,7 @@ module _ (limit : ℕ) (put : List ℕ) (most : ℕ) (ms-calls : List MasterCall
         count-is = length-append (v .steps) (step ∷ []) ∙ ap (λ (n : ℕ). n + 1) (v .count-is);
         link-is = link-after ∙ sym (behind-more (linkNow a) (v .steps) step);
         flags = w .flags ∙ v .flags;
+        absent-stay = stays-on;
         sent-is =
             (λ i. set (v .sent-is i) t (row-is i))
             ∙ row-more (codesOf (heres (a .slots)) (v .steps)) (a .sent) (codes (heres (a .slots)) step) t (codes-length (heres (a .slots)) (v .steps) ∙ v .count-is) (omega (arith, v .sent-all, below))
@@ -389,6 +404,7 @@ module _ (limit : ℕ) (put : List ℕ) (most : ℕ) (ms-calls : List MasterCall
       record {
         link-is = v .link-is ∙ ap (linkBehind (linkNow a)) e;
         slots = v .flags;
+        absent-stay = v .absent-stay;
         count-is = sym (v .count-is) ∙ ap length e;
         sent-is = v .sent-is ∙ (λ i. codesOf (heres (a .slots)) (e i) ++ drop ((sym (v .count-is) ∙ ap length e) i) (a .sent));
         bytes-sent = subst (EachTick SendBytes) e (v .bytes-sent);
@@ -429,7 +445,7 @@ module _ (limit : ℕ) (put : List ℕ) (most : ℕ) (ms-calls : List MasterCall
       by false k = goes-within t told e
 
   -- a turn of the loop, by the two loops in it
-  pub going-on : (a b : Stand) (t : ℕ) (g : Bool) (row : List ℕ) (d : At) (m : MastersAt) (n k : ℕ) → Going a b t → g ≡ goesOn t most (b .told) → g ≡ true → row ≡ replicate 8 256
+  pub going-on : (a b : Stand) (t : ℕ) (g : Bool) (row : List ℕ) (d : At) (m : MastersAt) (n k : ℕ) → Going a b t → g ≡ goesOn t most (b .told) → g ≡ true → row ≡ replicate 8 0
       → Ticking limit (b .line) put (deviceCallAt t ds-calls) (record { slots = b .slots; rows = b .rows; row = row; dids = b .devices-did; told = b .told; line = Silence }) d n → n ≤ 0
       → MastersTicking limit (b .line) put (masterCallAt t ms-calls) (record { masters = b .masters; rows = d .rows; row = d .row; dids = b .masters-did; told = d .told; line = d .line }) m k → k ≤ 0
       → Going a (record { masters = m .masters; slots = d .slots; line = m .line; rows = m .rows; sent = set (b .sent) t (m .row); masters-did = m .dids; devices-did = d .dids; told = m .told }) (t + 1)
@@ -456,10 +472,10 @@ module _ (limit : ℕ) (put : List ℕ) (most : ℕ) (ms-calls : List MasterCall
       going-none (standing ms ss line frames bytes contents sent (replicate 2 x) (replicate 6 y) false) m s f b z e r g (ap (replicate 2) p) (ap (replicate 6) q) refl
 
   pub devices-first : (a b : Stand) (t : ℕ) → Going a b t
-      → Ticking limit (b .line) put (deviceCallAt t ds-calls) (record { slots = b .slots; rows = b .rows; row = replicate 8 256; dids = b .devices-did; told = b .told; line = Silence })
-      (record { slots = b .slots; rows = b .rows; row = replicate 8 256; dids = b .devices-did; told = b .told; line = Silence }) 6
+      → Ticking limit (b .line) put (deviceCallAt t ds-calls) (record { slots = b .slots; rows = b .rows; row = replicate 8 0; dids = b .devices-did; told = b .told; line = Silence })
+      (record { slots = b .slots; rows = b .rows; row = replicate 8 0; dids = b .devices-did; told = b .told; line = Silence }) 6
   devices-first a b t v =
-      ticking-none limit (b .line) put (deviceCallAt t ds-calls) (record { slots = b .slots; rows = b .rows; row = replicate 8 256; dids = b .devices-did; told = b .told; line = Silence })
+      ticking-none limit (b .line) put (deviceCallAt t ds-calls) (record { slots = b .slots; rows = b .rows; row = replicate 8 0; dids = b .devices-did; told = b .told; line = Silence })
       (v .six) (v .frames-eight) (v .bytes-eight) (v .contents-six) refl (v .dids-six) refl
 
   pub masters-first : (a b : Stand) (t : ℕ) (x d : At) (n : ℕ) → Going a b t → Ticking limit (b .line) put (deviceCallAt t ds-calls) x d n
@@ -467,17 +483,17 @@ module _ (limit : ℕ) (put : List ℕ) (most : ℕ) (ms-calls : List MasterCall
       (record { masters = b .masters; rows = d .rows; row = d .row; dids = b .masters-did; told = d .told; line = d .line }) 2
   masters-first a b t x d n v w =
       masters-none limit (b .line) put (masterCallAt t ms-calls) (record { masters = b .masters; rows = d .rows; row = d .row; dids = b .masters-did; told = d .told; line = d .line })
-      (v .two) (w .frames-eight) (w .bytes-eight) (w .row-eight) (v .dids-two) (λ j h. w .row-left j 256 (omega (arith, h)) ∙ w .blank j (omega (arith, h)))
+      (v .two) (w .frames-eight) (w .bytes-eight) (w .row-eight) (v .dids-two) (λ j h. w .row-left j 0 (omega (arith, h)) ∙ w .blank j (omega (arith, h)))
 
   -- one tick less is left
   pub fewer : (t : ℕ) (told g : Bool) → g ≡ goesOn t most told → g ≡ true → 64 - (t + 1) < 64 - t
   fewer t told g e p = omega (arith, goes-within t told (sym e ∙ p))
 
 -- a call of this tick, whatever would stand behind the last
-pub device-call-is : (t : ℕ) (cs : List DeviceCall) (i : ℕ) (d c : DeviceCall) → c ≡ deviceCallIn t (getD cs i d) → length cs ≡ 6 → i < 6 → c ≡ deviceCallAt t cs i
+pub device-call-is : (t : ℕ) (cs : List DeviceCallWithPart) (i : ℕ) (d c : DeviceCallWithPart) → c ≡ deviceCallIn t (getD cs i d) → length cs ≡ 6 → i < 6 → c ≡ deviceCallAt t cs i
 device-call-is t cs i d c p e h = p ∙ ap (deviceCallIn t) (any-default cs i d noDeviceCall (omega (arith, e, h)))
 
-pub master-call-is : (t : ℕ) (cs : List MasterCall) (i : ℕ) (d c : MasterCall) → c ≡ masterCallIn t (getD cs i d) → length cs ≡ 2 → i < 2 → c ≡ masterCallAt t cs i
+pub master-call-is : (t : ℕ) (cs : List MasterCallWithPart) (i : ℕ) (d c : MasterCallWithPart) → c ≡ masterCallIn t (getD cs i d) → length cs ≡ 2 → i < 2 → c ≡ masterCallAt t cs i
 master-call-is t cs i d c p e h = p ∙ ap (masterCallIn t) (any-default cs i d noMasterCall (omega (arith, e, h)))
 
 -- there is a row for this tick

@@ -11,22 +11,22 @@ use Rattle.line.specs.Reader as R
 use Rattle.line.specs.declared.Event.the-variants.{Nothing}
 use Rattle.line.specs.declared.Heard.{Heard}
 use Rattle.line.specs.declared.Receiver.{Receiver}
-use Rattle.party.specs.Calls.{resultOf}
 use Rattle.turns.specs.Link.{MasterSide, MasterStep, joins, masterTick}
 use Rattle.turns.specs.declared.Master.{Master}
 use Rattle.master.specs.Tick as M
 use Rattle.master.specs.declared.MasterTicked.{MasterTicked}
 use Rattle.device_tick.specs.Tick as D
-use Rattle.link_parties.specs.Stands.{Rows, rowsOf, masterAt, anyMaster, deviceAt, ifHere, devicesFrom, masterCallOf, codeOf}
+use Rattle.party.specs.Numbers.{sentNumber}
+use Rattle.link_parties.specs.Stands.{Rows, rowsOf, masterAt, anyMaster, deviceAt, ifHere, devicesFrom, masterCallOf}
 use Rattle.link_parties.specs.Part.{dataOf}
 use Rattle.link_parties.specs.Ways.{masterWay, countedMaster, heardMaster}
 use Rattle.link_parties.proofs.Ways.{quietMaster, withMaster, master-counts, master-hears}
-use Rattle.link_parties.specs.declared.MasterCall.{MasterCall}
+use Rattle.link_parties.specs.declared.MasterCallWithPart.{MasterCallWithPart}
 use Rattle.link_parties.specs.declared.MasterDid.{MasterDid}
 use Rattle.link_parties.specs.declared.Slot.{Slot}
 use Rattle.link_parties.specs.declared.Way.{Way}
 use Rattle.link_parties.specs.declared.Way.the-variants.{Counts, Hears}
-use Rattle.link_ticks.specs.Ticks.{masterTells, SendsByte, sends-none, CodeIs, masterDidBy, masterDid, masterNothing}
+use Rattle.link_ticks.specs.Ticks.{masterHostTold, SendsByte, sends-none, CodeIs, masterDidBy, masterDid, masterNothing}
 use Rattle.link_ticks.proofs.Lists.{Same, same-set, any-default}
 
 -- where the loop stands
@@ -62,7 +62,7 @@ from P zero (suc j) h p f = f (omega arith)
 from P (suc i) zero h p f = absurd (omega arith)
 from P (suc i) (suc j) h p f = from (λ (k : ℕ). P (suc k)) i j (omega arith) p (λ g. f (omega arith))
 
-module _ (limit : ℕ) (heard : Heard) (put : List ℕ) (call : ℕ → MasterCall) where
+module _ (limit : ℕ) (heard : Heard) (put : List ℕ) (call : ℕ → MasterCallWithPart) where
   abbrev pub stepWith : Rows → ℕ → Master → MasterStep
   stepWith x i m = masterTick limit (masterAt x i m) heard (masterCallOf put (call i))
 
@@ -75,13 +75,13 @@ module _ (limit : ℕ) (heard : Heard) (put : List ℕ) (call : ℕ → MasterCa
   lineFrom a (suc (suc n)) = a .line
 
   unfoldable pub toldFrom : MastersAt → ℕ → Bool
-  toldFrom a zero = masterTells (stepOf a 0 .told) (masterTells (stepOf a 1 .told) (a .told))
-  toldFrom a (suc zero) = masterTells (stepOf a 1 .told) (a .told)
+  toldFrom a zero = masterHostTold (stepOf a 0 .told) (masterHostTold (stepOf a 1 .told) (a .told))
+  toldFrom a (suc zero) = masterHostTold (stepOf a 1 .told) (a .told)
   toldFrom a (suc (suc n)) = a .told
 
   pub record Done (a b : MastersAt) (j : ℕ) : Type 0 where
     pub side-is : masterAt (b .rows) j (getD (b .masters) j anyMaster) ≡ stepOf a j .side
-    pub code-is : getD (b .row) j 256 ≡ codeOf (stepOf a j .sent)
+    pub code-is : getD (b .row) j 0 ≡ sentNumber (stepOf a j .sent)
     pub byte-sent : SendsByte (stepOf a j .sent)
     pub did-is : getD (b .dids) j masterNothing ≡ masterDid (stepOf a j) (getD (a .dids) j masterNothing)
 
@@ -92,9 +92,11 @@ module _ (limit : ℕ) (heard : Heard) (put : List ℕ) (call : ℕ → MasterCa
     pub row-eight : length (b .row) ≡ 8
     pub dids-two : length (b .dids) ≡ 2
     pub within : n ≤ 2
-    pub blank : (j : ℕ) → j < 2 → getD (a .row) j 256 ≡ 256
+    pub blank : (j : ℕ) → j < 2 → getD (a .row) j 0 ≡ 0
     pub done : (j : ℕ) → n ≤ j → j < 2 → Done a b j
     pub contents-stay : b .rows .contents ≡ a .rows .contents
+    pub frames-stay : (j : ℕ) → getD (b .rows .frames) (j + 2) [] ≡ getD (a .rows .frames) (j + 2) []
+    pub bytes-stay : (j : ℕ) → getD (b .rows .bytes) (j + 2) [] ≡ getD (a .rows .bytes) (j + 2) []
     pub devices-stay : (ss : List Slot) → devicesFrom (b .rows) 0 ss ≡ devicesFrom (a .rows) 0 ss
     pub row-stays : drop 2 (b .row) ≡ drop 2 (a .row)
     pub line-is : b .line ≡ lineFrom a n
@@ -105,7 +107,7 @@ module _ (limit : ℕ) (heard : Heard) (put : List ℕ) (call : ℕ → MasterCa
     pub row-left : Same n (b .row) (a .row)
     pub dids-left : Same n (b .dids) (a .dids)
 
-  pub masters-none : (a : MastersAt) → length (a .masters) ≡ 2 → length (a .rows .frames) ≡ 8 → length (a .rows .bytes) ≡ 8 → length (a .row) ≡ 8 → length (a .dids) ≡ 2 → ((j : ℕ) → j < 2 → getD (a .row) j 256 ≡ 256) → MastersTicking a a 2
+  pub masters-none : (a : MastersAt) → length (a .masters) ≡ 2 → length (a .rows .frames) ≡ 8 → length (a .rows .bytes) ≡ 8 → length (a .row) ≡ 8 → length (a .dids) ≡ 2 → ((j : ℕ) → j < 2 → getD (a .row) j 0 ≡ 0) → MastersTicking a a 2
   unfolding lineFrom toldFrom
   masters-none a m f y r d w = record {
     two = m;
@@ -117,6 +119,8 @@ module _ (limit : ℕ) (heard : Heard) (put : List ℕ) (call : ℕ → MasterCa
     blank = w;
     done = λ j h k. absurd (omega (arith, h, k));
     contents-stay = refl;
+    frames-stay = λ j. refl;
+    bytes-stay = λ j. refl;
     devices-stay = λ ss. refl;
     row-stays = refl;
     line-is = refl;
@@ -134,7 +138,7 @@ module _ (limit : ℕ) (heard : Heard) (put : List ℕ) (call : ℕ → MasterCa
   one-line a (suc zero) h = refl
   one-line a (suc (suc i)) h = absurd (omega arith)
 
-  one-told : (a : MastersAt) (i : ℕ) → i < 2 → masterTells (stepOf a i .told) (toldFrom a (suc i)) ≡ toldFrom a i
+  one-told : (a : MastersAt) (i : ℕ) → i < 2 → masterHostTold (stepOf a i .told) (toldFrom a (suc i)) ≡ toldFrom a i
   unfolding toldFrom
   one-told a zero h = refl
   one-told a (suc zero) h = refl
@@ -151,8 +155,8 @@ module _ (limit : ℕ) (heard : Heard) (put : List ℕ) (call : ℕ → MasterCa
         heard (masterCallOf put (call i))
 
     pub acts : (e : Master) (f y : List ℕ) (c : ℕ) (q : MasterDid) (told : Bool) (line : Heard) (s : MasterStep)
-        → s ≡ stepOf b i → M.sideOf e f y ≡ s .side → c ≡ codeOf (s .sent) → SendsByte (s .sent) → q ≡ masterDid s (getD (b .dids) i masterNothing)
-        → told ≡ masterTells (s .told) (b .told) → line ≡ joins (s .sent) (b .line)
+        → s ≡ stepOf b i → M.sideOf e f y ≡ s .side → c ≡ sentNumber (s .sent) → SendsByte (s .sent) → q ≡ masterDid s (getD (b .dids) i masterNothing)
+        → told ≡ masterHostTold (s .told) (b .told) → line ≡ joins (s .sent) (b .line)
         → MastersTicking a (record { masters = set (b .masters) i e; rows = kept (b .rows) i f y; row = set (b .row) i c; dids = set (b .dids) i q; told = told; line = line }) i
     acts e f y c q told line s p side-is code-is byte did-is told-is line-is =
         let x : MastersAt = record { masters = set (b .masters) i e; rows = kept (b .rows) i f y; row = set (b .row) i c; dids = set (b .dids) i q; told = told; line = line } in
@@ -165,7 +169,7 @@ module _ (limit : ℕ) (heard : Heard) (put : List ℕ) (call : ℕ → MasterCa
               (getD-set-same (b .rows .bytes) i y [] (omega (arith, v .bytes-eight, in-two)) n))
               ∙ side-is
               ∙ ap (λ (t : MasterStep). t .side) step-is;
-          code-is = getD-set-same (b .row) i c 256 (omega (arith, v .row-eight, in-two)) ∙ code-is ∙ ap (λ (t : MasterStep). codeOf (t .sent)) step-is;
+          code-is = getD-set-same (b .row) i c 0 (omega (arith, v .row-eight, in-two)) ∙ code-is ∙ ap (λ (t : MasterStep). sentNumber (t .sent)) step-is;
           byte-sent = subst (λ (t : MasterStep). SendsByte (t .sent)) step-is byte;
           did-is =
               getD-set-same (b .dids) i q masterNothing (omega (arith, v .dids-two, in-two))
@@ -188,15 +192,17 @@ module _ (limit : ℕ) (heard : Heard) (put : List ℕ) (call : ℕ → MasterCa
                 (getD-set-other (b .rows .frames) i j f [] (λ r. omega (arith, r, g)) n)
                 (getD-set-other (b .rows .bytes) i j y [] (λ r. omega (arith, r, g)) n))
                 ∙ other .side-is;
-            code-is = getD-set-other (b .row) i j c 256 (λ r. omega (arith, r, g)) ∙ other .code-is;
+            code-is = getD-set-other (b .row) i j c 0 (λ r. omega (arith, r, g)) ∙ other .code-is;
             byte-sent = other .byte-sent;
             did-is = getD-set-other (b .dids) i j q masterNothing (λ r. omega (arith, r, g)) ∙ other .did-is;
           });
           contents-stay = v .contents-stay;
+          frames-stay = λ j. getD-set-other (b .rows .frames) i (j + 2) f [] (λ q. omega (arith, q, in-two)) ∙ v .frames-stay j;
+          bytes-stay = λ j. getD-set-other (b .rows .bytes) i (j + 2) y [] (λ q. omega (arith, q, in-two)) ∙ v .bytes-stay j;
           devices-stay = λ ss. above (b .rows) i 0 f y ss (omega (arith, in-two)) ∙ v .devices-stay ss;
           row-stays = drop-set-lt 2 (b .row) i c in-two ∙ v .row-stays;
           line-is = line-is ∙ ap (λ (t : MasterStep). joins (t .sent) (b .line)) step-is ∙ ap (joins (stepOf a i .sent)) (v .line-is) ∙ one-line a i in-two;
-          told-is = told-is ∙ ap (λ (t : MasterStep). masterTells (t .told) (b .told)) step-is ∙ ap (masterTells (stepOf a i .told)) (v .told-is) ∙ one-told a i in-two;
+          told-is = told-is ∙ ap (λ (t : MasterStep). masterHostTold (t .told) (b .told)) step-is ∙ ap (masterHostTold (stepOf a i .told)) (v .told-is) ∙ one-told a i in-two;
           masters-left = same-set (suc i) i i (b .masters) (a .masters) e (v .masters-left) (omega arith) (omega arith);
           frames-left = same-set (suc i) i i (b .rows .frames) (a .rows .frames) f (v .frames-left) (omega arith) (omega arith);
           bytes-left = same-set (suc i) i i (b .rows .bytes) (a .rows .bytes) y (v .bytes-left) (omega arith) (omega arith);
@@ -209,10 +215,10 @@ module _ (limit : ℕ) (heard : Heard) (put : List ℕ) (call : ℕ → MasterCa
         → MastersTicking a (record { masters = set (b .masters) i e; rows = rowsOf (b .rows .frames) (set (b .rows .bytes) i y) (b .rows .contents); row = b .row; dids = b .dids; told = b .told; line = b .line }) i
     quiet e y p =
         let f = getD (b .rows .frames) i [] in
-        let c : set (b .row) i 256 ≡ b .row = ap (set (b .row) i) (sym (v .row-left i 256 (omega arith) ∙ v .blank i in-two)) ∙ set-getD (b .row) i 256 in
+        let c : set (b .row) i 0 ≡ b .row = ap (set (b .row) i) (sym (v .row-left i 0 (omega arith) ∙ v .blank i in-two)) ∙ set-getD (b .row) i 0 in
         subst (λ (x : MastersAt). MastersTicking a x i)
         (λ n. record { masters = set (b .masters) i e; rows = rowsOf (set-getD (b .rows .frames) i [] n) (set (b .rows .bytes) i y) (b .rows .contents); row = c n; dids = set-getD (b .dids) i masterNothing n; told = b .told; line = b .line })
-        (acts e f y 256 (getD (b .dids) i masterNothing) (b .told) (b .line) (quietMaster (M.sideOf e f y)) p refl refl sends-none refl refl refl)
+        (acts e f y 0 (getD (b .dids) i masterNothing) (b .told) (b .line) (quietMaster (M.sideOf e f y)) p refl refl sends-none refl refl refl)
 
     -- and only its state
     pub still : (e : Master) → quietMaster (M.sideOf e (getD (b .rows .frames) i []) (getD (b .rows .bytes) i [])) ≡ stepOf b i
@@ -224,7 +230,7 @@ module _ (limit : ℕ) (heard : Heard) (put : List ℕ) (call : ℕ → MasterCa
 
   -- ---- a turn of the loop: the master with number n - 1
 
-  module _ (a b : MastersAt) (n : ℕ) (d : Master) (v : MastersTicking a b n) (h : 0 < n) (c : MasterCall) (own : c ≡ call (n - 1)) where
+  module _ (a b : MastersAt) (n : ℕ) (d : Master) (v : MastersTicking a b n) (h : 0 < n) (c : MasterCallWithPart) (own : c ≡ call (n - 1)) where
     at-last : MastersTicking a b (suc (n - 1))
     at-last = let k : n ≡ suc (n - 1) = omega arith in subst (MastersTicking a b) k v
 
@@ -255,9 +261,9 @@ module _ (limit : ℕ) (heard : Heard) (put : List ℕ) (call : ℕ → MasterCa
 
     pub master-acted : (r : MasterTicked) (f y : List ℕ) (x : ℕ) (q : MasterDid) (u : MasterDid) (told : Bool) (line : Heard)
         → M.MasterTickIs limit (getD (b .masters) (n - 1) d) heard (c .call) (dataOf (c .part) put) (getD (b .rows .frames) (n - 1) []) (getD (b .rows .bytes) (n - 1) []) r f y
-        → CodeIs (r .sent) x → q ≡ masterDidBy (getD (b .dids) (n - 1) u) (r .told) (resultOf (r .result))
-        → told ≡ masterTells (r .told) (b .told) → line ≡ joins (r .sent) (b .line)
+        → CodeIs (r .sent) x → q ≡ masterDidBy (getD (b .dids) (n - 1) u) (r .told) (r .result)
+        → told ≡ masterHostTold (r .told) (b .told) → line ≡ joins (r .sent) (b .line)
         → MastersTicking a (record { masters = set (b .masters) (n - 1) (r .master); rows = kept (b .rows) (n - 1) f y; row = set (b .row) (n - 1) x; dids = set (b .dids) (n - 1) q; told = told; line = line }) (n - 1)
     master-acted r f y x q u told line p x-is q-is told-is line-is =
         acts a b (n - 1) at-last (r .master) f y x q told line (M.stepOf r f y) (p .step ∙ as-called _ same) refl (x-is .is) (x-is .byte)
-        (q-is ∙ ap (λ (o : MasterDid). masterDidBy o (r .told) (resultOf (r .result))) (any-default (b .dids) (n - 1) u masterNothing (omega (arith, v .dids-two, v .within, h)))) told-is line-is
+        (q-is ∙ ap (λ (o : MasterDid). masterDidBy o (r .told) (r .result)) (any-default (b .dids) (n - 1) u masterNothing (omega (arith, v .dids-two, v .within, h)))) told-is line-is

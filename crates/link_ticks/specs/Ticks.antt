@@ -1,6 +1,6 @@
 -- How the code stands for what is to be believed.
 -- Ticks of a link: one with calls, and more without calls, up to one in which a host is told something. They are a run of crates/turns/specs/Link.antt.
-use Prim.Native.Nat.{ℕ, zero, suc, _<_}
+use Prim.Native.Nat.{ℕ, zero, suc, _+_, _<_}
 use mathlib.Core.Bool.{Bool, true, false}
 use mathlib.Core.List.{List, [], _∷_, _++_}
 use mathlib.Core.Path.{_≡_}
@@ -8,52 +8,52 @@ use lib.ListN.{length, drop, getD, replicate}
 use Rattle.base.specs.Choice.{if_then_else_, _<?_}
 use Rattle.base.specs.Lent.{Lent, before, after}
 use Rattle.line.specs.declared.Heard.{Heard}
-use Rattle.turns.specs.Party.{CallResult, none, was-taken, was-refused}
 use Rattle.turns.specs.Link.{MasterStep, DeviceStep, LinkStep, linkAfter, run}
 use Rattle.turns.specs.Link as L
 use Rattle.turns.specs.Run.{EachTick}
+use Rattle.turns.specs.declared.CallResult.{CallResult}
 use Rattle.turns.specs.declared.DeviceTold.{DeviceTold}
 use Rattle.turns.specs.declared.Master.{Master}
 use Rattle.turns.specs.declared.MasterTold.{MasterTold}
 use Rattle.turns.specs.declared.Sent.{Sent}
 use Rattle.turns.specs.declared.Sent.the-variants.{Silent, Character}
-use Rattle.link_parties.specs.Stands.{Rows, rowsOf, linkOf, heres, callsOf, noMasterCall, noDeviceCall, uncalled, codeOf}
-use Rattle.link_parties.specs.declared.CallOutcome.{CallOutcome}
+use Rattle.party.specs.Numbers.{sentNumber}
+use Rattle.link_parties.specs.Stands.{Rows, rowsOf, linkOf, heres, callsOf, noMasterCall, noDeviceCall, uncalled}
 use Rattle.link_parties.specs.declared.Calls.{Calls}
-use Rattle.link_parties.specs.declared.DeviceCall.{DeviceCall}
+use Rattle.link_parties.specs.declared.DeviceCallWithPart.{DeviceCallWithPart}
 use Rattle.link_parties.specs.declared.DeviceDid.{DeviceDid}
 use Rattle.link_parties.specs.declared.Link.{Link}
-use Rattle.link_parties.specs.declared.MasterCall.{MasterCall}
+use Rattle.link_parties.specs.declared.MasterCallWithPart.{MasterCallWithPart}
 use Rattle.link_parties.specs.declared.MasterDid.{MasterDid}
 use Rattle.link_parties.specs.declared.Slot.{Slot}
 use Rattle.link_parties.specs.declared.Ticked.{Ticked}
 
 -- ---- whether a host is told something in a tick
 
-abbrev pub masterTells : MasterTold → Bool → Bool
-masterTells MasterTold.Nothing others = others
-masterTells (MasterTold.Answered w) others = true
-masterTells (MasterTold.GivenUp n) others = true
-masterTells MasterTold.BroadcastSent others = true
+abbrev pub masterHostTold : MasterTold → Bool → Bool
+masterHostTold MasterTold.Nothing others = others
+masterHostTold (MasterTold.Answered w) others = true
+masterHostTold (MasterTold.GivenUp n) others = true
+masterHostTold MasterTold.BroadcastSent others = true
 
-abbrev pub deviceTells : DeviceTold → Bool → Bool
-deviceTells DeviceTold.Nothing others = others
-deviceTells (DeviceTold.Request w) others = true
-deviceTells (DeviceTold.Broadcast w) others = true
+abbrev pub deviceHostTold : DeviceTold → Bool → Bool
+deviceHostTold DeviceTold.Nothing others = others
+deviceHostTold (DeviceTold.Request w) others = true
+deviceHostTold (DeviceTold.Broadcast w) others = true
 
 unfoldable pub devicesTell : List DeviceStep → Bool → Bool
 devicesTell [] others = others
-devicesTell (s ∷ ss) others = deviceTells (s .told) (devicesTell ss others)
+devicesTell (s ∷ ss) others = deviceHostTold (s .told) (devicesTell ss others)
 
-abbrev pub tells : LinkStep → Bool
-tells s = masterTells (s .for-primary .told) (masterTells (s .for-secondary .told) (devicesTell (s .for-devices) false))
+abbrev pub aHostTold : LinkStep → Bool
+aHostTold s = masterHostTold (s .for-primary .told) (masterHostTold (s .for-secondary .told) (devicesTell (s .for-devices) false))
 
 -- ---- the ticks
 
 -- a run up to the first tick in which a host is told something
 unfoldable pub upToTold : List LinkStep → List LinkStep
 upToTold [] = []
-upToTold (s ∷ ss) = s ∷ (if tells s then [] else upToTold ss)
+upToTold (s ∷ ss) = s ∷ (if aHostTold s then [] else upToTold ss)
 
 -- so many ticks, the first with calls
 unfoldable pub callsFirst : ℕ → L.Calls → List L.Calls
@@ -61,11 +61,11 @@ callsFirst zero c = []
 callsFirst (suc n) c = c ∷ replicate n uncalled
 
 -- the call in the tick with this number
-abbrev pub masterCallIn : ℕ → MasterCall → MasterCall
+abbrev pub masterCallIn : ℕ → MasterCallWithPart → MasterCallWithPart
 masterCallIn zero c = c
 masterCallIn (suc t) c = noMasterCall
 
-abbrev pub deviceCallIn : ℕ → DeviceCall → DeviceCall
+abbrev pub deviceCallIn : ℕ → DeviceCallWithPart → DeviceCallWithPart
 deviceCallIn zero c = c
 deviceCallIn (suc t) c = noDeviceCall
 
@@ -97,10 +97,10 @@ onHere f (true ∷ hs) [] (b ∷ bs) = b ∷ onHere f hs [] bs
 onHere f (true ∷ hs) (a ∷ xs) (b ∷ bs) = f a b ∷ onHere f hs xs bs
 
 abbrev pub deviceCode : DeviceStep → ℕ → ℕ
-deviceCode s c = codeOf (s .sent)
+deviceCode s c = sentNumber (s .sent)
 
 abbrev pub codes : List Bool → LinkStep → List ℕ
-codes hs s = codeOf (s .for-primary .sent) ∷ codeOf (s .for-secondary .sent) ∷ onHere deviceCode hs (s .for-devices) (replicate 6 256)
+codes hs s = sentNumber (s .for-primary .sent) ∷ sentNumber (s .for-secondary .sent) ∷ onHere deviceCode hs (s .for-devices) (replicate 6 0)
 
 unfoldable pub codesOf : List Bool → List LinkStep → List (List ℕ)
 codesOf hs [] = []
@@ -121,15 +121,15 @@ pub record SendBytes (s : LinkStep) : Type 0 where
   pub devices : DevicesSendBytes (s .for-devices)
 
 pub record CodeIs (sent : Sent) (r : ℕ) : Type 0 where
-  pub is : r ≡ codeOf sent
+  pub is : r ≡ sentNumber sent
   pub byte : SendsByte sent
 
 -- ---- what each host was told and answered. In these ticks that is at most one thing each: a tick that tells is the last, and only the first has calls.
 
-abbrev pub answerKept : CallOutcome → CallResult → CallOutcome
-answerKept old none = old
-answerKept old was-taken = CallOutcome.Taken
-answerKept old (was-refused why) = CallOutcome.Refused why
+abbrev pub answerKept : CallResult → CallResult → CallResult
+answerKept old CallResult.Nothing = old
+answerKept old CallResult.Taken = CallResult.Taken
+answerKept old (CallResult.Refused why) = CallResult.Refused why
 
 abbrev pub masterToldKept : MasterTold → MasterTold → MasterTold
 masterToldKept old MasterTold.Nothing = old
@@ -155,10 +155,10 @@ abbrev pub deviceDid : DeviceStep → DeviceDid → DeviceDid
 deviceDid s old = deviceDidBy old (s .told) (s .result)
 
 abbrev pub masterNothing : MasterDid
-masterNothing = record { told = MasterTold.Nothing; result = CallOutcome.Nothing }
+masterNothing = record { told = MasterTold.Nothing; result = CallResult.Nothing }
 
 abbrev pub deviceNothing : DeviceDid
-deviceNothing = record { told = DeviceTold.Nothing; result = CallOutcome.Nothing }
+deviceNothing = record { told = DeviceTold.Nothing; result = CallResult.Nothing }
 
 -- after one tick
 abbrev pub mastersDo : LinkStep → List MasterDid → List MasterDid
@@ -181,8 +181,15 @@ devicesDid hs (s ∷ ss) ds = devicesDid hs ss (devicesDo hs s ds)
 abbrev pub linkWith : List Master → List Slot → Heard → Link
 linkWith masters devices line = record { masters = masters; devices = devices; line = line }
 
-abbrev pub callsWith : List MasterCall → List DeviceCall → Calls
+abbrev pub callsWith : List MasterCallWithPart → List DeviceCallWithPart → Calls
 callsWith masters devices = record { masters = masters; devices = devices }
+
+-- a slot, what stands in it, and its rows of frames, bytes and contents are after the ticks what they were before
+pub record SlotStays (i : ℕ) (slots : List Slot) (x : Rows) (slots-after : List Slot) (x-after : Rows) : Type 0 where
+  pub slot : (d : Slot) → getD slots-after i d ≡ getD slots i d
+  pub frame : getD (x-after .frames) (i + 2) [] ≡ getD (x .frames) (i + 2) []
+  pub bytes : getD (x-after .bytes) (i + 2) [] ≡ getD (x .bytes) (i + 2) []
+  pub contents : getD (x-after .contents) i [] ≡ getD (x .contents) i []
 
 -- ---- the promise: `x` is the rows and `sent` what stands in `sent` before the ticks, `x-after` and `sent-after` are those after them
 
@@ -190,6 +197,7 @@ pub record RunIs (limit : ℕ) (l : Link) (c : Calls) (put : List ℕ) (most : �
     (r : Ticked) (x-after : Rows) (sent-after : List (List ℕ)) : Type 0 where
   pub link-is : linkOf (r .link) x-after ≡ linkBehind (linkOf l x) (stepsOf limit l c put most x)
   pub slots : heres (r .link .devices) ≡ heres (l .devices)
+  pub absent-stay : (i : ℕ) → getD (heres (l .devices)) i true ≡ false → SlotStays i (l .devices) x (r .link .devices) x-after
   pub count-is : r .count ≡ length (stepsOf limit l c put most x)
   -- a row of what each party sent for each tick; the other rows stay
   pub sent-is : sent-after ≡ codesOf (heres (l .devices)) (stepsOf limit l c put most x) ++ drop (length (stepsOf limit l c put most x)) sent

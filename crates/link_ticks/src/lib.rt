@@ -1,16 +1,15 @@
 // Ticks of a link: two masters and six slots for devices on one line. All parties tick in one function, so that no state is copied from tick to tick: docs/BENCHMARKS.md, "The link".
 use line::Heard;
-use link_parties::CallOutcome;
 use link_parties::Calls;
-use link_parties::DeviceCall;
+use link_parties::DeviceCallWithPart;
 use link_parties::DeviceDid;
 use link_parties::Link;
-use link_parties::MasterCall;
+use link_parties::MasterCallWithPart;
 use link_parties::MasterDid;
 use link_parties::Slot;
 use link_parties::Ticked;
 use link_parties::Way;
-use party::CallStatus;
+use turns::CallResult;
 use turns::Device;
 use turns::DeviceTold;
 use turns::Master;
@@ -19,9 +18,8 @@ use turns::Sent;
 ghost use mathlib.Core.Path.{_≡_};
 ghost use lib.ListN.{length};
 ghost use Rattle.base.specs.Lent.{before};
-ghost use Rattle.party.specs.Calls.{resultOf};
 ghost use Rattle.link_parties.specs.Ways.{inSlot};
-ghost use Rattle.link_ticks.specs.Ticks.{masterTells, deviceTells, masterCallIn, deviceCallIn, goesOn, linkWith, callsWith, CodeIs, TicksAre};
+ghost use Rattle.link_ticks.specs.Ticks.{masterHostTold, deviceHostTold, masterCallIn, deviceCallIn, goesOn, linkWith, callsWith, CodeIs, TicksAre};
 ghost use Rattle.link_ticks.specs.Ticks.{answerKept, masterToldKept, deviceToldKept, masterDidBy, deviceDidBy, masterNothing, deviceNothing};
 
 fn in_slot(d: Device) -> Slot
@@ -34,7 +32,7 @@ fn in_slot(d: Device) -> Slot
 }
 
 // The call in the tick with this number: only the first has calls.
-fn master_call(call: MasterCall, t: u16) -> MasterCall
+fn master_call(call: MasterCallWithPart, t: u16) -> MasterCallWithPart
     ensures { λ r. ⌜ r ≡ masterCallIn t call ⌝ }
 {
     if t == 0 {
@@ -43,7 +41,7 @@ fn master_call(call: MasterCall, t: u16) -> MasterCall
     link_parties::no_master_call()
 }
 
-fn device_call(call: DeviceCall, t: u16) -> DeviceCall
+fn device_call(call: DeviceCallWithPart, t: u16) -> DeviceCallWithPart
     ensures { λ r. ⌜ r ≡ deviceCallIn t call ⌝ }
 {
     if t == 0 {
@@ -54,7 +52,7 @@ fn device_call(call: DeviceCall, t: u16) -> DeviceCall
 
 // Whether a host is told something, this included.
 fn master_tells(told: MasterTold, others: bool) -> bool
-    ensures { λ r. ⌜ r ≡ masterTells told others ⌝ }
+    ensures { λ r. ⌜ r ≡ masterHostTold told others ⌝ }
 {
     match told {
         MasterTold::Nothing => others,
@@ -65,7 +63,7 @@ fn master_tells(told: MasterTold, others: bool) -> bool
 }
 
 fn device_tells(told: DeviceTold, others: bool) -> bool
-    ensures { λ r. ⌜ r ≡ deviceTells told others ⌝ }
+    ensures { λ r. ⌜ r ≡ deviceHostTold told others ⌝ }
 {
     match told {
         DeviceTold::Nothing => others,
@@ -75,13 +73,13 @@ fn device_tells(told: DeviceTold, others: bool) -> bool
 }
 
 // What became of a call, where this is answered in a further tick.
-fn answer_kept(old: CallOutcome, result: CallStatus) -> CallOutcome
-    ensures { λ r. ⌜ r ≡ answerKept old (resultOf result) ⌝ }
+fn answer_kept(old: CallResult, result: CallResult) -> CallResult
+    ensures { λ r. ⌜ r ≡ answerKept old result ⌝ }
 {
     match result {
-        CallStatus::Nothing => old,
-        CallStatus::Taken => CallOutcome::Taken,
-        CallStatus::Refused(why) => CallOutcome::Refused(why.number()),
+        CallResult::Nothing => old,
+        CallResult::Taken => CallResult::Taken,
+        CallResult::Refused(why) => CallResult::Refused(why),
     }
 }
 
@@ -107,8 +105,8 @@ fn device_told_kept(old: DeviceTold, told: DeviceTold) -> DeviceTold
 }
 
 // What a host was told and answered, after a further tick.
-fn master_did(old: MasterDid, told: MasterTold, result: CallStatus) -> MasterDid
-    ensures { λ r. ⌜ r ≡ masterDidBy old told (resultOf result) ⌝ }
+fn master_did(old: MasterDid, told: MasterTold, result: CallResult) -> MasterDid
+    ensures { λ r. ⌜ r ≡ masterDidBy old told result ⌝ }
 {
     let a = old.told;
     let b = old.result;
@@ -118,8 +116,8 @@ fn master_did(old: MasterDid, told: MasterTold, result: CallStatus) -> MasterDid
     }
 }
 
-fn device_did(old: DeviceDid, told: DeviceTold, result: CallStatus) -> DeviceDid
-    ensures { λ r. ⌜ r ≡ deviceDidBy old told (resultOf result) ⌝ }
+fn device_did(old: DeviceDid, told: DeviceTold, result: CallResult) -> DeviceDid
+    ensures { λ r. ⌜ r ≡ deviceDidBy old told result ⌝ }
 {
     let a = old.told;
     let b = old.result;
@@ -134,7 +132,7 @@ fn master_nothing() -> MasterDid
 {
     MasterDid {
         told: MasterTold::Nothing,
-        result: CallOutcome::Nothing,
+        result: CallResult::Nothing,
     }
 }
 
@@ -143,18 +141,15 @@ fn device_nothing() -> DeviceDid
 {
     DeviceDid {
         told: DeviceTold::Nothing,
-        result: CallOutcome::Nothing,
+        result: CallResult::Nothing,
     }
 }
 
-// What is sent, as a number: the character, or 256 for none.
+// What is sent, as a number, and that it is a byte.
 fn code(sent: Sent) -> u16
     ensures { λ r. ⌜ CodeIs sent r ⌝ }
 {
-    match sent {
-        Sent::Silent => 256,
-        Sent::Character(c) => c as u16,
-    }
+    party::sent_number(sent)
 }
 
 // Whether there is a tick with this number.
@@ -182,8 +177,8 @@ fn ticks_of(
     masters: [Master; 2],
     devices: [Slot; 6],
     heard: Heard,
-    requests: [MasterCall; 2],
-    calls: [DeviceCall; 6],
+    requests: [MasterCallWithPart; 2],
+    calls: [DeviceCallWithPart; 6],
     put: &[u8],
     most: u16,
     frames: &mut [[u8; 284]; 8],
@@ -208,7 +203,7 @@ fn ticks_of(
     let mut ds_follow = [false; 6];
     let mut t: u16 = 0;
     while goes_on(t, most, told) {
-        let mut row: [u16; 8] = [256; 8];
+        let mut row: [u16; 8] = [0; 8];
         let mut next = Heard::Silence;
         let step = link_parties::line_step(reader, line);
         let stepped = step.reader;
@@ -335,7 +330,7 @@ pub struct Most {
     pub data: u8,
 }
 
-// The tick with these calls, and more without a call, so many in all and at most 64; they end after a tick in which a host is told something. Row t of `sent` is what each party sent in tick t: the character, or 256. Each call names its data in what is put. The link does not hold its data limit: whoever started it with `link_start::start_limited` gives that limit in every call, and whoever started it with `link_start::start` gives 255.
+// The tick with these calls, and more without a call, so many in all and at most 64; they end after a tick in which a host is told something. Row t of `sent` is what each party sent in tick t: the character with 256 added, or 0 for none. Each call names its data in what is put. The link does not hold its data limit: whoever started it with `link_start::start_limited` gives that limit in every call, and whoever started it with `link_start::start` gives 255.
 pub fn ticks(
     most: Most,
     link: Link,

@@ -12,14 +12,15 @@ use Rattle.frame.specs.Limits.{mostData}
 use Rattle.frame.specs.Write.{writeBuffer, writeAnswer}
 use Rattle.line.specs.Reader.{taken, takenData, silentInside, atIdle, atPreamble, atFirst, atAddress, atExpansion, atCommand, atCount, atData, atCheck}
 use Rattle.line.specs.declared.Whole.{Whole}
-use Rattle.turns.specs.Party.{Request, was-taken, was-refused}
 use Rattle.turns.specs.Master.{requested, requestedUpTo, masterTakes, masterSends}
 use Rattle.turns.specs.Device.{deviceTakes, deviceSends, answered, contentGiven}
 use Rattle.turns.specs.Link.{requests, gives-answer, LinkStep, Calls, masterTick, deviceTick, deviceTicks, sides, carried, linkTick, run}
 use Rattle.turns.specs.Run.{deviceSenders}
 use Rattle.turns.specs.Attempts.{stxHeader}
+use Rattle.turns.specs.declared.CallResult.{CallResult}
 use Rattle.turns.specs.declared.DeviceTold.{DeviceTold}
 use Rattle.turns.specs.declared.MasterTold.the-variants.{GivenUp}
+use Rattle.turns.specs.declared.Request.{Request}
 use Rattle.turns.specs.declared.Wish.the-variants.{Same}
 use Rattle.player_script.specs.Script.{wantedAt, stopOf, callsFrom}
 use Rattle.player.specs.Play.{readyLink}
@@ -54,13 +55,13 @@ answers = refl
 
 -- what is told and what becomes of the calls
 pub record Shown (steps : List LinkStep) : Type 0 where
-  pub primary-taken : askedResult true 0 steps ≡ was-taken
-  pub secondary-taken : askedResult false 0 steps ≡ was-taken
+  pub primary-taken : askedResult true 0 steps ≡ CallResult.Taken
+  pub secondary-taken : askedResult false 0 steps ≡ CallResult.Taken
   pub given-up : masterTold true 221 steps ≡ GivenUp 4
   pub attempts : charactersSent true (between 0 221 steps) ≡ times 4 (frameBytes 5 (stxHeader true absentRequest) [])
   pub is-told : deviceTold 1 243 steps ≡ DeviceTold.Request toldRequest
   pub since : untouched 1 (between 243 271 steps) ≡ true
-  pub late : gaveResult 1 271 steps ≡ was-refused 8
+  pub late : gaveResult 1 271 steps ≡ CallResult.Refused 8
   pub off-before : bursts 0 291 steps ≡ false
   pub is-on : bursts 0 292 steps ≡ true
   pub on-before : bursts 0 390 steps ≡ true

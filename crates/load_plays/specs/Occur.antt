@@ -8,15 +8,16 @@ use lib.ListN.{length, take, drop}
 use Rattle.base.specs.Choice.{if_then_else_, _=?_}
 use Rattle.frame.specs.Frame.{frameBytes}
 use Rattle.line.specs.declared.Whole.{Whole}
-use Rattle.turns.specs.Party.{Request, CallResult, none, was-taken, was-refused}
 use Rattle.turns.specs.Link.{MasterCall, no-request, requests, DeviceCall, no-call, gives-answer, DeviceSide, DeviceStep, Link, LinkStep, Calls}
 use Rattle.turns.specs.Run.{All, senders}
 use Rattle.turns.specs.Demand3.{masterIn}
 use Rattle.runs.specs.FirstStx.{callIn}
 use Rattle.turns.specs.Attempts.{stxHeader}
+use Rattle.turns.specs.declared.CallResult.{CallResult}
 use Rattle.turns.specs.declared.DeviceTold.{DeviceTold}
 use Rattle.turns.specs.declared.MasterTold.{MasterTold}
 use Rattle.turns.specs.declared.MasterTold.the-variants.{GivenUp}
+use Rattle.turns.specs.declared.Request.{Request}
 use Rattle.turns.specs.declared.Sent.{Sent}
 use Rattle.turns.specs.declared.Sent.the-variants.{Silent, Character}
 use Rattle.turns.specs.declared.Wish.{Wish}
@@ -34,7 +35,7 @@ abbrev pub asked : Bool → ℕ → List Calls → MasterCall
 asked primary tick calls = shownAt no-request (callIn primary) tick calls
 
 abbrev pub askedResult : Bool → ℕ → List LinkStep → CallResult
-askedResult primary tick steps = shownAt none (λ (s : LinkStep). masterIn primary s .result) tick steps
+askedResult primary tick steps = shownAt CallResult.Nothing (λ (s : LinkStep). masterIn primary s .result) tick steps
 
 abbrev pub masterTold : Bool → ℕ → List LinkStep → MasterTold
 masterTold primary tick steps = shownAt MasterTold.Nothing (λ (s : LinkStep). masterIn primary s .told) tick steps
@@ -43,8 +44,11 @@ masterTold primary tick steps = shownAt MasterTold.Nothing (λ (s : LinkStep). m
 abbrev pub gave : ℕ → ℕ → List Calls → DeviceCall
 gave device tick calls = shownAt no-call (λ (c : Calls). shownAt no-call (λ (d : DeviceCall). d) device (c .for-devices)) tick calls
 
+abbrev pub resultIn : ℕ → LinkStep → CallResult
+resultIn device s = shownAt CallResult.Nothing (λ (d : DeviceStep). d .result) device (s .for-devices)
+
 abbrev pub gaveResult : ℕ → ℕ → List LinkStep → CallResult
-gaveResult device tick steps = shownAt none (λ (s : LinkStep). shownAt none (λ (d : DeviceStep). d .result) device (s .for-devices)) tick steps
+gaveResult device tick steps = shownAt CallResult.Nothing (λ (s : LinkStep). resultIn device s) tick steps
 
 abbrev pub deviceTold : ℕ → ℕ → List LinkStep → DeviceTold
 deviceTold device tick steps =
@@ -61,20 +65,20 @@ between from to steps = take (to - from) (drop from steps)
 
 pub record Requests (primary : Bool) (steps : List LinkStep) : Type 0 where
   pub tick : ℕ
-  pub is-taken : askedResult primary tick steps ≡ was-taken
+  pub is-taken : askedResult primary tick steps ≡ CallResult.Taken
 
 -- ---- "late answers as past T+STO"
 
 abbrev pub isTaken : CallResult → Bool
-isTaken none = false
-isTaken was-taken = true
-isTaken (was-refused why) = false
+isTaken CallResult.Nothing = false
+isTaken CallResult.Taken = true
+isTaken (CallResult.Refused why) = false
 
 -- in each of these ticks nobody sends, and no answer of the device is taken
 unfoldable pub untouched : ℕ → List LinkStep → Bool
 untouched device [] = true
 untouched device (s ∷ ss) =
-    if senders s =? 0 then (if isTaken (shownAt none (λ (d : DeviceStep). d .result) device (s .for-devices)) then false else untouched device ss) else false
+    if senders s =? 0 then (if isTaken (resultIn device s) then false else untouched device ss) else false
 
 -- a device is told a request, in T+1, the tick after its last character; since then nobody has sent and no answer was taken; its host answers past T+STO, and is refused with 8
 pub record LateAnswer (sto : ℕ) (calls : List Calls) (steps : List LinkStep) : Type 0 where
@@ -88,7 +92,7 @@ pub record LateAnswer (sto : ℕ) (calls : List Calls) (steps : List LinkStep) :
   pub wish : Wish
   pub bytes : List ℕ
   pub answers : gave device tick calls ≡ gives-answer wish bytes
-  pub is-refused : gaveResult device tick steps ≡ was-refused 8
+  pub is-refused : gaveResult device tick steps ≡ CallResult.Refused 8
 
 -- ---- "absent devices"
 
@@ -115,7 +119,7 @@ pub record AbsentDevice (l : Link) (retries : ℕ) (calls : List Calls) (steps :
   pub nobodys : All (λ (x : DeviceSide). x .device .unique ≡ request .address → ⊥) (l .devices)
   pub tick : ℕ
   pub asks : asked primary tick calls ≡ requests request []
-  pub is-taken : askedResult primary tick steps ≡ was-taken
+  pub is-taken : askedResult primary tick steps ≡ CallResult.Taken
   pub last : ℕ
   pub attempts : charactersSent primary (between tick last steps) ≡ times (retries + 1) (frameBytes (request .preamble) (stxHeader primary request) [])
   pub given-up : masterTold primary last steps ≡ GivenUp (retries + 1)

@@ -20,10 +20,10 @@ use Rattle.frame.specs.declared.Header.{Header}
 use Rattle.frame.specs.declared.Written.{Written}
 use Rattle.frame.specs.declared.Written.the-variants.{To, Refused}
 use Rattle.frame.proofs.Taken.{Fits, fits-taken}
-use Rattle.turns.specs.Party.{Request}
 use Rattle.turns.specs.Master.{requestHeader, hasMessage, requested, requestedUpTo, pollingUpTo}
 use Rattle.turns.proofs.Masters.{stx-enough, stx-typed, largest-with}
 use Rattle.turns.specs.declared.Master.{Master}
+use Rattle.turns.specs.declared.Request.{Request}
 use Rattle.turns.specs.declared.Stage.{Stage}
 use Rattle.master.specs.Answers.{asked, askedFrame, AskedIs, UpToIs, RequestIs}
 use Rattle.master.specs.Parts.{withMessage, Fitting, FramePutIs}

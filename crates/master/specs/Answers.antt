@@ -8,22 +8,17 @@ use lib.ListN.{length}
 use Rattle.base.specs.Refusal.{number, Called, accepted, refused}
 use Rattle.base.specs.Store.{stored}
 use Rattle.frame.specs.Frame.{frameBytes}
-use Rattle.turns.specs.Party.{Request}
 use Rattle.turns.specs.Master.{requestHeader, requested, requestedUpTo}
 use Rattle.turns.specs.declared.Master.{Master}
+use Rattle.turns.specs.declared.Request.{Request}
 use Rattle.master.specs.declared.MasterStarted.{MasterStarted}
 use Rattle.master.specs.declared.MasterStarted.the-variants.{Started, Refused}
 use Rattle.master.specs.declared.MasterRequested.{MasterRequested}
-use Rattle.master.specs.declared.RequestFields.{RequestFields}
 
 -- a fresh master, or the refusal with its number in document 01's table
 abbrev pub started : MasterStarted → Called Master
 started (Started m) = accepted m
 started (Refused why) = refused (number why)
-
--- what a request says, its data aside
-abbrev pub asks : RequestFields → Request
-asks q = record { preamble = q .preamble; revision = q .revision; long = q .long; address = q .address; command = q .command }
 
 -- a master with the message in hand, or the refusal with its number in document 01's table
 abbrev pub asked : MasterRequested → Called Master

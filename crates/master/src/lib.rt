@@ -10,12 +10,13 @@ use line::Event;
 use line::Heard;
 use line::Profile;
 use line::Receiver;
-use party::CallStatus;
+use turns::CallResult;
 use turns::Master;
 use turns::MasterSent;
 use turns::MasterTold;
 use turns::Message;
 use turns::Noted;
+use turns::Request;
 use turns::Sent;
 use turns::Stage;
 use turns::Timer;
@@ -28,7 +29,7 @@ ghost use Prim.Native.Nat.{_≤_};
 ghost use Rattle.frame.specs.Limits.{largestPolling, reservedCommand};
 ghost use Rattle.frame.proofs.Taken.{Fits};
 ghost use Rattle.turns.specs.Master.{hasMessage, pollingUpTo, sends, sendsAt, oneMore, sendsBy, masterSends, noMessage, freshMaster, masterStarts};
-ghost use Rattle.master.specs.Answers.{started, asks, UpToIs, RequestIs};
+ghost use Rattle.master.specs.Answers.{started, UpToIs, RequestIs};
 ghost use Rattle.master.specs.Parts.{withMessage, Fitting, FramePutIs, sendsNothing, sendsCharacter};
 ghost use Rattle.master.specs.Tick.{uncalled, MasterCalledIs, MasterTickIs};
 
@@ -44,26 +45,16 @@ pub enum MasterRequested {
     Refused(Refusal),
 }
 
-// A host's request, without its data.
-pub struct RequestFields {
-    pub preamble: usize,
-    pub address: u64,
-    pub long: bool,
-    pub command: u8,
-    // of the device, 3 to 7
-    pub revision: u8,
-}
-
 // A host's call in a tick.
-pub enum MasterHostCall {
+pub enum MasterCall {
     Nothing,
-    Requests(RequestFields),
+    Requests(Request),
 }
 
 // A master after its host's call.
 struct MasterCallTaken {
     master: Master,
-    result: CallStatus,
+    result: CallResult,
 }
 
 // A master after a tick, what it sends, and what it tells its host.
@@ -72,7 +63,7 @@ pub struct MasterTicked {
     pub sent: Sent,
     pub told: MasterTold,
     pub event: Event,
-    pub result: CallStatus,
+    pub result: CallResult,
 }
 
 // Refusal 5: command 254, or a short address with a command but 0.
@@ -145,12 +136,12 @@ fn request_up_to(
     limit: u8,
     polling: u64,
     m: Master,
-    q: RequestFields,
+    q: Request,
     bytes: &[u8],
     frame: &mut [u8; 284],
 ) -> MasterRequested
     requires { ⌜ Fitting polling (q .preamble) ⌝ }
-    ensures { λ r. ⌜ UpToIs limit polling m (asks q) (before bytes) (before frame) r (after frame) ⌝ }
+    ensures { λ r. ⌜ UpToIs limit polling m q (before bytes) (before frame) r (after frame) ⌝ }
 {
     let g = m.message;
     let stage = g.stage;
@@ -182,11 +173,11 @@ fn request_up_to(
 pub fn request(
     limit: u8,
     m: Master,
-    q: RequestFields,
+    q: Request,
     bytes: &[u8],
     frame: &mut [u8; 284],
 ) -> MasterRequested
-    ensures { λ r. ⌜ RequestIs limit m (asks q) (before bytes) (before frame) r (after frame) ⌝ }
+    ensures { λ r. ⌜ RequestIs limit m q (before bytes) (before frame) r (after frame) ⌝ }
 {
     if base::outside(q.preamble, 5, 20) {
         return MasterRequested::Refused(Refusal::PreambleLength);
@@ -369,21 +360,21 @@ pub fn start(profile: Profile, primary: bool, retries: u8) -> MasterStarted
 fn request_by(
     limit: u8,
     m: Master,
-    q: RequestFields,
+    q: Request,
     put: &[u8],
     frame: &mut [u8; 284],
 ) -> MasterCallTaken
-    ensures { λ r. ⌜ MasterCalledIs limit m (MasterHostCall.Requests q) (before put) (before frame) r (after frame) ⌝ }
+    ensures { λ r. ⌜ MasterCalledIs limit m (MasterCall.Requests q) (before put) (before frame) r (after frame) ⌝ }
 {
     let r = request(limit, m, q, put, frame);
     match r {
         MasterRequested::Accepted(n) => MasterCallTaken {
             master: n,
-            result: CallStatus::Taken,
+            result: CallResult::Taken,
         },
         MasterRequested::Refused(why) => MasterCallTaken {
             master: m,
-            result: CallStatus::Refused(why),
+            result: CallResult::Refused(why.number()),
         },
     }
 }
@@ -393,22 +384,22 @@ fn no_call(m: Master) -> MasterCallTaken
 {
     MasterCallTaken {
         master: m,
-        result: CallStatus::Nothing,
+        result: CallResult::Nothing,
     }
 }
 
 fn take_call(
     limit: u8,
     m: Master,
-    call: MasterHostCall,
+    call: MasterCall,
     put: &[u8],
     frame: &mut [u8; 284],
 ) -> MasterCallTaken
     ensures { λ r. ⌜ MasterCalledIs limit m call (before put) (before frame) r (after frame) ⌝ }
 {
     match call {
-        MasterHostCall::Nothing => no_call(m),
-        MasterHostCall::Requests(q) => request_by(limit, m, q, put, frame),
+        MasterCall::Nothing => no_call(m),
+        MasterCall::Requests(q) => request_by(limit, m, q, put, frame),
     }
 }
 
@@ -465,7 +456,7 @@ pub fn tick(
     limit: u8,
     m: Master,
     heard: Heard,
-    call: MasterHostCall,
+    call: MasterCall,
     put: &[u8],
     frame: &mut [u8; 284],
     bytes: &mut [u8; 255],

@@ -15,15 +15,16 @@ use Rattle.turns.specs.Told.{masterTells}
 use Rattle.turns.specs.declared.MasterTold.{MasterTold}
 use Rattle.turns.specs.declared.MasterTold.the-variants.{Nothing, Answered, GivenUp, BroadcastSent}
 use Rattle.master.specs.Tick.{callOf, sideOf}
-use Rattle.master.specs.declared.MasterHostCall.{MasterHostCall}
-use Rattle.state_words.specs.Numbers.{tickNumbers, sentNumber, callNumber}
+use Rattle.master.specs.declared.MasterCall.{MasterCall}
+use Rattle.party.specs.Numbers.{sentNumber, callNumber}
+use Rattle.state_words.specs.Numbers.{tickNumbers}
 use Rattle.master_c.specs.Words.{packed, unpacked, limitAt}
 
 -- the host's request, field by field, or none
-abbrev pub requestOf : Bool → ℕ → ℕ → Bool → ℕ → ℕ → MasterHostCall
+abbrev pub requestOf : Bool → ℕ → ℕ → Bool → ℕ → ℕ → MasterCall
 requestOf requests preamble revision long address command =
-    if requests then MasterHostCall.Requests (record { preamble = preamble; revision = revision; long = long; address = address; command = command })
-    else MasterHostCall.Nothing
+    if requests then MasterCall.Requests (record { preamble = preamble; revision = revision; long = long; address = address; command = command })
+    else MasterCall.Nothing
 
 -- the attempts of a message that is given up; 0 where the host is told anything else
 abbrev pub toldAttempts : MasterTold → ℕ
@@ -43,7 +44,7 @@ pub record StepIs (limit : ℕ) (s : MasterStep) (event : Event) (words frame by
   pub returned : r ≡ callNumber (s .result)
 
 -- the step of the master that the words stood for before the call, and what its reader found; the data of the host's request are `put`
-abbrev pub MasterTicks : Lent (List ℕ) → Lent (List ℕ) → Lent (List ℕ) → Heard → MasterHostCall → Lent (List ℕ) → Lent (List ℕ) → ℕ → Type 0
+abbrev pub MasterTicks : Lent (List ℕ) → Lent (List ℕ) → Lent (List ℕ) → Heard → MasterCall → Lent (List ℕ) → Lent (List ℕ) → ℕ → Type 0
 MasterTicks words frame bytes heard call put results r =
     StepIs
     (limitAt (before words))

@@ -1,11 +1,11 @@
 // A master for programs in C: its state as words that the caller lends, and its tick.
 use line::Heard;
-use master::MasterHostCall;
-use master::RequestFields;
+use master::MasterCall;
 use turns::Master;
 use turns::MasterTold;
 use turns::Message;
 use turns::Noted;
+use turns::Request;
 use turns::Stage;
 use turns::Timer;
 ghost use Prim.Native.Nat.{_<_, _^_};
@@ -244,7 +244,7 @@ fn tick(
     frame: &mut [u8; 284],
     bytes: &mut [u8; 255],
     heard: Heard,
-    call: MasterHostCall,
+    call: MasterCall,
     put: &[u8],
     results: &mut [u64; 17],
 ) -> u32
@@ -262,12 +262,12 @@ fn tick(
     limit_fits(limit);
     pack(words, limit, next);
     *results = state_words::tick_numbers(
-        state_words::sent_number(sent),
+        party::sent_number(sent) as u64,
         told_number(told),
         told_attempts(told),
         event,
     );
-    state_words::call_number(result)
+    party::call_number(result)
 }
 
 pub fn request_of(
@@ -277,11 +277,11 @@ pub fn request_of(
     long: bool,
     address: u64,
     command: u8,
-) -> MasterHostCall
+) -> MasterCall
     ensures { λ r. ⌜ r ≡ requestOf requests preamble revision long address command ⌝ }
 {
     if requests {
-        return MasterHostCall::Requests(RequestFields {
+        return MasterCall::Requests(Request {
             preamble: preamble,
             revision: revision,
             long: long,
@@ -289,7 +289,7 @@ pub fn request_of(
             command: command,
         });
     }
-    MasterHostCall::Nothing
+    MasterCall::Nothing
 }
 
 // A tick of a master; returns 0, or the number of the request's refusal.

@@ -3,25 +3,25 @@
 // A device of polling address 0 hears that request: the line carries it in ticks 1 to 10, so the host is told in tick 11. Its answer in tick 0 is refused, since no request is in hand; its answer in tick 12, T+2, is taken, and the ACK begins in that tick and ends in tick 23.
 // Control bit 6 is set throughout. Printed are, for each tick in which the line carried something, the chip sends or the host calls: the registers after the tick's beginning, the status after the driver's reads and after its writes, what goes out with its ninth bit, what is told and what the call came to. The stored lines were worked out before the program ran: ticks and characters by document 01, the ninth bit, 1 where a character's ones are even, and the registers by document 02.
 use device::DeviceStarted;
-use device_tick::DeviceHostCall;
+use device_tick::DeviceCall;
 use libc::STDOUT_FILENO;
 use line::Profile;
-use master::MasterHostCall;
+use master::MasterCall;
 use master::MasterStarted;
-use master::RequestFields;
 use modem::Carried;
 use modem::Chip;
 use modem::Mark;
 use modem_party::Arrival;
-use party::CallStatus;
 use texts::put_bytes;
 use texts::put_decimal;
 use texts::put_field;
 use texts::put_hexadecimal;
+use turns::CallResult;
 use turns::Device;
 use turns::DeviceTold;
 use turns::Master;
 use turns::MasterTold;
+use turns::Request;
 use turns::Wish;
 
 // What a host is told, by either party.
@@ -94,8 +94,8 @@ fn answer_at(tick: u8) -> Carried {
     ack_at(tick - 100)
 }
 
-fn call_at(tick: u8) -> MasterHostCall {
-    let wanted = RequestFields {
+fn call_at(tick: u8) -> MasterCall {
+    let wanted = Request {
         preamble: 5,
         revision: 7,
         long: false,
@@ -103,17 +103,17 @@ fn call_at(tick: u8) -> MasterHostCall {
         command: 0,
     };
     match tick {
-        0 => MasterHostCall::Requests(wanted),
-        59 => MasterHostCall::Requests(wanted),
-        _ => MasterHostCall::Nothing,
+        0 => MasterCall::Requests(wanted),
+        59 => MasterCall::Requests(wanted),
+        _ => MasterCall::Nothing,
     }
 }
 
-fn answers_at(tick: u8) -> DeviceHostCall {
+fn answers_at(tick: u8) -> DeviceCall {
     match tick {
-        0 => DeviceHostCall::Answers(Wish::Same),
-        12 => DeviceHostCall::Answers(Wish::Same),
-        _ => DeviceHostCall::Nothing,
+        0 => DeviceCall::Answers(Wish::Same),
+        12 => DeviceCall::Answers(Wish::Same),
+        _ => DeviceCall::Nothing,
     }
 }
 
@@ -124,15 +124,15 @@ fn is_silence(carried: Carried) -> bool {
     }
 }
 
-fn is_called(result: CallStatus) -> bool {
+fn is_called(result: CallResult) -> bool {
     match result {
-        CallStatus::Nothing => false,
-        CallStatus::Taken => true,
-        CallStatus::Refused(_) => true,
+        CallResult::Nothing => false,
+        CallResult::Taken => true,
+        CallResult::Refused(_) => true,
     }
 }
 
-fn is_shown(carried: Carried, sent: Carried, result: CallStatus) -> bool {
+fn is_shown(carried: Carried, sent: Carried, result: CallResult) -> bool {
     if is_silence(carried) {
         if is_silence(sent) {
             return is_called(result);
@@ -189,12 +189,12 @@ fn put_told(told: Told, out: &mut [u8], at: usize) -> usize {
     }
 }
 
-fn put_answer(result: CallStatus, out: &mut [u8], at: usize) -> usize {
+fn put_answer(result: CallResult, out: &mut [u8], at: usize) -> usize {
     match result {
-        CallStatus::Nothing => put_bytes(b"\n", out, at),
-        CallStatus::Taken => put_bytes(b" taken\n", out, at),
-        CallStatus::Refused(why) => {
-            let place = put_field(b" refused ", why.number() as u64, out, at);
+        CallResult::Nothing => put_bytes(b"\n", out, at),
+        CallResult::Taken => put_bytes(b" taken\n", out, at),
+        CallResult::Refused(why) => {
+            let place = put_field(b" refused ", why as u64, out, at);
             put_bytes(b"\n", out, place)
         }
     }
@@ -246,7 +246,7 @@ fn put_status(x: Chip, sent: Carried, out: &mut [u8], at: usize) -> usize {
     put_register(b"   ", written(chip, sent), 0, out, place)
 }
 
-fn print_tick(tick: u8, x: Chip, sent: Carried, told: Told, result: CallStatus, out: &mut [u8]) {
+fn print_tick(tick: u8, x: Chip, sent: Carried, told: Told, result: CallResult, out: &mut [u8]) {
     let mut place = put_tick(tick, out);
     place = put_first(x, out, place);
     place = put_count(x, out, place);
@@ -257,7 +257,7 @@ fn print_tick(tick: u8, x: Chip, sent: Carried, told: Told, result: CallStatus, 
     io::write_all(STDOUT_FILENO, texts::front(out, place));
 }
 
-fn show(tick: u8, x: Chip, carried: Carried, sent: Carried, told: Told, result: CallStatus) {
+fn show(tick: u8, x: Chip, carried: Carried, sent: Carried, told: Told, result: CallResult) {
     if is_shown(carried, sent, result) {
         let mut out = io::buffer();
         print_tick(

@@ -12,10 +12,10 @@ use Rattle.turns.specs.declared.Master.{Master}
 use Rattle.turns.specs.declared.Device.{Device}
 use Rattle.turns.specs.declared.Sent.{Sent}
 use Rattle.master.specs.Tick as M
-use Rattle.master.specs.declared.MasterHostCall as MC
+use Rattle.master.specs.declared.MasterCall as MC
 use Rattle.master.specs.declared.MasterTicked.{MasterTicked}
 use Rattle.device_tick.specs.Tick as D
-use Rattle.device_tick.specs.declared.DeviceHostCall as DC
+use Rattle.device_tick.specs.declared.DeviceCall as DC
 use Rattle.device_tick.specs.declared.DeviceTicked.{DeviceTicked}
 use Rattle.modem_party.specs.Behind.{says}
 use Rattle.modem_party.specs.Ticks.{masterDone, masterStep, masterDeaf, deviceDone, deviceStep, deviceDeaf, MasterBehindIs, DeviceBehindIs}
@@ -27,7 +27,7 @@ use Rattle.modem_party.proofs.Devices.{device-hears-not}
 pub says-at : (x : Chip) (p q : Sent) (r : Chip) → p ≡ q → r ≡ says x q → r ≡ says x p
 says-at x p q r e f = f ∙ ap (says x) (sym e)
 
-module _ (limit : ℕ) (x : Chip) (w : Carried) (m : Master) (call : MC.MasterHostCall) (put frame bytes frame-after bytes-after : List ℕ) (z y : Chip) (g : ChipHeard) (t : MasterTicked) (e : TickEnded) where
+module _ (limit : ℕ) (x : Chip) (w : Carried) (m : Master) (call : MC.MasterCall) (put frame bytes frame-after bytes-after : List ℕ) (z y : Chip) (g : ChipHeard) (t : MasterTicked) (e : TickEnded) where
   pub master-behind : z ≡ arrives x w → g ≡ hears z → M.MasterTickIs limit m (g .heard) call put frame bytes t frame-after bytes-after → y ≡ says (g .chip) (t .sent) → e ≡ tickEnds y
       → MasterBehindIs limit x w m call put frame bytes (record { ticked = t; ended = e }) frame-after bytes-after
   master-behind p q i k n = record {
@@ -35,7 +35,7 @@ module _ (limit : ℕ) (x : Chip) (w : Carried) (m : Master) (call : MC.MasterHo
     behind = made-behind (masterStep limit) masterDeaf (master-hears-not limit) x w (M.sideOf m frame bytes) (M.callOf call put) z y g (masterDone (M.stepOf t frame-after bytes-after)) e p q (ap masterDone (i .step)) k n;
   }
 
-module _ (limit : ℕ) (x : Chip) (w : Carried) (d : Device) (call : DC.DeviceHostCall) (put frame bytes contents frame-after bytes-after contents-after : List ℕ) (z y : Chip) (g : ChipHeard) (t : DeviceTicked) (e : TickEnded) where
+module _ (limit : ℕ) (x : Chip) (w : Carried) (d : Device) (call : DC.DeviceCall) (put frame bytes contents frame-after bytes-after contents-after : List ℕ) (z y : Chip) (g : ChipHeard) (t : DeviceTicked) (e : TickEnded) where
   pub device-behind : z ≡ arrives x w → g ≡ hears z → D.DeviceTickIs limit d (g .heard) call put frame bytes contents t frame-after bytes-after contents-after → y ≡ says (g .chip) (t .sent) → e ≡ tickEnds y
       → DeviceBehindIs limit x w d call put frame bytes contents (record { ticked = t; ended = e }) frame-after bytes-after contents-after
   device-behind p q i k n = record {

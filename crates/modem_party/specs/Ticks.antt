@@ -13,9 +13,9 @@ use Rattle.turns.specs.Link.{MasterCall, MasterSide, MasterStep, masterTick, De
 use Rattle.turns.specs.declared.Master.{Master}
 use Rattle.turns.specs.declared.Device.{Device}
 use Rattle.master.specs.Tick as M
-use Rattle.master.specs.declared.MasterHostCall as MC
+use Rattle.master.specs.declared.MasterCall as MC
 use Rattle.device_tick.specs.Tick as D
-use Rattle.device_tick.specs.declared.DeviceHostCall as DC
+use Rattle.device_tick.specs.declared.DeviceCall as DC
 use Rattle.modem_party.specs.Behind.{Step, BehindSame, BehindIs}
 use Rattle.modem_party.specs.declared.MasterBehind.{MasterBehind}
 use Rattle.modem_party.specs.declared.DeviceBehind.{DeviceBehind}
@@ -49,21 +49,21 @@ DeviceSame limit = BehindSame (deviceStep limit) deviceDeaf
 
 -- ---- what a tick of the code promises: the party's tick, each frame that its reader found in it, and what holds of any party behind a chip
 
-pub record MasterBehindIs (limit : ℕ) (x : Chip) (w : Carried) (m : Master) (call : MC.MasterHostCall) (put frame bytes : List ℕ)
+pub record MasterBehindIs (limit : ℕ) (x : Chip) (w : Carried) (m : Master) (call : MC.MasterCall) (put frame bytes : List ℕ)
     (r : MasterBehind) (frame-after bytes-after : List ℕ) : Type 0 where
   pub ticks : M.MasterTickIs limit m (hears (arrives x w) .heard) call put frame bytes (r .ticked) frame-after bytes-after
   pub behind : BehindIs (masterStep limit) masterDeaf x w (M.sideOf m frame bytes) (M.callOf call put)
       (masterDone (M.stepOf (r .ticked) frame-after bytes-after)) (r .ended)
 
-abbrev pub MasterTicks : ℕ → Chip → Carried → Master → MC.MasterHostCall → Lent (List ℕ) → Lent (List ℕ) → Lent (List ℕ) → MasterBehind → Type 0
+abbrev pub MasterTicks : ℕ → Chip → Carried → Master → MC.MasterCall → Lent (List ℕ) → Lent (List ℕ) → Lent (List ℕ) → MasterBehind → Type 0
 MasterTicks limit x w m call put frame bytes r = MasterBehindIs limit x w m call (before put) (before frame) (before bytes) r (after frame) (after bytes)
 
-pub record DeviceBehindIs (limit : ℕ) (x : Chip) (w : Carried) (d : Device) (call : DC.DeviceHostCall) (put frame bytes contents : List ℕ)
+pub record DeviceBehindIs (limit : ℕ) (x : Chip) (w : Carried) (d : Device) (call : DC.DeviceCall) (put frame bytes contents : List ℕ)
     (r : DeviceBehind) (frame-after bytes-after contents-after : List ℕ) : Type 0 where
   pub ticks : D.DeviceTickIs limit d (hears (arrives x w) .heard) call put frame bytes contents (r .ticked) frame-after bytes-after contents-after
   pub behind : BehindIs (deviceStep limit) deviceDeaf x w (D.sideOf d frame bytes contents) (D.callOf call put)
       (deviceDone (D.stepOf (r .ticked) frame-after bytes-after contents-after)) (r .ended)
 
-abbrev pub DeviceTicks : ℕ → Chip → Carried → Device → DC.DeviceHostCall → Lent (List ℕ) → Lent (List ℕ) → Lent (List ℕ) → Lent (List ℕ) → DeviceBehind → Type 0
+abbrev pub DeviceTicks : ℕ → Chip → Carried → Device → DC.DeviceCall → Lent (List ℕ) → Lent (List ℕ) → Lent (List ℕ) → Lent (List ℕ) → DeviceBehind → Type 0
 DeviceTicks limit x w d call put frame bytes contents r =
     DeviceBehindIs limit x w d call (before put) (before frame) (before bytes) (before contents) r (after frame) (after bytes) (after contents)

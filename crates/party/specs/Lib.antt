@@ -1,3 +1,3 @@
 -- What master and device have in common: document 01, "Line and ticks".
-pub mod Calls
 pub mod Hears
+pub mod Numbers

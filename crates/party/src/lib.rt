@@ -1,22 +1,16 @@
-// What master and device have in common: what silence and a broadcast are, how a count goes down, the characters of a frame that is sent, and what becomes of a host's call.
-use base::Refusal;
+// What master and device have in common: what silence and a broadcast are, how a count goes down, the characters of a frame that is sent, and the numbers of what is sent and of what became of a call.
 use frame::Header;
 use line::Heard;
 use line::Profile;
+use turns::CallResult;
+use turns::Sent;
 ghost use mathlib.Core.Path.{_≡_};
-ghost use Prim.Native.Nat.{_-_};
+ghost use Prim.Native.Nat.{_-_, _<_};
 ghost use Rattle.base.specs.Lent.{before};
 ghost use Rattle.frame.specs.Address.{byteAt};
 ghost use Rattle.turns.specs.Party.{isBroadcast, seeksTag};
 ghost use Rattle.party.specs.Hears.{isSilence};
-
-// What became of a host's call in a tick.
-pub enum CallStatus {
-    // there was none
-    Nothing,
-    Taken,
-    Refused(Refusal),
-}
+ghost use Rattle.party.specs.Numbers.{sentNumber, callNumber};
 
 // Whether a tick was silent.
 pub fn is_silence(heard: Heard) -> bool
@@ -86,5 +80,26 @@ pub fn copy_profile(p: Profile) -> Profile
         rt2: p.rt2,
         rt1p: p.rt1p,
         rt1s: p.rt1s,
+    }
+}
+
+// What is sent, as a number: the character with 256 added, or 0 for none.
+pub fn sent_number(sent: Sent) -> u16
+    ensures { λ r. ⌜ (r ≡ sentNumber sent) × (r < 512) ⌝ }
+{
+    match sent {
+        Sent::Silent => 0,
+        Sent::Character(c) => 0x100 + (c as u16),
+    }
+}
+
+// What became of a call, as a number: 0 where there was none or it was taken, or the refusal's.
+pub fn call_number(result: CallResult) -> u32
+    ensures { λ r. ⌜ r ≡ callNumber result ⌝ }
+{
+    match result {
+        CallResult::Nothing => 0,
+        CallResult::Taken => 0,
+        CallResult::Refused(why) => why,
     }
 }

@@ -3,11 +3,9 @@
 use Prim.Native.Nat.{ℕ}
 use mathlib.Core.Bool.{Bool, true, false}
 use Rattle.base.specs.Choice.{if_then_else_, _<?_}
-use Rattle.base.specs.Refusal.{number}
 use Rattle.line.specs.declared.Event.{Event}
 use Rattle.line.specs.declared.Event.the-variants.{Nothing, PassedOver, Broken, Frame, Damaged}
 use Rattle.turns.specs.declared.MasterTold.{MasterTold}
-use Rattle.party.specs.declared.CallStatus.{CallStatus}
 
 -- a character that is passed over has no line
 abbrev pub eventShows : Event → Bool
@@ -22,12 +20,6 @@ tellsHost MasterTold.Nothing = false
 tellsHost (MasterTold.Answered w) = true
 tellsHost (MasterTold.GivenUp n) = true
 tellsHost MasterTold.BroadcastSent = true
-
--- the number of a refusal in document 01's table, 0 if nothing was refused
-abbrev pub refusedBy : CallStatus → ℕ
-refusedBy CallStatus.Nothing = 0
-refusedBy CallStatus.Taken = 0
-refusedBy (CallStatus.Refused why) = number why
 
 -- a device tells its host only of a frame that it found, so for a device this covers all
 abbrev pub hasLine : Bool → Event → ℕ → Bool

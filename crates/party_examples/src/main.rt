@@ -19,13 +19,13 @@ use line::Heard;
 use line::Profile;
 use master::MasterStarted;
 use master::MasterTicked;
-use master::RequestFields;
-use party::CallStatus;
 use show::Reception;
+use turns::CallResult;
 use turns::Device;
 use turns::DeviceTold;
 use turns::Master;
 use turns::MasterTold;
+use turns::Request;
 use turns::Sent;
 use turns::Wish;
 
@@ -134,8 +134,8 @@ fn other_sends(script: &[u8], tick: u16) -> Sent {
     Sent::Character(o.number)
 }
 
-fn wanted(long: bool, address: u8, command: u8) -> master::MasterHostCall {
-    master::MasterHostCall::Requests(RequestFields {
+fn wanted(long: bool, address: u8, command: u8) -> master::MasterCall {
+    master::MasterCall::Requests(Request {
         preamble: 5,
         revision: 7,
         long: long,
@@ -144,13 +144,13 @@ fn wanted(long: bool, address: u8, command: u8) -> master::MasterHostCall {
     })
 }
 
-fn master_call(o: Order) -> master::MasterHostCall {
+fn master_call(o: Order) -> master::MasterCall {
     let what = o.what;
     match what {
         b'r' => wanted(false, o.number, 0),
         b'u' => wanted(true, o.number, 3),
         b't' => wanted(true, o.number, 11),
-        _ => master::MasterHostCall::Nothing,
+        _ => master::MasterCall::Nothing,
     }
 }
 
@@ -189,14 +189,14 @@ fn master_ticks(side: MasterSide, input: Reception, script: &[u8], tick: u16) ->
     }
 }
 
-fn device_call(o: Order) -> device_tick::DeviceHostCall {
+fn device_call(o: Order) -> device_tick::DeviceCall {
     let what = o.what;
     match what {
-        b'a' => device_tick::DeviceHostCall::Answers(Wish::Same),
-        b'n' => device_tick::DeviceHostCall::Answers(Wish::On),
-        b'f' => device_tick::DeviceHostCall::Answers(Wish::Off),
-        b'c' => device_tick::DeviceHostCall::Content(3),
-        _ => device_tick::DeviceHostCall::Nothing,
+        b'a' => device_tick::DeviceCall::Answers(Wish::Same),
+        b'n' => device_tick::DeviceCall::Answers(Wish::On),
+        b'f' => device_tick::DeviceCall::Answers(Wish::Off),
+        b'c' => device_tick::DeviceCall::Content(3),
+        _ => device_tick::DeviceCall::Nothing,
     }
 }
 
@@ -303,7 +303,7 @@ fn master_side(m: Master) -> MasterSide {
             sent: Sent::Silent,
             told: MasterTold::Nothing,
             event: Event::Nothing,
-            result: CallStatus::Nothing,
+            result: CallResult::Nothing,
         },
         frame: [0; 284],
         bytes: [0; 255],
@@ -317,7 +317,7 @@ fn device_side(d: Device) -> DeviceSide {
             sent: Sent::Silent,
             told: DeviceTold::Nothing,
             event: Event::Nothing,
-            result: CallStatus::Nothing,
+            result: CallResult::Nothing,
         },
         contents: [0; 255],
         frame: [0; 284],

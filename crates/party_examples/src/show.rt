@@ -6,16 +6,16 @@ use line::Event;
 use line::Heard;
 use line::Whole;
 use master::MasterTicked;
-use party::CallStatus;
 use texts::put_all_spaced;
 use texts::put_bytes;
 use texts::put_field;
 use texts::put_spaced;
+use turns::CallResult;
 use turns::DeviceTold;
 use turns::MasterTold;
 ghost use mathlib.Core.Path.{_≡_};
 ghost use Prim.Native.Nat.{_<_};
-ghost use Rattle.party_examples.specs.Lines.{eventShows, tellsHost, refusedBy, hasLine};
+ghost use Rattle.party_examples.specs.Lines.{eventShows, tellsHost, hasLine};
 
 // What a party hears in a tick, and whether the script changed it.
 pub struct Reception {
@@ -143,17 +143,6 @@ fn put_device_told(told: DeviceTold, bytes: &[u8; 255], out: &mut [u8], at: usiz
     }
 }
 
-// The number of a refusal, 0 if nothing was refused.
-fn refused_by(result: CallStatus) -> u32
-    ensures { λ r. ⌜ r ≡ refusedBy result ⌝ }
-{
-    match result {
-        CallStatus::Nothing => 0,
-        CallStatus::Taken => 0,
-        CallStatus::Refused(why) => why.number(),
-    }
-}
-
 fn put_refused(refused: u32, out: &mut [u8], at: usize) -> usize {
     if 0 < refused {
         return put_field(b" refused ", refused as u64, out, at);
@@ -240,7 +229,7 @@ fn show_master(tick: u16, input: Reception, t: MasterTicked, bytes: &[u8; 255]) 
     let told = t.told;
     let event = t.event;
     let result = t.result;
-    let refused = refused_by(result);
+    let refused = party::call_number(result);
     if master_has_line(input, event, refused, told) {
         let mut out = io::buffer();
         print_master(tick, input, event, told, refused, bytes, &mut out);
@@ -266,7 +255,7 @@ fn show_device(tick: u16, input: Reception, t: DeviceTicked, bytes: &[u8; 255]) 
     let told = t.told;
     let event = t.event;
     let result = t.result;
-    let refused = refused_by(result);
+    let refused = party::call_number(result);
     if has_line(input, event, refused) {
         let mut out = io::buffer();
         print_device(tick, input, event, told, refused, bytes, &mut out);

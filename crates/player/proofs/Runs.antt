@@ -21,7 +21,7 @@ use Rattle.player_listing.specs.Text.{linesText}
 use Rattle.player_listing.specs.declared.Monitor.{Monitor}
 use Rattle.player_listing.proofs.Listens.{ticks-text}
 use Rattle.link_parties.specs.Stands.{uncalled}
-use Rattle.link_ticks.specs.Ticks.{tells, upToTold, callsFirst, linkBehind}
+use Rattle.link_ticks.specs.Ticks.{aHostTold, upToTold, callsFirst, linkBehind}
 use Rattle.link_rests.specs.Uncalled.{uncalledTick, afterTicks}
 use Rattle.player.specs.Ticks.{textFrom}
 
@@ -88,23 +88,23 @@ module _ (es : List Entry) where
   pub front : (n tick : ℕ) (l : L.Link) → Front l tick n
   unfolding run callsFrom upToTold
   front zero tick l = record { count = zero; most = omega arith; some = λ h. h; is = refl }
-  front (suc n) tick l = by (tells now) refl (front n (tick + 1) (linkAfter now))
+  front (suc n) tick l = by (aHostTold now) refl (front n (tick + 1) (linkAfter now))
     where
       now : LinkStep
       now = linkTick 255 l (callsAt tick es)
 
-      by : (t : Bool) → tells now ≡ t → Front (linkAfter now) (tick + 1) n → Front l tick (suc n)
+      by : (t : Bool) → aHostTold now ≡ t → Front (linkAfter now) (tick + 1) n → Front l tick (suc n)
       by true e f = record {
         count = suc zero;
         most = omega arith;
         some = λ h. omega arith;
-        is = ap (λ (ss : List LinkStep). now ∷ ss) (if-is-true (tells now) [] (upToTold (run 255 (linkAfter now) (callsFrom (tick + 1) n es))) e);
+        is = ap (λ (ss : List LinkStep). now ∷ ss) (if-is-true (aHostTold now) [] (upToTold (run 255 (linkAfter now) (callsFrom (tick + 1) n es))) e);
       }
       by false e f = record {
         count = suc (f .count);
         most = omega (arith, f .most);
         some = λ h. omega arith;
-        is = ap (λ (ss : List LinkStep). now ∷ ss) (if-is-false (tells now) [] (upToTold (run 255 (linkAfter now) (callsFrom (tick + 1) n es))) e ∙ f .is);
+        is = ap (λ (ss : List LinkStep). now ∷ ss) (if-is-false (aHostTold now) [] (upToTold (run 255 (linkAfter now) (callsFrom (tick + 1) n es))) e ∙ f .is);
       }
 
   -- a run is its first ticks, and a run from the link behind them
@@ -153,7 +153,7 @@ module _ (es : List Entry) where
 pub told-most : (ss : List LinkStep) → length (upToTold ss) ≤ length ss
 unfolding upToTold if_then_else_
 told-most [] = omega arith
-told-most (s ∷ ss) = by (tells s) (told-most ss)
+told-most (s ∷ ss) = by (aHostTold s) (told-most ss)
   where
     by : (t : Bool) → length (upToTold ss) ≤ length ss → suc (length (if t then [] else upToTold ss)) ≤ suc (length ss)
     by true h = omega arith

@@ -1,5 +1,5 @@
 -- What the parties sent in the ticks of a run of six devices: from the rows of numbers, and where nobody sends.
-use Prim.Native.Nat.{ℕ, zero, suc, _+_, _-_, _≤_, _<_}
+use Prim.Native.Nat.{ℕ, zero, suc, _+_, _-_, _%_, _≤_, _<_}
 use native.Mathlib.Omega.{arith}
 use mathlib.Core.Bool.{Bool, true, false}
 use mathlib.Core.Path.{_≡_, refl, sym, ap, subst, _∙_}
@@ -17,7 +17,8 @@ use Rattle.turns.specs.declared.Sent.{Sent}
 use Rattle.turns.specs.declared.Sent.the-variants.{Silent, Character}
 use Rattle.player_listing.specs.Sents.{devicesSent, sentOf, sentIn}
 use Rattle.player_listing.specs.Rows.{sentFor, rowSent, rowsSent, lesser, rowsListed}
-use Rattle.link_parties.specs.Stands.{Rows, deviceAt, ifHere, devicesFrom, heres, codeOf, uncalled}
+use Rattle.party.specs.Numbers.{sentNumber}
+use Rattle.link_parties.specs.Stands.{Rows, deviceAt, ifHere, devicesFrom, heres, uncalled}
 use Rattle.link_parties.specs.declared.Slot.{Slot}
 use Rattle.link_ticks.specs.Ticks.{onHere, deviceCode, codes, codesOf, SendsByte, sends-none, sends-byte, DevicesSendBytes, no-device, device-and, SendBytes}
 use Rattle.link_rests.specs.Uncalled.{uncalledTick, afterTicks}
@@ -74,11 +75,13 @@ six-here x ss e = all-here x 0 6 ss e
 
 -- ---- the rows of numbers
 
-sent-as : {s : Sent} → SendsByte s → sentFor (codeOf s) ≡ s
-sent-as sends-none = sym (if-not-below 256 256 Silent (Character 256) Silent (omega arith) refl)
-sent-as (sends-byte {c} h) = sym (if-below c 256 (Character c) (Character c) Silent h refl)
+sent-as : {s : Sent} → SendsByte s → sentFor (sentNumber s) ≡ s
+sent-as sends-none = sym (if-below 0 256 Silent Silent (Character 0) (omega arith) refl)
+sent-as (sends-byte {c} h) =
+    let byte : c ≡ (256 + c) % 256 = omega (arith, h) in
+    sym (if-not-below (256 + c) 256 (Character c) Silent (Character ((256 + c) % 256)) (omega arith) (ap Character byte))
 
-devices-as : (n : ℕ) {ss : List DeviceStep} → length ss ≡ n → DevicesSendBytes ss → map sentFor (onHere deviceCode (replicate n true) ss (replicate n 256)) ≡ devicesSent ss
+devices-as : (n : ℕ) {ss : List DeviceStep} → length ss ≡ n → DevicesSendBytes ss → map sentFor (onHere deviceCode (replicate n true) ss (replicate n 0)) ≡ devicesSent ss
 unfolding onHere devicesSent
 devices-as zero e no-device = refl
 devices-as (suc n) e no-device = absurd (omega (arith, e))

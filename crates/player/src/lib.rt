@@ -154,7 +154,7 @@ fn play_from(
     requires { ⌜ Stands (told .form) (now script) start × (start .tick ≤ told .stop) ⌝ }
     ensures { λ r. ⌜ PlaysAll told script start frames bytes contents out r ⌝ }
 {
-    let mut sent: [[u16; 8]; 64] = [[256; 8]; 64];
+    let mut sent: [[u16; 8]; 64] = [[0; 8]; 64];
     let mut p = start;
     while p.tick < told.stop {
         let next = onward(p, told, script, frames, bytes, contents, &mut sent, out);
@@ -200,7 +200,7 @@ pub fn play_on(
 ) -> Playing
     ensures { λ r. ⌜ PieceOf told script start frames bytes contents out r ⌝ }
 {
-    let mut sent: [[u16; 8]; 64] = [[256; 8]; 64];
+    let mut sent: [[u16; 8]; 64] = [[0; 8]; 64];
     let mut p = at_front(start);
     while p.tick < told.stop {
         if has_room(out.len(), p.at) {

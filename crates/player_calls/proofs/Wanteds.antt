@@ -10,12 +10,12 @@ use Rattle.turns.specs.Link as L
 use Rattle.turns.specs.declared.Wish.{Wish}
 use Rattle.turns.specs.declared.Wish.the-variants.{Same, On, Off}
 use Rattle.turns.proofs.Bursting.{if-both}
-use Rattle.master.specs.declared.MasterHostCall as MasterHost
-use Rattle.device_tick.specs.declared.DeviceHostCall as DeviceHost
+use Rattle.master.specs.declared.MasterCall.{MasterCall}
+use Rattle.device_tick.specs.declared.DeviceCall.{DeviceCall}
 use Rattle.link_parties.specs.Stands.{masterCallOf, deviceCallOf, deviceCallsFrom, callsOf}
 use Rattle.link_parties.specs.declared.Calls.{Calls}
-use Rattle.link_parties.specs.declared.DeviceCall.{DeviceCall}
-use Rattle.link_parties.specs.declared.MasterCall.{MasterCall}
+use Rattle.link_parties.specs.declared.DeviceCallWithPart.{DeviceCallWithPart}
+use Rattle.link_parties.specs.declared.MasterCallWithPart.{MasterCallWithPart}
 use Rattle.link_parties.specs.declared.Part.{Part}
 use Rattle.player_script.specs.declared.Form.{Form}
 use Rattle.player_script.specs.declared.Form.the-variants.{Old, New}
@@ -29,26 +29,26 @@ use Rattle.player_calls.specs.Calls.{zeroBytes, zeros, requestWith, mast
 -- ---- equal parts make equal calls
 
 pub request-is : (part : Part) (long : Bool) (address command : ℕ) → part ≡ zeros 0
-    → _≡_ {A = MasterCall} (record { call = MasterHost.MasterHostCall.Requests (record { preamble = 5; revision = 7; long = long; address = address; command = command }); part = part }) (requestWith long address command)
-request-is part long address command e = λ i. record { call = MasterHost.MasterHostCall.Requests (record { preamble = 5; revision = 7; long = long; address = address; command = command }); part = e i }
+    → _≡_ {A = MasterCallWithPart} (record { call = MasterCall.Requests (record { preamble = 5; revision = 7; long = long; address = address; command = command }); part = part }) (requestWith long address command)
+request-is part long address command e = λ i. record { call = MasterCall.Requests (record { preamble = 5; revision = 7; long = long; address = address; command = command }); part = e i }
 
-pub answer-is : (part : Part) (wish : Wish) (count : ℕ) → part ≡ zeros count → _≡_ {A = DeviceCall} (record { call = DeviceHost.DeviceHostCall.Answers wish; part = part }) (answerWith wish count)
-answer-is part wish count e = λ i. record { call = DeviceHost.DeviceHostCall.Answers wish; part = e i }
+pub answer-is : (part : Part) (wish : Wish) (count : ℕ) → part ≡ zeros count → _≡_ {A = DeviceCallWithPart} (record { call = DeviceCall.Answers wish; part = part }) (answerWith wish count)
+answer-is part wish count e = λ i. record { call = DeviceCall.Answers wish; part = e i }
 
-pub content-is : (part : Part) (command n : ℕ) → part ≡ zeros n → _≡_ {A = DeviceCall} (record { call = DeviceHost.DeviceHostCall.Content command; part = part }) (record { call = DeviceHost.DeviceHostCall.Content command; part = zeros n })
-content-is part command n e = λ i. record { call = DeviceHost.DeviceHostCall.Content command; part = e i }
+pub content-is : (part : Part) (command n : ℕ) → part ≡ zeros n → _≡_ {A = DeviceCallWithPart} (record { call = DeviceCall.Content command; part = part }) (record { call = DeviceCall.Content command; part = zeros n })
+content-is part command n e = λ i. record { call = DeviceCall.Content command; part = e i }
 
-pub calls-are : (tick : ℕ) (t : ScriptTick) (a b : MasterCall) (c d e f g h : DeviceCall) → a ≡ masterCallFor (t .primary) → b ≡ masterCallFor (t .secondary)
+pub calls-are : (tick : ℕ) (t : ScriptTick) (a b : MasterCallWithPart) (c d e f g h : DeviceCallWithPart) → a ≡ masterCallFor (t .primary) → b ≡ masterCallFor (t .secondary)
     → c ≡ deviceCallIn tick (t .device2) → d ≡ deviceCallIn tick (t .device3) → e ≡ deviceCallIn tick (t .device4)
     → f ≡ deviceCallIn tick (t .device5) → g ≡ deviceCallIn tick (t .device6) → h ≡ deviceCallIn tick (t .device7)
     → _≡_ {A = Calls} (record { masters = a ∷ b ∷ []; devices = c ∷ d ∷ e ∷ f ∷ g ∷ h ∷ [] }) (callsFor tick t)
 calls-are tick t a b c d e f g h p q r s u v w x = λ i. record { masters = p i ∷ q i ∷ []; devices = r i ∷ s i ∷ u i ∷ v i ∷ w i ∷ x i ∷ [] }
 
 -- by the case that a `match` has told
-pub master-by : (x : MasterCall) (w v : ScriptCall) → w ≡ v → x ≡ masterCallFor v → x ≡ masterCallFor w
+pub master-by : (x : MasterCallWithPart) (w v : ScriptCall) → w ≡ v → x ≡ masterCallFor v → x ≡ masterCallFor w
 master-by x w v e p = p ∙ ap masterCallFor (sym e)
 
-pub device-by : (x : DeviceCall) (w v : ScriptCall) → w ≡ v → x ≡ deviceCallFor v → x ≡ deviceCallFor w
+pub device-by : (x : DeviceCallWithPart) (w v : ScriptCall) → w ≡ v → x ≡ deviceCallFor v → x ≡ deviceCallFor w
 device-by x w v e p = p ∙ ap deviceCallFor (sym e)
 
 pub ruleset wanteds = (refl, request-is, answer-is, content-is, master-by, device-by)
@@ -123,7 +123,7 @@ device-stands : (tick party : ℕ) (es : List Entry) → Small (wantedAt tick pa
 unfolding if_then_else_
 device-stands tick party es s = by (tick =? 0)
   where
-    by : (b : Bool) → deviceCallOf zeroBytes (if b then record { call = DeviceHost.DeviceHostCall.Content 3; part = zeros 2 } else deviceCallFor (wantedAt tick party es))
+    by : (b : Bool) → deviceCallOf zeroBytes (if b then record { call = DeviceCall.Content 3; part = zeros 2 } else deviceCallFor (wantedAt tick party es))
         ≡ (if b then L.gives-content 3 (0 ∷ 0 ∷ []) else deviceCall (wantedAt tick party es))
     by true = ap (L.gives-content 3) (zeros-are 2 (omega arith))
     by false = answer-stands (wantedAt tick party es) s

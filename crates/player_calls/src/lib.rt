@@ -1,8 +1,8 @@
 // The calls of a tick that a script wants, for the link. Their data are the first of so many zero bytes.
-use device_tick::DeviceHostCall;
+use device_tick::DeviceCall;
 use link_parties::Calls;
-use link_parties::DeviceCall;
-use link_parties::MasterCall;
+use link_parties::DeviceCallWithPart;
+use link_parties::MasterCallWithPart;
 use link_parties::Part;
 use player_script::ScriptCall;
 use player_script::ScriptTick;
@@ -21,25 +21,25 @@ fn zeros(n: u8) -> Part
 }
 
 // A request for a command of this address.
-fn request_with(long: bool, address: u8, command: u8) -> MasterCall
+fn request_with(long: bool, address: u8, command: u8) -> MasterCallWithPart
     ensures { λ r. ⌜ r ≡ requestWith long address command ⌝ }
 {
     let part = zeros(0);
-    let q = master::RequestFields {
+    let q = turns::Request {
         preamble: 5,
         revision: 7,
         long: long,
         address: address as u64,
         command: command,
     };
-    MasterCall {
-        call: master::MasterHostCall::Requests(q),
+    MasterCallWithPart {
+        call: master::MasterCall::Requests(q),
         part: part,
     }
 }
 
 // A master's action.
-fn request_for(action: u8, argument: u8) -> MasterCall
+fn request_for(action: u8, argument: u8) -> MasterCallWithPart
     ensures { λ r. ⌜ r ≡ masterCallFor (ScriptCall.Call action argument) ⌝ }
 {
     if action == 1 {
@@ -48,7 +48,7 @@ fn request_for(action: u8, argument: u8) -> MasterCall
     request_with(true, argument, 3)
 }
 
-fn master_call(w: ScriptCall) -> MasterCall
+fn master_call(w: ScriptCall) -> MasterCallWithPart
     ensures { λ r. ⌜ r ≡ masterCallFor w ⌝ }
 {
     match w {
@@ -58,18 +58,18 @@ fn master_call(w: ScriptCall) -> MasterCall
 }
 
 // An answer with so many zero bytes.
-fn answer_with(wish: Wish, count: u8) -> DeviceCall
+fn answer_with(wish: Wish, count: u8) -> DeviceCallWithPart
     ensures { λ r. ⌜ r ≡ answerWith wish count ⌝ }
 {
     let part = zeros(count);
-    DeviceCall {
-        call: DeviceHostCall::Answers(wish),
+    DeviceCallWithPart {
+        call: DeviceCall::Answers(wish),
         part: part,
     }
 }
 
 // A device's action.
-fn answer_for(action: u8, argument: u8) -> DeviceCall
+fn answer_for(action: u8, argument: u8) -> DeviceCallWithPart
     ensures { λ r. ⌜ r ≡ deviceCallFor (ScriptCall.Call action argument) ⌝ }
 {
     if action == 2 {
@@ -81,7 +81,7 @@ fn answer_for(action: u8, argument: u8) -> DeviceCall
     answer_with(Wish::Off, argument)
 }
 
-fn device_call(w: ScriptCall) -> DeviceCall
+fn device_call(w: ScriptCall) -> DeviceCallWithPart
     ensures { λ r. ⌜ r ≡ deviceCallFor w ⌝ }
 {
     match w {
@@ -91,13 +91,13 @@ fn device_call(w: ScriptCall) -> DeviceCall
 }
 
 // A device's burst content in tick 0, and its action in every other tick.
-fn call_in(tick: usize, w: ScriptCall) -> DeviceCall
+fn call_in(tick: usize, w: ScriptCall) -> DeviceCallWithPart
     ensures { λ r. ⌜ r ≡ deviceCallIn tick w ⌝ }
 {
     if tick == 0 {
         let part = zeros(2);
-        return DeviceCall {
-            call: DeviceHostCall::Content(3),
+        return DeviceCallWithPart {
+            call: DeviceCall::Content(3),
             part: part,
         };
     }

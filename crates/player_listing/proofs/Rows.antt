@@ -1,5 +1,5 @@
 -- Laws of several ticks at once: of a row's numbers, of the monitors, and of the two loops over rows and parties.
-use Prim.Native.Nat.{ℕ, zero, suc, _+_, _-_, _≤_, _<_}
+use Prim.Native.Nat.{ℕ, zero, suc, _+_, _-_, _%_, _≤_, _<_}
 use native.Mathlib.Numerals.{add-one}
 use native.Mathlib.Omega.{arith}
 use borrow.Author.Tests.{ltb-true, ltb-false}
@@ -42,11 +42,11 @@ row-length : (row : List ℕ) → length (rowSent row) ≡ length row
 unfolding rowSent
 row-length row = length-map row sentFor
 
-is-character : (n : ℕ) → n < 256 → sentFor n ≡ Sent.Character n
-is-character n h = sym (if-below n 256 (Sent.Character n) (Sent.Character n) Silent h refl)
+is-character : (n : ℕ) → 256 ≤ n → sentFor n ≡ Sent.Character (n % 256)
+is-character n h = sym (if-not-below n 256 (Sent.Character (n % 256)) Silent (Sent.Character (n % 256)) h refl)
 
-is-silent : (n : ℕ) → 256 ≤ n → sentFor n ≡ Silent
-is-silent n h = sym (if-not-below n 256 Silent (Sent.Character n) Silent h refl)
+is-silent : (n : ℕ) → n < 256 → sentFor n ≡ Silent
+is-silent n h = sym (if-below n 256 Silent Silent (Sent.Character (n % 256)) h refl)
 
 -- a loop that counts who sends
 pub row-none : (row : List ℕ) → length row ≡ 8 → Counting (rowSent row) 0 0
@@ -58,10 +58,10 @@ sends-as s c p = subst (λ (x : Sent). SendsIs x 1) (sym p) (record { number = r
 silent-as : (s : Sent) → s ≡ Silent → SendsIs s 0
 silent-as s p = subst (λ (x : Sent). SendsIs x 0) (sym p) (record { number = refl; most = omega arith })
 
-pub row-sends : (row : List ℕ) (n i d : ℕ) → Counting (rowSent row) n i → i < 8 → getD row i d < 256 → Counting (rowSent row) (n + 1) (i + 1)
-row-sends row n i d v h k = counting-more (rowSent row) n i 1 (sentFor d) v h (sends-as _ (getD row i d) (row-at row i d ∙ is-character (getD row i d) k))
+pub row-sends : (row : List ℕ) (n i d : ℕ) → Counting (rowSent row) n i → i < 8 → 256 ≤ getD row i d → Counting (rowSent row) (n + 1) (i + 1)
+row-sends row n i d v h k = counting-more (rowSent row) n i 1 (sentFor d) v h (sends-as _ (getD row i d % 256) (row-at row i d ∙ is-character (getD row i d) k))
 
-pub row-silent : (row : List ℕ) (n i d : ℕ) → Counting (rowSent row) n i → i < 8 → 256 ≤ getD row i d → Counting (rowSent row) n (i + 1)
+pub row-silent : (row : List ℕ) (n i d : ℕ) → Counting (rowSent row) n i → i < 8 → getD row i d < 256 → Counting (rowSent row) n (i + 1)
 row-silent row n i d v h k =
     let same : n + 0 ≡ n = omega arith in
     subst (λ (m : ℕ). Counting (rowSent row) m (i + 1)) same
@@ -156,19 +156,19 @@ module _ {tick : ℕ} {lone : Bool} {row : List ℕ} {ms₀ : List Monitor} {bef
         (listening-more (heardSoFar m) (sentFor d) (v .parties) h here);
   }
 
-  pub party-sends : {b e : Monitor} {k : ℕ} {after : List ℕ} → getD row i d < 256 → b ≡ heardSoFar (getD ms i m) → PartyIs (listens tick i lone b (Sent.Character (getD row i d))) bytes place e k after
+  pub party-sends : {b e : Monitor} {k : ℕ} {after : List ℕ} → 256 ≤ getD row i d → b ≡ heardSoFar (getD ms i m) → PartyIs (listens tick i lone b (Sent.Character (getD row i d % 256))) bytes place e k after
       → RowHeard tick lone row ms₀ before at (set ms i e) after k (i + 1)
   party-sends {b} {e} {k} {after} c q p =
-      party-heard e k after (subst (λ (x : Monitor). x ≡ heardSoFar x) (sym (p .monitor-is)) (heard-character tick i lone b (getD row i d)))
+      party-heard e k after (subst (λ (x : Monitor). x ≡ heardSoFar x) (sym (p .monitor-is)) (heard-character tick i lone b (getD row i d % 256)))
       (subst (λ (x : Monitor). PartyIs (listens tick i lone x (sentFor (getD row i d))) bytes place e k after) q
-      (listens-character tick i lone b (sentFor (getD row i d)) (getD row i d) bytes after place e k (is-character (getD row i d) c) p))
+      (listens-character tick i lone b (sentFor (getD row i d)) (getD row i d % 256) bytes after place e k (is-character (getD row i d) c) p))
 
-  pub party-falls-silent : {e : Monitor} → 256 ≤ getD row i d → e ≡ quietMonitor → RowHeard tick lone row ms₀ before at (set ms i e) bytes place (i + 1)
+  pub party-falls-silent : {e : Monitor} → getD row i d < 256 → e ≡ quietMonitor → RowHeard tick lone row ms₀ before at (set ms i e) bytes place (i + 1)
   party-falls-silent {e} c q =
       party-heard e place bytes (subst (λ (x : Monitor). x ≡ heardSoFar x) (sym q) heard-quiet)
       (listens-silent tick i lone (heardSoFar (getD ms i m)) (sentFor (getD row i d)) bytes place e (is-silent (getD row i d) c) q)
 
-  pub party-stays-silent : 256 ≤ getD row i d → getD ms i m .count ≤ 0 → RowHeard tick lone row ms₀ before at ms bytes place (i + 1)
+  pub party-stays-silent : getD row i d < 256 → getD ms i m .count ≤ 0 → RowHeard tick lone row ms₀ before at ms bytes place (i + 1)
   unfolding allHeard
   party-stays-silent c z =
       let w = party-falls-silent {e = quietMonitor} c refl in

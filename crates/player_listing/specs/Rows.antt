@@ -1,6 +1,6 @@
 -- Inner contracts: nothing that is to be believed rests on them.
 -- Several ticks at once. What the parties sent stands in rows of numbers, a row for each tick and a number for each party.
-use Prim.Native.Nat.{ℕ, _-_}
+use Prim.Native.Nat.{ℕ, _-_, _%_}
 use mathlib.Core.Bool.{Bool}
 use mathlib.Core.List.{List, map}
 use mathlib.Core.Path.{_≡_}
@@ -14,9 +14,9 @@ use Rattle.player_listing.specs.Promises.{TickLinesAre}
 use Rattle.player_listing.specs.declared.Monitor.{Monitor}
 use Rattle.player_listing.specs.declared.Listened.{Listened}
 
--- the character that a party sent, or 256 for none. No larger number is a character.
+-- what a party sent: below 256 nothing, else the character that the number's lowest eight bits are. It is the character with 256 added, or 0 for none, that a link gives.
 abbrev pub sentFor : ℕ → Sent
-sentFor n = if n <? 256 then Character n else Silent
+sentFor n = if n <? 256 then Silent else Character (n % 256)
 
 -- a tick, and ticks one after the other
 unfoldable pub rowSent : List ℕ → List Sent

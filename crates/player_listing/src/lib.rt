@@ -265,7 +265,7 @@ fn row_is_lone(row: &[u16; 8]) -> bool
     while i < 8 {
         let c = row[i];
         i += 1;
-        if c < 256 {
+        if 256 <= c {
             n += 1;
         }
     }
@@ -283,7 +283,7 @@ fn heard_so_far(m: Monitor) -> Monitor
 }
 
 // So many ticks from this one on: the monitors after them, and the lines of the frames that ended in them, put into the output.
-// Row k of sent is what each party sent k ticks after the first: the character, or 256 for none.
+// Row k of sent is what each party sent k ticks after the first: the character with 256 added, or 0 for none.
 pub fn list_ticks(
     monitors: Monitors,
     tick: u32,
@@ -306,9 +306,9 @@ pub fn list_ticks(
             let i = next;
             next += 1;
             let c = sent[k as usize][i];
-            if c < 256 {
+            if 256 <= c {
                 let begun = heard_so_far(list[i]);
-                let h = hear(tick + k, i as u16, lone, begun, c as u8, out, place);
+                let h = hear(tick + k, i as u16, lone, begun, (c % 256) as u8, out, place);
                 let behind = h.monitor;
                 list[i] = behind;
                 place = h.at;

@@ -96,7 +96,7 @@ isIn n (m ∷ ms) = if n =? m then true else isIn n ms
 abbrev pub calledBefore : ℕ → List ℕ → Entry → List ℕ
 calledBefore last called e = if e .tick =? last then called else []
 
--- the records behind one of tick `last`, in which these parties have calls: "A falling tick, two calls to one party in a tick (the stop is no call), .. or a missing stop" is bad
+-- the records after one of tick `last`, in which these parties have calls: "A falling tick, two calls to one party in a tick (the stop is no call), .. or a missing stop" is bad
 unfoldable pub isGood : ℕ → List ℕ → List Entry → Bool
 isGood last called [] = false
 isGood last called (e ∷ []) = if e .tick <? last then false else isStop e
@@ -183,11 +183,11 @@ tickOf tick es next = record {
   next = next;
 }
 
--- the place behind these records of so many bytes each, from a place on
+-- the place after these records of so many bytes each, from a place on
 unfoldable pub placeBehind : ℕ → ℕ → List Entry → ℕ
 placeBehind w at [] = at
 placeBehind w at (e ∷ es) = placeBehind w (at + w) es
 
--- from a place on, the records of this tick that stand first: what they want, and the place behind them
+-- from a place on, the records of this tick that stand first: what they want, and the place after them
 unfoldable pub tickAt : Form → List ℕ → ℕ → ℕ → ScriptTick
 tickAt f script at tick = tickOf tick (leading tick (recordsIn f (drop at script))) (placeBehind (width f) at (leading tick (recordsIn f (drop at script))))

@@ -42,7 +42,7 @@ pub enum ScriptCall {
     Call(u8, u8),
 }
 
-// What a script wants of each party in a tick, and the place behind that tick's records.
+// What a script wants of each party in a tick, and the place after that tick's records.
 pub struct ScriptTick {
     pub primary: ScriptCall,
     pub secondary: ScriptCall,
@@ -357,7 +357,7 @@ fn no_calls(at: usize) -> ScriptTick
     }
 }
 
-// What a script wants of each party in a tick, read from a place on, and the place behind that tick's records.
+// What a script wants of each party in a tick, read from a place on, and the place after that tick's records.
 pub fn calls_at(form: Form, script: &[u8], at: usize, tick: usize) -> ScriptTick
     ensures { λ r. ⌜ r ≡ tickAt form (before script) at tick ⌝ }
 {

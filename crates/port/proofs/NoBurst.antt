@@ -21,9 +21,9 @@ use Rattle.line.specs.declared.Heard.the-variants.{Silence, Character}
 use Rattle.line.specs.declared.Whole.{Whole}
 use Rattle.turns.specs.Link.{MasterCall, no-request, requests}
 use Rattle.turns.specs.Master.{masterTakes, requestHeader}
-use Rattle.turns.specs.Party.{CallResult, was-taken, was-refused}
 use Rattle.turns.specs.Device.{deviceWith, deviceTakes, onHeard, answered, answeredBy, answersAt, answerHeader, wishRefused, wished, hasNoWish, deviceSends, answerFrame}
 use Rattle.turns.specs.Device as D
+use Rattle.turns.specs.declared.CallResult.{CallResult}
 use Rattle.turns.specs.declared.Content.{Content}
 use Rattle.turns.specs.declared.Device.{Device}
 use Rattle.turns.specs.declared.DeviceTaken.{DeviceTaken}
@@ -223,8 +223,8 @@ tick-plain limit x heard (gives-answer wish put) p = go (portAnswered limit (t .
 -- ---- burst on is refused
 
 resultBy : Called Device → CallResult
-resultBy (accepted d) = was-taken
-resultBy (refused why) = was-refused why
+resultBy (accepted d) = CallResult.Taken
+resultBy (refused why) = CallResult.Refused why
 
 result-is : (limit : ℕ) (heard : Heard) (t : PortDeviceTaken) (wish : Wish) (put frame bytes : List ℕ) → deviceCalls limit heard t (gives-answer wish put) frame bytes .result ≡ resultBy (portAnswered limit (t .device .device) wish (length put))
 unfolding resultBy
@@ -240,14 +240,14 @@ module _ (limit : ℕ) (d : Device) (count : ℕ) (p : Plain d) where
   by-turn Listens = by-8
   by-turn (Asked n) = within (count outside 2 to limit)
     where
-      on : resultBy (if wishRefused d On then refused 10 else accepted (deviceWith d (d .receiver) (answersAt d n) (d .request) On (frameLength (d .preamble) (answerHeader (d .request) true) count) (d .due))) ≡ was-refused 10
+      on : resultBy (if wishRefused d On then refused 10 else accepted (deviceWith d (d .receiver) (answersAt d n) (d .request) On (frameLength (d .preamble) (answerHeader (d .request) true) count) (d .due))) ≡ CallResult.Refused 10
       on = ap resultBy (if-is-true (wishRefused d On) _ _ (on-refused d (p .no-content)))
 
       within : (t : Bool) → RefusedOn
           (resultBy (if t then refused 9 else accepted (deviceWith d (d .receiver) (answersAt d n) (d .request) Same (frameLength (d .preamble) (answerHeader (d .request) (d .burst)) count) (d .due))))
           (resultBy (if t then refused 9 else (if wishRefused d On then refused 10 else accepted (deviceWith d (d .receiver) (answersAt d n) (d .request) On (frameLength (d .preamble) (answerHeader (d .request) true) count) (d .due)))))
       within true = by-9
-      within false = subst (RefusedOn was-taken) (sym on) by-10
+      within false = subst (RefusedOn CallResult.Taken) (sym on) by-10
   by-turn AnswerWaits = by-8
   by-turn Begins = by-8
   by-turn (Answers n) = by-8

@@ -18,7 +18,7 @@ use Rattle.line.specs.declared.Heard.the-variants.{Silence, Character}
 use Rattle.turns.specs.Device.{freshDevice, deviceTakes, deviceSends, answered}
 use Rattle.turns.specs.Link.{no-request, requests}
 use Rattle.turns.specs.Master.{freshMaster, masterTakes, masterSends, requested, requestedUpTo, sends, opened}
-use Rattle.turns.specs.Party.{CallResult, none, was-taken, was-refused}
+use Rattle.turns.specs.declared.CallResult.{CallResult}
 use Rattle.turns.specs.declared.Master.{Master}
 use Rattle.turns.specs.declared.Sent.{Sent}
 use Rattle.turns.specs.declared.Sent.the-variants.{Silent}
@@ -47,7 +47,7 @@ carried [] = []
 carried (c ∷ cs) = hears (Character c) ∷ carried cs
 
 unfoldable pub lastResult : List PortDeviceStep → CallResult
-lastResult [] = none
+lastResult [] = CallResult.Nothing
 lastResult (s ∷ []) = s .result
 lastResult (s ∷ (t ∷ ss)) = lastResult (t ∷ ss)
 
@@ -58,11 +58,11 @@ answeredAt command k =
     (replicate 2 (hears Silence) ++ (carried (frameBytes 5 (record { kind = stx; long = true; primary = true; burst = false; address = 7; command = command }) [])
     ++ (replicate (k - 2) (hears Silence) ++ (record { heard = Silence; call = gives-answer Same (0 ∷ 0 ∷ []) } ∷ [])))))
 
-pub t-52 : (answeredAt 0 52 ≡ was-taken) × (answeredAt 0 53 ≡ was-refused 8)
+pub t-52 : (answeredAt 0 52 ≡ CallResult.Taken) × (answeredAt 0 53 ≡ CallResult.Refused 8)
 unfolding answeredAt lastResult carried hears device portDeviceRun portDeviceTick portDeviceTakes portAnswered portDeviceSends deviceTakes deviceSends answered taken takenData silentInside atIdle atPreamble atFirst atAddress atExpansion atCommand atCount atData atCheck writeBuffer writeAnswer frameBytes preambleBytes bodyBytes protectedBytes headerBytes xorFrom delimiterOf stored if_then_else_
 t-52 = (refl, refl)
 
-pub t-87 : (answeredAt 3 87 ≡ was-taken) × (answeredAt 3 88 ≡ was-refused 8)
+pub t-87 : (answeredAt 3 87 ≡ CallResult.Taken) × (answeredAt 3 88 ≡ CallResult.Refused 8)
 unfolding answeredAt lastResult carried hears device portDeviceRun portDeviceTick portDeviceTakes portAnswered portDeviceSends deviceTakes deviceSends answered taken takenData silentInside atIdle atPreamble atFirst atAddress atExpansion atCommand atCount atData atCheck writeBuffer writeAnswer frameBytes preambleBytes bodyBytes protectedBytes headerBytes xorFrom delimiterOf stored if_then_else_
 t-87 = (refl, refl)
 

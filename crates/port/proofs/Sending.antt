@@ -27,7 +27,8 @@ use Rattle.turns.specs.Attempts as Q
 use Rattle.turns.specs.Link.{MasterCall, no-request, requests}
 use Rattle.turns.specs.Master.{atFrame, requestHeader, masterTakes, masterSends}
 use Rattle.turns.specs.Master as M
-use Rattle.turns.specs.Party.{CallResult, none, was-taken, was-refused, isBroadcast}
+use Rattle.turns.specs.Party.{isBroadcast}
+use Rattle.turns.specs.declared.CallResult.{CallResult}
 use Rattle.turns.specs.declared.Master.{Master}
 use Rattle.turns.specs.declared.MasterSent.{MasterSent}
 use Rattle.turns.specs.declared.MasterTaken.{MasterTaken}
@@ -311,7 +312,7 @@ module _ (limit : ℕ) (primary : Bool) (retries : ℕ) (small : limit ≤ 255) 
         }
 
     called : (call : MasterCall) → Ticks call log past (masterCalls limit heard t call frame bytes)
-    called no-request = sent-by no-request (t .master) frame (behindReport (t .told) log) none refl own now room asks-nothing (a .phase)
+    called no-request = sent-by no-request (t .master) frame (behindReport (t .told) log) CallResult.Nothing refl own now room asks-nothing (a .phase)
     called (requests q put) = go (answers limit (t .master .master) q (length put) small)
       where
         h : Header
@@ -327,16 +328,16 @@ module _ (limit : ℕ) (primary : Bool) (retries : ℕ) (small : limit ≤ 255) 
         new : Fits (q .preamble) h (length put) → t .master .master .message .stage ≡ Free → Ticks (requests q put) log past (masterCalled heard t (accepted (withMessage (t .master .master) (newMessage (t .master .master) q (length put)))) w frame bytes)
         new fits free =
             let n = none-speaks (a .phase) free in
-            sent-by (requests q put) (withMaster (t .master) (withMessage (t .master .master) (newMessage (t .master .master) q (length put)))) (stored frame 0 w) (in-hand w (isBroadcast h) [] 0) was-taken
+            sent-by (requests q put) (withMaster (t .master) (withMessage (t .master .master) (newMessage (t .master .master) q (length put)))) (stored frame 0 w) (in-hand w (isBroadcast h) [] 0) CallResult.Taken
             refl own now (omega (arith, room, length-stored frame 0 w))
-            (subst (λ (g : MessageLog). Asked primary (requests q put) was-taken g (in-hand w (isBroadcast h) [] 0)) (sym (n .1))
-            (subst (λ (z : Header). Asked primary (requests q put) was-taken no-message (in-hand (frameBytes (q .preamble) z put) (isBroadcast z) [] 0)) (sym (ap (λ (b : Bool). stxHeader b q) own)) Q.is-taken))
+            (subst (λ (g : MessageLog). Asked primary (requests q put) CallResult.Taken g (in-hand w (isBroadcast h) [] 0)) (sym (n .1))
+            (subst (λ (z : Header). Asked primary (requests q put) CallResult.Taken no-message (in-hand (frameBytes (q .preamble) z put) (isBroadcast z) [] 0)) (sym (ap (λ (b : Bool). stxHeader b q) own)) Q.is-taken))
             (plain (n .0) (A.waits refl (record { message = wholeMessage h put; held = holds (q .preamble) h put frame fits room; broadcast-is = refl }) (some (isBroadcast h))))
 
         go : Answers limit (t .master .master) q (length put) → Ticks (requests q put) log past (masterCalled heard t (portRequested limit (t .master .master) q (length put)) w frame bytes)
         go (refuses why e) =
             subst (λ (c : Called Master). Ticks (requests q put) log past (masterCalled heard t c w frame bytes)) (sym e)
-            (sent-by (requests q put) (t .master) frame (behindReport (t .told) log) (was-refused why) refl own now room Q.is-refused (a .phase))
+            (sent-by (requests q put) (t .master) frame (behindReport (t .told) log) (CallResult.Refused why) refl own now room Q.is-refused (a .phase))
         go (accepts fits free e) = subst (λ (c : Called Master). Ticks (requests q put) log past (masterCalled heard t c w frame bytes)) (sym e) (new fits free)
 
   ticks : (x : PortMasterSide) (log : MessageLog) (past : List Event) (heard : Heard) (call : MasterCall) → x .master .master .primary ≡ primary → x .master .master .retries ≡ retries → 284 ≤ length (x .frame)

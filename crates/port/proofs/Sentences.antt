@@ -17,13 +17,13 @@ use Rattle.line.specs.declared.Heard.{Heard}
 use Rattle.line.specs.declared.Heard.the-variants.{Silence, Character}
 use Rattle.line.specs.declared.Receiver.{Receiver}
 use Rattle.line.specs.declared.Whole.{Whole}
-use Rattle.turns.specs.Party.{Request}
 use Rattle.turns.specs.Master.{afterBreak}
 use Rattle.turns.specs.Device.{answered, mayAnswer, afterRequest}
 use Rattle.turns.specs.declared.Change.{Change}
 use Rattle.turns.specs.declared.Device.{Device}
 use Rattle.turns.specs.declared.Master.{Master}
 use Rattle.turns.specs.declared.MasterTaken.{MasterTaken}
+use Rattle.turns.specs.declared.Request.{Request}
 use Rattle.turns.specs.declared.Turn.the-variants.{Asked}
 use Rattle.turns.specs.declared.Wish.{Wish}
 use Rattle.turns.proofs.Masters.{if-cases}

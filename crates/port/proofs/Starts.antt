@@ -18,13 +18,14 @@ use Rattle.line.specs.Reader.{insideFrame}
 use Rattle.line.specs.declared.Heard.{Heard}
 use Rattle.line.specs.declared.Heard.the-variants.{Silence, Character}
 use Rattle.line.specs.declared.Profile.{Profile}
-use Rattle.turns.specs.Party.{Request, none, was-taken}
 use Rattle.turns.specs.Master.{ownRt1, any-stx, timerAfter, sends, sendsAt, masterSends, requestHeader}
 use Rattle.turns.specs.Master as M
 use Rattle.turns.specs.Link.{MasterCall, no-request, requests}
+use Rattle.turns.specs.declared.CallResult.{CallResult}
 use Rattle.turns.specs.declared.Master.{Master}
 use Rattle.turns.specs.declared.MasterSent.{MasterSent}
 use Rattle.turns.specs.declared.Message.{Message}
+use Rattle.turns.specs.declared.Request.{Request}
 use Rattle.turns.specs.declared.Sent.{Sent}
 use Rattle.turns.specs.declared.Sent.the-variants.{Silent}
 use Rattle.turns.specs.declared.Stage.{Stage}
@@ -187,7 +188,7 @@ answers limit m q count small = go (q .preamble =? portPreamble) refl (asks limi
 
 -- no message was taken, or a new one waits
 data Goes (t : PortMasterTaken) (s : PortMasterStep) : Type 0 where
-  as-before : (frame : List ℕ) → s .side .master ≡ portMasterSends (t .master) frame .master → s .sent ≡ portMasterSends (t .master) frame .sent → (s .result ≡ was-taken → ⊥) → Goes t s
+  as-before : (frame : List ℕ) → s .side .master ≡ portMasterSends (t .master) frame .master → s .sent ≡ portMasterSends (t .master) frame .sent → (s .result ≡ CallResult.Taken → ⊥) → Goes t s
   new-message : (frame : List ℕ) (g : Message) → t .master .master .message .stage ≡ Free → g .stage ≡ Waiting
       → s .side .master ≡ portMasterSends (withMaster (t .master) (withMessage (t .master .master) g)) frame .master
       → s .sent ≡ portMasterSends (withMaster (t .master) (withMessage (t .master .master) g)) frame .sent → Goes t s
@@ -415,7 +416,7 @@ module _ (limit : ℕ) (small : limit ≤ 255) where
           started (not-yet z y) = not-yet (b ∙ z) (subst (Waits rt1) (sym a) y)
 
   -- a message that was taken begins in its tick, or waits
-  taken-waits : (x : PortMasterSide) (heard : Heard) (call : MasterCall) → Phase (x .master) → portMasterTick limit x heard call .result ≡ was-taken
+  taken-waits : (x : PortMasterSide) (heard : Heard) (call : MasterCall) → Phase (x .master) → portMasterTick limit x heard call .result ≡ CallResult.Taken
       → Begun (rt1 + 1) (record { master = portMasterTick limit x heard call .side .master; sent = portMasterTick limit x heard call .sent })
   unfolding portMasterTick portMasterTakes
   taken-waits x heard call p was = by p (goes limit heard (taken-by x heard) call (x .frame) (masterData x heard) small)

@@ -13,10 +13,10 @@ use Rattle.line.specs.declared.Event.the-variants.{Nothing, PassedOver, Broken,
 use Rattle.line.specs.declared.Heard.{Heard}
 use Rattle.line.specs.declared.Receiver.{Receiver}
 use Rattle.line.specs.declared.Whole.{Whole}
-use Rattle.turns.specs.Party.{Request}
 use Rattle.turns.specs.Master.{timer, tells, afterBreak, masterWith, endedBy, timerAfter, ifAwaiting, atFrame, masterTakes, requested, sends, masterSends, masterStarts}
 use Rattle.turns.specs.declared.Master.{Master}
 use Rattle.turns.specs.declared.MasterTaken.{MasterTaken}
+use Rattle.turns.specs.declared.Request.{Request}
 use Rattle.turns.specs.declared.Sent.{Sent}
 use Rattle.turns.specs.declared.Sent.the-variants.{Silent}
 use Rattle.turns.specs.declared.Stage.{Stage}

@@ -9,7 +9,7 @@ use Rattle.frame.specs.Delimiter.{back}
 use Rattle.line.specs.declared.Event.{Event}
 use Rattle.line.specs.declared.Event.the-variants.{Frame}
 use Rattle.line.specs.declared.Whole.{Whole}
-use Rattle.turns.specs.Party.{CallResult, was-taken, was-refused}
+use Rattle.turns.specs.declared.CallResult.{CallResult}
 use Rattle.turns.specs.declared.Wish.the-variants.{Same, On}
 use Rattle.port.specs.Master.{portMasterStarts}
 use Rattle.port.specs.Device.{portDeviceStarts}
@@ -26,9 +26,9 @@ pub data NeverSet : List PortMasterStep → Type 0 where
 
 -- an answer that wishes burst on, compared with the same answer without a wish: "8: no request in hand, or past T+STO; 9: data outside 2 to 255", else 10
 pub data RefusedOn : CallResult → CallResult → Type 0 where
-  by-10 : RefusedOn was-taken (was-refused 10)
-  by-8 : RefusedOn (was-refused 8) (was-refused 8)
-  by-9 : RefusedOn (was-refused 9) (was-refused 9)
+  by-10 : RefusedOn CallResult.Taken (CallResult.Refused 10)
+  by-8 : RefusedOn (CallResult.Refused 8) (CallResult.Refused 8)
+  by-9 : RefusedOn (CallResult.Refused 9) (CallResult.Refused 9)
 
 -- in every tick a device does not burst, no BACK is told as a frame, and an answer that wishes burst on is refused
 pub data NeverOn (limit : ℕ) : PortDeviceSide → List DeviceInput → Type 0 where

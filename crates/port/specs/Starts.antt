@@ -7,7 +7,7 @@ use mathlib.Core.List.{List, [], _∷_}
 use Rattle.base.specs.Refusal.{accepted}
 use Rattle.line.specs.Gaps.{IsCharacter}
 use Rattle.line.specs.declared.Heard.the-variants.{Silence}
-use Rattle.turns.specs.Party.{was-taken}
+use Rattle.turns.specs.declared.CallResult.{CallResult}
 use Rattle.turns.specs.declared.Sent.the-variants.{Silent, Character}
 use Rattle.turns.specs.declared.Stage.the-variants.{Waiting}
 use Rattle.line.specs.Profile.{infraredProfile}
@@ -39,7 +39,7 @@ pub record IsWaiting (s : PortMasterStep) : Type 0 where
 -- every message that was taken; and every retry, from the tick that makes it due on
 pub data EachStarts : List PortMasterStep → Type 0 where
   no-more : EachStarts []
-  and : {s : PortMasterStep} {ss : List PortMasterStep} → (s .result ≡ was-taken → StartsWithin (rt1 + 1) (s ∷ ss))
+  and : {s : PortMasterStep} {ss : List PortMasterStep} → (s .result ≡ CallResult.Taken → StartsWithin (rt1 + 1) (s ∷ ss))
       → (IsWaiting s → StartsWithin rt1 (s ∷ ss)) → EachStarts ss → EachStarts (s ∷ ss)
 
 abbrev pub StartsInTime : Type 0

@@ -11,10 +11,10 @@ use Rattle.frame.specs.Frame.{frameBytes}
 use Rattle.line.specs.Reader.{takenData}
 use Rattle.line.specs.declared.Event.{Event}
 use Rattle.line.specs.declared.Heard.{Heard}
-use Rattle.turns.specs.Party.{CallResult, none, was-taken, was-refused}
 use Rattle.turns.specs.Master.{requestHeader}
 use Rattle.turns.specs.Device.{answerFrame, deviceTakes, errorFrame}
 use Rattle.turns.specs.Link.{MasterCall, no-request, requests}
+use Rattle.turns.specs.declared.CallResult.{CallResult}
 use Rattle.turns.specs.declared.Master.{Master}
 use Rattle.turns.specs.declared.MasterTold.{MasterTold}
 use Rattle.turns.specs.declared.Device.{Device}
@@ -69,11 +69,11 @@ portMasterSent heard t s frame bytes result = record {
 -- `put` is the STX of the request
 abbrev pub masterCalled : Heard → PortMasterTaken → Called Master → List ℕ → List ℕ → List ℕ → PortMasterStep
 masterCalled heard t (accepted m) put frame bytes =
-    portMasterSent heard t (portMasterSends (withMaster (t .master) m) (stored frame 0 put)) (stored frame 0 put) bytes was-taken
-masterCalled heard t (refused why) put frame bytes = portMasterSent heard t (portMasterSends (t .master) frame) frame bytes (was-refused why)
+    portMasterSent heard t (portMasterSends (withMaster (t .master) m) (stored frame 0 put)) (stored frame 0 put) bytes CallResult.Taken
+masterCalled heard t (refused why) put frame bytes = portMasterSent heard t (portMasterSends (t .master) frame) frame bytes (CallResult.Refused why)
 
 abbrev pub masterCalls : ℕ → Heard → PortMasterTaken → MasterCall → List ℕ → List ℕ → PortMasterStep
-masterCalls limit heard t no-request frame bytes = portMasterSent heard t (portMasterSends (t .master) frame) frame bytes none
+masterCalls limit heard t no-request frame bytes = portMasterSent heard t (portMasterSends (t .master) frame) frame bytes CallResult.Nothing
 masterCalls limit heard t (requests q put) frame bytes =
     masterCalled heard t (portRequested limit (t .master .master) q (length put))
     (frameBytes (q .preamble) (requestHeader (t .master .master) q) put) frame bytes
@@ -143,11 +143,11 @@ deviceSent heard t s frame bytes result = record {
 
 -- `written` is the frame buffer with the answer
 abbrev pub deviceCalled : Heard → PortDeviceTaken → Called Device → List ℕ → List ℕ → List ℕ → PortDeviceStep
-deviceCalled heard t (accepted d) written frame bytes = deviceSent heard t (portDeviceSends (withDevice (t .device) d) written) written bytes was-taken
-deviceCalled heard t (refused why) written frame bytes = deviceSent heard t (portDeviceSends (t .device) frame) frame bytes (was-refused why)
+deviceCalled heard t (accepted d) written frame bytes = deviceSent heard t (portDeviceSends (withDevice (t .device) d) written) written bytes CallResult.Taken
+deviceCalled heard t (refused why) written frame bytes = deviceSent heard t (portDeviceSends (t .device) frame) frame bytes (CallResult.Refused why)
 
 abbrev pub deviceCalls : ℕ → Heard → PortDeviceTaken → PortCall → List ℕ → List ℕ → PortDeviceStep
-deviceCalls limit heard t no-call frame bytes = deviceSent heard t (portDeviceSends (t .device) frame) frame bytes none
+deviceCalls limit heard t no-call frame bytes = deviceSent heard t (portDeviceSends (t .device) frame) frame bytes CallResult.Nothing
 deviceCalls limit heard t (gives-answer wish put) frame bytes =
     deviceCalled heard t (portAnswered limit (t .device .device) wish (length put)) (answerFrame (t .device .device) wish put frame) frame bytes
 

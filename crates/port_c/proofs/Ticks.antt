@@ -4,10 +4,10 @@ use mathlib.Core.List.{List}
 use mathlib.Core.Path.{_≡_, refl, ap, subst, _∙_}
 use Rattle.line.specs.declared.Heard.{Heard}
 use Rattle.turns.specs.Told.{masterTells, deviceTells}
-use Rattle.party.specs.Calls.{resultOf}
-use Rattle.state_words.specs.Numbers.{tickNumbers, sentNumber, callNumber}
+use Rattle.party.specs.Numbers.{sentNumber, callNumber}
+use Rattle.state_words.specs.Numbers.{tickNumbers}
 use Rattle.master.specs.Tick.{callOf}
-use Rattle.master.specs.declared.MasterHostCall.{MasterHostCall}
+use Rattle.master.specs.declared.MasterCall.{MasterCall}
 use Rattle.master_c.specs.Tick.{toldAttempts}
 use Rattle.master_c.specs.Words as MasterWords
 use Rattle.master_c.proofs.Kept as MasterKept
@@ -21,7 +21,7 @@ use Rattle.port_master.specs.declared.PortMasterTicked.{PortMasterTicked}
 use Rattle.port_device.specs.Ticks as D
 use Rattle.port_device.specs.Ticks.{PortDeviceTickIs}
 use Rattle.port_device.specs.declared.PortDeviceTicked.{PortDeviceTicked}
-use Rattle.port_device.specs.declared.PortHostCall.{PortHostCall}
+use Rattle.port_device.specs.declared.PortCall.{PortCall}
 use Rattle.port_c.specs.Words.{masterWords, unpackedMaster, deviceWords, unpackedDevice}
 use Rattle.port_c.specs.Fits.{PortMasterFits, PortDeviceFits}
 use Rattle.port_c.specs.Tick.{MasterStepIs, DeviceStepIs}
@@ -29,10 +29,10 @@ use Rattle.port_c.proofs.Kept.{port-master-kept, port-device-kept}
 
 -- ---- the master
 
-pub master-tick-is : (limit : ℕ) (words port frame bytes : List ℕ) (x : PortMaster) (heard : Heard) (call : MasterHostCall) (put : List ℕ) (t : PortMasterTicked) (frame-after bytes-after words-after port-after results : List ℕ) (sent told attempts r : ℕ)
+pub master-tick-is : (limit : ℕ) (words port frame bytes : List ℕ) (x : PortMaster) (heard : Heard) (call : MasterCall) (put : List ℕ) (t : PortMasterTicked) (frame-after bytes-after words-after port-after results : List ℕ) (sent told attempts r : ℕ)
     → limit ≡ MasterWords.limitAt words → limit < 2 ^ 8 → x ≡ unpackedMaster words port → PortMasterTickIs limit x heard call put frame bytes t frame-after bytes-after → PortMasterFits (t .master) → words-after ≡ MasterWords.packed limit (t .master .master) → port-after ≡ masterWords (t .master)
     → results ≡ tickNumbers sent told attempts (t .event) → sent ≡ sentNumber (t .sent) → told ≡ masterTells (t .told) .number → attempts ≡ toldAttempts (t .told)
-    → r ≡ callNumber (resultOf (t .result))
+    → r ≡ callNumber (t .result)
     → MasterStepIs (MasterWords.limitAt words) (portMasterTick (MasterWords.limitAt words) (sideOf (unpackedMaster words port) frame bytes) heard (callOf call put)) words-after port-after frame-after bytes-after results r
 master-tick-is limit words port frame bytes x heard call put t frame-after bytes-after words-after port-after results sent told attempts r same small d v f w p n a b e q =
     let step : stepOf heard t frame-after bytes-after ≡ portMasterTick (MasterWords.limitAt words) (sideOf (unpackedMaster words port) frame bytes) heard (callOf call put) =
@@ -52,23 +52,23 @@ master-tick-is limit words port frame bytes x heard call put t frame-after bytes
       returned = q ∙ ap (λ (s : PortMasterStep). callNumber (s .result)) step;
     }
 
-abbrev MasterSteps : List ℕ → List ℕ → List ℕ → List ℕ → List ℕ → List ℕ → List ℕ → List ℕ → List ℕ → List ℕ → ℕ → Heard → MasterHostCall → Type 0
+abbrev MasterSteps : List ℕ → List ℕ → List ℕ → List ℕ → List ℕ → List ℕ → List ℕ → List ℕ → List ℕ → List ℕ → ℕ → Heard → MasterCall → Type 0
 MasterSteps words port frame bytes put words-after port-after frame-after bytes-after results r heard call =
     MasterStepIs (MasterWords.limitAt words) (portMasterTick (MasterWords.limitAt words) (sideOf (unpackedMaster words port) frame bytes) heard (callOf call put)) words-after port-after frame-after bytes-after results r
 
-pub master-tick-called : (words port frame bytes put words-after port-after frame-after bytes-after results : List ℕ) (r : ℕ) (h heard : Heard) (c call : MasterHostCall) → h ≡ heard → c ≡ call
+pub master-tick-called : (words port frame bytes put words-after port-after frame-after bytes-after results : List ℕ) (r : ℕ) (h heard : Heard) (c call : MasterCall) → h ≡ heard → c ≡ call
     → MasterSteps words port frame bytes put words-after port-after frame-after bytes-after results r h c → MasterSteps words port frame bytes put words-after port-after frame-after bytes-after results r heard call
 master-tick-called words port frame bytes put words-after port-after frame-after bytes-after results r h heard c call d e v =
-    subst (λ (x : MasterHostCall). MasterSteps words port frame bytes put words-after port-after frame-after bytes-after results r heard x) e
+    subst (λ (x : MasterCall). MasterSteps words port frame bytes put words-after port-after frame-after bytes-after results r heard x) e
     (subst (λ (x : Heard). MasterSteps words port frame bytes put words-after port-after frame-after bytes-after results r x c) d v)
 
 pub ruleset masters = (refl, master-tick-is, master-tick-called)
 
 -- ---- a device
 
-pub device-tick-is : (limit : ℕ) (words port frame bytes : List ℕ) (y : PortDevice) (heard : Heard) (call : PortHostCall) (put : List ℕ) (t : PortDeviceTicked) (frame-after bytes-after words-after port-after results : List ℕ) (sent told r : ℕ)
+pub device-tick-is : (limit : ℕ) (words port frame bytes : List ℕ) (y : PortDevice) (heard : Heard) (call : PortCall) (put : List ℕ) (t : PortDeviceTicked) (frame-after bytes-after words-after port-after results : List ℕ) (sent told r : ℕ)
     → limit ≡ DeviceWords.limitAt words → limit < 2 ^ 8 → y ≡ unpackedDevice words port → PortDeviceTickIs limit y heard call put frame bytes t frame-after bytes-after → PortDeviceFits (t .device) → words-after ≡ DeviceWords.packed limit (t .device .device) → port-after ≡ deviceWords (t .device)
-    → results ≡ tickNumbers sent told 0 (t .event) → sent ≡ sentNumber (t .sent) → told ≡ deviceTells (t .told) .number → r ≡ callNumber (resultOf (t .result))
+    → results ≡ tickNumbers sent told 0 (t .event) → sent ≡ sentNumber (t .sent) → told ≡ deviceTells (t .told) .number → r ≡ callNumber (t .result)
     → DeviceStepIs (DeviceWords.limitAt words) (portDeviceTick (DeviceWords.limitAt words) (D.sideOf (unpackedDevice words port) frame bytes) heard (D.callOf call put)) words-after port-after frame-after bytes-after results r
 device-tick-is limit words port frame bytes y heard call put t frame-after bytes-after words-after port-after results sent told r same small d v f w p n a b q =
     let step : D.stepOf heard t frame-after bytes-after ≡ portDeviceTick (DeviceWords.limitAt words) (D.sideOf (unpackedDevice words port) frame bytes) heard (D.callOf call put) =
@@ -88,14 +88,14 @@ device-tick-is limit words port frame bytes y heard call put t frame-after bytes
       returned = q ∙ ap (λ (s : PortDeviceStep). callNumber (s .result)) step;
     }
 
-abbrev DeviceSteps : List ℕ → List ℕ → List ℕ → List ℕ → List ℕ → List ℕ → List ℕ → List ℕ → List ℕ → List ℕ → ℕ → Heard → PortHostCall → Type 0
+abbrev DeviceSteps : List ℕ → List ℕ → List ℕ → List ℕ → List ℕ → List ℕ → List ℕ → List ℕ → List ℕ → List ℕ → ℕ → Heard → PortCall → Type 0
 DeviceSteps words port frame bytes put words-after port-after frame-after bytes-after results r heard call =
     DeviceStepIs (DeviceWords.limitAt words) (portDeviceTick (DeviceWords.limitAt words) (D.sideOf (unpackedDevice words port) frame bytes) heard (D.callOf call put)) words-after port-after frame-after bytes-after results r
 
-pub device-tick-called : (words port frame bytes put words-after port-after frame-after bytes-after results : List ℕ) (r : ℕ) (h heard : Heard) (c call : PortHostCall) → h ≡ heard → c ≡ call
+pub device-tick-called : (words port frame bytes put words-after port-after frame-after bytes-after results : List ℕ) (r : ℕ) (h heard : Heard) (c call : PortCall) → h ≡ heard → c ≡ call
     → DeviceSteps words port frame bytes put words-after port-after frame-after bytes-after results r h c → DeviceSteps words port frame bytes put words-after port-after frame-after bytes-after results r heard call
 device-tick-called words port frame bytes put words-after port-after frame-after bytes-after results r h heard c call d e v =
-    subst (λ (x : PortHostCall). DeviceSteps words port frame bytes put words-after port-after frame-after bytes-after results r heard x) e
+    subst (λ (x : PortCall). DeviceSteps words port frame bytes put words-after port-after frame-after bytes-after results r heard x) e
     (subst (λ (x : Heard). DeviceSteps words port frame bytes put words-after port-after frame-after bytes-after results r x c) d v)
 
 pub ruleset devices = (refl, device-tick-is, device-tick-called)

@@ -8,16 +8,17 @@ use Rattle.base.specs.Lent.{Lent, before, after}
 use Rattle.line.specs.declared.Heard.{Heard}
 use Rattle.turns.specs.Told.{masterTells, deviceTells}
 use Rattle.turns.specs.declared.Wish.the-variants.{Same, On, Off}
-use Rattle.state_words.specs.Numbers.{tickNumbers, sentNumber, callNumber}
+use Rattle.party.specs.Numbers.{sentNumber, callNumber}
+use Rattle.state_words.specs.Numbers.{tickNumbers}
 use Rattle.master.specs.Tick.{callOf}
-use Rattle.master.specs.declared.MasterHostCall.{MasterHostCall}
+use Rattle.master.specs.declared.MasterCall.{MasterCall}
 use Rattle.master_c.specs.Tick.{toldAttempts}
 use Rattle.master_c.specs.Words as MasterWords
 use Rattle.device_c.specs.Words as DeviceWords
 use Rattle.port.specs.Ticks.{PortMasterStep, portMasterTick, PortDeviceStep, portDeviceTick}
 use Rattle.port_master.specs.Ticks.{sideOf}
 use Rattle.port_device.specs.Ticks as D
-use Rattle.port_device.specs.declared.PortHostCall.{PortHostCall}
+use Rattle.port_device.specs.declared.PortCall.{PortCall}
 use Rattle.port_c.specs.Words.{masterWords, unpackedMaster, deviceWords, unpackedDevice}
 
 -- ---- the master
@@ -34,7 +35,7 @@ pub record MasterStepIs (limit : ℕ) (s : PortMasterStep) (words port frame byt
   pub returned : r ≡ callNumber (s .result)
 
 -- the step of the master that the words stood for before the call; the data of the host's request are `put`
-abbrev pub PortMasterTicks : Lent (List ℕ) → Lent (List ℕ) → Lent (List ℕ) → Lent (List ℕ) → Heard → MasterHostCall → Lent (List ℕ) → Lent (List ℕ) → ℕ → Type 0
+abbrev pub PortMasterTicks : Lent (List ℕ) → Lent (List ℕ) → Lent (List ℕ) → Lent (List ℕ) → Heard → MasterCall → Lent (List ℕ) → Lent (List ℕ) → ℕ → Type 0
 PortMasterTicks words port frame bytes heard call put results r =
     MasterStepIs (MasterWords.limitAt (before words))
     (portMasterTick (MasterWords.limitAt (before words)) (sideOf (unpackedMaster (before words) (before port)) (before frame) (before bytes)) heard
@@ -44,12 +45,12 @@ PortMasterTicks words port frame bytes heard call put results r =
 -- ---- a device
 
 -- a host's call by its number: 1 is an answer, 2 one that wishes burst on, 3 one that wishes it off, any other number nothing
-abbrev pub callBy : ℕ → PortHostCall
+abbrev pub callBy : ℕ → PortCall
 callBy number =
-    if number =? 1 then PortHostCall.Answers Same else
-    if number =? 2 then PortHostCall.Answers On else
-    if number =? 3 then PortHostCall.Answers Off else
-    PortHostCall.Nothing
+    if number =? 1 then PortCall.Answers Same else
+    if number =? 2 then PortCall.Answers On else
+    if number =? 3 then PortCall.Answers Off else
+    PortCall.Nothing
 
 pub record DeviceStepIs (limit : ℕ) (s : PortDeviceStep) (words port frame bytes results : List ℕ) (r : ℕ) : Type 0 where
   pub words-are : words ≡ DeviceWords.packed limit (s .side .device .device)
@@ -62,7 +63,7 @@ pub record DeviceStepIs (limit : ℕ) (s : PortDeviceStep) (words port frame byt
   pub returned : r ≡ callNumber (s .result)
 
 -- the step of the device that the words stood for before the call; the data of the host's answer are `put`
-abbrev pub PortDeviceTicks : Lent (List ℕ) → Lent (List ℕ) → Lent (List ℕ) → Lent (List ℕ) → Heard → PortHostCall → Lent (List ℕ) → Lent (List ℕ) → ℕ → Type 0
+abbrev pub PortDeviceTicks : Lent (List ℕ) → Lent (List ℕ) → Lent (List ℕ) → Lent (List ℕ) → Heard → PortCall → Lent (List ℕ) → Lent (List ℕ) → ℕ → Type 0
 PortDeviceTicks words port frame bytes heard call put results r =
     DeviceStepIs (DeviceWords.limitAt (before words))
     (portDeviceTick (DeviceWords.limitAt (before words)) (D.sideOf (unpackedDevice (before words) (before port)) (before frame) (before bytes)) heard

@@ -2,13 +2,13 @@
 use base::Refusal;
 use line::Damage;
 use line::Heard;
-use master::MasterHostCall;
+use master::MasterCall;
 use port::Ear;
 use port::PortDevice;
 use port::PortMaster;
 use port::WakeUp;
+use port_device::PortCall;
 use port_device::PortDeviceStarted;
-use port_device::PortHostCall;
 use port_master::PortMasterStarted;
 use turns::Wish;
 ghost use Prim.Native.Nat.{_<_, _^_};
@@ -138,7 +138,7 @@ fn tick_master(
     frame: &mut [u8; 284],
     bytes: &mut [u8; 255],
     heard: Heard,
-    call: MasterHostCall,
+    call: MasterCall,
     put: &[u8],
     results: &mut [u64; 17],
 ) -> u32
@@ -158,12 +158,12 @@ fn tick_master(
     master_c::pack(state, limit, m);
     *port = master_words(next);
     *results = state_words::tick_numbers(
-        state_words::sent_number(sent),
+        party::sent_number(sent) as u64,
         master_c::told_number(told),
         master_c::told_attempts(told),
         event,
     );
-    state_words::call_number(result)
+    party::call_number(result)
 }
 
 // A tick of the port's master; returns 0, or the number of the request's refusal.
@@ -355,19 +355,19 @@ fn device_words(y: PortDevice) -> [u64; 6]
 }
 
 // The host's call by its number.
-fn call_by(number: u8) -> PortHostCall
+fn call_by(number: u8) -> PortCall
     ensures { λ r. ⌜ r ≡ callBy number ⌝ }
 {
     if number == 1 {
-        return PortHostCall::Answers(Wish::Same);
+        return PortCall::Answers(Wish::Same);
     }
     if number == 2 {
-        return PortHostCall::Answers(Wish::On);
+        return PortCall::Answers(Wish::On);
     }
     if number == 3 {
-        return PortHostCall::Answers(Wish::Off);
+        return PortCall::Answers(Wish::Off);
     }
-    PortHostCall::Nothing
+    PortCall::Nothing
 }
 
 // A tick of the device that the words stand for.
@@ -377,7 +377,7 @@ fn tick_device(
     frame: &mut [u8; 284],
     bytes: &mut [u8; 255],
     heard: Heard,
-    call: PortHostCall,
+    call: PortCall,
     put: &[u8],
     results: &mut [u64; 17],
 ) -> u32
@@ -397,12 +397,12 @@ fn tick_device(
     device_c::pack(state, limit, d);
     *port = device_words(next);
     *results = state_words::tick_numbers(
-        state_words::sent_number(sent),
+        party::sent_number(sent) as u64,
         device_c::told_number(told),
         0,
         event,
     );
-    state_words::call_number(result)
+    party::call_number(result)
 }
 
 // A tick of a device of the port; returns 0, or the number with which its host's answer is refused.

@@ -17,9 +17,9 @@ use Rattle.line.specs.declared.Place.the-variants.{Preamble}
 use Rattle.line.specs.declared.Profile.{Profile}
 use Rattle.line.specs.declared.Receiver.{Receiver}
 use Rattle.line.specs.declared.Whole.{Whole}
-use Rattle.turns.specs.Party.{was-taken, was-refused}
 use Rattle.turns.specs.Device.{deviceWith, deviceTakes, errorFrame, answered, answerFrame, deviceSends, deviceStarts}
 use Rattle.turns.specs.Link as L
+use Rattle.turns.specs.declared.CallResult.{CallResult}
 use Rattle.turns.specs.declared.Device.{Device}
 use Rattle.turns.specs.declared.DeviceSent.{DeviceSent}
 use Rattle.turns.specs.declared.DeviceTaken.{DeviceTaken}
@@ -28,8 +28,6 @@ use Rattle.turns.specs.declared.Turn.{Turn}
 use Rattle.turns.specs.declared.Turn.the-variants.{Listens}
 use Rattle.turns.specs.declared.Wish.{Wish}
 use Rattle.turns.specs.declared.Wish.the-variants.{Same}
-use Rattle.party.specs.Calls.{resultOf}
-use Rattle.party.specs.declared.CallStatus.{CallStatus}
 use Rattle.device_rules.specs.Hearing.{lent}
 use Rattle.device.specs.Calls as C
 use Rattle.device.specs.Calls.{calledAs, bufferBehind}
@@ -50,7 +48,7 @@ use Rattle.port_device.specs.Ticks.{callOf, PortDeviceTickIs}
 use Rattle.port_device.specs.Parts.{AwakeIs, PortTakeIs, uncalled, took, PortCalledIs}
 use Rattle.port_device.specs.declared.PortCallTaken.{PortCallTaken}
 use Rattle.port_device.specs.declared.PortDeviceStarted.{PortDeviceStarted}
-use Rattle.port_device.specs.declared.PortHostCall.{PortHostCall}
+use Rattle.port_device.specs.declared.PortCall.{PortCall}
 
 -- ---- definitions by cases, at the case that a `match` has told
 
@@ -205,7 +203,7 @@ module _ (limit : ℕ) (y : PortDevice) (wish : Wish) (put frame after : List �
   written : List ℕ
   written = answerFrame (y .device) wish put frame
 
-  pub call-accepted : (e : Device) (z : PortDevice) → r ≡ DeviceCalled.Accepted e → z ≡ withDevice y e → PortCalledIs limit y (PortHostCall.Answers wish) put frame (record { device = z; result = CallStatus.Taken }) after
+  pub call-accepted : (e : Device) (z : PortDevice) → r ≡ DeviceCalled.Accepted e → z ≡ withDevice y e → PortCalledIs limit y (PortCall.Answers wish) put frame (record { device = z; result = CallResult.Taken }) after
   unfolding written
   call-accepted e z k same =
       let called : portAnswered limit (y .device) wish (length put) ≡ accepted e = sym (is .called) ∙ ap calledAs k in
@@ -213,30 +211,32 @@ module _ (limit : ℕ) (y : PortDevice) (wish : Wish) (put frame after : List �
       record {
         goes = λ heard told event bytes.
             ap (λ (c : Called Device). deviceCalled heard (took y told event) c written frame bytes) called
-            ∙ (λ i. deviceSent heard (took y told event) (portDeviceSends (sym same i) (buffer i)) (buffer i) bytes was-taken);
+            ∙ (λ i. deviceSent heard (took y told event) (portDeviceSends (sym same i) (buffer i)) (buffer i) bytes CallResult.Taken);
       }
 
-  pub call-refused : (why : Refusal) → r ≡ DeviceCalled.Refused why → PortCalledIs limit y (PortHostCall.Answers wish) put frame (record { device = y; result = CallStatus.Refused why }) after
+  pub call-refused : (why : Refusal) (n : ℕ) → r ≡ DeviceCalled.Refused why → n ≡ number why
+      → PortCalledIs limit y (PortCall.Answers wish) put frame (record { device = y; result = CallResult.Refused n }) after
   unfolding written
-  call-refused why k =
+  call-refused why n k same =
       let called : portAnswered limit (y .device) wish (length put) ≡ refused (number why) = sym (is .called) ∙ ap calledAs k in
       let buffer : frame ≡ after = sym (is .frame-is ∙ ap (λ (c : Called Device). bufferBehind c written frame) called) in
       record {
         goes = λ heard told event bytes.
             ap (λ (c : Called Device). deviceCalled heard (took y told event) c written frame bytes) called
-            ∙ ap (λ (f : List ℕ). deviceSent heard (took y told event) (portDeviceSends y f) f bytes (was-refused (number why))) buffer;
+            ∙ ap (λ (f : List ℕ). deviceSent heard (took y told event) (portDeviceSends y f) f bytes (CallResult.Refused (number why))) buffer
+            ∙ ap (λ (m : ℕ). deviceSent heard (took y told event) (portDeviceSends y after) after bytes (CallResult.Refused m)) (sym same);
       }
 
-pub call-none : (limit : ℕ) (y : PortDevice) (call : PortHostCall) (put frame : List ℕ) (r : PortCallTaken) → call ≡ PortHostCall.Nothing → r ≡ uncalled y → PortCalledIs limit y call put frame r frame
+pub call-none : (limit : ℕ) (y : PortDevice) (call : PortCall) (put frame : List ℕ) (r : PortCallTaken) → call ≡ PortCall.Nothing → r ≡ uncalled y → PortCalledIs limit y call put frame r frame
 call-none limit y call put frame r e p = record {
   goes = λ heard told event bytes.
-      ap (λ (c : PortHostCall). deviceCalls limit heard (took y told event) (callOf c put) frame bytes) e
-      ∙ ap (λ (k : PortCallTaken). deviceSent heard (took y told event) (portDeviceSends (k .device) frame) frame bytes (resultOf (k .result))) (sym p);
+      ap (λ (c : PortCall). deviceCalls limit heard (took y told event) (callOf c put) frame bytes) e
+      ∙ ap (λ (k : PortCallTaken). deviceSent heard (took y told event) (portDeviceSends (k .device) frame) frame bytes (k .result)) (sym p);
 }
 
-pub call-some : (limit : ℕ) (y : PortDevice) (call : PortHostCall) (wish : Wish) (put frame after : List ℕ) (r : PortCallTaken) → call ≡ PortHostCall.Answers wish → PortCalledIs limit y (PortHostCall.Answers wish) put frame r after → PortCalledIs limit y call put frame r after
+pub call-some : (limit : ℕ) (y : PortDevice) (call : PortCall) (wish : Wish) (put frame after : List ℕ) (r : PortCallTaken) → call ≡ PortCall.Answers wish → PortCalledIs limit y (PortCall.Answers wish) put frame r after → PortCalledIs limit y call put frame r after
 call-some limit y call wish put frame after r e p = record {
-  goes = λ heard told event bytes. ap (λ (c : PortHostCall). deviceCalls limit heard (took y told event) (callOf c put) frame bytes) e ∙ p .goes heard told event bytes;
+  goes = λ heard told event bytes. ap (λ (c : PortCall). deviceCalls limit heard (took y told event) (callOf c put) frame bytes) e ∙ p .goes heard told event bytes;
 }
 
 pub ruleset calls = (refl, answer-late, answer-plain, call-accepted, call-refused, call-none, call-some)
@@ -266,12 +266,12 @@ pub ruleset ends = (refl, send-parts, started-at, start-five, start-other)
 
 -- ---- the whole tick
 
-pub tick-is : (limit : ℕ) (y : PortDevice) (heard : Heard) (call : PortHostCall) (put frame bytes frame-heard frame-after bytes-after : List ℕ) (t : PortDeviceTaken) (c : PortCallTaken) (s : PortDeviceSent)
+pub tick-is : (limit : ℕ) (y : PortDevice) (heard : Heard) (call : PortCall) (put frame bytes frame-heard frame-after bytes-after : List ℕ) (t : PortDeviceTaken) (c : PortCallTaken) (s : PortDeviceSent)
     → PortTakeIs y heard bytes frame t bytes-after frame-heard → PortCalledIs limit (t .device) call put frame-heard c frame-after → s ≡ portDeviceSends (c .device) frame-after
     → PortDeviceTickIs limit y heard call put frame bytes (record { device = s .device; sent = s .sent; told = t .told; event = t .event; result = c .result }) frame-after bytes-after
 unfolding portDeviceTick
 tick-is limit y heard call put frame bytes frame-heard frame-after bytes-after t c s p q e =
-    ap (λ (k : PortDeviceSent). deviceSent heard t k frame-after bytes-after (resultOf (c .result))) e
+    ap (λ (k : PortDeviceSent). deviceSent heard t k frame-after bytes-after (c .result)) e
     ∙ sym (q .goes heard (t .told) (t .event) bytes-after)
     ∙ (λ i. deviceCalls limit heard (p .takes i) (callOf call put) (p .frame-is i) (p .data-is i))
 

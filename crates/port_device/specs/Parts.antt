@@ -8,15 +8,14 @@ use Rattle.line.specs.declared.Event.{Event}
 use Rattle.line.specs.declared.Heard.{Heard}
 use Rattle.turns.specs.Device.{deviceTakes, errorFrame}
 use Rattle.turns.specs.declared.DeviceTold.{DeviceTold}
-use Rattle.party.specs.Calls.{resultOf}
-use Rattle.party.specs.declared.CallStatus.{CallStatus}
+use Rattle.turns.specs.declared.CallResult.{CallResult}
 use Rattle.device_rules.specs.Hearing.{lent}
 use Rattle.turns.specs.Link as L
 use Rattle.port.specs.Device.{awake, hearsWakeUp, portDeviceTakes, portDeviceSends}
 use Rattle.port.specs.Ticks.{deviceData, heardFrame, deviceSent, deviceCalls}
 use Rattle.port.specs.declared.PortDevice.{PortDevice}
 use Rattle.port.specs.declared.PortDeviceTaken.{PortDeviceTaken}
-use Rattle.port_device.specs.declared.PortHostCall.{PortHostCall}
+use Rattle.port_device.specs.declared.PortCall.{PortCall}
 use Rattle.port_device.specs.declared.PortCallTaken.{PortCallTaken}
 use Rattle.port_device.specs.Ticks.{sideOf, callOf}
 
@@ -32,14 +31,14 @@ pub record PortTakeIs (y : PortDevice) (heard : Heard) (bytes frame : List ℕ) 
   pub frame-is : frame-after ≡ heardFrame (sideOf y frame bytes) heard
 
 abbrev pub uncalled : PortDevice → PortCallTaken
-uncalled y = record { device = y; result = CallStatus.Nothing }
+uncalled y = record { device = y; result = CallResult.Nothing }
 
 -- a device of the port after what it heard, as the call finds it
 abbrev pub took : PortDevice → DeviceTold → Event → PortDeviceTaken
 took y told event = record { device = y; told = told; event = event }
 
 -- a call, whatever the tick told before it and whatever data it heard: `after` is the frame buffer after the call
-pub record PortCalledIs (limit : ℕ) (y : PortDevice) (call : PortHostCall) (put frame : List ℕ) (r : PortCallTaken) (after : List ℕ) : Type 0 where
+pub record PortCalledIs (limit : ℕ) (y : PortDevice) (call : PortCall) (put frame : List ℕ) (r : PortCallTaken) (after : List ℕ) : Type 0 where
   pub goes : (heard : Heard) (told : DeviceTold) (event : Event) (bytes : List ℕ)
       → deviceCalls limit heard (took y told event) (callOf call put) frame bytes
-      ≡ deviceSent heard (took y told event) (portDeviceSends (r .device) after) after bytes (resultOf (r .result))
+      ≡ deviceSent heard (took y told event) (portDeviceSends (r .device) after) after bytes (r .result)

@@ -9,11 +9,11 @@ use line::Place;
 use line::Profile;
 use line::Receiver;
 use line::Whole;
-use party::CallStatus;
 use port::Ear;
 use port::PortDevice;
 use port::PortDeviceSent;
 use port::PortDeviceTaken;
+use turns::CallResult;
 use turns::Device;
 use turns::DeviceTaken;
 use turns::DeviceTold;
@@ -42,7 +42,7 @@ pub enum PortDeviceStarted {
 }
 
 // A host's call in a tick.
-pub enum PortHostCall {
+pub enum PortCall {
     Nothing,
     // the answer, whose data are lent
     Answers(Wish),
@@ -51,7 +51,7 @@ pub enum PortHostCall {
 // A device after its host's call.
 struct PortCallTaken {
     device: PortDevice,
-    result: CallStatus,
+    result: CallResult,
 }
 
 // A device after a tick, what it sends, and what it tells its host.
@@ -60,7 +60,7 @@ pub struct PortDeviceTicked {
     pub sent: Sent,
     pub told: DeviceTold,
     pub event: Event,
-    pub result: CallStatus,
+    pub result: CallResult,
 }
 
 // Whether this character was heard, undamaged.
@@ -499,18 +499,18 @@ fn answer_by(
     put: &[u8],
     frame: &mut [u8; 284],
 ) -> PortCallTaken
-    ensures { λ r. ⌜ PortCalledIs limit y (PortHostCall.Answers wish) (before put) (before frame) r (after frame) ⌝ }
+    ensures { λ r. ⌜ PortCalledIs limit y (PortCall.Answers wish) (before put) (before frame) r (after frame) ⌝ }
 {
     let d = y.device;
     let r = answer(limit, d, wish, put, frame);
     match r {
         DeviceCalled::Accepted(e) => PortCallTaken {
             device: with_device(y, e),
-            result: CallStatus::Taken,
+            result: CallResult::Taken,
         },
         DeviceCalled::Refused(why) => PortCallTaken {
             device: y,
-            result: CallStatus::Refused(why),
+            result: CallResult::Refused(why.number()),
         },
     }
 }
@@ -520,22 +520,22 @@ fn no_call(y: PortDevice) -> PortCallTaken
 {
     PortCallTaken {
         device: y,
-        result: CallStatus::Nothing,
+        result: CallResult::Nothing,
     }
 }
 
 fn take_call(
     limit: u8,
     y: PortDevice,
-    call: PortHostCall,
+    call: PortCall,
     put: &[u8],
     frame: &mut [u8; 284],
 ) -> PortCallTaken
     ensures { λ r. ⌜ PortCalledIs limit y call (before put) (before frame) r (after frame) ⌝ }
 {
     match call {
-        PortHostCall::Nothing => no_call(y),
-        PortHostCall::Answers(wish) => answer_by(limit, y, wish, put, frame),
+        PortCall::Nothing => no_call(y),
+        PortCall::Answers(wish) => answer_by(limit, y, wish, put, frame),
     }
 }
 
@@ -598,7 +598,7 @@ pub fn tick(
     limit: u8,
     y: PortDevice,
     heard: Heard,
-    call: PortHostCall,
+    call: PortCall,
     put: &[u8],
     frame: &mut [u8; 284],
     bytes: &mut [u8; 255],

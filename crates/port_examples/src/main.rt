@@ -13,20 +13,20 @@ use libc::STDOUT_FILENO;
 use line::Damage;
 use line::Event;
 use line::Heard;
-use master::MasterHostCall;
-use master::RequestFields;
-use party::CallStatus;
+use master::MasterCall;
 use port::PortDevice;
 use port::PortMaster;
+use port_device::PortCall;
 use port_device::PortDeviceStarted;
 use port_device::PortDeviceTicked;
-use port_device::PortHostCall;
 use port_master::PortMasterStarted;
 use port_master::PortMasterTicked;
 use show::Reception;
 use show::Speech;
+use turns::CallResult;
 use turns::DeviceTold;
 use turns::MasterTold;
+use turns::Request;
 use turns::Sent;
 use turns::Wish;
 
@@ -144,8 +144,8 @@ fn other_sends(script: &[u8], tick: u32) -> Sent {
     Sent::Character(o.number)
 }
 
-fn wanted(long: bool, address: u8, command: u8) -> MasterHostCall {
-    MasterHostCall::Requests(RequestFields {
+fn wanted(long: bool, address: u8, command: u8) -> MasterCall {
+    MasterCall::Requests(Request {
         preamble: 5,
         revision: 7,
         long: long,
@@ -154,13 +154,13 @@ fn wanted(long: bool, address: u8, command: u8) -> MasterHostCall {
     })
 }
 
-fn master_call(o: Order) -> MasterHostCall {
+fn master_call(o: Order) -> MasterCall {
     let what = o.what;
     match what {
         b'r' => wanted(false, o.number, 0),
         b'u' => wanted(true, o.number, 3),
         b't' => wanted(true, o.number, 11),
-        _ => MasterHostCall::Nothing,
+        _ => MasterCall::Nothing,
     }
 }
 
@@ -186,13 +186,13 @@ fn master_ticks(side: MasterSide, input: Reception, script: &[u8], tick: u32) ->
     }
 }
 
-fn device_call(o: Order) -> PortHostCall {
+fn device_call(o: Order) -> PortCall {
     let what = o.what;
     match what {
-        b'a' => PortHostCall::Answers(Wish::Same),
-        b'n' => PortHostCall::Answers(Wish::On),
-        b'f' => PortHostCall::Answers(Wish::Off),
-        _ => PortHostCall::Nothing,
+        b'a' => PortCall::Answers(Wish::Same),
+        b'n' => PortCall::Answers(Wish::On),
+        b'f' => PortCall::Answers(Wish::Off),
+        _ => PortCall::Nothing,
     }
 }
 
@@ -309,7 +309,7 @@ fn master_side(x: PortMaster) -> MasterSide {
             sent: Sent::Silent,
             told: MasterTold::Nothing,
             event: Event::Nothing,
-            result: CallStatus::Nothing,
+            result: CallResult::Nothing,
         },
         frame: [0; 284],
         bytes: [0; 255],
@@ -323,7 +323,7 @@ fn device_side(y: PortDevice) -> DeviceSide {
             sent: Sent::Silent,
             told: DeviceTold::Nothing,
             event: Event::Nothing,
-            result: CallStatus::Nothing,
+            result: CallResult::Nothing,
         },
         frame: [0; 284],
         bytes: [0; 255],

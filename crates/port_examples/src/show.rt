@@ -4,13 +4,13 @@ use line::Damage;
 use line::Event;
 use line::Heard;
 use line::Whole;
-use party::CallStatus;
 use port::Ear;
 use port::WakeUp;
 use texts::put_all_spaced;
 use texts::put_bytes;
 use texts::put_field;
 use texts::put_spaced;
+use turns::CallResult;
 use turns::DeviceTold;
 use turns::MasterTold;
 use turns::Sent;
@@ -209,11 +209,11 @@ fn put_device_told(told: DeviceTold, bytes: &[u8; 255], out: &mut [u8], at: usiz
     }
 }
 
-fn put_result(result: CallStatus, out: &mut [u8], at: usize) -> usize {
+fn put_result(result: CallResult, out: &mut [u8], at: usize) -> usize {
     match result {
-        CallStatus::Nothing => at,
-        CallStatus::Taken => at,
-        CallStatus::Refused(why) => put_field(b" refused ", why.number() as u64, out, at),
+        CallResult::Nothing => at,
+        CallResult::Taken => at,
+        CallResult::Refused(why) => put_field(b" refused ", why as u64, out, at),
     }
 }
 
@@ -243,7 +243,7 @@ fn print_master(
     input: Reception,
     event: Event,
     told: MasterTold,
-    result: CallStatus,
+    result: CallResult,
     bytes: &[u8; 255],
     out: &mut [u8],
 ) {
@@ -260,7 +260,7 @@ pub fn show_master(
     input: Reception,
     event: Event,
     told: MasterTold,
-    result: CallStatus,
+    result: CallResult,
     bytes: &[u8; 255],
 ) {
     let mut out = io::buffer();
@@ -272,7 +272,7 @@ fn print_device(
     input: Reception,
     event: Event,
     told: DeviceTold,
-    result: CallStatus,
+    result: CallResult,
     bytes: &[u8; 255],
     out: &mut [u8],
 ) {
@@ -289,7 +289,7 @@ pub fn show_device(
     input: Reception,
     event: Event,
     told: DeviceTold,
-    result: CallStatus,
+    result: CallResult,
     bytes: &[u8; 255],
 ) {
     let mut out = io::buffer();

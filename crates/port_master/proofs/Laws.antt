@@ -20,24 +20,22 @@ use Rattle.line.specs.declared.Heard.{Heard}
 use Rattle.line.specs.declared.Profile.{Profile}
 use Rattle.line.specs.declared.Receiver.{Receiver}
 use Rattle.line.specs.declared.Whole.{Whole}
-use Rattle.turns.specs.Party.{Request, was-taken, was-refused}
 use Rattle.turns.specs.Master.{afterBreak, masterWith, endedBy, timerAfter, ifAwaiting, atFrame, masterSends, masterStarts, requestHeader, requested}
+use Rattle.turns.specs.declared.CallResult.{CallResult}
 use Rattle.turns.specs.declared.Ending.{Ending}
 use Rattle.turns.specs.declared.Master.{Master}
 use Rattle.turns.specs.declared.MasterSent.{MasterSent}
 use Rattle.turns.specs.declared.MasterTaken.{MasterTaken}
+use Rattle.turns.specs.declared.Request.{Request}
 use Rattle.turns.specs.declared.Sent.{Sent}
 use Rattle.turns.specs.declared.Stage.{Stage}
 use Rattle.turns.specs.declared.Timer.{Timer}
-use Rattle.party.specs.Calls.{resultOf}
-use Rattle.party.specs.declared.CallStatus.{CallStatus}
-use Rattle.master.specs.Answers.{started, asks, asked, askedFrame, RequestIs}
+use Rattle.master.specs.Answers.{started, asked, askedFrame, RequestIs}
 use Rattle.master.specs.Takes.{MasterTakeIs}
 use Rattle.master.specs.Tick.{callOf}
-use Rattle.master.specs.declared.MasterHostCall.{MasterHostCall}
+use Rattle.master.specs.declared.MasterCall.{MasterCall}
 use Rattle.master.specs.declared.MasterRequested.{MasterRequested}
 use Rattle.master.specs.declared.MasterStarted.{MasterStarted}
-use Rattle.master.specs.declared.RequestFields.{RequestFields}
 use Rattle.line.specs.Profile.{infraredProfile}
 use Rattle.port.specs.Numbers.{dozeTicks, portPreamble}
 use Rattle.port.specs.Master.{afterPortFrame, byFound, endsAnswer, sinceAfter, masterTook, portMasterTakes, portRequested, begins, wakeUpCharacter, deafened, sendsWakeUp, sendsPlain, portMasterSends, masterStarted, portMasterStarts}
@@ -92,59 +90,58 @@ take-is x heard bytes after s t since p q r = record {
 
 -- ---- the host's request
 
-module _ (limit : ℕ) (m : Master) (q : RequestFields) (bytes frame : List ℕ) where
-  pub request-five : (r : MasterRequested) (after : List ℕ) → q .preamble ≡ 5 → RequestIs limit m (asks q) bytes frame r after → PortRequestIs limit m q bytes frame r after
+module _ (limit : ℕ) (m : Master) (q : Request) (bytes frame : List ℕ) where
+  pub request-five : (r : MasterRequested) (after : List ℕ) → q .preamble ≡ 5 → RequestIs limit m q bytes frame r after → PortRequestIs limit m q bytes frame r after
   unfolding portRequested
   request-five r after e p =
-      let c = if-is-true (q .preamble =? portPreamble) (requested limit m (asks q) (length bytes)) (refused 3) (eq-eqb (q .preamble) 5 e) in
-      record { result = p .result ∙ sym c; buffer = p .buffer ∙ ap (λ (k : Called Master). askedFrame k frame (frameBytes (q .preamble) (requestHeader m (asks q)) bytes)) (sym c) }
+      let c = if-is-true (q .preamble =? portPreamble) (requested limit m q (length bytes)) (refused 3) (eq-eqb (q .preamble) 5 e) in
+      record { result = p .result ∙ sym c; buffer = p .buffer ∙ ap (λ (k : Called Master). askedFrame k frame (frameBytes (q .preamble) (requestHeader m q) bytes)) (sym c) }
 
   pub request-other : (q .preamble ≡ 5 → ⊥) → PortRequestIs limit m q bytes frame (MasterRequested.Refused Refusal.PreambleLength) frame
   unfolding portRequested
   request-other e =
-      let c = if-is-false (q .preamble =? portPreamble) (requested limit m (asks q) (length bytes)) (refused 3) (ne-eqb (q .preamble) 5 e) in
-      record { result = sym c; buffer = ap (λ (k : Called Master). askedFrame k frame (frameBytes (q .preamble) (requestHeader m (asks q)) bytes)) (sym c) }
+      let c = if-is-false (q .preamble =? portPreamble) (requested limit m q (length bytes)) (refused 3) (ne-eqb (q .preamble) 5 e) in
+      record { result = sym c; buffer = ap (λ (k : Called Master). askedFrame k frame (frameBytes (q .preamble) (requestHeader m q) bytes)) (sym c) }
 
-module _ (limit : ℕ) (x : PortMaster) (w : RequestFields) (put frame after : List ℕ) (r : MasterRequested) where
-  q : Request
-  q = asks w
-
+module _ (limit : ℕ) (x : PortMaster) (q : Request) (put frame after : List ℕ) (r : MasterRequested) where
   stx : List ℕ
   stx = frameBytes (q .preamble) (requestHeader (x .master) q) put
 
-  module _ (is : PortRequestIs limit (x .master) w put frame r after) where
-    pub call-accepted : (n : Master) (y : PortMaster) → r ≡ MasterRequested.Accepted n → y ≡ withMaster x n → PortCalledIs limit x (MasterHostCall.Requests w) put frame (record { master = y; result = CallStatus.Taken }) after
-    unfolding q stx
+  module _ (is : PortRequestIs limit (x .master) q put frame r after) where
+    pub call-accepted : (n : Master) (y : PortMaster) → r ≡ MasterRequested.Accepted n → y ≡ withMaster x n → PortCalledIs limit x (MasterCall.Requests q) put frame (record { master = y; result = CallResult.Taken }) after
+    unfolding stx
     call-accepted n y e z =
         let called : portRequested limit (x .master) q (length put) ≡ accepted n = sym (is .result) ∙ ap asked e in
         let buffer : stored frame 0 stx ≡ after = sym (is .buffer ∙ ap (λ (c : Called Master). askedFrame c frame stx) called) in
         record {
           goes = λ heard told event bytes.
               ap (λ (c : Called Master). masterCalled heard (took x told event) c stx frame bytes) called
-              ∙ (λ i. portMasterSent heard (took x told event) (portMasterSends (sym z i) (buffer i)) (buffer i) bytes was-taken);
+              ∙ (λ i. portMasterSent heard (took x told event) (portMasterSends (sym z i) (buffer i)) (buffer i) bytes CallResult.Taken);
         }
 
-    pub call-refused : (why : Refusal) → r ≡ MasterRequested.Refused why → PortCalledIs limit x (MasterHostCall.Requests w) put frame (record { master = x; result = CallStatus.Refused why }) after
-    unfolding q stx
-    call-refused why e =
+    pub call-refused : (why : Refusal) (n : ℕ) → r ≡ MasterRequested.Refused why → n ≡ number why
+        → PortCalledIs limit x (MasterCall.Requests q) put frame (record { master = x; result = CallResult.Refused n }) after
+    unfolding stx
+    call-refused why n e same =
         let called : portRequested limit (x .master) q (length put) ≡ refused (number why) = sym (is .result) ∙ ap asked e in
         let buffer : frame ≡ after = sym (is .buffer ∙ ap (λ (c : Called Master). askedFrame c frame stx) called) in
         record {
           goes = λ heard told event bytes.
               ap (λ (c : Called Master). masterCalled heard (took x told event) c stx frame bytes) called
-              ∙ ap (λ (f : List ℕ). portMasterSent heard (took x told event) (portMasterSends x f) f bytes (was-refused (number why))) buffer;
+              ∙ ap (λ (f : List ℕ). portMasterSent heard (took x told event) (portMasterSends x f) f bytes (CallResult.Refused (number why))) buffer
+              ∙ ap (λ (k : ℕ). portMasterSent heard (took x told event) (portMasterSends x after) after bytes (CallResult.Refused k)) (sym same);
         }
 
-pub call-none : (limit : ℕ) (x : PortMaster) (call : MasterHostCall) (put frame : List ℕ) (r : PortCallTaken) → call ≡ MasterHostCall.Nothing → r ≡ uncalled x → PortCalledIs limit x call put frame r frame
+pub call-none : (limit : ℕ) (x : PortMaster) (call : MasterCall) (put frame : List ℕ) (r : PortCallTaken) → call ≡ MasterCall.Nothing → r ≡ uncalled x → PortCalledIs limit x call put frame r frame
 call-none limit x call put frame r e p = record {
   goes = λ heard told event bytes.
-      ap (λ (c : MasterHostCall). masterCalls limit heard (took x told event) (callOf c put) frame bytes) e
-      ∙ ap (λ (k : PortCallTaken). portMasterSent heard (took x told event) (portMasterSends (k .master) frame) frame bytes (resultOf (k .result))) (sym p);
+      ap (λ (c : MasterCall). masterCalls limit heard (took x told event) (callOf c put) frame bytes) e
+      ∙ ap (λ (k : PortCallTaken). portMasterSent heard (took x told event) (portMasterSends (k .master) frame) frame bytes (k .result)) (sym p);
 }
 
-pub call-some : (limit : ℕ) (x : PortMaster) (call : MasterHostCall) (w : RequestFields) (put frame after : List ℕ) (r : PortCallTaken) → call ≡ MasterHostCall.Requests w → PortCalledIs limit x (MasterHostCall.Requests w) put frame r after → PortCalledIs limit x call put frame r after
+pub call-some : (limit : ℕ) (x : PortMaster) (call : MasterCall) (w : Request) (put frame after : List ℕ) (r : PortCallTaken) → call ≡ MasterCall.Requests w → PortCalledIs limit x (MasterCall.Requests w) put frame r after → PortCalledIs limit x call put frame r after
 call-some limit x call w put frame after r e p = record {
-  goes = λ heard told event bytes. ap (λ (c : MasterHostCall). masterCalls limit heard (took x told event) (callOf c put) frame bytes) e ∙ p .goes heard told event bytes;
+  goes = λ heard told event bytes. ap (λ (c : MasterCall). masterCalls limit heard (took x told event) (callOf c put) frame bytes) e ∙ p .goes heard told event bytes;
 }
 
 pub ruleset calls = (refl, request-five, request-other, call-accepted, call-refused, call-none, call-some)
@@ -182,12 +179,12 @@ module _ (primary : Bool) (retries : ℕ) (p : Profile) (s : MasterStarted) (is 
 
 -- ---- the whole tick
 
-pub tick-is : (limit : ℕ) (x : PortMaster) (heard : Heard) (call : MasterHostCall) (put frame bytes frame-after bytes-after : List ℕ) (t : PortMasterTaken) (c : PortCallTaken) (s : PortMasterSent)
+pub tick-is : (limit : ℕ) (x : PortMaster) (heard : Heard) (call : MasterCall) (put frame bytes frame-after bytes-after : List ℕ) (t : PortMasterTaken) (c : PortCallTaken) (s : PortMasterSent)
     → PortTakeIs x heard bytes t bytes-after → PortCalledIs limit (t .master) call put frame c frame-after → s ≡ portMasterSends (c .master) frame-after
     → PortMasterTickIs limit x heard call put frame bytes (record { master = s .master; sent = s .sent; told = t .told; event = t .event; result = c .result }) frame-after bytes-after
 unfolding portMasterTick
 tick-is limit x heard call put frame bytes frame-after bytes-after t c s p q e =
-    ap (λ (k : PortMasterSent). portMasterSent heard t k frame-after bytes-after (resultOf (c .result))) e
+    ap (λ (k : PortMasterSent). portMasterSent heard t k frame-after bytes-after (c .result)) e
     ∙ sym (q .goes heard (t .told) (t .event) bytes-after)
     ∙ ap (λ (k : PortMasterTaken). masterCalls limit heard k (callOf call put) frame bytes-after) (p .takes)
     ∙ ap (λ (b : List ℕ). masterCalls limit heard (portMasterTakes x heard b) (callOf call put) frame b) (p .buffer)

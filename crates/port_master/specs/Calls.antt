@@ -5,9 +5,9 @@ use mathlib.Core.List.{List}
 use lib.ListN.{length}
 use Rattle.base.specs.Refusal.{number, Called, accepted, refused}
 use Rattle.turns.specs.declared.Master.{Master}
-use Rattle.master.specs.Answers.{asks, AskedIs}
+use Rattle.master.specs.Answers.{AskedIs}
 use Rattle.master.specs.declared.MasterRequested.{MasterRequested}
-use Rattle.master.specs.declared.RequestFields.{RequestFields}
+use Rattle.turns.specs.declared.Request.{Request}
 use Rattle.port.specs.Master.{portRequested}
 use Rattle.port.specs.declared.PortMaster.{PortMaster}
 use Rattle.port_master.specs.declared.PortMasterStarted.{PortMasterStarted}
@@ -18,5 +18,5 @@ abbrev pub startedAs : PortMasterStarted → Called PortMaster
 startedAs (Started x) = accepted x
 startedAs (Refused why) = refused (number why)
 
-abbrev pub PortRequestIs : ℕ → Master → RequestFields → List ℕ → List ℕ → MasterRequested → List ℕ → Type 0
-PortRequestIs limit m q bytes frame r after = AskedIs (portRequested limit m (asks q) (length bytes)) m (asks q) bytes frame r after
+abbrev pub PortRequestIs : ℕ → Master → Request → List ℕ → List ℕ → MasterRequested → List ℕ → Type 0
+PortRequestIs limit m q bytes frame r after = AskedIs (portRequested limit m q (length bytes)) m q bytes frame r after

@@ -12,11 +12,10 @@ use Rattle.turns.specs.Master.{tells, masterWith, endedBy, timerAfter, ifAwaiti
 use Rattle.turns.specs.declared.Master.{Master}
 use Rattle.turns.specs.declared.MasterTaken.{MasterTaken}
 use Rattle.turns.specs.declared.MasterTold.{MasterTold}
-use Rattle.party.specs.Calls.{resultOf}
-use Rattle.party.specs.declared.CallStatus.{CallStatus}
+use Rattle.turns.specs.declared.CallResult.{CallResult}
 use Rattle.master.specs.Takes.{heardBytes}
 use Rattle.master.specs.Tick.{callOf}
-use Rattle.master.specs.declared.MasterHostCall.{MasterHostCall}
+use Rattle.master.specs.declared.MasterCall.{MasterCall}
 use Rattle.port.specs.Master.{portMasterTakes, portMasterSends}
 use Rattle.port.specs.Ticks.{portMasterSent, masterCalls}
 use Rattle.port.specs.declared.PortMaster.{PortMaster}
@@ -38,14 +37,14 @@ pub record PortTakeIs (x : PortMaster) (heard : Heard) (bytes : List ℕ) (t : P
   pub buffer : after ≡ heardBytes (x .master) heard bytes
 
 abbrev pub uncalled : PortMaster → PortCallTaken
-uncalled x = record { master = x; result = CallStatus.Nothing }
+uncalled x = record { master = x; result = CallResult.Nothing }
 
 -- the port's master after what it heard, as the call finds it
 abbrev pub took : PortMaster → MasterTold → Event → PortMasterTaken
 took x told event = record { master = x; told = told; event = event }
 
 -- a call, whatever the tick told before it and whatever data it heard: `after` is the frame buffer after the call
-pub record PortCalledIs (limit : ℕ) (x : PortMaster) (call : MasterHostCall) (put frame : List ℕ) (r : PortCallTaken) (after : List ℕ) : Type 0 where
+pub record PortCalledIs (limit : ℕ) (x : PortMaster) (call : MasterCall) (put frame : List ℕ) (r : PortCallTaken) (after : List ℕ) : Type 0 where
   pub goes : (heard : Heard) (told : MasterTold) (event : Event) (bytes : List ℕ)
       → masterCalls limit heard (took x told event) (callOf call put) frame bytes
-      ≡ portMasterSent heard (took x told event) (portMasterSends (r .master) after) after bytes (resultOf (r .result))
+      ≡ portMasterSent heard (took x told event) (portMasterSends (r .master) after) after bytes (r .result)

@@ -4,9 +4,8 @@ use Prim.Native.Nat.{ℕ}
 use mathlib.Core.List.{List}
 use mathlib.Core.Path.{_≡_}
 use Rattle.line.specs.declared.Heard.{Heard}
-use Rattle.party.specs.Calls.{resultOf}
 use Rattle.master.specs.Tick.{callOf}
-use Rattle.master.specs.declared.MasterHostCall.{MasterHostCall}
+use Rattle.master.specs.declared.MasterCall.{MasterCall}
 use Rattle.port.specs.Ticks.{PortMasterSide, PortMasterStep, portMasterTick}
 use Rattle.port.specs.declared.PortMaster.{PortMaster}
 use Rattle.port_master.specs.declared.PortMasterTicked.{PortMasterTicked}
@@ -17,9 +16,9 @@ sideOf x frame bytes = record { master = x; frame = frame; bytes = bytes }
 
 abbrev pub stepOf : Heard → PortMasterTicked → List ℕ → List ℕ → PortMasterStep
 stepOf heard r frame bytes =
-    record { heard = heard; side = sideOf (r .master) frame bytes; sent = r .sent; told = r .told; event = r .event; result = resultOf (r .result) }
+    record { heard = heard; side = sideOf (r .master) frame bytes; sent = r .sent; told = r .told; event = r .event; result = r .result }
 
 -- a tick: what is sent, told, found and answered, the state and both lent buffers after it
-abbrev pub PortMasterTickIs : ℕ → PortMaster → Heard → MasterHostCall → List ℕ → List ℕ → List ℕ → PortMasterTicked → List ℕ → List ℕ → Type 0
+abbrev pub PortMasterTickIs : ℕ → PortMaster → Heard → MasterCall → List ℕ → List ℕ → List ℕ → PortMasterTicked → List ℕ → List ℕ → Type 0
 PortMasterTickIs limit x heard call put frame bytes r frame-after bytes-after =
     stepOf heard r frame-after bytes-after ≡ portMasterTick limit (sideOf x frame bytes) heard (callOf call put)

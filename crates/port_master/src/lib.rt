@@ -6,18 +6,18 @@ use line::Heard;
 use line::Profile;
 use line::Receiver;
 use line::Whole;
-use master::MasterHostCall;
+use master::MasterCall;
 use master::MasterRequested;
 use master::MasterStarted;
-use master::RequestFields;
-use party::CallStatus;
 use port::PortMaster;
 use port::PortMasterSent;
 use port::PortMasterTaken;
 use port::WakeUp;
+use turns::CallResult;
 use turns::Master;
 use turns::MasterTaken;
 use turns::MasterTold;
+use turns::Request;
 use turns::Sent;
 use turns::Stage;
 ghost use mathlib.Core.Path.{_≡_};
@@ -40,7 +40,7 @@ pub enum PortMasterStarted {
 // A master after its host's call.
 struct PortCallTaken {
     master: PortMaster,
-    result: CallStatus,
+    result: CallResult,
 }
 
 // A master after a tick, what it sends, and what it tells its host.
@@ -49,7 +49,7 @@ pub struct PortMasterTicked {
     pub sent: Sent,
     pub told: MasterTold,
     pub event: Event,
-    pub result: CallStatus,
+    pub result: CallResult,
 }
 
 fn no_damage() -> FrameDamage
@@ -168,13 +168,7 @@ fn take(x: PortMaster, heard: Heard, bytes: &mut [u8; 255]) -> PortMasterTaken
 }
 
 // A host's request: its STX is put into the lent frame buffer, or it is refused and the buffer stays as it was.
-fn request(
-    limit: u8,
-    m: Master,
-    q: RequestFields,
-    bytes: &[u8],
-    frame: &mut [u8; 284],
-) -> MasterRequested
+fn request(limit: u8, m: Master, q: Request, bytes: &[u8], frame: &mut [u8; 284]) -> MasterRequested
     ensures { λ r. ⌜ PortRequestIs limit m q (before bytes) (before frame) r (after frame) ⌝ }
 {
     if q.preamble == port::PREAMBLE {
@@ -198,22 +192,22 @@ fn with_master(x: PortMaster, m: Master) -> PortMaster
 fn request_by(
     limit: u8,
     x: PortMaster,
-    q: RequestFields,
+    q: Request,
     put: &[u8],
     frame: &mut [u8; 284],
 ) -> PortCallTaken
-    ensures { λ r. ⌜ PortCalledIs limit x (MasterHostCall.Requests q) (before put) (before frame) r (after frame) ⌝ }
+    ensures { λ r. ⌜ PortCalledIs limit x (MasterCall.Requests q) (before put) (before frame) r (after frame) ⌝ }
 {
     let m = x.master;
     let r = request(limit, m, q, put, frame);
     match r {
         MasterRequested::Accepted(n) => PortCallTaken {
             master: with_master(x, n),
-            result: CallStatus::Taken,
+            result: CallResult::Taken,
         },
         MasterRequested::Refused(why) => PortCallTaken {
             master: x,
-            result: CallStatus::Refused(why),
+            result: CallResult::Refused(why.number()),
         },
     }
 }
@@ -223,22 +217,22 @@ fn no_call(x: PortMaster) -> PortCallTaken
 {
     PortCallTaken {
         master: x,
-        result: CallStatus::Nothing,
+        result: CallResult::Nothing,
     }
 }
 
 fn take_call(
     limit: u8,
     x: PortMaster,
-    call: MasterHostCall,
+    call: MasterCall,
     put: &[u8],
     frame: &mut [u8; 284],
 ) -> PortCallTaken
     ensures { λ r. ⌜ PortCalledIs limit x call (before put) (before frame) r (after frame) ⌝ }
 {
     match call {
-        MasterHostCall::Nothing => no_call(x),
-        MasterHostCall::Requests(q) => request_by(limit, x, q, put, frame),
+        MasterCall::Nothing => no_call(x),
+        MasterCall::Requests(q) => request_by(limit, x, q, put, frame),
     }
 }
 
@@ -398,7 +392,7 @@ pub fn tick(
     limit: u8,
     x: PortMaster,
     heard: Heard,
-    call: MasterHostCall,
+    call: MasterCall,
     put: &[u8],
     frame: &mut [u8; 284],
     bytes: &mut [u8; 255],

@@ -1,5 +1,5 @@
 -- How the code stands for what is to be believed.
--- What the program `capture` writes behind the file's header: a packet in the tick of each whole frame's check byte, in the order of the ticks. What goes from piece to piece of a recording is `Kept`.
+-- What the program `capture` writes after the file's header: a packet in the tick of each whole frame's check byte, in the order of the ticks. What goes from piece to piece of a recording is `Kept`.
 use Prim.Native.Nat.{ℕ, _+_, _%_, _^_}
 use mathlib.Core.Bool.{Bool, true, false}
 use mathlib.Core.List.{List, [], _∷_, _++_}
@@ -32,7 +32,7 @@ grown frame held h = put (outOf frame held) (heardText h)
 abbrev pub messageOf : Out → List ℕ
 messageOf o = take (o .at) (o .bytes)
 
--- behind the delimiter, up to the check byte
+-- after the delimiter, up to the check byte
 abbrev pub isInside : Place → Bool
 isInside Passing = false
 isInside Idle = false
@@ -102,7 +102,7 @@ bodyAt k h = messageOf (grown (k .message) (k .progress .held) h)
 unfoldable pub packetAt : Kept → Heard → List ℕ
 packetAt k h = packetBy (k .progress .clock) (k .progress .tick) (k .progress .number) (taken (k .progress .receiver) h .event) (bodyAt k h)
 
--- the packets of some ticks, and what is kept behind them
+-- the packets of some ticks, and what is kept after them
 unfoldable pub packetsFrom : Kept → List Heard → List ℕ
 packetsFrom k [] = []
 packetsFrom k (h ∷ hs) = packetAt k h ++ packetsFrom (stepped k h) hs

@@ -20,7 +20,7 @@ unfoldable pub heardTexts : List Heard → List ℕ
 heardTexts [] = []
 heardTexts (h ∷ hs) = heardText h ++ heardTexts hs
 
--- the reader is behind the delimiter after each of these ticks
+-- the reader is after the delimiter after each of these ticks
 unfoldable pub staysInside : Receiver → List Heard → Bool
 staysInside r [] = true
 staysInside r (h ∷ hs) = if isInside (taken r h .receiver .place) then staysInside (taken r h .receiver) hs else false

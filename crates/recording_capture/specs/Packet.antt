@@ -27,7 +27,7 @@ abbrev pub secondsOf : Clock → ℕ → ℕ
 secondsOf Fsk tick = tick * 11 / 1200
 secondsOf C8psk tick = tick / 1000
 
--- the microseconds behind the last whole second, rounded down
+-- the microseconds after the last whole second, rounded down
 abbrev pub microsecondsOf : Clock → ℕ → ℕ
 microsecondsOf Fsk tick = tick * 11 % 1200 * 2500 / 3
 microsecondsOf C8psk tick = tick % 1000 * 1000

@@ -1,5 +1,5 @@
 -- How the code stands for what is to be believed.
--- What is promised of a tick and of a piece: what is kept behind it, and its packets in the lent output buffer.
+-- What is promised of a tick and of a piece: what is kept after it, and its packets in the lent output buffer.
 use Prim.Native.Nat.{ℕ}
 use mathlib.Core.List.{List}
 use mathlib.Core.Path.{_≡_}
@@ -13,7 +13,7 @@ use Rattle.recording_capture.specs.declared.Progress.{Progress}
 abbrev pub keep : Progress → List ℕ → List ℕ → Kept
 keep p bytes frame = record { progress = p; bytes = bytes; message = frame }
 
--- a tick: what is kept behind it, and the packet behind a place of the output
+-- a tick: what is kept after it, and the packet after a place of the output
 pub record TickIs (p : Progress) (h : Heard) (bytes after frame grew before : List ℕ) (at : ℕ) (r : Captured) (out : List ℕ) : Type 0 where
   pub progress-is : r .progress ≡ progressBehind p (taken (p .receiver) h) (grown frame (p .held) h .at)
   pub bytes-are : after ≡ takenData (p .receiver) h bytes

@@ -32,7 +32,7 @@ pub struct Progress {
     pub held: usize,
 }
 
-// What is kept behind some ticks, and the place behind their packets in the output.
+// What is kept after some ticks, and the place after their packets in the output.
 pub struct Captured {
     pub progress: Progress,
     pub at: usize,
@@ -86,7 +86,7 @@ fn fsk_seconds(tick: u64) -> u64
     tick / 1200 * 11 + tick % 1200 * 11 / 1200
 }
 
-// What is left behind them, in parts of which a second has 1,200.
+// What is left after them, in parts of which a second has 1,200.
 fn fsk_rest(tick: u64) -> u64
     ensures { λ r. ⌜ r ≡ tick * 11 % 1200 ⌝ }
 {
@@ -327,7 +327,7 @@ fn number_after(event: Event, n: u16) -> u16
     }
 }
 
-// What was heard, behind the bytes of its frame.
+// What was heard, after the bytes of its frame.
 fn put_heard(heard: Heard, frame: &mut [u8], held: usize) -> usize
     ensures { λ r. ⌜ PutIs (heardText heard) (before frame) held r (after frame) ⌝ }
 {
@@ -365,7 +365,7 @@ fn held_behind(place: Place, held: usize) -> usize
     0
 }
 
-// What is kept behind a tick of the reader, with so many bytes of the frame.
+// What is kept after a tick of the reader, with so many bytes of the frame.
 fn behind_tick(p: Progress, taken: Taken, held: usize) -> Progress
     ensures { λ r. ⌜ r ≡ progressBehind p taken held ⌝ }
 {
@@ -415,7 +415,7 @@ fn ticks_of(piece: &[u8]) -> usize
     piece.len() / 2
 }
 
-// The packets of a piece of a recording, at the front of the output, and what is kept behind it.
+// The packets of a piece of a recording, at the front of the output, and what is kept after it.
 pub fn packets(
     p: Progress,
     piece: &[u8],

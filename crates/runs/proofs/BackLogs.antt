@@ -19,10 +19,11 @@ use Rattle.line.specs.declared.Event.the-variants.{Nothing, PassedOver, Broken,
 use Rattle.line.specs.declared.Heard.{Heard}
 use Rattle.line.specs.declared.Heard.the-variants.{Silence, Character}
 use Rattle.line.specs.declared.Receiver.{Receiver}
-use Rattle.turns.specs.Party.{isBroadcast, CallResult, none, was-taken, was-refused}
+use Rattle.turns.specs.Party.{isBroadcast}
 use Rattle.turns.specs.Device.{hasError, backDue, brokenDue, waited, onSilence, onCharacter, onHeard, deviceTakes, wishRefused, wished, answeredBy, answered, answerFrame, deviceWithContent, contentGiven, backLength, behindAck, sendsBy, deviceSends, begunFrame, mayAnswer, counts}
 use Rattle.turns.specs.Link.{DeviceCall, no-call, gives-answer, gives-content, DeviceSide, DeviceStep, deviceSent, answerCalled, contentCalled, deviceTick, heardFrame, deviceData}
 use Rattle.runs.specs.Backs.{LastGiven, content, ContentLog, givenBy, sentBy, contentLogAfter}
+use Rattle.turns.specs.declared.CallResult.{CallResult}
 use Rattle.turns.specs.declared.Sent.{Sent}
 use Rattle.turns.specs.declared.Sent.the-variants.{Silent}
 use Rattle.turns.specs.declared.Turn.{Turn}
@@ -79,7 +80,7 @@ module _ (limit : ℕ) (high : limit ≤ 255) (g : LastGiven) (d : Device) (fram
   answer-held wish put (Asked n) =
       if-both (λ (c : Called Device). HeldBy g (answerCalled c d (answerFrame d wish put frame) frame bytes contents told)) (length put outside 2 to limit) _ _ (sent-held g d frame bytes contents told _ h)
       (if-both (λ (c : Called Device). HeldBy g (answerCalled c d (answerFrame d wish put frame) frame bytes contents told)) (wishRefused d wish) _ _ (sent-held g d frame bytes contents told _ h)
-      (sent-held g _ (answerFrame d wish put frame) bytes contents told was-taken h))
+      (sent-held g _ (answerFrame d wish put frame) bytes contents told CallResult.Taken h))
   answer-held wish put AnswerWaits = sent-held g d frame bytes contents told _ h
   answer-held wish put Begins = sent-held g d frame bytes contents told _ h
   answer-held wish put (Answers n) = sent-held g d frame bytes contents told _ h
@@ -101,9 +102,9 @@ module _ (limit : ℕ) (high : limit ≤ 255) (g : LastGiven) (d : Device) (fram
       )
 
       go : ContentView limit d command (length put) → by (contentGiven limit d command (length put))
-      go (D.ContentView.is-refused why q) = subst by (sym q) (sent-held g d frame bytes contents told (was-refused why) h)
+      go (D.ContentView.is-refused why q) = subst by (sym q) (sent-held g d frame bytes contents told (CallResult.Refused why) h)
       go (D.ContentView.is-taken least most q) =
-          subst by (sym q) (sent-held (content command put) (deviceWithContent d (record { given = true; command = command; count = length put })) frame bytes (stored contents 0 put) told was-taken (new most))
+          subst by (sym q) (sent-held (content command put) (deviceWithContent d (record { given = true; command = command; count = length put })) frame bytes (stored contents 0 put) told CallResult.Taken (new most))
 
 -- whatever is heard and called
 pub known-tick : (limit : ℕ) → limit ≤ 255 → (g : ContentLog) (x : DeviceSide) (heard : Heard) (call : DeviceCall) → Known g x → Known (contentLogAfter call (deviceTick limit x heard call) g) (deviceTick limit x heard call .side)
@@ -120,7 +121,7 @@ known-tick limit high g x heard call k =
     h = subst (λ (c : Content). Held (g .last) c (x .contents)) (sym (takes-content (x .device) heard)) (k .room, k .known)
 
     go : (call : DeviceCall) → HeldBy (givenBy call (deviceTick limit x heard call .result) (g .last)) (deviceTick limit x heard call)
-    go no-call = sent-held (g .last) (deviceTakes (x .device) heard .device) (heardFrame x heard) (deviceData x heard) (x .contents) (deviceTakes (x .device) heard .told) none h
+    go no-call = sent-held (g .last) (deviceTakes (x .device) heard .device) (heardFrame x heard) (deviceData x heard) (x .contents) (deviceTakes (x .device) heard .told) CallResult.Nothing h
     go (gives-answer wish put) = answer-held limit high (g .last) (deviceTakes (x .device) heard .device) (heardFrame x heard) (deviceData x heard) (x .contents) (deviceTakes (x .device) heard .told) h wish put (deviceTakes (x .device) heard .device .turn)
     go (gives-content command put) = content-held limit high (g .last) (deviceTakes (x .device) heard .device) (heardFrame x heard) (deviceData x heard) (x .contents) (deviceTakes (x .device) heard .told) h command put
 
@@ -238,7 +239,7 @@ module _ (limit : ℕ) (d : Device) (f : NotBursts (d .turn)) (frame bytes conte
   answer-begins wish put (Asked n) e =
       if-both (λ (c : Called Device). Begun (answerCalled c d (answerFrame d wish put frame) frame bytes contents told)) (length put outside 2 to limit) _ _ (sent-begins d f frame bytes contents told _)
       (if-both (λ (c : Called Device). Begun (answerCalled c d (answerFrame d wish put frame) frame bytes contents told)) (wishRefused d wish) _ _ (sent-begins d f frame bytes contents told _)
-      (sent-begins _ (if-both NotBursts (n =? d .profile .sto) AnswerWaits Begins accepted-not begins-not) (answerFrame d wish put frame) bytes contents told was-taken))
+      (sent-begins _ (if-both NotBursts (n =? d .profile .sto) AnswerWaits Begins accepted-not begins-not) (answerFrame d wish put frame) bytes contents told CallResult.Taken))
   answer-begins wish put AnswerWaits e = sent-begins d f frame bytes contents told _
   answer-begins wish put Begins e = sent-begins d f frame bytes contents told _
   answer-begins wish put (Answers n) e = sent-begins d f frame bytes contents told _
@@ -252,8 +253,8 @@ module _ (limit : ℕ) (d : Device) (f : NotBursts (d .turn)) (frame bytes conte
       by c = Begun (contentCalled c d put frame bytes contents told)
 
       go : ContentView limit d command (length put) → by (contentGiven limit d command (length put))
-      go (D.ContentView.is-refused why q) = subst by (sym q) (sent-begins d f frame bytes contents told (was-refused why))
-      go (D.ContentView.is-taken least most q) = subst by (sym q) (sent-begins (deviceWithContent d (record { given = true; command = command; count = length put })) f frame bytes (stored contents 0 put) told was-taken)
+      go (D.ContentView.is-refused why q) = subst by (sym q) (sent-begins d f frame bytes contents told (CallResult.Refused why))
+      go (D.ContentView.is-taken least most q) = subst by (sym q) (sent-begins (deviceWithContent d (record { given = true; command = command; count = length put })) f frame bytes (stored contents 0 put) told CallResult.Taken)
 
 pub begins-back : (limit : ℕ) (x : DeviceSide) (heard : Heard) (call : DeviceCall) → NotBursts (x .device .turn) → deviceTick limit x heard call .side .device .turn ≡ Bursts 1 → BeginsBack (deviceTick limit x heard call)
 unfolding deviceTick answered Begun
@@ -263,6 +264,6 @@ begins-back limit x heard call f e = go call e
     g = takes-not (x .device) f heard
 
     go : (call : DeviceCall) → Begun (deviceTick limit x heard call)
-    go no-call = sent-begins (deviceTakes (x .device) heard .device) g (heardFrame x heard) (deviceData x heard) (x .contents) (deviceTakes (x .device) heard .told) none
+    go no-call = sent-begins (deviceTakes (x .device) heard .device) g (heardFrame x heard) (deviceData x heard) (x .contents) (deviceTakes (x .device) heard .told) CallResult.Nothing
     go (gives-answer wish put) = answer-begins limit (deviceTakes (x .device) heard .device) g (heardFrame x heard) (deviceData x heard) (x .contents) (deviceTakes (x .device) heard .told) wish put (deviceTakes (x .device) heard .device .turn) refl
     go (gives-content command put) = content-begins limit (deviceTakes (x .device) heard .device) g (heardFrame x heard) (deviceData x heard) (x .contents) (deviceTakes (x .device) heard .told) command put

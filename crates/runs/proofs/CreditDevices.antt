@@ -22,10 +22,11 @@ use Rattle.line.specs.declared.Heard.{Heard}
 use Rattle.line.specs.declared.Heard.the-variants.{Silence, Character}
 use Rattle.line.specs.declared.Receiver.{Receiver}
 use Rattle.line.specs.declared.Whole.{Whole}
-use Rattle.turns.specs.Party.{isBroadcast, CallResult, was-taken, was-refused}
+use Rattle.turns.specs.Party.{isBroadcast}
 use Rattle.turns.specs.Device.{deviceWith, backDue, brokenDue, waited, answerHeader, wished, answersAt, onSilence, onCharacter, onHeard, deviceTakes, answeredBy, answered, answerFrame, deviceWithContent, contentGiven, backLength, behindAck, sendsBy, deviceSends, begunFrame, errorFrame, mayAnswer, changed}
 use Rattle.turns.specs.Link.{DeviceCall, no-call, gives-answer, gives-content, DeviceSide, DeviceStep, deviceData, heardFrame, deviceSent, answerCalled, contentCalled, deviceCalls, deviceTick}
 use Rattle.runs.specs.Credit.{Ledger, told, given, toldBy, calledBy, ledgerAfter, answeredWith}
+use Rattle.turns.specs.declared.CallResult.{CallResult}
 use Rattle.turns.specs.declared.Turn.{Turn}
 use Rattle.turns.specs.declared.Turn.the-variants.{Listens, Asked, AnswerWaits, Begins, Answers, Follows, Bursts}
 use Rattle.turns.specs.declared.Wish.{Wish}
@@ -200,7 +201,7 @@ module _ (limit : ℕ) (high : limit ≤ 255) (g : Ledger) (d : Device) (frame b
 
   answer-owes : (wish : Wish) (put : List ℕ) (turn : Turn) → d .turn ≡ turn → owes (gives-answer wish put) (answerCalled (answeredBy limit d wish (length put) turn) d (answerFrame d wish put frame) frame bytes contents t)
   unfolding owes if_then_else_
-  answer-owes wish put Listens e = sent-owes g d frame bytes contents o t (was-refused 8)
+  answer-owes wish put Listens e = sent-owes g d frame bytes contents o t (CallResult.Refused 8)
   answer-owes wish put (Asked n) e = go (answer-view limit d wish (length put) n)
     where
       by : Called Device → Type 0
@@ -239,14 +240,14 @@ module _ (limit : ℕ) (high : limit ≤ 255) (g : Ledger) (d : Device) (frame b
       not-asked false k q = begins-asked k q
 
       go : AnswerView limit d wish (length put) n → by (answeredBy limit d wish (length put) (Asked n))
-      go (D.AnswerView.is-refused why q) = subst by (sym q) (sent-owes g d frame bytes contents o t (was-refused why))
+      go (D.AnswerView.is-refused why q) = subst by (sym q) (sent-owes g d frame bytes contents o t (CallResult.Refused why))
       go (D.AnswerView.is-taken least most f q) =
-          subst by (sym q) (sent-owes (answeredWith put g) _ (answerFrame d wish put frame) bytes contents (ready (answersAt d n) (not-asked (n =? d .profile .sto)) least most) t was-taken)
-  answer-owes wish put AnswerWaits e = sent-owes g d frame bytes contents o t (was-refused 8)
-  answer-owes wish put Begins e = sent-owes g d frame bytes contents o t (was-refused 8)
-  answer-owes wish put (Answers n) e = sent-owes g d frame bytes contents o t (was-refused 8)
-  answer-owes wish put Follows e = sent-owes g d frame bytes contents o t (was-refused 8)
-  answer-owes wish put (Bursts n) e = sent-owes g d frame bytes contents o t (was-refused 8)
+          subst by (sym q) (sent-owes (answeredWith put g) _ (answerFrame d wish put frame) bytes contents (ready (answersAt d n) (not-asked (n =? d .profile .sto)) least most) t CallResult.Taken)
+  answer-owes wish put AnswerWaits e = sent-owes g d frame bytes contents o t (CallResult.Refused 8)
+  answer-owes wish put Begins e = sent-owes g d frame bytes contents o t (CallResult.Refused 8)
+  answer-owes wish put (Answers n) e = sent-owes g d frame bytes contents o t (CallResult.Refused 8)
+  answer-owes wish put Follows e = sent-owes g d frame bytes contents o t (CallResult.Refused 8)
+  answer-owes wish put (Bursts n) e = sent-owes g d frame bytes contents o t (CallResult.Refused 8)
 
   content-owes : (command : ℕ) (put : List ℕ) → owes (gives-content command put) (contentCalled (contentGiven limit d command (length put)) d put frame bytes contents t)
   unfolding owes
@@ -256,9 +257,9 @@ module _ (limit : ℕ) (high : limit ≤ 255) (g : Ledger) (d : Device) (frame b
       by c = DeviceOwes g (contentCalled c d put frame bytes contents t .side .device) (contentCalled c d put frame bytes contents t .side .frame)
 
       go : ContentView limit d command (length put) → by (contentGiven limit d command (length put))
-      go (D.ContentView.is-refused why q) = subst by (sym q) (sent-owes g d frame bytes contents o t (was-refused why))
+      go (D.ContentView.is-refused why q) = subst by (sym q) (sent-owes g d frame bytes contents o t (CallResult.Refused why))
       go (D.ContentView.is-taken least most q) =
-          subst by (sym q) (sent-owes g (deviceWithContent d (record { given = true; command = command; count = length put })) frame bytes (stored contents 0 put) (record { asked = o .asked; gives = λ z. same-gives refl refl refl (o .gives z) }) t was-taken)
+          subst by (sym q) (sent-owes g (deviceWithContent d (record { given = true; command = command; count = length put })) frame bytes (stored contents 0 put) (record { asked = o .asked; gives = λ z. same-gives refl refl refl (o .gives z) }) t CallResult.Taken)
 
 -- ---- the tick
 
@@ -294,7 +295,7 @@ device-owes limit high g x heard call plain able heard-now = subst (by call) (sy
     told-same (gives-content command put) = content-told (contentGiven limit (t .device) command (length put)) put
 
     called : (c : DeviceCall) → DeviceOwes (calledBy c (step c (x .frame) .result) (toldBy (t .told) g)) (step c (x .frame) .side .device) (step c (x .frame) .side .frame)
-    called no-call = sent-owes (toldBy (t .told) g) (t .device) (x .frame) (deviceData x heard) (x .contents) heard-now (t .told) CallResult.none
+    called no-call = sent-owes (toldBy (t .told) g) (t .device) (x .frame) (deviceData x heard) (x .contents) heard-now (t .told) CallResult.Nothing
     called (gives-answer wish put) = answer-owes limit high (toldBy (t .told) g) (t .device) (x .frame) (deviceData x heard) (x .contents) (t .told) heard-now able wish put (t .device .turn) refl
     called (gives-content command put) = content-owes limit high (toldBy (t .told) g) (t .device) (x .frame) (deviceData x heard) (x .contents) (t .told) heard-now able command put
 

@@ -13,11 +13,11 @@ use Rattle.frame.specs.Frame.{frameBytes, preambleBytes, bodyBytes, protectedBy
 use Rattle.frame.specs.Write.{writeBuffer, writeAnswer}
 use Rattle.frame.specs.declared.Header.{Header}
 use Rattle.line.specs.Reader.{taken, takenData, atIdle, atPreamble, atFirst, atAddress, atExpansion, atCommand, atCount, atData, atCheck}
-use Rattle.turns.specs.Party.{was-taken}
 use Rattle.turns.specs.Master.{requested, requestedUpTo, masterTakes, masterSends}
 use Rattle.turns.specs.Device.{deviceTakes, deviceSends, answered, contentGiven}
 use Rattle.turns.specs.Link.{no-request, gives-answer, Link, LinkStep, Calls, masterTick, deviceTick, deviceTicks, sides, carried, linkTick, linkAfter}
 use Rattle.runs.specs.Credit.{Ledger, blank, given, ledgersAfter, blanks, closed, closedBy, closedAfter, bookedBy, noneAsked, EachCredited}
+use Rattle.turns.specs.declared.CallResult.{CallResult}
 use Rattle.turns.specs.declared.MasterTold.{MasterTold}
 use Rattle.turns.specs.declared.MasterTold.the-variants.{Answered, GivenUp, BroadcastSent}
 use Rattle.turns.specs.declared.Wish.the-variants.{Same}
@@ -131,7 +131,7 @@ unfolding linkBehind failed-run failing answers ask short one-device quiet linkT
 given-up = refl
 
 -- in tick 135 the host requests the same again, which is taken; its first STX goes out from tick 136 on
-pub asked-again : linkTick 255 (linkBehind 255 one-device (failed-run ++ (quiet ∷ []))) (ask 2 []) .for-primary .result ≡ was-taken
+pub asked-again : linkTick 255 (linkBehind 255 one-device (failed-run ++ (quiet ∷ []))) (ask 2 []) .for-primary .result ≡ CallResult.Taken
 unfolding linkBehind failed-run failing answers ask short one-device quiet linkTick deviceTicks sides carried masterTick deviceTick requested requestedUpTo masterTakes masterSends deviceTakes deviceSends answered contentGiven taken takenData atIdle atPreamble atFirst atAddress atExpansion atCommand atCount atData atCheck writeBuffer writeAnswer frameBytes preambleBytes bodyBytes protectedBytes headerBytes xorFrom delimiterOf stored if_then_else_
 asked-again = refl
 

@@ -6,10 +6,11 @@ use mathlib.Core.Bool.{Bool, true}
 use mathlib.Core.List.{List, [], _∷_}
 use Rattle.base.specs.Choice.{if_then_else_}
 use Rattle.frame.specs.declared.Header.{Header}
-use Rattle.turns.specs.Party.{seeksTag, CallResult, was-taken, was-refused}
+use Rattle.turns.specs.Party.{seeksTag}
 use Rattle.turns.specs.Link.{DeviceCall, no-call, gives-answer, gives-content, DeviceSide, DeviceStep, LinkStep, Calls}
 use Rattle.turns.specs.Ledgers.{Ledger, blank, told, toldBy, calledBy, ledgerAfter, ledgersAfter, blanks, finders}
 use Rattle.runs.specs.Credit.{closed, closedBy, closedAfter, bookedBy, Gave, this-one, another}
+use Rattle.turns.specs.declared.CallResult.{CallResult}
 use Rattle.turns.specs.declared.DeviceTold.{DeviceTold}
 use Rattle.turns.specs.declared.DeviceTold.the-variants.{Request, Broadcast}
 use Rattle.turns.specs.declared.MasterTold.{MasterTold}
@@ -50,9 +51,9 @@ entry-after c s f {gs} {fs} w = by-told (s .told) c (s .result)
   where
     by-call : (c : DeviceCall) (a : CallResult) → Within (calledBy c a blank ∷ gs) (calledBy c a f ∷ fs)
     by-call no-call a = closed-and w
-    by-call (gives-answer wish put) CallResult.none = closed-and w
-    by-call (gives-answer wish put) was-taken = closed-and w
-    by-call (gives-answer wish put) (was-refused why) = closed-and w
+    by-call (gives-answer wish put) CallResult.Nothing = closed-and w
+    by-call (gives-answer wish put) CallResult.Taken = closed-and w
+    by-call (gives-answer wish put) (CallResult.Refused why) = closed-and w
     by-call (gives-content command put) a = closed-and w
 
     by-told : (t : DeviceTold) (c : DeviceCall) (a : CallResult) → Within (calledBy c a (toldBy t blank) ∷ gs) (calledBy c a (toldBy t f) ∷ fs)

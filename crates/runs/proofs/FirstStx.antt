@@ -9,7 +9,7 @@ use Rattle.frame.specs.Frame.{frameBytes, preambleBytes, bodyBytes}
 use Rattle.frame.proofs.Taken.{taken}
 use Rattle.line.specs.declared.Heard.{Heard}
 use Rattle.line.specs.declared.Profile.{Profile}
-use Rattle.turns.specs.Party.{isBroadcast, Request, CallResult, none, was-taken}
+use Rattle.turns.specs.Party.{isBroadcast}
 use Rattle.turns.specs.Link.{MasterCall, requests, MasterSide, MasterStep, masterTick, Link, LinkStep, Calls, linkAfter}
 use Rattle.turns.specs.Run.{MasterStarts}
 use Rattle.turns.specs.Demand3 as D
@@ -20,6 +20,8 @@ use Rattle.turns.specs.Attempts as Q
 use Rattle.turns.specs.Attempts.{MessageLog, no-message, in-hand, stxHeader, Reports, no-report, is-answered, is-given-up, is-sent-once, behindReport, Asked, asks-nothing, Sends}
 use Rattle.runs.specs.FirstStx as F
 use Rattle.runs.specs.FirstStx.{callIn, GoesOut, FirstStx, FirstStxIn, FirstStxInARun, CharacterIsFirst}
+use Rattle.turns.specs.declared.CallResult.{CallResult}
+use Rattle.turns.specs.declared.Request.{Request}
 use Rattle.turns.specs.declared.Sent.{Sent}
 use Rattle.turns.specs.declared.Master.{Master}
 use Rattle.turns.specs.declared.MasterTold.{MasterTold}
@@ -54,7 +56,7 @@ asked-stays asks-nothing = refl
 asked-stays Q.is-refused = refl
 
 -- a request that was taken
-asked-taken : {primary : Bool} {q : Request} {put : List ℕ} {g asked : MessageLog} → Asked primary (requests q put) was-taken g asked → asked ≡ in-hand (frameBytes (q .preamble) (stxHeader primary q) put) (isBroadcast (stxHeader primary q)) [] 0
+asked-taken : {primary : Bool} {q : Request} {put : List ℕ} {g asked : MessageLog} → Asked primary (requests q put) CallResult.Taken g asked → asked ≡ in-hand (frameBytes (q .preamble) (stxHeader primary q) put) (isBroadcast (stxHeader primary q)) [] 0
 asked-taken Q.is-taken = refl
 
 data First (w : List ℕ) (b : Bool) : Sent → MessageLog → Type 0 where
@@ -100,7 +102,7 @@ later-on : (primary : Bool) (i j : ℕ) → untilIn primary i j ≡ 0 → untilI
 later-on true i j e = omega (arith, e)
 later-on false i j e = omega (arith, e)
 
-none-taken : none ≡ was-taken → ⊥
+none-taken : CallResult.Nothing ≡ CallResult.Taken → ⊥
 none-taken e = let z : _≡_ {A = ℕ} 0 1 = cc in omega arith
 
 module _ (limit : ℕ) (small : limit ≤ 255) (retries : ℕ) where
@@ -176,7 +178,7 @@ module _ (limit : ℕ) (small : limit ≤ 255) (retries : ℕ) where
       (λ z. first-run primary (i - 1) (j - 1) (linkAfter (lateTick limit i j l c)) cs _ (isBroadcast (stxHeader primary q)) (later-on primary i j o) z)
 
   -- a master that has not started takes no request, and stays as it is
-  off-tick : (primary : Bool) (i j n : ℕ) (l : Link) (c : Calls) → untilIn primary i j ≡ suc n → masterIn primary (lateTick limit i j l c) ≡ record { side = sideIn primary l; sent = Sent.Silent; told = MasterTold.Nothing; result = none }
+  off-tick : (primary : Bool) (i j n : ℕ) (l : Link) (c : Calls) → untilIn primary i j ≡ suc n → masterIn primary (lateTick limit i j l c) ≡ record { side = sideIn primary l; sent = Sent.Silent; told = MasterTold.Nothing; result = CallResult.Nothing }
   unfolding lateTick
   off-tick true i j n l c e = ap (λ (m : ℕ). lateMaster limit m (l .primary) (l .line) (c .for-primary)) e
   off-tick false i j n l c e = ap (λ (m : ℕ). lateMaster limit m (l .secondary) (l .line) (c .for-secondary)) e

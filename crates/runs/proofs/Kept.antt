@@ -20,11 +20,12 @@ use Rattle.line.specs.declared.Heard.{Heard}
 use Rattle.line.specs.declared.Heard.the-variants.{Silence, Character}
 use Rattle.line.specs.declared.Receiver.{Receiver}
 use Rattle.line.specs.declared.Whole.{Whole}
-use Rattle.turns.specs.Party.{isBroadcast, none, was-taken, was-refused}
+use Rattle.turns.specs.Party.{isBroadcast}
 use Rattle.turns.specs.Master.{requested, requestHeader, answersMessage, fails, atFrame, atBreak, ifAwaiting, rt1Ends, waited, counts, afterBreak, onSilence, onCharacter, onHeard, masterTakes, masterSends, oneMore, sendsBy, sendsAt, withReader, ownRt1, sends}
 use Rattle.turns.specs.Link.{MasterCall, no-request, requests, MasterSide, MasterStep, masterSent, masterCalled, masterCalls, masterTick, masterData}
 use Rattle.turns.specs.Attempts.{stxHeader}
 use Rattle.runs.specs.Credit.{askedBy}
+use Rattle.turns.specs.declared.CallResult.{CallResult}
 use Rattle.turns.specs.declared.Ending.{Ending}
 use Rattle.turns.specs.declared.Sent.{Sent}
 use Rattle.turns.specs.declared.Stage.{Stage}
@@ -365,13 +366,13 @@ pub data Accepted (step : MasterStep) : Type 0 where
   begins-now : (c : ℕ) → step .sent ≡ Sent.Character c → Accepted step
   waits-now : step .sent ≡ Sent.Silent → step .side .master .message .stage ≡ Waiting → step .side .master .message .attempts ≡ 0 → Accepted step
 
-refused-taken : {why : ℕ} → was-refused why ≡ was-taken → ⊥
+refused-taken : {why : ℕ} → CallResult.Refused why ≡ CallResult.Taken → ⊥
 refused-taken e = let z : _≡_ {A = ℕ} 0 1 = cc in omega arith
 
-none-taken : none ≡ was-taken → ⊥
+none-taken : CallResult.Nothing ≡ CallResult.Taken → ⊥
 none-taken e = let z : _≡_ {A = ℕ} 0 1 = cc in omega arith
 
-pub accepts : (limit : ℕ) → limit ≤ 255 → (x : MasterSide) (heard : Heard) (call : MasterCall) → masterTick limit x heard call .result ≡ was-taken → Accepted (masterTick limit x heard call)
+pub accepts : (limit : ℕ) → limit ≤ 255 → (x : MasterSide) (heard : Heard) (call : MasterCall) → masterTick limit x heard call .result ≡ CallResult.Taken → Accepted (masterTick limit x heard call)
 unfolding masterTick masterSends
 accepts limit small x heard no-request e = absurd (none-taken e)
 accepts limit small x heard (requests q put) e = go (asks limit t q (length put) small) e
@@ -388,10 +389,10 @@ accepts limit small x heard (requests q put) e = go (asks limit t q (length put)
     step : Called Master → MasterStep
     step c = masterCalled c t put-in (x .frame) (masterData x heard) told
 
-    go : Asks limit t q (length put) → step (requested limit t q (length put)) .result ≡ was-taken → Accepted (step (requested limit t q (length put)))
+    go : Asks limit t q (length put) → step (requested limit t q (length put)) .result ≡ CallResult.Taken → Accepted (step (requested limit t q (length put)))
     go (is-refused why a) z = absurd (refused-taken (ap (λ (c : Called Master). step c .result) (sym a) ∙ z))
     go (is-taken fits few free a) z =
         subst (λ (c : Called Master). Accepted (step c)) (sym a)
-        (if-both (λ (s : MasterSent). Accepted (masterSent s (stored (x .frame) 0 put-in) (masterData x heard) told was-taken)) (0 <? t .timer .window) _ _
-        (if-both (λ (s : MasterSent). Accepted (masterSent s (stored (x .frame) 0 put-in) (masterData x heard) told was-taken)) (0 + 1 <? newMessage t q (length put) .length) _ _ (begins-now _ refl) (begins-now _ refl))
+        (if-both (λ (s : MasterSent). Accepted (masterSent s (stored (x .frame) 0 put-in) (masterData x heard) told CallResult.Taken)) (0 <? t .timer .window) _ _
+        (if-both (λ (s : MasterSent). Accepted (masterSent s (stored (x .frame) 0 put-in) (masterData x heard) told CallResult.Taken)) (0 + 1 <? newMessage t q (length put) .length) _ _ (begins-now _ refl) (begins-now _ refl))
         (waits-now refl refl refl))

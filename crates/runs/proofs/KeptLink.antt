@@ -17,10 +17,11 @@ use Rattle.line.specs.declared.Heard.{Heard}
 use Rattle.line.specs.declared.Heard.the-variants.{Silence, Character}
 use Rattle.line.specs.declared.Profile.{Profile}
 use Rattle.line.specs.declared.Receiver.{Receiver}
-use Rattle.turns.specs.Party.{isBroadcast, CallResult, was-taken, was-refused}
+use Rattle.turns.specs.Party.{isBroadcast}
 use Rattle.turns.specs.Device.{hasError, answerHeader, wished, backHeader, backLength, onSilence, onCharacter, onHeard, deviceTakes, answeredBy, answered, answerFrame, contentGiven, sendsBy, deviceSends, begunFrame, mayAnswer, changed}
 use Rattle.turns.specs.Link.{DeviceCall, no-call, gives-answer, gives-content, MasterSide, DeviceSide, deviceData, heardFrame, deviceSent, answerCalled, contentCalled, deviceTick, deviceTicks, Link, Calls, sides, linkTick, linkAfter}
 use Rattle.turns.specs.Run.{All, none, and, MasterStarts, DeviceStarts, Starts}
+use Rattle.turns.specs.declared.CallResult.{CallResult}
 use Rattle.turns.specs.declared.Turn.{Turn}
 use Rattle.turns.specs.declared.Turn.the-variants.{Listens, Asked, AnswerWaits, Begins, Answers, Follows, Bursts}
 use Rattle.turns.specs.declared.Wish.{Wish}
@@ -95,24 +96,24 @@ module _ (limit : ℕ) (low : 2 ≤ limit) (d : Device) (k : DeviceKept limit d)
 
 module _ (limit : ℕ) (low : 2 ≤ limit) (d : Device) (k : DeviceKept limit d) (frame bytes contents : List ℕ) (told : DeviceTold) where
   answer-kept : (wish : Wish) (put : List ℕ) (turn : Turn) → DeviceKept limit (answerCalled (answeredBy limit d wish (length put) turn) d (answerFrame d wish put frame) frame bytes contents told .side .device)
-  answer-kept wish put Listens = sent-kept limit low d k frame bytes contents told (was-refused 8)
+  answer-kept wish put Listens = sent-kept limit low d k frame bytes contents told (CallResult.Refused 8)
   answer-kept wish put (Asked n) = go (answer-view limit d wish (length put) n)
     where
       by : Called Device → Type 0
       by c = DeviceKept limit (answerCalled c d (answerFrame d wish put frame) frame bytes contents told .side .device)
 
       go : AnswerView limit d wish (length put) n → by (answeredBy limit d wish (length put) (Asked n))
-      go (D.AnswerView.is-refused why e) = subst by (sym e) (sent-kept limit low d k frame bytes contents told (was-refused why))
+      go (D.AnswerView.is-refused why e) = subst by (sym e) (sent-kept limit low d k frame bytes contents told (CallResult.Refused why))
       go (D.AnswerView.is-taken least most f e) =
           subst by (sym e)
           (sent-kept limit low _
           (record { preamble-high = k .preamble-high; short = frame-short limit (d .preamble) (answerHeader (d .request) (wished (d .burst) wish)) (length put) (k .preamble-high) most; content-short = k .content-short })
-          (answerFrame d wish put frame) bytes contents told was-taken)
-  answer-kept wish put AnswerWaits = sent-kept limit low d k frame bytes contents told (was-refused 8)
-  answer-kept wish put Begins = sent-kept limit low d k frame bytes contents told (was-refused 8)
-  answer-kept wish put (Answers n) = sent-kept limit low d k frame bytes contents told (was-refused 8)
-  answer-kept wish put Follows = sent-kept limit low d k frame bytes contents told (was-refused 8)
-  answer-kept wish put (Bursts n) = sent-kept limit low d k frame bytes contents told (was-refused 8)
+          (answerFrame d wish put frame) bytes contents told CallResult.Taken)
+  answer-kept wish put AnswerWaits = sent-kept limit low d k frame bytes contents told (CallResult.Refused 8)
+  answer-kept wish put Begins = sent-kept limit low d k frame bytes contents told (CallResult.Refused 8)
+  answer-kept wish put (Answers n) = sent-kept limit low d k frame bytes contents told (CallResult.Refused 8)
+  answer-kept wish put Follows = sent-kept limit low d k frame bytes contents told (CallResult.Refused 8)
+  answer-kept wish put (Bursts n) = sent-kept limit low d k frame bytes contents told (CallResult.Refused 8)
 
   content-kept : (command : ℕ) (put : List ℕ) → DeviceKept limit (contentCalled (contentGiven limit d command (length put)) d put frame bytes contents told .side .device)
   content-kept command put = go (content-view limit d command (length put))
@@ -121,13 +122,13 @@ module _ (limit : ℕ) (low : 2 ≤ limit) (d : Device) (k : DeviceKept limit d)
       by c = DeviceKept limit (contentCalled c d put frame bytes contents told .side .device)
 
       go : ContentView limit d command (length put) → by (contentGiven limit d command (length put))
-      go (D.ContentView.is-refused why e) = subst by (sym e) (sent-kept limit low d k frame bytes contents told (was-refused why))
+      go (D.ContentView.is-refused why e) = subst by (sym e) (sent-kept limit low d k frame bytes contents told (CallResult.Refused why))
       go (D.ContentView.is-taken least most e) =
-          subst by (sym e) (sent-kept limit low _ (record { preamble-high = k .preamble-high; short = k .short; content-short = most }) frame bytes (stored contents 0 put) told was-taken)
+          subst by (sym e) (sent-kept limit low _ (record { preamble-high = k .preamble-high; short = k .short; content-short = most }) frame bytes (stored contents 0 put) told CallResult.Taken)
 
 pub device-kept : (limit : ℕ) → 2 ≤ limit → (x : DeviceSide) (heard : Heard) (call : DeviceCall) → DeviceKept limit (x .device) → DeviceKept limit (deviceTick limit x heard call .side .device)
 unfolding deviceTick answered
-device-kept limit low x heard no-call k = sent-kept limit low _ (takes-kept limit low (x .device) k heard) (heardFrame x heard) (deviceData x heard) (x .contents) (deviceTakes (x .device) heard .told) CallResult.none
+device-kept limit low x heard no-call k = sent-kept limit low _ (takes-kept limit low (x .device) k heard) (heardFrame x heard) (deviceData x heard) (x .contents) (deviceTakes (x .device) heard .told) CallResult.Nothing
 device-kept limit low x heard (gives-answer wish put) k = answer-kept limit low _ (takes-kept limit low (x .device) k heard) (heardFrame x heard) (deviceData x heard) (x .contents) (deviceTakes (x .device) heard .told) wish put (deviceTakes (x .device) heard .device .turn)
 device-kept limit low x heard (gives-content command put) k = content-kept limit low _ (takes-kept limit low (x .device) k heard) (heardFrame x heard) (deviceData x heard) (x .contents) (deviceTakes (x .device) heard .told) command put
 

@@ -16,13 +16,13 @@ use Rattle.line.specs.Reader.{taken, takenData, atIdle, atPreamble, atFirst, at
 use Rattle.line.specs.declared.Heard.the-variants.{Silence}
 use Rattle.turns.specs.Master.{freshMaster, requested, requestedUpTo, masterTakes, masterSends}
 use Rattle.turns.specs.Device.{freshDevice, deviceTakes, deviceSends, answered, contentGiven}
-use Rattle.turns.specs.Party.{CallResult, was-taken, was-refused}
 use Rattle.turns.specs.Link.{MasterCall, no-request, requests, no-call, gives-answer, gives-content, Link, LinkStep, Calls, DeviceSide, masterTick, deviceTick, deviceTicks, sides, carried, linkAfter}
 use Rattle.turns.specs.Run.{All, none, and, Distinct, DeviceStarts, deviceSenders, EachTick, no-tick, tick-and}
 use Rattle.turns.specs.Ledgers.{Ledger, finders, ledgersAfter, blanks, OneFinds}
 use Rattle.turns.specs.Ledgers as L
 use Rattle.turns.specs.Demand3.{masterIn, AcceptedIn, BeginsWithin, begins, waits, NoneBurstsIn, longestWait}
 use Rattle.runs.specs.Late.{lateTick, lateRun, Started, starts-now, started-before, LatePremises, inTick, sendersIn, BeginTogether, FrameSeen, behind-frame, LateStart}
+use Rattle.turns.specs.declared.CallResult.{CallResult}
 use Rattle.turns.specs.declared.Sent.{Sent}
 use Rattle.turns.specs.declared.Wish.the-variants.{Same}
 use Rattle.turns.proofs.Example as E
@@ -198,9 +198,9 @@ late-length limit a b l (c ∷ cs) = ap suc (late-length limit (a - 1) (b - 1) (
 
 -- a master's request was taken in tick t, by computing
 isTaken : CallResult → Bool
-isTaken CallResult.none = false
-isTaken was-taken = true
-isTaken (was-refused why) = false
+isTaken CallResult.Nothing = false
+isTaken CallResult.Taken = true
+isTaken (CallResult.Refused why) = false
 
 takenIn : Bool → List LinkStep → ℕ → Bool
 takenIn bit [] t = false
@@ -218,10 +218,10 @@ unfolding takenIn isTaken
 taken-at bit [] t e = absurd (true-false (sym e))
 taken-at bit (s ∷ ss) zero e = record { step = s; after = ss; is = refl; accepted = go (masterIn bit s .result) e }
   where
-    go : (a : CallResult) → isTaken a ≡ true → a ≡ was-taken
-    go CallResult.none z = absurd (true-false (sym z))
-    go was-taken z = refl
-    go (was-refused why) z = absurd (true-false (sym z))
+    go : (a : CallResult) → isTaken a ≡ true → a ≡ CallResult.Taken
+    go CallResult.Nothing z = absurd (true-false (sym z))
+    go CallResult.Taken z = refl
+    go (CallResult.Refused why) z = absurd (true-false (sym z))
 taken-at bit (s ∷ ss) (suc t) e = let r = taken-at bit ss t e in record { step = r .step; after = r .after; is = r .is; accepted = r .accepted }
 
 -- the numbers of senders, by tick

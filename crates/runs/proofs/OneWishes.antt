@@ -13,11 +13,11 @@ use Rattle.line.specs.Reader.{insideFrame}
 use Rattle.line.specs.declared.Heard.{Heard}
 use Rattle.line.specs.declared.Heard.the-variants.{Silence, Character, Damaged}
 use Rattle.line.specs.declared.Receiver.{Receiver}
-use Rattle.turns.specs.Party.{CallResult, was-taken}
 use Rattle.turns.specs.Device.{onSilence, onHeard, deviceTakes, wished, wishRefused, answeredBy, answered, answerFrame, contentGiven, backLength, sendsBy, deviceSends, begunFrame}
 use Rattle.turns.specs.Link.{DeviceCall, no-call, gives-answer, gives-content, DeviceSide, DeviceStep, Link, Calls, deviceSent, answerCalled, contentCalled, heardFrame, deviceData, deviceTick, deviceTicks, sides, linkTick, linkAfter, run}
 use Rattle.turns.specs.Run.{All, Sole, EachTick, no-tick, tick-and, OneBursts}
 use Rattle.turns.specs.Run as R
+use Rattle.turns.specs.declared.CallResult.{CallResult}
 use Rattle.turns.specs.declared.Turn.{Turn}
 use Rattle.turns.specs.declared.Turn.the-variants.{Listens, Asked, AnswerWaits, Begins, Answers, Follows, Bursts}
 use Rattle.turns.specs.declared.Device.{Device}
@@ -91,23 +91,23 @@ module _ (limit : ℕ) (d : Device) (c : StaysOff d) (frame bytes contents : Lis
   StepStaysOff s = StaysOff (s .side .device)
 
   answer-stays : (wish : Wish) (put : List ℕ) (turn : Turn) → NotOn wish → StepStaysOff (answerCalled (answeredBy limit d wish (length put) turn) d (answerFrame d wish put frame) frame bytes contents told)
-  answer-stays wish put Listens w = sent-stays d c frame bytes contents told was-taken
+  answer-stays wish put Listens w = sent-stays d c frame bytes contents told CallResult.Taken
   answer-stays wish put (Asked n) w =
-      if-both (λ (a : Called Device). StepStaysOff (answerCalled a d (answerFrame d wish put frame) frame bytes contents told)) (length put outside fewestAnswered to limit) _ _ (sent-stays d c frame bytes contents told was-taken)
-      (if-both (λ (a : Called Device). StepStaysOff (answerCalled a d (answerFrame d wish put frame) frame bytes contents told)) (wishRefused d wish) _ _ (sent-stays d c frame bytes contents told was-taken)
-      (sent-stays _ (record { off = c .off; not-on = w }) (answerFrame d wish put frame) bytes contents told was-taken))
-  answer-stays wish put AnswerWaits w = sent-stays d c frame bytes contents told was-taken
-  answer-stays wish put Begins w = sent-stays d c frame bytes contents told was-taken
-  answer-stays wish put (Answers n) w = sent-stays d c frame bytes contents told was-taken
-  answer-stays wish put Follows w = sent-stays d c frame bytes contents told was-taken
-  answer-stays wish put (Bursts n) w = sent-stays d c frame bytes contents told was-taken
+      if-both (λ (a : Called Device). StepStaysOff (answerCalled a d (answerFrame d wish put frame) frame bytes contents told)) (length put outside fewestAnswered to limit) _ _ (sent-stays d c frame bytes contents told CallResult.Taken)
+      (if-both (λ (a : Called Device). StepStaysOff (answerCalled a d (answerFrame d wish put frame) frame bytes contents told)) (wishRefused d wish) _ _ (sent-stays d c frame bytes contents told CallResult.Taken)
+      (sent-stays _ (record { off = c .off; not-on = w }) (answerFrame d wish put frame) bytes contents told CallResult.Taken))
+  answer-stays wish put AnswerWaits w = sent-stays d c frame bytes contents told CallResult.Taken
+  answer-stays wish put Begins w = sent-stays d c frame bytes contents told CallResult.Taken
+  answer-stays wish put (Answers n) w = sent-stays d c frame bytes contents told CallResult.Taken
+  answer-stays wish put Follows w = sent-stays d c frame bytes contents told CallResult.Taken
+  answer-stays wish put (Bursts n) w = sent-stays d c frame bytes contents told CallResult.Taken
 
   content-stays : (command : ℕ) (put : List ℕ) → StepStaysOff (contentCalled (contentGiven limit d command (length put)) d put frame bytes contents told)
   unfolding contentGiven
   content-stays command put =
-      if-both (λ (a : Called Device). StepStaysOff (contentCalled a d put frame bytes contents told)) (command =? reservedCommand) _ _ (sent-stays d c frame bytes contents told was-taken)
-      (if-both (λ (a : Called Device). StepStaysOff (contentCalled a d put frame bytes contents told)) (length put outside fewestAnswered to limit) _ _ (sent-stays d c frame bytes contents told was-taken)
-      (sent-stays _ (record { off = c .off; not-on = c .not-on }) frame bytes (stored contents 0 put) told was-taken))
+      if-both (λ (a : Called Device). StepStaysOff (contentCalled a d put frame bytes contents told)) (command =? reservedCommand) _ _ (sent-stays d c frame bytes contents told CallResult.Taken)
+      (if-both (λ (a : Called Device). StepStaysOff (contentCalled a d put frame bytes contents told)) (length put outside fewestAnswered to limit) _ _ (sent-stays d c frame bytes contents told CallResult.Taken)
+      (sent-stays _ (record { off = c .off; not-on = c .not-on }) frame bytes (stored contents 0 put) told CallResult.Taken))
 
 -- ---- a tick
 
@@ -116,7 +116,7 @@ SideStaysOff x = StaysOff (x .device)
 
 tick-stays : (limit : ℕ) (x : DeviceSide) (heard : Heard) (call : DeviceCall) → NotOnCall call → SideStaysOff x → SideStaysOff (deviceTick limit x heard call .side)
 unfolding deviceTick answered
-tick-stays limit x heard no-call no-one c = sent-stays _ (takes-stays (x .device) heard c) (heardFrame x heard) (deviceData x heard) (x .contents) (deviceTakes (x .device) heard .told) CallResult.none
+tick-stays limit x heard no-call no-one c = sent-stays _ (takes-stays (x .device) heard c) (heardFrame x heard) (deviceData x heard) (x .contents) (deviceTakes (x .device) heard .told) CallResult.Nothing
 tick-stays limit x heard (gives-answer w put) (replies m) c =
     answer-stays limit (deviceTakes (x .device) heard .device) (takes-stays (x .device) heard c) (heardFrame x heard) (deviceData x heard) (x .contents) (deviceTakes (x .device) heard .told) w put (deviceTakes (x .device) heard .device .turn) m
 tick-stays limit x heard (gives-content command put) given c =

@@ -20,13 +20,14 @@ use Rattle.line.specs.declared.Heard.the-variants.{Silence, Character}
 use Rattle.line.specs.declared.Profile.{Profile}
 use Rattle.line.specs.declared.Receiver.{Receiver}
 use Rattle.line.specs.declared.Whole.{Whole}
-use Rattle.turns.specs.Party.{isBroadcast, seeksTag, Request, CallResult, none, was-taken, was-refused}
+use Rattle.turns.specs.Party.{isBroadcast, seeksTag}
 use Rattle.turns.specs.Master as M
 use Rattle.turns.specs.Master.{atBreak, atFrame, answersMessage, ifAwaiting, afterBreak, counts, rt1Ends, withReader, masterTakes, requestHeader, hasMessage, commandRefused, pollingUpTo, requestedUpTo, requested, sendsAt, masterSends}
 use Rattle.turns.specs.Link.{MasterCall, no-request, requests, DeviceCall, no-call, gives-answer, gives-content, MasterSide, DeviceSide, DeviceStep, Link, Calls, masterCalled, masterData, masterTick, deviceTicks, linkTick, linkAfter, run}
 use Rattle.turns.specs.Run.{Starts, EachTick, tick-and, OneBursts}
 use Rattle.turns.specs.Ledgers.{Ledger, blank, told, given, toldBy, answeredWith, calledBy, ledgerAfter, ledgersAfter, blanks, found, finders, OneFinds}
 use Rattle.turns.specs.Ledgers as G
+use Rattle.turns.specs.declared.CallResult.{CallResult}
 use Rattle.turns.specs.declared.DeviceTold.{DeviceTold}
 use Rattle.turns.specs.declared.DeviceTold.the-variants.{Broadcast}
 use Rattle.turns.specs.declared.Ending.{Ending}
@@ -34,6 +35,7 @@ use Rattle.turns.specs.declared.Master.{Master}
 use Rattle.turns.specs.declared.MasterSent.{MasterSent}
 use Rattle.turns.specs.declared.MasterTaken.{MasterTaken}
 use Rattle.turns.specs.declared.MasterTold.{MasterTold}
+use Rattle.turns.specs.declared.Request.{Request}
 use Rattle.turns.specs.declared.Stage.{Stage}
 use Rattle.turns.specs.declared.Stage.the-variants.{Free, Waiting, Sending, Awaiting}
 use Rattle.turns.proofs.Bursting.{if-both}
@@ -184,9 +186,9 @@ answered-plain put (is-given h) = is-given h
 
 called-plain : {g : Ledger} (c : DeviceCall) (r : CallResult) → Plain g → Plain (calledBy c r g)
 called-plain no-call r q = q
-called-plain (gives-answer wish put) none q = q
-called-plain (gives-answer wish put) was-taken q = answered-plain put q
-called-plain (gives-answer wish put) (was-refused why) q = q
+called-plain (gives-answer wish put) CallResult.Nothing q = q
+called-plain (gives-answer wish put) CallResult.Taken q = answered-plain put q
+called-plain (gives-answer wish put) (CallResult.Refused why) q = q
 called-plain (gives-content command put) r q = q
 
 ledger-plain : {g : Ledger} (c : DeviceCall) (s : DeviceStep) → NoTag (s .told) → Plain g → Plain (ledgerAfter c s g)

@@ -17,11 +17,11 @@ use Rattle.line.specs.declared.Heard.{Heard}
 use Rattle.line.specs.declared.Heard.the-variants.{Silence, Character}
 use Rattle.line.specs.declared.Receiver.{Receiver}
 use Rattle.line.specs.declared.Taken.{Taken}
-use Rattle.turns.specs.Party.{CallResult}
 use Rattle.turns.specs.Master.{requested, requestHeader, counts, afterBreak, onSilence, onCharacter, onHeard, masterTakes, masterSends, sendsBy, withReader}
 use Rattle.turns.specs.Link.{MasterCall, no-request, requests, MasterSide, MasterStep, masterSent, masterCalled, masterTick, masterData, Link, LinkStep, Calls, linkAfter}
 use Rattle.turns.specs.Demand3.{masterIn}
 use Rattle.runs.specs.Late.{lateTick, lateRun, hears, heardIn}
+use Rattle.turns.specs.declared.CallResult.{CallResult}
 use Rattle.turns.specs.declared.Sent.{Sent}
 use Rattle.turns.specs.declared.Sent.the-variants.{Silent}
 use Rattle.turns.specs.declared.Stage.{Stage}
@@ -101,7 +101,7 @@ tick-reads limit small x heard call = subst (Reads (masterTick limit x heard cal
     told = masterTakes (x .master) heard (masterData x heard) .told
 
     go : (call : MasterCall) → Reads (masterTick limit x heard call) (t .receiver)
-    go no-request = sends-reads t (x .frame) (x .frame) (masterData x heard) told CallResult.none
+    go no-request = sends-reads t (x .frame) (x .frame) (masterData x heard) told CallResult.Nothing
     go (requests q put) = by (asks limit t q (length put) small)
       where
         put-in : List ℕ
@@ -111,8 +111,8 @@ tick-reads limit small x heard call = subst (Reads (masterTick limit x heard cal
         P c = Reads (masterCalled c t put-in (x .frame) (masterData x heard) told) (t .receiver)
 
         by : Asks limit t q (length put) → P (requested limit t q (length put))
-        by (is-refused why e) = subst P (sym e) (sends-reads t (x .frame) (x .frame) (masterData x heard) told (CallResult.was-refused why))
-        by (is-taken fits few free e) = subst P (sym e) (sends-reads (withMessage t (newMessage t q (length put))) (stored (x .frame) 0 put-in) (stored (x .frame) 0 put-in) (masterData x heard) told CallResult.was-taken)
+        by (is-refused why e) = subst P (sym e) (sends-reads t (x .frame) (x .frame) (masterData x heard) told (CallResult.Refused why))
+        by (is-taken fits few free e) = subst P (sym e) (sends-reads (withMessage t (newMessage t q (length put))) (stored (x .frame) 0 put-in) (stored (x .frame) 0 put-in) (masterData x heard) told CallResult.Taken)
 
 pub reads-next : {step : MasterStep} {r : Receiver} → Reads step r → (heard : Heard) → reading (step .side) heard ≡ hears (step .sent) r heard
 reads-next {step} {r} (spoke c s d e) heard = if-is-true (step .side .master .deaf) _ _ d ∙ ap (λ (z : Receiver). tells z Nothing) e ∙ sym (ap (λ (z : Sent). hears z r heard) s)

@@ -15,7 +15,7 @@ use Rattle.line.specs.declared.Event.the-variants.{Nothing, PassedOver, Broken,
 use Rattle.line.specs.declared.Heard.{Heard}
 use Rattle.line.specs.declared.Heard.the-variants.{Silence, Character}
 use Rattle.line.specs.declared.Receiver.{Receiver}
-use Rattle.turns.specs.Party.{isBroadcast, seeksTag, CallResult, was-taken, was-refused}
+use Rattle.turns.specs.Party.{isBroadcast, seeksTag}
 use Rattle.turns.specs.Device.{deviceWith, isOwn, mayAnswer, hasError, backDue, waited, wished, answersAt, counts, onSilence, onCharacter, onHeard, deviceTakes, answeredBy, answered, answerFrame, contentGiven, deviceWithContent, behindAck, backLength, sendsBy, deviceSends, begunFrame, changed, brokenDue}
 use Rattle.turns.specs.Link.{DeviceCall, no-call, gives-answer, gives-content, DeviceSide, DeviceStep, Link, LinkStep, Calls, deviceSent, answerCalled, contentCalled, deviceCalls, deviceTick, deviceTicks, heardFrame, deviceData, sides, linkTick, linkAfter, run}
 use Rattle.turns.specs.Run.{All, none, and, EachTick, DeviceStarts, OneBursts}
@@ -27,6 +27,7 @@ use Rattle.line.specs.declared.Profile.{Profile}
 use Rattle.turns.proofs.Fresh.{device-is}
 use Rattle.turns.proofs.TagSentences.{started-unique, tag-broadcast, broadcast-not-own}
 use Rattle.turns.specs.Ledgers as G
+use Rattle.turns.specs.declared.CallResult.{CallResult}
 use Rattle.turns.specs.declared.Turn.{Turn}
 use Rattle.turns.specs.declared.Turn.the-variants.{Listens, Asked, AnswerWaits, Begins, Answers, Follows, Bursts}
 use Rattle.turns.specs.declared.Wish.{Wish}
@@ -152,7 +153,7 @@ module _ (limit : ℕ) (g : Ledger) (d : Device) (o : Owes g d) (frame bytes con
   answer-owes : (wish : Wish) (put : List ℕ) (turn : Turn) → d .turn ≡ turn
       → let s = answerCalled (answeredBy limit d wish (length put) turn) d (answerFrame d wish put frame) frame bytes contents t in Owes (calledBy (gives-answer wish put) (s .result) g) (s .side .device)
   unfolding if_then_else_
-  answer-owes wish put Listens e = sent g d o frame bytes contents t (was-refused 8)
+  answer-owes wish put Listens e = sent g d o frame bytes contents t (CallResult.Refused 8)
   answer-owes wish put (Asked n) e = go (answer-view limit d wish (length put) n)
     where
       by : Called Device → Type 0
@@ -166,13 +167,13 @@ module _ (limit : ℕ) (g : Ledger) (d : Device) (o : Owes g d) (frame bytes con
       ready turn size f = record { asked = λ k q. absurd (f k q); gives = λ z tag. ap (λ (x : Ledger). found (answeredWith put x)) (o .asked n e) ∙ tag; some = o .some }
 
       go : AnswerView limit d wish (length put) n → by (answeredBy limit d wish (length put) (Asked n))
-      go (D.AnswerView.is-refused why q) = subst by (sym q) (sent g d o frame bytes contents t (was-refused why))
-      go (D.AnswerView.is-taken least most f q) = subst by (sym q) (sent (answeredWith put g) _ (ready (answersAt d n) _ (not-asked (n =? d .profile .sto))) _ bytes contents t was-taken)
-  answer-owes wish put AnswerWaits e = sent g d o frame bytes contents t (was-refused 8)
-  answer-owes wish put Begins e = sent g d o frame bytes contents t (was-refused 8)
-  answer-owes wish put (Answers n) e = sent g d o frame bytes contents t (was-refused 8)
-  answer-owes wish put Follows e = sent g d o frame bytes contents t (was-refused 8)
-  answer-owes wish put (Bursts n) e = sent g d o frame bytes contents t (was-refused 8)
+      go (D.AnswerView.is-refused why q) = subst by (sym q) (sent g d o frame bytes contents t (CallResult.Refused why))
+      go (D.AnswerView.is-taken least most f q) = subst by (sym q) (sent (answeredWith put g) _ (ready (answersAt d n) _ (not-asked (n =? d .profile .sto))) _ bytes contents t CallResult.Taken)
+  answer-owes wish put AnswerWaits e = sent g d o frame bytes contents t (CallResult.Refused 8)
+  answer-owes wish put Begins e = sent g d o frame bytes contents t (CallResult.Refused 8)
+  answer-owes wish put (Answers n) e = sent g d o frame bytes contents t (CallResult.Refused 8)
+  answer-owes wish put Follows e = sent g d o frame bytes contents t (CallResult.Refused 8)
+  answer-owes wish put (Bursts n) e = sent g d o frame bytes contents t (CallResult.Refused 8)
 
   content-owes : (command : ℕ) (put : List ℕ) → let s = contentCalled (contentGiven limit d command (length put)) d put frame bytes contents t in Owes g (s .side .device)
   content-owes command put = go (content-view limit d command (length put))
@@ -181,9 +182,9 @@ module _ (limit : ℕ) (g : Ledger) (d : Device) (o : Owes g d) (frame bytes con
       by c = Owes g (contentCalled c d put frame bytes contents t .side .device)
 
       go : ContentView limit d command (length put) → by (contentGiven limit d command (length put))
-      go (D.ContentView.is-refused why q) = subst by (sym q) (sent g d o frame bytes contents t (was-refused why))
+      go (D.ContentView.is-refused why q) = subst by (sym q) (sent g d o frame bytes contents t (CallResult.Refused why))
       go (D.ContentView.is-taken least most q) =
-          subst by (sym q) (sent g (deviceWithContent d (record { given = true; command = command; count = length put })) (record { asked = o .asked; gives = o .gives; some = o .some }) frame bytes (Rattle.base.specs.Store.stored contents 0 put) t was-taken)
+          subst by (sym q) (sent g (deviceWithContent d (record { given = true; command = command; count = length put })) (record { asked = o .asked; gives = o .gives; some = o .some }) frame bytes (Rattle.base.specs.Store.stored contents 0 put) t CallResult.Taken)
 
 -- ---- the tick
 
@@ -209,7 +210,7 @@ device-owes limit g x heard call o = go call
     content-told (refused why) put = refl
 
     go : (c : DeviceCall) → Owes (ledgerAfter c (step c) g) (step c .side .device)
-    go no-call = sent _ _ now (heardFrame x heard) (deviceData x heard) (x .contents) (t .told) CallResult.none
+    go no-call = sent _ _ now (heardFrame x heard) (deviceData x heard) (x .contents) (t .told) CallResult.Nothing
     go (gives-answer wish put) =
         subst (λ (z : DeviceTold). Owes (calledBy (gives-answer wish put) (step (gives-answer wish put) .result) (toldBy z g)) (step (gives-answer wish put) .side .device))
         (sym (answer-told (answeredBy limit (t .device) wish (length put) (t .device .turn)) (answerFrame (t .device) wish put (heardFrame x heard))))

@@ -14,9 +14,9 @@ use Rattle.line.specs.declared.Heard.{Heard}
 use Rattle.line.specs.declared.Profile.{Profile}
 use Rattle.line.specs.declared.Whole.{Whole}
 use Rattle.turns.specs.Master.{masterTakes}
-use Rattle.turns.specs.Party.{CallResult, none, was-taken, was-refused}
 use Rattle.turns.specs.Link.{DeviceCall, no-call, gives-answer, gives-content, MasterSide, masterData, DeviceSide, DeviceStep, Link, LinkStep, Calls, linkTick, linkAfter}
 use Rattle.turns.specs.Demand3.{Premises, masterIn}
+use Rattle.turns.specs.declared.CallResult.{CallResult}
 use Rattle.turns.specs.declared.Sent.{Sent}
 use Rattle.turns.specs.declared.Sent.the-variants.{Silent, Character}
 
@@ -34,9 +34,9 @@ pub record ContentLog : Type 0 where
 
 -- the host's content is taken
 abbrev pub contentBy : ℕ → List ℕ → CallResult → LastGiven → LastGiven
-contentBy command put none g = g
-contentBy command put was-taken g = content command put
-contentBy command put (was-refused why) g = g
+contentBy command put CallResult.Nothing g = g
+contentBy command put CallResult.Taken g = content command put
+contentBy command put (CallResult.Refused why) g = g
 
 abbrev pub givenBy : DeviceCall → CallResult → LastGiven → LastGiven
 givenBy no-call a g = g

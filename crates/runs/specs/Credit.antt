@@ -10,7 +10,7 @@ use Rattle.frame.specs.declared.Header.{Header}
 use Rattle.line.specs.Reader.{noHeader}
 use Rattle.line.specs.declared.Profile.{Profile}
 use Rattle.line.specs.declared.Whole.{Whole}
-use Rattle.turns.specs.Party.{seeksTag, CallResult, none, was-taken, was-refused}
+use Rattle.turns.specs.Party.{seeksTag}
 use Rattle.turns.specs.Device.{mayAnswer}
 use Rattle.turns.specs.Link.{MasterCall, no-request, requests, DeviceSide, Link, LinkStep, Calls, linkTick, linkAfter}
 pub use Rattle.turns.specs.Ledgers.{Ledger, blank, told, given, toldBy, answeredWith, answerBy, calledBy, ledgerAfter}
@@ -18,6 +18,7 @@ unfoldable pub use Rattle.turns.specs.Ledgers.{ledgersAfter, blanks, finders}
 use Rattle.turns.specs.Demand3.{Premises, masterIn}
 use Rattle.turns.specs.Attempts.{stxHeader}
 use Rattle.runs.specs.FirstStx.{callIn}
+use Rattle.turns.specs.declared.CallResult.{CallResult}
 use Rattle.turns.specs.declared.MasterTold.{MasterTold}
 use Rattle.turns.specs.declared.MasterTold.the-variants.{Answered, GivenUp, BroadcastSent}
 use Rattle.turns.specs.declared.Sent.{Sent}
@@ -54,9 +55,9 @@ bookedBy c s gs =
 -- the header of the STX of the request that was taken last; it is the message until its report
 abbrev pub askedBy : Bool → MasterCall → CallResult → Header → Header
 askedBy primary no-request r h = h
-askedBy primary (requests q put) none h = h
-askedBy primary (requests q put) was-taken h = stxHeader primary q
-askedBy primary (requests q put) (was-refused why) h = h
+askedBy primary (requests q put) CallResult.Nothing h = h
+askedBy primary (requests q put) CallResult.Taken h = stxHeader primary q
+askedBy primary (requests q put) (CallResult.Refused why) h = h
 
 -- of the primary, or of the secondary, after a tick
 abbrev pub askedAfter : Calls → LinkStep → (Bool → Header) → Bool → Header

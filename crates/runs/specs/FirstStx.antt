@@ -7,12 +7,12 @@ use mathlib.Core.List.{List, [], _∷_}
 use lib.ListN.{drop}
 use Rattle.frame.specs.Frame.{frameBytes}
 use Rattle.line.specs.declared.Profile.{Profile}
-use Rattle.turns.specs.Party.{Request}
 use Rattle.turns.specs.Link.{MasterCall, requests, Link, LinkStep, Calls, run}
 use Rattle.turns.specs.Run.{Starts}
 use Rattle.turns.specs.Demand3 as Demand3
 use Rattle.turns.specs.Demand3.{masterIn, AcceptedIn, BeginsWithin}
 use Rattle.turns.specs.Attempts.{stxHeader}
+use Rattle.turns.specs.declared.Request.{Request}
 use Rattle.turns.specs.declared.Sent.the-variants.{Silent, Character}
 
 -- what the primary's host, or the secondary's, asks in a tick

@@ -17,12 +17,12 @@ use Rattle.line.specs.declared.Profile.{Profile}
 use Rattle.line.specs.declared.Receiver.{Receiver}
 use Rattle.line.specs.declared.Taken.{Taken}
 use Rattle.line.specs.declared.Whole.{Whole}
-use Rattle.turns.specs.Party.{none}
 use Rattle.turns.specs.Link.{MasterCall, MasterSide, MasterStep, DeviceCall, DeviceSide, Link, LinkStep, Calls, masterTick, deviceTick, deviceTicks, linkAfter}
 use Rattle.turns.specs.Run.{All, Distinct, MasterStarts, DeviceStarts, count, deviceSenders, senders, EachTick}
 use Rattle.turns.specs.Ledgers.{blanks, OneFinds}
 use Rattle.turns.specs.Demand3.{masterIn, AcceptedIn, BeginsWithin, NoneBurstsIn, longestWait}
 use Rattle.runs.specs.FirstStx.{FirstStxIn}
+use Rattle.turns.specs.declared.CallResult.{CallResult}
 use Rattle.turns.specs.declared.MasterTold.{MasterTold}
 use Rattle.turns.specs.declared.Sent.{Sent}
 use Rattle.turns.specs.declared.Sent.the-variants.{Silent, Character}
@@ -32,7 +32,7 @@ use Rattle.turns.specs.declared.Sent.the-variants.{Silent, Character}
 -- a master that starts in n ticks: until then it neither hears, nor takes a call, nor sends. In its start tick it does what it does in tick 0 of the common start: it hears nothing, and its host may ask.
 abbrev pub lateMaster : ℕ → ℕ → MasterSide → Heard → MasterCall → MasterStep
 lateMaster limit zero x heard call = masterTick limit x heard call
-lateMaster limit (suc n) x heard call = record { side = x; sent = Silent; told = MasterTold.Nothing; result = none }
+lateMaster limit (suc n) x heard call = record { side = x; sent = Silent; told = MasterTold.Nothing; result = CallResult.Nothing }
 
 -- a tick of the link; the primary starts in a ticks, the secondary in b
 unfoldable pub lateTick : ℕ → ℕ → ℕ → Link → Calls → LinkStep

@@ -2,24 +2,17 @@
 use Prim.Native.Nat.{ℕ}
 use mathlib.Core.List.{List, _∷_}
 use mathlib.Core.Path.{_≡_, refl, sym, ap, _∙_}
-use Rattle.base.specs.Refusal.{number}
-use Rattle.base.specs.declared.Refusal.{Refusal}
 use Rattle.line.specs.declared.Event.{Event}
-use Rattle.party.specs.Calls.{resultOf}
-use Rattle.party.specs.declared.CallStatus.{CallStatus}
 use Rattle.base.specs.Choice.{if_then_else_}
 use Rattle.line.specs.Reader.{noDamage}
 use Rattle.line.specs.declared.FrameDamage.{FrameDamage}
 use Rattle.line.specs.declared.Whole.{Whole}
 use Rattle.state_words.specs.Fits.{WholeFits, EventFits}
-use Rattle.state_words.specs.Numbers.{frameNumbers, tickNumbers, wholeAt, eventAt, callNumber}
+use Rattle.state_words.specs.Numbers.{frameNumbers, tickNumbers, wholeAt, eventAt}
 use Rattle.state_words.proofs.Kept.{flag-kept, number-kept, damage-kept}
 
 pub event-shown : (sent told attempts : ℕ) (event shown : Event) (r : List ℕ) → event ≡ shown → r ≡ tickNumbers sent told attempts shown → r ≡ tickNumbers sent told attempts event
 event-shown sent told attempts event shown r e p = p ∙ ap (λ (x : Event). tickNumbers sent told attempts x) (sym e)
-
-pub refusal-shown : (result : CallStatus) (why : Refusal) (r : ℕ) → result ≡ CallStatus.Refused why → r ≡ number why → r ≡ callNumber (resultOf result)
-refusal-shown result why r e p = p ∙ ap (λ (x : CallStatus). callNumber (resultOf x)) (sym e)
 
 whole-kept : (sent told attempts event : ℕ) (w : Whole) (m : FrameDamage) → WholeFits w → wholeAt (sent ∷ told ∷ attempts ∷ event ∷ frameNumbers w m) ≡ w
 whole-kept sent told attempts event w m f = λ i. record {

@@ -9,9 +9,6 @@ use Rattle.line.specs.declared.Event.{Event}
 use Rattle.line.specs.declared.Event.the-variants.{Nothing, PassedOver, Broken, Frame, Damaged}
 use Rattle.line.specs.declared.FrameDamage.{FrameDamage}
 use Rattle.line.specs.declared.Whole.{Whole}
-use Rattle.turns.specs.Party.{CallResult, none, was-taken, was-refused}
-use Rattle.turns.specs.declared.Sent.{Sent}
-use Rattle.turns.specs.declared.Sent.the-variants.{Silent, Character}
 use Rattle.state_words.specs.Fields.{wordAt, numberAt, flagWord, flagAt}
 use Rattle.state_words.specs.Reader.{damageWords, damageAt}
 
@@ -70,14 +67,3 @@ eventBy event w m =
 
 abbrev pub eventAt : List ℕ → Event
 eventAt numbers = eventBy (wordAt numbers 3) (wholeAt numbers) (damageAt numbers 12)
-
--- the character that is sent, with 256 added, or 0 for none
-abbrev pub sentNumber : Sent → ℕ
-sentNumber Silent = 0
-sentNumber (Character c) = 256 + c
-
--- a call's number: 0 where there was none or it was taken, or the refusal's
-abbrev pub callNumber : CallResult → ℕ
-callNumber none = 0
-callNumber was-taken = 0
-callNumber (was-refused why) = why

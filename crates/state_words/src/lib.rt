@@ -6,17 +6,14 @@ use line::Place;
 use line::Profile;
 use line::Receiver;
 use line::Whole;
-use party::CallStatus;
-use turns::Sent;
 ghost use Prim.Native.Nat.{_<_, _^_};
 ghost use mathlib.Core.Path.{_≡_};
 ghost use mathlib.Core.List.{_∷_};
 ghost use Rattle.base.specs.Lent.{before, after};
 ghost use Rattle.base.specs.Store.{stored};
-ghost use Rattle.party.specs.Calls.{resultOf};
 ghost use Rattle.state_words.specs.Fields.{wordAt, numberAt, flagAt};
 ghost use Rattle.state_words.specs.Reader.{headerAt, profileAt, placeWord, placeBy, placeOf, damageAt, receiverWords, receiverAt};
-ghost use Rattle.state_words.specs.Numbers.{noFrame, tickNumbers, wholeAt, eventBy, eventAt, sentNumber, callNumber};
+ghost use Rattle.state_words.specs.Numbers.{noFrame, tickNumbers, wholeAt, eventBy, eventAt};
 ghost use Rattle.state_words.specs.Fits.{HeaderFits, ProfileFits, PlaceFits, ReceiverFits};
 
 // The word at a place, or 0 past the last.
@@ -381,25 +378,4 @@ pub fn event_at(numbers: &[u64; 17]) -> Event
     let w = whole_at(numbers);
     let m = damage_at(numbers, 12);
     event_by(word_at(numbers, 3), w, m)
-}
-
-// The character that is sent, with 256 added, or 0 for none.
-pub fn sent_number(sent: Sent) -> u64
-    ensures { λ r. ⌜ r ≡ sentNumber sent ⌝ }
-{
-    match sent {
-        Sent::Silent => 0,
-        Sent::Character(c) => 0x100 + (c as u64),
-    }
-}
-
-// What a call returns: 0, or the refusal's number.
-pub fn call_number(result: CallStatus) -> u32
-    ensures { λ r. ⌜ r ≡ callNumber (resultOf result) ⌝ }
-{
-    match result {
-        CallStatus::Nothing => 0,
-        CallStatus::Taken => 0,
-        CallStatus::Refused(why) => why.number(),
-    }
 }

@@ -22,12 +22,14 @@ use Rattle.line.specs.declared.Receiver.{Receiver}
 use Rattle.line.specs.declared.Whole.{Whole}
 use Rattle.line.proofs.Hearing.{wholeMessage}
 use Rattle.turns.specs.Master as M
-use Rattle.turns.specs.Party.{isBroadcast, Request, was-taken}
+use Rattle.turns.specs.Party.{isBroadcast}
 use Rattle.turns.specs.Master.{Ending, answersMessage, messageAt, atBreak, atFrame, ifAwaiting, rt1Ends, waited, afterBreak, masterTakes, requested, requestHeader, oneMore, sendsAt, sendsBy, masterSends}
 use Rattle.turns.specs.Link.{MasterCall, no-request, requests, MasterSide, MasterStep, masterTick, masterData, masterCalls, masterCalled}
 use Rattle.turns.specs.Gaps.{MasterInput, IsFrame}
 use Rattle.turns.specs.Attempts as Q
 use Rattle.turns.specs.Attempts.{MessageLog, no-message, in-hand, mostSent, Reports, no-report, is-answered, is-given-up, is-sent-once, behindReport, stxHeader, Asked, asks-nothing, Sends, has-none, rests, begins, goes-on, ends, Counted, no-tick, tick-and, AttemptsAsSaid}
+use Rattle.turns.specs.declared.CallResult.{CallResult}
+use Rattle.turns.specs.declared.Request.{Request}
 use Rattle.turns.specs.declared.Sent.{Sent}
 use Rattle.turns.specs.declared.Stage.{Stage}
 use Rattle.turns.specs.declared.Stage.the-variants.{Free, Waiting, Sending, Awaiting}
@@ -312,8 +314,8 @@ module _ (limit : ℕ) (primary : Bool) (retries : ℕ) (small : limit ≤ 255) 
           (record {
             reports = told .0;
             asked = in-hand w (isBroadcast h) [] 0;
-            is-asked = subst (λ (g : MessageLog). Asked primary (requests q put) was-taken g (in-hand w (isBroadcast h) [] 0)) (sym (none-in-hand (told .1) free))
-                (subst (λ (z : Header). Asked primary (requests q put) was-taken no-message (in-hand (frameBytes (q .preamble) z put) (isBroadcast z) [] 0)) (sym header) Q.is-taken);
+            is-asked = subst (λ (g : MessageLog). Asked primary (requests q put) CallResult.Taken g (in-hand w (isBroadcast h) [] 0)) (sym (none-in-hand (told .1) free))
+                (subst (λ (z : Header). Asked primary (requests q put) CallResult.Taken no-message (in-hand (frameBytes (q .preamble) z put) (isBroadcast z) [] 0)) (sym header) Q.is-taken);
             after = s .after;
             sends = s .sends;
             phase = s .phase;

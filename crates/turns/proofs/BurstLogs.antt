@@ -18,10 +18,11 @@ use Rattle.line.specs.declared.Heard.{Heard}
 use Rattle.line.specs.declared.Heard.the-variants.{Silence, Character}
 use Rattle.line.specs.declared.Profile.{Profile}
 use Rattle.line.specs.declared.Receiver.{Receiver}
-use Rattle.turns.specs.Party.{isBroadcast, CallResult, was-taken, was-refused}
+use Rattle.turns.specs.Party.{isBroadcast}
 use Rattle.turns.specs.Device.{deviceWith, hasError, waited, brokenDue, wished, behindAck, backLength, counts, onSilence, onCharacter, onHeard, deviceTakes, answeredBy, answered, answerFrame, deviceWithContent, contentGiven, sendsBy, deviceSends, begunFrame, mayAnswer, changed, dueAfter, endedBy}
 use Rattle.turns.specs.Link.{DeviceCall, no-call, gives-answer, gives-content, DeviceSide, DeviceStep, deviceSent, answerCalled, contentCalled, deviceCalls, deviceTick, deviceData, heardFrame}
 use Rattle.turns.specs.Bursts.{Wished, no-wish, wishes, BurstLog, droppedBy, wishedBy, effective, sentWith, logAfter, DeviceInput, Agrees, no-tick, tick-and, BurstsAsSaid}
+use Rattle.turns.specs.declared.CallResult.{CallResult}
 use Rattle.turns.specs.declared.Turn.{Turn}
 use Rattle.turns.specs.declared.Turn.the-variants.{Listens, Asked, AnswerWaits, Begins, Answers, Follows, Bursts}
 use Rattle.turns.specs.declared.Wish.{Wish}
@@ -237,7 +238,7 @@ module _ (limit : ℕ) (p : Profile) (on : Bool) (pending : Wished) (d : Device)
 
   answer-logged : (wish : Wish) (put : List ℕ) (turn : Turn) → d .turn ≡ turn → Calls (gives-answer wish put) (answerCalled (answeredBy limit d wish (length put) turn) d (answerFrame d wish put frame) frame bytes contents told)
   unfolding Calls Turned if_then_else_
-  answer-logged wish put Listens e = sent-logged p on pending d l frame bytes contents told (was-refused 8)
+  answer-logged wish put Listens e = sent-logged p on pending d l frame bytes contents told (CallResult.Refused 8)
   answer-logged wish put (Asked n) e = go (answer-view limit d wish (length put) n)
     where
       by : Called Device → Type 0
@@ -251,14 +252,14 @@ module _ (limit : ℕ) (p : Profile) (on : Bool) (pending : Wished) (d : Device)
       next false q = by-host refl
 
       go : AnswerView limit d wish (length put) n → by (answeredBy limit d wish (length put) (Asked n))
-      go (D.AnswerView.is-refused why q) = subst by (sym q) (sent-logged p on pending d l frame bytes contents told (was-refused why))
+      go (D.AnswerView.is-refused why q) = subst by (sym q) (sent-logged p on pending d l frame bytes contents told (CallResult.Refused why))
       go (D.AnswerView.is-taken least most f q) =
-          subst by (sym q) (sent-logged p on (wishes wish) _ (record { profile-is = l .profile-is; on-is = l .on-is; turned = next (n =? d .profile .sto) refl }) (answerFrame d wish put frame) bytes contents told was-taken)
-  answer-logged wish put AnswerWaits e = sent-logged p on pending d l frame bytes contents told (was-refused 8)
-  answer-logged wish put Begins e = sent-logged p on pending d l frame bytes contents told (was-refused 8)
-  answer-logged wish put (Answers n) e = sent-logged p on pending d l frame bytes contents told (was-refused 8)
-  answer-logged wish put Follows e = sent-logged p on pending d l frame bytes contents told (was-refused 8)
-  answer-logged wish put (Bursts n) e = sent-logged p on pending d l frame bytes contents told (was-refused 8)
+          subst by (sym q) (sent-logged p on (wishes wish) _ (record { profile-is = l .profile-is; on-is = l .on-is; turned = next (n =? d .profile .sto) refl }) (answerFrame d wish put frame) bytes contents told CallResult.Taken)
+  answer-logged wish put AnswerWaits e = sent-logged p on pending d l frame bytes contents told (CallResult.Refused 8)
+  answer-logged wish put Begins e = sent-logged p on pending d l frame bytes contents told (CallResult.Refused 8)
+  answer-logged wish put (Answers n) e = sent-logged p on pending d l frame bytes contents told (CallResult.Refused 8)
+  answer-logged wish put Follows e = sent-logged p on pending d l frame bytes contents told (CallResult.Refused 8)
+  answer-logged wish put (Bursts n) e = sent-logged p on pending d l frame bytes contents told (CallResult.Refused 8)
 
   content-logged : (command : ℕ) (put : List ℕ) → Calls (gives-content command put) (contentCalled (contentGiven limit d command (length put)) d put frame bytes contents told)
   unfolding Calls
@@ -268,9 +269,9 @@ module _ (limit : ℕ) (p : Profile) (on : Bool) (pending : Wished) (d : Device)
       by c = Settled p (sentWith (contentCalled c d put frame bytes contents told .sent) on pending) (contentCalled c d put frame bytes contents told .side .device)
 
       go : ContentView limit d command (length put) → by (contentGiven limit d command (length put))
-      go (D.ContentView.is-refused why q) = subst by (sym q) (sent-logged p on pending d l frame bytes contents told (was-refused why))
+      go (D.ContentView.is-refused why q) = subst by (sym q) (sent-logged p on pending d l frame bytes contents told (CallResult.Refused why))
       go (D.ContentView.is-taken least most q) =
-          subst by (sym q) (sent-logged p on pending (deviceWithContent d (record { given = true; command = command; count = length put })) (record { profile-is = l .profile-is; on-is = l .on-is; turned = l .turned }) frame bytes (stored contents 0 put) told was-taken)
+          subst by (sym q) (sent-logged p on pending (deviceWithContent d (record { given = true; command = command; count = length put })) (record { profile-is = l .profile-is; on-is = l .on-is; turned = l .turned }) frame bytes (stored contents 0 put) told CallResult.Taken)
 
 -- ---- the tick, and every list of them
 
@@ -289,7 +290,7 @@ tick-logged limit p v g x heard call s = by call
     l = takes-logged p v (g .on) (g .pending) (x .device) (s .logged) (s .rests) heard
 
     by : (c : DeviceCall) → Settled p (sentWith (deviceCalls limit t c (heardFrame x heard) (deviceData x heard) (x .contents) .sent) (g .on) (wishedBy c (deviceCalls limit t c (heardFrame x heard) (deviceData x heard) (x .contents) .result) w)) (deviceCalls limit t c (heardFrame x heard) (deviceData x heard) (x .contents) .side .device)
-    by no-call = sent-logged p (g .on) w (t .device) l (heardFrame x heard) (deviceData x heard) (x .contents) (t .told) CallResult.none
+    by no-call = sent-logged p (g .on) w (t .device) l (heardFrame x heard) (deviceData x heard) (x .contents) (t .told) CallResult.Nothing
     by (gives-answer wish put) = answer-logged limit p (g .on) w (t .device) l (heardFrame x heard) (deviceData x heard) (x .contents) (t .told) wish put (t .device .turn) refl
     by (gives-content command put) = content-logged limit p (g .on) w (t .device) l (heardFrame x heard) (deviceData x heard) (x .contents) (t .told) command put
 

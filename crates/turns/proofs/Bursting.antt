@@ -14,9 +14,9 @@ use Rattle.line.specs.declared.Event.the-variants.{Damaged}
 use Rattle.line.specs.declared.Heard.{Heard}
 use Rattle.line.specs.declared.Heard.the-variants.{Silence, Character}
 use Rattle.line.specs.declared.Receiver.{Receiver}
-use Rattle.turns.specs.Party.{CallResult, none, was-taken}
 use Rattle.turns.specs.Device.{deviceWith, onHeard, deviceTakes, wishRefused, answeredBy, answered, answerFrame, contentGiven, backLength, sendsBy, deviceSends, begunFrame}
 use Rattle.turns.specs.Link.{DeviceCall, no-call, gives-answer, gives-content, DeviceSide, DeviceStep, deviceSent, answerCalled, contentCalled, deviceTick}
+use Rattle.turns.specs.declared.CallResult.{CallResult}
 use Rattle.turns.specs.declared.Sent.{Sent}
 use Rattle.turns.specs.declared.Turn.{Turn}
 use Rattle.turns.specs.declared.Turn.the-variants.{Listens, Asked, AnswerWaits, Begins, Answers, Follows, Bursts}
@@ -84,7 +84,7 @@ module _ (limit : ℕ) (v : Bool) (d : Device) (was : d .burst ≡ v) (frame byt
   answer-burst wish put (Asked n) =
       if-both (λ (c : Called Device). BurstTick v (answerCalled c d (answerFrame d wish put frame) frame bytes contents told)) (length put outside 2 to limit) _ _ (sent-burst v d was frame bytes contents told _)
       (if-both (λ (c : Called Device). BurstTick v (answerCalled c d (answerFrame d wish put frame) frame bytes contents told)) (wishRefused d wish) _ _ (sent-burst v d was frame bytes contents told _)
-      (sent-burst v _ was (answerFrame d wish put frame) bytes contents told was-taken))
+      (sent-burst v _ was (answerFrame d wish put frame) bytes contents told CallResult.Taken))
   answer-burst wish put AnswerWaits = sent-burst v d was frame bytes contents told _
   answer-burst wish put Begins = sent-burst v d was frame bytes contents told _
   answer-burst wish put (Answers n) = sent-burst v d was frame bytes contents told _
@@ -96,12 +96,12 @@ module _ (limit : ℕ) (v : Bool) (d : Device) (was : d .burst ≡ v) (frame byt
   content-burst command put =
       if-both (λ (c : Called Device). BurstTick v (contentCalled c d put frame bytes contents told)) _ _ _ (sent-burst v d was frame bytes contents told _)
       (if-both (λ (c : Called Device). BurstTick v (contentCalled c d put frame bytes contents told)) (length put outside 2 to limit) _ _ (sent-burst v d was frame bytes contents told _)
-      (sent-burst v _ was frame bytes (stored contents 0 put) told was-taken))
+      (sent-burst v _ was frame bytes (stored contents 0 put) told CallResult.Taken))
 
 -- ---- the tick
 
 pub burst-tick : (limit : ℕ) (x : DeviceSide) (heard : Heard) (call : DeviceCall) → BurstTick (x .device .burst) (deviceTick limit x heard call)
 unfolding deviceTick answered
-burst-tick limit x heard no-call = sent-burst (x .device .burst) _ (takes-burst (x .device) heard) _ _ _ _ none
+burst-tick limit x heard no-call = sent-burst (x .device .burst) _ (takes-burst (x .device) heard) _ _ _ _ CallResult.Nothing
 burst-tick limit x heard (gives-answer wish put) = answer-burst limit (x .device .burst) (deviceTakes (x .device) heard .device) (takes-burst (x .device) heard) _ _ _ _ wish put (deviceTakes (x .device) heard .device .turn)
 burst-tick limit x heard (gives-content command put) = content-burst limit (x .device .burst) (deviceTakes (x .device) heard .device) (takes-burst (x .device) heard) _ _ _ _ command put

@@ -16,9 +16,9 @@ use Rattle.line.specs.Reader.{passing}
 use Rattle.line.specs.declared.Event.the-variants.{Nothing}
 use Rattle.line.specs.declared.Heard.{Heard}
 use Rattle.line.specs.declared.Whole.{Whole}
-use Rattle.turns.specs.Party.{CallResult, none, was-taken, was-refused}
 use Rattle.turns.specs.Device.{behindAck, sends, sendsBy, deviceSends, begunFrame, errorFrame, answered, answeredBy, answerFrame, deviceWithContent, contentGiven}
 use Rattle.turns.specs.Link.{DeviceCall, no-call, gives-answer, gives-content, DeviceSide, DeviceStep, deviceSent, answerCalled, contentCalled, deviceCalls, deviceTick, deviceData}
+use Rattle.turns.specs.declared.CallResult.{CallResult}
 use Rattle.turns.specs.declared.Sent.the-variants.{Character}
 use Rattle.turns.specs.declared.Turn.{Turn}
 use Rattle.turns.specs.declared.Turn.the-variants.{Listens, Answers, Bursts}
@@ -163,13 +163,13 @@ module _ (f : Frames) (x : DeviceSide) (n : ℕ) (w : List ℕ) (message : Whole
 
       by-content : (command : ℕ) (put : List ℕ) → ContentView limit d command (length put) → SpeaksAt f x n w (contentCalled (contentGiven limit d command (length put)) d put (x .frame) (deviceData x heard) (x .contents) DeviceTold.Nothing)
       by-content command put (is-refused why p) =
-          subst (λ (c : Called Device). SpeaksAt f x n w (contentCalled c d put (x .frame) (deviceData x heard) (x .contents) DeviceTold.Nothing)) (sym p) (same-content (was-refused why))
+          subst (λ (c : Called Device). SpeaksAt f x n w (contentCalled c d put (x .frame) (deviceData x heard) (x .contents) DeviceTold.Nothing)) (sym p) (same-content (CallResult.Refused why))
       by-content command put (is-taken least most p) =
           subst (λ (c : Called Device). SpeaksAt f x n w (contentCalled c d put (x .frame) (deviceData x heard) (x .contents) DeviceTold.Nothing)) (sym p)
-          (sends-on (record { given = true; command = command; count = length put }) (deviceData x heard) (stored (x .contents) 0 put) DeviceTold.Nothing was-taken (content-sound d command (x .frame) (x .contents) put least (omega arith) s))
+          (sends-on (record { given = true; command = command; count = length put }) (deviceData x heard) (stored (x .contents) 0 put) DeviceTold.Nothing CallResult.Taken (content-sound d command (x .frame) (x .contents) put least (omega arith) s))
 
       by-call : (call : DeviceCall) → SpeaksAt f x n w (deviceCalls limit t call (x .frame) (deviceData x heard) (x .contents))
-      by-call no-call = same-content none
+      by-call no-call = same-content CallResult.Nothing
       by-call (gives-answer wish put) =
-          subst (λ (c : Called Device). SpeaksAt f x n w (answerCalled c d (answerFrame d wish put (x .frame)) (x .frame) (deviceData x heard) (x .contents) DeviceTold.Nothing)) (sym (no-answer f turn-is wish (length put))) (same-content (was-refused 8))
+          subst (λ (c : Called Device). SpeaksAt f x n w (answerCalled c d (answerFrame d wish put (x .frame)) (x .frame) (deviceData x heard) (x .contents) DeviceTold.Nothing)) (sym (no-answer f turn-is wish (length put))) (same-content (CallResult.Refused 8))
       by-call (gives-content command put) = by-content command put (content-view limit d command (length put))

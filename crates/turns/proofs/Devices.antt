@@ -21,10 +21,11 @@ use Rattle.frame.proofs.Taken.{Fits}
 use Rattle.line.specs.Reader.{passing}
 use Rattle.line.specs.declared.Whole.{Whole}
 use Rattle.line.proofs.Hearing.{wholeMessage}
-use Rattle.turns.specs.Party.{seeksTag, CallResult, none, was-taken, was-refused}
+use Rattle.turns.specs.Party.{seeksTag}
 use Rattle.turns.specs.Master.{namesDevice}
 use Rattle.turns.specs.Device.{deviceWith, isOwn, mayAnswer, hasNoWish, answerHeader, wished, wishRefused, answersAt, answeredBy, answered, answerFrame, deviceWithContent, contentGiven, backHeader, backLength, firstFor, answersFrom, burstsFrom, sends, sendsBy, deviceSends, begunFrame}
 use Rattle.turns.specs.Link.{DeviceCall, no-call, gives-answer, gives-content, DeviceStep, deviceSent, answerCalled, contentCalled, deviceCalls}
+use Rattle.turns.specs.declared.CallResult.{CallResult}
 use Rattle.turns.specs.declared.Sent.the-variants.{Silent, Character}
 use Rattle.turns.specs.declared.Wish.{Wish}
 use Rattle.turns.specs.declared.Wish.the-variants.{Same, On, Off}
@@ -552,10 +553,10 @@ module _ (limit : ℕ) (low : 2 ≤ limit) (high : limit ≤ 255) (t : DeviceTak
   unfolding d
   answer-goes wish put n q own (is-refused why e) =
       subst (λ (c : Called Device). Goes d (answerCalled c d (answerFrame d wish put frame) frame bytes contents (t .told))) (sym e)
-      (turned-goes d d frame bytes contents (t .told) (was-refused why) (unchanged d) s turned)
+      (turned-goes d d frame bytes contents (t .told) (CallResult.Refused why) (unchanged d) s turned)
   answer-goes wish put n q own (is-taken least most f e) =
       subst (λ (c : Called Device). Goes d (answerCalled c d (answerFrame d wish put frame) frame bytes contents (t .told))) (sym e)
-      (turned-goes d (next (answersAt d n)) put-in bytes contents (t .told) was-taken after (same-sound d (answersAt d n) wish (length put) frame put-in contents (length-written (d .preamble) (answerHeader (d .request) burst) put frame) s) (by (n =? d .profile .sto) refl))
+      (turned-goes d (next (answersAt d n)) put-in bytes contents (t .told) CallResult.Taken after (same-sound d (answersAt d n) wish (length put) frame put-in contents (length-written (d .preamble) (answerHeader (d .request) burst) put frame) s) (by (n =? d .profile .sto) refl))
     where
       burst : Bool
       burst = wished (d .burst) wish
@@ -616,11 +617,11 @@ module _ (limit : ℕ) (low : 2 ≤ limit) (high : limit ≤ 255) (t : DeviceTak
       → Goes (t .device) (deviceCalls limit t (gives-answer wish put) frame bytes contents)
   none-goes wish put e =
       subst (λ (c : Called Device). Goes (t .device) (answerCalled c (t .device) (answerFrame (t .device) wish put frame) frame bytes contents (t .told))) (sym e)
-      (turned-goes (t .device) (t .device) frame bytes contents (t .told) (was-refused 8) (unchanged (t .device)) s turned)
+      (turned-goes (t .device) (t .device) frame bytes contents (t .told) (CallResult.Refused 8) (unchanged (t .device)) s turned)
 
   pub device-goes : (call : DeviceCall) → Goes (t .device) (deviceCalls limit t call frame bytes contents)
   unfolding answered
-  device-goes no-call = turned-goes (t .device) (t .device) frame bytes contents (t .told) none (unchanged (t .device)) s turned
+  device-goes no-call = turned-goes (t .device) (t .device) frame bytes contents (t .told) CallResult.Nothing (unchanged (t .device)) s turned
   device-goes (gives-answer wish put) = go turned
     where
       Case : Turn → Type 0
@@ -638,11 +639,11 @@ module _ (limit : ℕ) (low : 2 ≤ limit) (high : limit ≤ 255) (t : DeviceTak
       Case c = Goes (t .device) (contentCalled c (t .device) put frame bytes contents (t .told))
 
       go : ContentView limit (t .device) command (length put) → Case (contentGiven limit (t .device) command (length put))
-      go (is-refused why e) = subst Case (sym e) (turned-goes (t .device) (t .device) frame bytes contents (t .told) (was-refused why) (unchanged (t .device)) s turned)
+      go (is-refused why e) = subst Case (sym e) (turned-goes (t .device) (t .device) frame bytes contents (t .told) (CallResult.Refused why) (unchanged (t .device)) s turned)
       go (is-taken least most e) =
           let c : Content = record { given = true; command = command; count = length put } in
           subst Case (sym e)
-          (turned-goes (t .device) (deviceWithContent (t .device) c) frame bytes (stored contents 0 put) (t .told) was-taken
+          (turned-goes (t .device) (deviceWithContent (t .device) c) frame bytes (stored contents 0 put) (t .told) CallResult.Taken
           (record {
             same = record { same-profile = refl; same-preamble = refl; same-polling = refl; same-unique = refl };
             same-receiver = refl;

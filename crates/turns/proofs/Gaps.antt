@@ -24,12 +24,14 @@ use Rattle.line.specs.Gaps.{IsCharacter, is-sound, is-damaged}
 use Rattle.line.proofs.Gaps.{Within, goes-within}
 use Rattle.line.proofs.Ticks.{Inside}
 use Rattle.turns.specs.Master as M
-use Rattle.turns.specs.Party.{isBroadcast, Request, CallResult, none, was-taken, was-refused}
+use Rattle.turns.specs.Party.{isBroadcast}
 use Rattle.turns.specs.Master.{requested, requestedUpTo, pollingUpTo, requestHeader, hasMessage, commandRefused, masterTakes, sendsBy, masterSends}
 use Rattle.turns.specs.Device as D
 use Rattle.turns.specs.Device.{errorFrame, backDue, backLength, begunFrame, deviceWithContent, contentGiven, answered, answeredBy, answerFrame, deviceTakes, deviceSends}
 use Rattle.turns.specs.Link.{MasterCall, no-request, requests, DeviceCall, no-call, gives-answer, gives-content, MasterSide, MasterStep, DeviceSide, DeviceStep, masterSent, masterCalled, masterCalls, masterTick, masterData, deviceSent, answerCalled, contentCalled, deviceCalls, deviceTick, deviceData, heardFrame}
 use Rattle.turns.specs.Gaps.{InsideFrame, masterSents, deviceSents, masterSilence, deviceSilence, BeginsAfter, begins, waits, ToSend, message-waits, retry-left, behindBreak, MasterCountsBoth, DeviceCountsBoth, MasterGapPassed, DeviceGapPassed}
+use Rattle.turns.specs.declared.CallResult.{CallResult}
+use Rattle.turns.specs.declared.Request.{Request}
 use Rattle.turns.specs.declared.Sent.{Sent}
 use Rattle.turns.specs.declared.Sent.the-variants.{Silent}
 use Rattle.turns.specs.declared.Stage.{Stage}
@@ -327,7 +329,7 @@ module _ (limit : ℕ) (y : MasterSide) (within : Within (y .master .receiver)) 
   gap-side = record { master = masterGapped (y .master); frame = y .frame; bytes = y .bytes }
 
   gap-step : MasterStep
-  gap-step = record { side = gap-side; sent = Silent; told = MasterTold.Nothing; result = none }
+  gap-step = record { side = gap-side; sent = Silent; told = MasterTold.Nothing; result = CallResult.Nothing }
 
   gap-is : masterTick limit y Silence no-request ≡ gap-step
   unfolding masterTick gap-side gap-step takenData
@@ -335,12 +337,12 @@ module _ (limit : ℕ) (y : MasterSide) (within : Within (y .master .receiver)) 
       let m = y .master in
       let bytes : masterData y Silence ≡ y .bytes = if-is-false (m .deaf) _ _ (l .hears) in
       ap (λ (u : MasterTaken). masterCalls limit u no-request (y .frame) (masterData y Silence)) (master-still m (masterData y Silence) (l .hears) (within .inside) (within .no-gap))
-      ∙ ap (λ (s : MasterSent). masterSent s (y .frame) (masterData y Silence) MasterTold.Nothing none) (sends-nothing (masterGapped m) (y .frame) (l .still) (l .window))
+      ∙ ap (λ (s : MasterSent). masterSent s (y .frame) (masterData y Silence) MasterTold.Nothing CallResult.Nothing) (sends-nothing (masterGapped m) (y .frame) (l .still) (l .window))
       ∙ (λ i. record {
         side = record { master = M.sends (masterGapped m) (sym (l .hears) i) (m .timer) (m .message) (gapped (m .receiver)) Silent .master; frame = y .frame; bytes = bytes i };
         sent = Silent;
         told = MasterTold.Nothing;
-        result = none;
+        result = CallResult.Nothing;
       })
 
   as-if-no-gap : (next : Heard) (call : MasterCall) → IsCharacter next → masterTick limit gap-side next call ≡ masterTick limit y next call
@@ -370,8 +372,8 @@ master-gap-passed limit x last next call after cut silent n =
 called : (limit : ℕ) (t : DeviceTaken) (call : DeviceCall) (frame bytes contents : List ℕ) (P : DeviceStep → Type 0) → (t .device .turn ≡ Listens) ⊎ (t .device .turn ≡ Follows)
     → ((c : Content) (contents : List ℕ) (result : CallResult) → P (deviceSent (deviceWithContent (t .device) c) frame bytes contents (t .told) result)) → P (deviceCalls limit t call frame bytes contents)
 unfolding answered
-called limit t no-call frame bytes contents P turn p = p (t .device .content) contents none
-called limit t (gives-answer wish put) frame bytes contents P turn p = subst (λ (c : Called Device). P (answerCalled c (t .device) (answerFrame (t .device) wish put frame) frame bytes contents (t .told))) (sym (no-request-in turn)) (p (t .device .content) contents (was-refused 8))
+called limit t no-call frame bytes contents P turn p = p (t .device .content) contents CallResult.Nothing
+called limit t (gives-answer wish put) frame bytes contents P turn p = subst (λ (c : Called Device). P (answerCalled c (t .device) (answerFrame (t .device) wish put frame) frame bytes contents (t .told))) (sym (no-request-in turn)) (p (t .device .content) contents (CallResult.Refused 8))
   where
     no-request-in : (t .device .turn ≡ Listens) ⊎ (t .device .turn ≡ Follows) → answeredBy limit (t .device) wish (length put) (t .device .turn) ≡ refused 8
     no-request-in (inl e) = ap (answeredBy limit (t .device) wish (length put)) e
@@ -382,8 +384,8 @@ called limit t (gives-content command put) frame bytes contents P turn p = go (c
     Q c = P (contentCalled c (t .device) put frame bytes contents (t .told))
 
     go : ContentView limit (t .device) command (length put) → Q (contentGiven limit (t .device) command (length put))
-    go (is-refused why e) = subst Q (sym e) (p (t .device .content) contents (was-refused why))
-    go (is-taken least most e) = subst Q (sym e) (p (record { given = true; command = command; count = length put }) (stored contents 0 put) was-taken)
+    go (is-refused why e) = subst Q (sym e) (p (t .device .content) contents (CallResult.Refused why))
+    go (is-taken least most e) = subst Q (sym e) (p (record { given = true; command = command; count = length put }) (stored contents 0 put) CallResult.Taken)
 
 -- nothing is sent
 record Rested (t : Device) (s : DeviceStep) : Type 0 where
@@ -520,7 +522,7 @@ module _ (limit : ℕ) (y : DeviceSide) (within : Within (y .device .receiver)) 
   gap-device = record { device = deviceGapped (y .device); frame = y .frame; bytes = y .bytes; contents = y .contents }
 
   gap-device-step : DeviceStep
-  gap-device-step = record { side = gap-device; sent = Silent; told = DeviceTold.Nothing; result = none }
+  gap-device-step = record { side = gap-device; sent = Silent; told = DeviceTold.Nothing; result = CallResult.Nothing }
 
   device-gap-is : deviceTick limit y Silence no-call ≡ gap-device-step
   unfolding deviceTick gap-device gap-device-step takenData
@@ -528,12 +530,12 @@ module _ (limit : ℕ) (y : DeviceSide) (within : Within (y .device .receiver)) 
       let d = y .device in
       let bytes : deviceData y Silence ≡ y .bytes = if-is-false (d .deaf) _ _ hears in
       ap (λ (t : DeviceTaken). deviceCalls limit t no-call (errorFrame d (t .event) (y .frame)) (deviceData y Silence) (y .contents)) (device-still d hears (within .inside) (within .no-gap))
-      ∙ sent-in (deviceGapped d) (y .frame) (deviceData y Silence) (y .contents) DeviceTold.Nothing none Listens listens
+      ∙ sent-in (deviceGapped d) (y .frame) (deviceData y Silence) (y .contents) DeviceTold.Nothing CallResult.Nothing Listens listens
       ∙ (λ i. record {
         side = record { device = D.sends (deviceGapped d) (sym hears i) (sym listens i) (d .length) (d .burst) (d .primary) (d .due) (gapped (d .receiver)) Silent .device; frame = y .frame; bytes = bytes i; contents = y .contents };
         sent = Silent;
         told = DeviceTold.Nothing;
-        result = none;
+        result = CallResult.Nothing;
       })
 
   device-as-if-no-gap : (next : Heard) (call : DeviceCall) → IsCharacter next → deviceTick limit gap-device next call ≡ deviceTick limit y next call

@@ -25,9 +25,10 @@ use Rattle.frame.proofs.Taken.{Fits}
 use Rattle.line.specs.Reader.{passing}
 use Rattle.line.specs.declared.Whole.{Whole}
 use Rattle.line.proofs.Hearing.{wholeMessage}
-use Rattle.turns.specs.Party.{Request, CallResult, none, was-taken, was-refused}
 use Rattle.turns.specs.Master.{requested, requestedUpTo, pollingUpTo, requestHeader, hasMessage, commandRefused, masterWith, timer, any-stx, timerAfter, sendsAt, oneMore, sendsBy, masterSends}
 use Rattle.turns.specs.Link.{MasterCall, no-request, requests, MasterStep, masterCalls, masterCalled, masterSent}
+use Rattle.turns.specs.declared.CallResult.{CallResult}
+use Rattle.turns.specs.declared.Request.{Request}
 use Rattle.turns.specs.declared.Sent.the-variants.{Silent, Character}
 use Rattle.turns.specs.declared.Stage.{Stage}
 use Rattle.turns.specs.declared.Stage.the-variants.{Free, Waiting, Sending, Awaiting}
@@ -299,7 +300,7 @@ asks limit m q count small = first A refl
 
 pub master-goes : (limit : ℕ) (t : MasterTaken) (call : MasterCall) (frame bytes : List ℕ) → limit ≤ 255 → 284 ≤ length frame → Still (t .master .message .stage) → Formed (t .master .primary) frame (t .master .message)
     → Goes (t .master) (masterCalls limit t call frame bytes)
-master-goes limit t no-request frame bytes small room v f = sends-still (t .master) frame bytes (t .told) none f v
+master-goes limit t no-request frame bytes small room v f = sends-still (t .master) frame bytes (t .told) CallResult.Nothing f v
 master-goes limit t (requests q put) frame bytes small room v f = go (asks limit (t .master) q (length put) small)
   where
     m : Master
@@ -323,9 +324,9 @@ master-goes limit t (requests q put) frame bytes small room v f = go (asks limit
     other m g z y (begins g′ w′ x a b c d e f h i j k) = begins g′ w′ x a b c d e f h i j (record { some = k .some; again = λ q h. absurd (free-waiting (sym z ∙ q)); from = inr z })
 
     go : Asks limit m q (length put) → Goes m (by (requested limit m q (length put)))
-    go (is-refused why e) = subst (λ (c : Called Master). Goes m (by c)) (sym e) (sends-still m frame bytes (t .told) (was-refused why) f v)
+    go (is-refused why e) = subst (λ (c : Called Master). Goes m (by c)) (sym e) (sends-still m frame bytes (t .told) (CallResult.Refused why) f v)
     go (is-taken fits few e p) =
         let g : Message = newMessage m q (length put) in
         let h : Holds (stored frame 0 w) (g .length) w (wholeMessage (requestHeader m q) put) = holds (q .preamble) (requestHeader m q) put frame fits room in
         subst (λ (c : Called Master). Goes m (by c)) (sym p)
-        (other m g e refl (sends-still (withMessage m g) (stored frame 0 w) bytes (t .told) was-taken (stands w (wholeMessage (requestHeader m q) put) h refl refl refl refl) is-waiting))
+        (other m g e refl (sends-still (withMessage m g) (stored frame 0 w) bytes (t .told) CallResult.Taken (stands w (wholeMessage (requestHeader m q) put) h refl refl refl refl) is-waiting))

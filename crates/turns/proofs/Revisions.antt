@@ -9,10 +9,10 @@ use Rattle.base.specs.Refusal.{Called, refused}
 use Rattle.base.proofs.Choices.{if-is-true, if-is-false, inside-is}
 use Rattle.frame.specs.Limits.{fewestPreambles, mostPreambles, reservedCommand, mostData}
 use Rattle.frame.specs.Address.{largestWith, addressAbove}
-use Rattle.turns.specs.Party.{Request}
 use Rattle.turns.specs.Master.{requestHeader, hasMessage, commandRefused, requested, requestedUpTo}
 use Rattle.turns.specs.Settled.{Outcome, taken, refuses, outcome}
 use Rattle.turns.specs.declared.Master.{Master}
+use Rattle.turns.specs.declared.Request.{Request}
 use Rattle.turns.specs.declared.Stage.{Stage}
 use Rattle.turns.specs.declared.Stage.the-variants.{Free}
 use Rattle.turns.proofs.Limits.{free, busy}

@@ -20,16 +20,18 @@ use Rattle.line.specs.declared.Heard.{Heard}
 use Rattle.line.specs.declared.Profile.{Profile}
 use Rattle.line.specs.declared.Receiver.{Receiver}
 use Rattle.line.specs.declared.Whole.{Whole}
-use Rattle.turns.specs.Party.{isBroadcast, seeksTag, Request, CallResult, was-refused}
+use Rattle.turns.specs.Party.{isBroadcast, seeksTag}
 use Rattle.turns.specs.Master.{sameBit, toItself, isAnswer, masterStarts, freshMaster, quietTime, requested, requestedUpTo, pollingUpTo, requestHeader, hasMessage, commandRefused, masterTakes, namesDevice, notedFrom, isNoted, burstAfter, notedAfter, timerAfter, fails, ends, atBreak, answersMessage, atFrame, opened, countClear, countBurst, timerCounted, burstCounted}
 use Rattle.turns.specs.Master as M
 use Rattle.turns.specs.Device.{freshDevice, isOwn, mayAnswer, hasError, errorStatus, errorData, errorFrame, afterRequest, afterFrame, afterDamage, waited, deviceTakes, contentGiven, backDue}
 use Rattle.turns.specs.Link.{requests, gives-content, MasterSide, DeviceSide, masterData, masterCalled, masterTick, deviceData, heardFrame, contentCalled, deviceTick}
+use Rattle.turns.specs.declared.CallResult.{CallResult}
 use Rattle.turns.specs.declared.Master.{Master}
 use Rattle.turns.specs.declared.MasterTold.the-variants.{Answered, BroadcastSent}
 use Rattle.turns.specs.declared.Noted.{Noted}
 use Rattle.turns.specs.declared.Device.{Device}
 use Rattle.turns.specs.declared.DeviceTold.{DeviceTold}
+use Rattle.turns.specs.declared.Request.{Request}
 use Rattle.turns.specs.declared.Turn.the-variants.{Listens, Asked}
 use Rattle.turns.proofs.Bursting.{if-both}
 use Rattle.turns.specs.declared.Change.{Change}
@@ -111,7 +113,7 @@ damaged-address d w m damaged =
 
 -- "5: command 254", of a master's request that no lower number refuses, whatever else is true
 pub request-254 : (limit : ℕ) (x : MasterSide) (heard : Heard) (q : Request) (put : List ℕ) → 5 ≤ q .preamble → q .preamble ≤ 20 → 3 ≤ q .revision → q .revision ≤ 7
-    → q .address ≤ largestWith (pollingUpTo (q .revision)) (q .long) → q .command ≡ 254 → masterTick limit x heard (requests q put) .result ≡ was-refused 5
+    → q .address ≤ largestWith (pollingUpTo (q .revision)) (q .long) → q .command ≡ 254 → masterTick limit x heard (requests q put) .result ≡ CallResult.Refused 5
 unfolding masterTick requested requestedUpTo
 request-254 limit x heard q put low high oldest latest fits e =
     let m = masterTakes (x .master) heard (masterData x heard) .master in
@@ -127,7 +129,7 @@ request-254 limit x heard q put low high oldest latest fits e =
         masterCalled c (t .master) (frameBytes (q .preamble) (requestHeader (t .master) q) put) (x .frame) (masterData x heard) (t .told) .result
 
 -- and of burst content
-pub content-254 : (limit : ℕ) (x : DeviceSide) (heard : Heard) (put : List ℕ) → deviceTick limit x heard (gives-content 254 put) .result ≡ was-refused 5
+pub content-254 : (limit : ℕ) (x : DeviceSide) (heard : Heard) (put : List ℕ) → deviceTick limit x heard (gives-content 254 put) .result ≡ CallResult.Refused 5
 unfolding deviceTick contentGiven
 content-254 limit x heard put = ap by (if-is-true (254 =? 254) _ _ refl)
   where

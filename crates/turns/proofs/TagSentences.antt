@@ -17,11 +17,12 @@ use Rattle.line.specs.declared.FrameDamage.{FrameDamage}
 use Rattle.line.specs.declared.Heard.{Heard}
 use Rattle.line.specs.declared.Profile.{Profile}
 use Rattle.line.specs.declared.Whole.{Whole}
-use Rattle.turns.specs.Party.{isBroadcast, seeksTag, was-refused}
+use Rattle.turns.specs.Party.{isBroadcast, seeksTag}
 use Rattle.turns.specs.Master.{namesDevice, burstAfter, notedAfter, ends, isAnswer, answersMessage, atBreak, atFrame}
 use Rattle.turns.specs.Device.{isOwn, mayAnswer, hasError, afterFrame, afterDamage, deviceTakes, errorFrame, hasNoWish, wishRefused, answeredBy, answered, answerFrame, deviceStarts}
 use Rattle.turns.specs.Link.{no-call, gives-answer, DeviceSide, DeviceStep, LinkStep, Calls, answerCalled, deviceTick, deviceData, heardFrame}
 use Rattle.turns.specs.Ledgers.{Ledger, given, ledgersAfter, finders, OneFinds, tick-and}
+use Rattle.turns.specs.declared.CallResult.{CallResult}
 use Rattle.turns.specs.declared.Master.{Master}
 use Rattle.turns.specs.declared.MasterTold.the-variants.{BroadcastSent}
 use Rattle.turns.specs.declared.Noted.{Noted}
@@ -170,7 +171,7 @@ module _ (limit : ℕ) (d : Device) (n count : ℕ) (asked : d .turn ≡ Asked n
 -- an answer that is refused leaves the request in hand, and all else too: the tick is the one without a call
 pub refused-leaves : (limit : ℕ) (x : DeviceSide) (heard : Heard) (wish : Wish) (put : List ℕ) (why : ℕ) → answered limit (deviceTakes (x .device) heard .device) wish (length put) ≡ refused why
     → (deviceTick limit x heard (gives-answer wish put) .side ≡ deviceTick limit x heard no-call .side) × (deviceTick limit x heard (gives-answer wish put) .sent ≡ deviceTick limit x heard no-call .sent)
-    × (deviceTick limit x heard (gives-answer wish put) .result ≡ was-refused why)
+    × (deviceTick limit x heard (gives-answer wish put) .result ≡ CallResult.Refused why)
 unfolding deviceTick
 refused-leaves limit x heard wish put why e = (ap (λ (c : Called Device). by c .side) e, ap (λ (c : Called Device). by c .sent) e, ap (λ (c : Called Device). by c .result) e)
   where

@@ -19,9 +19,10 @@ use Rattle.line.specs.declared.Heard.the-variants.{Silence}
 use Rattle.line.specs.declared.Receiver.{Receiver}
 use Rattle.line.specs.declared.Taken.{Taken}
 use Rattle.line.specs.declared.Whole.{Whole}
-use Rattle.turns.specs.Party.{isBroadcast, CallResult, none, was-refused}
+use Rattle.turns.specs.Party.{isBroadcast}
 use Rattle.turns.specs.Master.{Ending, masterWith, messageAt, fails, ends, atBreak, atFrame, afterBreak, broken, endedBy, ifAwaiting, answersMessage, waited, rt1Ends, unlessEnded, counts, timerCounted, burstCounted, burstAfter, notedAfter, timerAfter, onCharacter, onHeard, masterTakes, timer, ownRt1, attempted, sendsAt, sendsBy, masterSends, requestHeader, requested}
 use Rattle.turns.specs.Link.{MasterCall, no-request, requests, MasterSide, MasterStep, masterCalls, masterCalled, masterSent, masterTick, masterData}
+use Rattle.turns.specs.declared.CallResult.{CallResult}
 use Rattle.turns.specs.declared.Sent.the-variants.{Character}
 use Rattle.turns.specs.declared.Stage.{Stage}
 use Rattle.turns.specs.declared.Stage.the-variants.{Free, Waiting, Sending, Awaiting}
@@ -352,9 +353,9 @@ master-speaks limit x heard call n w message small deaf e h below =
             })
 
     by-call : (call : MasterCall) → SpeaksAt x n w (masterCalls limit (Rattle.turns.specs.Master.tells m MasterTold.Nothing Nothing) call (x .frame) (masterData x heard))
-    by-call no-request = sent none (masterData x heard)
+    by-call no-request = sent CallResult.Nothing (masterData x heard)
     by-call (requests q put) = go (asks limit m q (length put) small)
       where
         go : Asks limit m q (length put) → SpeaksAt x n w (masterCalled (requested limit m q (length put)) m (frameBytes (q .preamble) (requestHeader m q) put) (x .frame) (masterData x heard) MasterTold.Nothing)
-        go (is-refused why p) = subst (λ (c : Called Master). SpeaksAt x n w (masterCalled c m (frameBytes (q .preamble) (requestHeader m q) put) (x .frame) (masterData x heard) MasterTold.Nothing)) (sym p) (sent (was-refused why) (masterData x heard))
+        go (is-refused why p) = subst (λ (c : Called Master). SpeaksAt x n w (masterCalled c m (frameBytes (q .preamble) (requestHeader m q) put) (x .frame) (masterData x heard) MasterTold.Nothing)) (sym p) (sent (CallResult.Refused why) (masterData x heard))
         go (is-taken fits few f p) = absurd (sending-free (sym e ∙ f))

@@ -9,10 +9,12 @@ use Rattle.frame.specs.Frame.{frameBytes}
 use Rattle.frame.specs.declared.Header.{Header}
 use Rattle.line.specs.declared.Profile.{Profile}
 use Rattle.line.specs.declared.Whole.{Whole}
-use Rattle.turns.specs.Party.{isBroadcast, Request, CallResult, none, was-taken, was-refused}
+use Rattle.turns.specs.Party.{isBroadcast}
 use Rattle.turns.specs.Link.{MasterCall, no-request, requests, MasterSide, masterTick}
 use Rattle.turns.specs.Run.{MasterStarts}
 use Rattle.turns.specs.Gaps.{MasterInput, IsFrame}
+use Rattle.turns.specs.declared.CallResult.{CallResult}
+use Rattle.turns.specs.declared.Request.{Request}
 use Rattle.turns.specs.declared.Sent.{Sent}
 use Rattle.turns.specs.declared.Sent.the-variants.{Silent, Character}
 use Rattle.turns.specs.declared.MasterTold.{MasterTold}
@@ -48,10 +50,10 @@ stxHeader primary q = record { kind = stx; long = q .long; primary = primary; bu
 
 -- what the host asks: a request is taken only where no message is in hand; it is then the message in hand, with no STX sent yet
 pub data Asked (primary : Bool) : MasterCall → CallResult → MessageLog → MessageLog → Type 0 where
-  asks-nothing : {g : MessageLog} → Asked primary no-request none g g
-  is-taken : {q : Request} {put : List ℕ} → Asked primary (requests q put) was-taken no-message
+  asks-nothing : {g : MessageLog} → Asked primary no-request CallResult.Nothing g g
+  is-taken : {q : Request} {put : List ℕ} → Asked primary (requests q put) CallResult.Taken no-message
       (in-hand (frameBytes (q .preamble) (stxHeader primary q) put) (isBroadcast (stxHeader primary q)) [] 0)
-  is-refused : {q : Request} {put : List ℕ} {why : ℕ} {g : MessageLog} → Asked primary (requests q put) (was-refused why) g g
+  is-refused : {q : Request} {put : List ℕ} {why : ℕ} {g : MessageLog} → Asked primary (requests q put) (CallResult.Refused why) g g
 
 -- what is sent: nothing, or the next character of the message's STX, without a gap. No STX begins beyond the most that may be sent, and one is counted with its last character.
 pub data Sends (retries : ℕ) : MessageLog → Sent → MessageLog → Type 0 where

@@ -11,9 +11,9 @@ use Rattle.line.specs.declared.Heard.{Heard}
 use Rattle.line.specs.declared.Heard.the-variants.{Silence, Character, Damaged}
 use Rattle.line.specs.declared.Profile.{Profile}
 use Rattle.turns.specs.Device.{wished}
-use Rattle.turns.specs.Party.{CallResult, none, was-taken, was-refused}
 use Rattle.turns.specs.Link.{DeviceCall, no-call, gives-answer, gives-content, DeviceSide, DeviceStep, deviceTick}
 use Rattle.turns.specs.Run.{DeviceStarts}
+use Rattle.turns.specs.declared.CallResult.{CallResult}
 use Rattle.turns.specs.declared.Sent.{Sent}
 use Rattle.turns.specs.declared.Sent.the-variants.{Silent}
 use Rattle.turns.specs.declared.Wish.{Wish}
@@ -35,9 +35,9 @@ droppedBy (Damaged c kind) w = no-wish
 
 -- the host's answer is taken
 abbrev pub takenWith : Wish → CallResult → Wished → Wished
-takenWith wish none w = w
-takenWith wish was-taken w = wishes wish
-takenWith wish (was-refused why) w = w
+takenWith wish CallResult.Nothing w = w
+takenWith wish CallResult.Taken w = wishes wish
+takenWith wish (CallResult.Refused why) w = w
 
 abbrev pub wishedBy : DeviceCall → CallResult → Wished → Wished
 wishedBy no-call a w = w

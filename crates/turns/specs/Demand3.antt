@@ -9,10 +9,10 @@ use Rattle.base.specs.Refusal.{accepted}
 use Rattle.frame.specs.Limits.{longestFrame}
 use Rattle.line.specs.Profile.{profileMade}
 use Rattle.line.specs.declared.Profile.{Profile}
-use Rattle.turns.specs.Party.{was-taken}
 use Rattle.turns.specs.Link.{MasterStep, DeviceSide, Link, LinkStep, Calls, sides, run}
 use Rattle.turns.specs.Ledgers.{blanks, OneFinds}
 use Rattle.turns.specs.Run.{All, Starts, EachTick, OneBursts, NoTwoSend}
+use Rattle.turns.specs.declared.CallResult.{CallResult}
 use Rattle.turns.specs.declared.Sent.the-variants.{Silent, Character}
 
 -- ---- the premises
@@ -41,7 +41,7 @@ masterIn false s = s .for-secondary
 
 -- "An accepted message is a master's request that was taken."
 abbrev pub AcceptedIn : Bool → LinkStep → Type 0
-AcceptedIn primary s = masterIn primary s .result ≡ was-taken
+AcceptedIn primary s = masterIn primary s .result ≡ CallResult.Taken
 
 -- "Its first character is the first of its first STX": a master has one message in hand at a time, so it is the first character that the master sends from the tick of acceptance on. It goes out in this tick, or in one of the next n.
 pub data BeginsWithin (primary : Bool) : ℕ → List LinkStep → Type 0 where

@@ -5,8 +5,9 @@ use mathlib.Core.Bool.{Bool, true, false}
 use mathlib.Core.List.{List, [], _∷_}
 use Rattle.base.specs.Choice.{if_then_else_}
 use Rattle.frame.specs.declared.Header.{Header}
-use Rattle.turns.specs.Party.{seeksTag, CallResult, none, was-taken, was-refused}
+use Rattle.turns.specs.Party.{seeksTag}
 use Rattle.turns.specs.Link.{DeviceCall, no-call, gives-answer, gives-content, DeviceSide, DeviceStep, LinkStep, Calls}
+use Rattle.turns.specs.declared.CallResult.{CallResult}
 use Rattle.turns.specs.declared.DeviceTold.{DeviceTold}
 use Rattle.turns.specs.declared.DeviceTold.the-variants.{Request, Broadcast}
 
@@ -32,9 +33,9 @@ answeredWith put (told h) = given h put
 answeredWith put (given h before) = given h before
 
 abbrev pub answerBy : List ℕ → CallResult → Ledger → Ledger
-answerBy put none g = g
-answerBy put was-taken g = answeredWith put g
-answerBy put (was-refused why) g = g
+answerBy put CallResult.Nothing g = g
+answerBy put CallResult.Taken g = answeredWith put g
+answerBy put (CallResult.Refused why) g = g
 
 abbrev pub calledBy : DeviceCall → CallResult → Ledger → Ledger
 calledBy no-call a g = g

@@ -11,9 +11,10 @@ use Rattle.line.specs.Reader.{takenData}
 use Rattle.line.specs.declared.Damage.the-variants.{Framing}
 use Rattle.line.specs.declared.Heard.{Heard}
 use Rattle.line.specs.declared.Heard.the-variants.{Silence, Character, Damaged}
-use Rattle.turns.specs.Party.{Request, CallResult, none, was-taken, was-refused}
 use Rattle.turns.specs.Master.{requested, requestHeader, masterTakes, masterSends}
 use Rattle.turns.specs.Device.{answered, answerFrame, contentGiven, deviceTakes, deviceSends, errorFrame, begunFrame}
+use Rattle.turns.specs.declared.CallResult.{CallResult}
+use Rattle.turns.specs.declared.Request.{Request}
 use Rattle.turns.specs.declared.Sent.{Sent}
 use Rattle.turns.specs.declared.Sent.the-variants.{Silent}
 use Rattle.turns.specs.declared.Wish.{Wish}
@@ -59,11 +60,11 @@ masterSent s frame bytes told result =
     record { side = record { master = s .master; frame = frame; bytes = bytes }; sent = s .sent; told = told; result = result }
 
 abbrev pub masterCalled : Called Master → Master → List ℕ → List ℕ → List ℕ → MasterTold → MasterStep
-masterCalled (accepted m) before put frame bytes told = masterSent (masterSends m (stored frame 0 put)) (stored frame 0 put) bytes told was-taken
-masterCalled (refused why) before put frame bytes told = masterSent (masterSends before frame) frame bytes told (was-refused why)
+masterCalled (accepted m) before put frame bytes told = masterSent (masterSends m (stored frame 0 put)) (stored frame 0 put) bytes told CallResult.Taken
+masterCalled (refused why) before put frame bytes told = masterSent (masterSends before frame) frame bytes told (CallResult.Refused why)
 
 abbrev pub masterCalls : ℕ → MasterTaken → MasterCall → List ℕ → List ℕ → MasterStep
-masterCalls limit t no-request frame bytes = masterSent (masterSends (t .master) frame) frame bytes (t .told) none
+masterCalls limit t no-request frame bytes = masterSent (masterSends (t .master) frame) frame bytes (t .told) CallResult.Nothing
 masterCalls limit t (requests q put) frame bytes =
     masterCalled (requested limit (t .master) q (length put)) (t .master) (frameBytes (q .preamble) (requestHeader (t .master) q) put) frame bytes (t .told)
 
@@ -110,15 +111,15 @@ deviceSent d frame bytes contents told result = record {
 
 -- `written` is the frame buffer with the answer
 abbrev pub answerCalled : Called Device → Device → List ℕ → List ℕ → List ℕ → List ℕ → DeviceTold → DeviceStep
-answerCalled (accepted d) before written frame bytes contents told = deviceSent d written bytes contents told was-taken
-answerCalled (refused why) before written frame bytes contents told = deviceSent before frame bytes contents told (was-refused why)
+answerCalled (accepted d) before written frame bytes contents told = deviceSent d written bytes contents told CallResult.Taken
+answerCalled (refused why) before written frame bytes contents told = deviceSent before frame bytes contents told (CallResult.Refused why)
 
 abbrev pub contentCalled : Called Device → Device → List ℕ → List ℕ → List ℕ → List ℕ → DeviceTold → DeviceStep
-contentCalled (accepted d) before put frame bytes contents told = deviceSent d frame bytes (stored contents 0 put) told was-taken
-contentCalled (refused why) before put frame bytes contents told = deviceSent before frame bytes contents told (was-refused why)
+contentCalled (accepted d) before put frame bytes contents told = deviceSent d frame bytes (stored contents 0 put) told CallResult.Taken
+contentCalled (refused why) before put frame bytes contents told = deviceSent before frame bytes contents told (CallResult.Refused why)
 
 abbrev pub deviceCalls : ℕ → DeviceTaken → DeviceCall → List ℕ → List ℕ → List ℕ → DeviceStep
-deviceCalls limit t no-call frame bytes contents = deviceSent (t .device) frame bytes contents (t .told) none
+deviceCalls limit t no-call frame bytes contents = deviceSent (t .device) frame bytes contents (t .told) CallResult.Nothing
 deviceCalls limit t (gives-answer wish put) frame bytes contents =
     answerCalled (answered limit (t .device) wish (length put)) (t .device) (answerFrame (t .device) wish put frame) frame bytes contents (t .told)
 deviceCalls limit t (gives-content command put) frame bytes contents =

@@ -1,5 +1,5 @@
 -- To be believed: what the engine must do, or what is claimed of it.
--- What master and device share: what a broadcast is, what a master's request says, and what became of a host's call.
+-- What master and device share: what a broadcast is, and what a command 11 by broadcast is.
 use Prim.Native.Nat.{ℕ}
 use mathlib.Core.Bool.{Bool, true, false}
 use Rattle.base.specs.Choice.{if_then_else_, _=?_}
@@ -12,17 +12,3 @@ isBroadcast h = if h .long then h .address =? 0 else false
 -- item 6: "command 11, sent to the broadcast address"; its ACK too, since "Our transmitters repeat the request's address bytes"
 abbrev pub seeksTag : Header → Bool
 seeksTag h = if isBroadcast h then h .command =? 11 else false
-
--- what a request says, its data aside. Item 2: "A master request now says the device's revision, 3 to 7."
-pub record Request : Type 0 where
-  pub preamble : ℕ
-  pub revision : ℕ
-  pub long : Bool
-  pub address : ℕ
-  pub command : ℕ
-
--- what became of a call
-pub data CallResult : Type 0 where
-  none : CallResult
-  was-taken : CallResult
-  was-refused : ℕ → CallResult

@@ -6,7 +6,7 @@ use mathlib.Core.Bool.{true, false}
 use mathlib.Core.List.{List, [], _∷_, _++_}
 use lib.ListN.{length, replicate}
 use Rattle.base.specs.Refusal.{Called, accepted, refused}
-use Rattle.frame.specs.Limits.{fewestPreambles, largestPolling, mostData, longestFrame}
+use Rattle.frame.specs.Limits.{fewestPreambles, mostData, longestFrame}
 use Rattle.frame.specs.Delimiter.{stx}
 use Rattle.frame.specs.Frame.{frameBytes, preambleBytes, protectedBytes}
 use Rattle.frame.specs.Write.{writeAnswer}
@@ -15,10 +15,10 @@ use Rattle.line.specs.Heard.{characters}
 use Rattle.line.specs.Profile.{fskProfile}
 use Rattle.line.specs.declared.Heard.{Heard}
 use Rattle.line.specs.declared.Heard.the-variants.{Silence}
-use Rattle.turns.specs.Party.{CallResult, none, was-taken, was-refused}
 use Rattle.turns.specs.Master.{freshMaster, requested}
 use Rattle.turns.specs.Device.{freshDevice}
 use Rattle.turns.specs.Link.{no-call, gives-answer, DeviceSide, deviceTick}
+use Rattle.turns.specs.declared.CallResult.{CallResult}
 use Rattle.turns.specs.declared.Wish.the-variants.{Same}
 
 pub data Question : Type 0 where
@@ -86,9 +86,9 @@ device = record {
 }
 
 abbrev pub result : CallResult → Outcome
-result none = nothing
-result was-taken = taken
-result (was-refused why) = refuses why
+result CallResult.Nothing = nothing
+result CallResult.Taken = taken
+result (CallResult.Refused why) = refuses why
 
 -- the STX's last character goes out in tick T and is heard in T+1; each silent tick after it is one more. The host answers in tick T+late.
 abbrev pub answerAt : ℕ → Outcome
@@ -128,10 +128,10 @@ table =
     record { asked = check-byte (0x02 ∷ 0x80 ∷ 0x00 ∷ 0x00 ∷ []); stated = gives 0x82 }
     ∷ record { asked = check-byte (0x82 ∷ 0x80 ∷ 0x00 ∷ 0x00 ∷ 0x00 ∷ 0x02 ∷ 0x03 ∷ 0x00 ∷ []); stated = gives 0x03 }
     ∷ record { asked = check-byte (0x06 ∷ 0x80 ∷ 0x00 ∷ 0x02 ∷ 0x00 ∷ 0x00 ∷ []); stated = gives 0x84 }
-    ∷ record { asked = ask-polling largestPolling; stated = taken }
-    ∷ record { asked = ask-polling (largestPolling + 1); stated = refuses 4 }
-    ∷ record { asked = ask-data mostData; stated = taken }
-    ∷ record { asked = ask-data (mostData + 1); stated = refuses 6 }
+    ∷ record { asked = ask-polling 63; stated = taken }
+    ∷ record { asked = ask-polling 64; stated = refuses 4 }
+    ∷ record { asked = ask-data 255; stated = taken }
+    ∷ record { asked = ask-data 256; stated = refuses 6 }
     ∷ record { asked = answer-at 28; stated = taken }
     ∷ record { asked = answer-at 29; stated = refuses 8 }
     ∷ record { asked = longest; stated = gives 284 }

@@ -11,6 +11,22 @@ pub enum Sent {
     Character(u8),
 }
 
+// A host's request, without its data. Item 2: "A master request now says the device's revision, 3 to 7."
+pub struct Request {
+    pub preamble: usize,
+    pub address: u64,
+    pub long: bool,
+    pub command: u8,
+    pub revision: u8,
+}
+
+// What became of a host's call in a tick: there was none, it was taken, or it was refused with this number of document 01's table.
+pub enum CallResult {
+    Nothing,
+    Taken,
+    Refused(u32),
+}
+
 // A master's timers, in silent line ticks. 0 is a timer that does not run.
 pub struct Timer {
     // until the next window opens

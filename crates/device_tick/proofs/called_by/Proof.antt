@@ -9,5 +9,6 @@ called-by-spec =
     (tie.spec
     (λ c. search needs)
     (λ c. search needs)
+    (λ c κs. search needs)
     (λ c. search (needs, ticks))
     (λ c. search (needs, ticks)))

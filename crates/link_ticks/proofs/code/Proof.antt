@@ -1,5 +1,5 @@
 use borrow.Author.Needs.{needs}
-use Rattle.link_ticks.proofs.Cases.{code-silent, code-character}
+use Rattle.link_ticks.proofs.Cases.{code-is}
 use Rattle.link_ticks.proofs.code.Statement.{statement}
 use Rattle.link_ticks.proofs.code.Tie as tie
 
@@ -7,8 +7,5 @@ pub code-spec : {M : Type 1} → statement M
 code-spec =
     tie.close
     (tie.spec
-    (λ c. search needs)
-    (λ c. search needs)
-    (λ c. search needs)
-    (λ c. search (needs, code-silent))
-    (λ c. search (needs, code-character)))
+    (λ c κs. search needs)
+    (λ c. search (needs, code-is)))

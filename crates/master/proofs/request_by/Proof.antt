@@ -10,5 +10,6 @@ request-by-spec =
     (λ c κs. search needs)
     (λ c. search needs)
     (λ c. search needs)
+    (λ c κs. search needs)
     (λ c. search (needs, ticks))
     (λ c. search (needs, ticks)))

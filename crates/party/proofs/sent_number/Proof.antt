@@ -1,6 +1,6 @@
 use borrow.Author.Needs.{needs}
-use Rattle.state_words.proofs.sent_number.Statement.{statement}
-use Rattle.state_words.proofs.sent_number.Tie as tie
+use Rattle.party.proofs.sent_number.Statement.{statement}
+use Rattle.party.proofs.sent_number.Tie as tie
 
 pub sent-number-spec : {M : Type 1} → statement M
 sent-number-spec =
@@ -10,5 +10,5 @@ sent-number-spec =
     (λ c. search needs)
     (λ c. search needs)
     (λ c. search needs)
-    (λ c. search needs)
-    (λ c. cc))
+    (λ c. (cc, search needs))
+    (λ c. (cc, search needs)))
