@@ -35,7 +35,7 @@
  *   nengapiko_reader_start           8
  *   nengapiko_reader_tick          312
  *   nengapiko_master_start          16
- *   nengapiko_master_tick          512
+ *   nengapiko_master_tick          528
  *   nengapiko_device_start          24
  *   nengapiko_device_tick          608
  *   nengapiko_data_length           64
@@ -44,7 +44,7 @@
  *   nengapiko_list                 280
  *   nengapiko_join                  72
  *   nengapiko_port_master_start    336
- *   nengapiko_port_master_tick    1056
+ *   nengapiko_port_master_tick    1064
  *   nengapiko_port_device_start    328
  *   nengapiko_port_device_tick     960
  *   nengapiko_readings_clear         8
@@ -63,7 +63,11 @@
 #define NENGAPIKO_VERSION 2
 
 /* No data, with length 0. */
+#ifdef __cplusplus
+#define NENGAPIKO_NO_BYTES (reinterpret_cast<const uint8_t *>(""))
+#else
 #define NENGAPIKO_NO_BYTES ((const uint8_t *)"")
+#endif
 
 #if defined(__GNUC__)
 #define NENGAPIKO_RESTRICT __restrict__
@@ -118,6 +122,36 @@ enum nengapiko_refusal {
     NENGAPIKO_REFUSAL_DIFFER = 23,        /* join: two different characters in one tick */
     NENGAPIKO_REFUSAL_WAIT_SHORT = 26     /* data length for a wait: that of 2 data bytes is already longer */
 };
+
+/* A refusal's text; of a number that is none, "no refusal of this number". */
+static inline const char *nengapiko_refusal_text(uint32_t number)
+{
+    switch (number) {
+    case NENGAPIKO_REFUSAL_NONE: return "not refused";
+    case NENGAPIKO_REFUSAL_PROFILE: return "a profile that is not allowed";
+    case NENGAPIKO_REFUSAL_RETRIES: return "retries outside 3 to 15";
+    case NENGAPIKO_REFUSAL_PREAMBLE: return "preamble outside 5 to 20, or on the infrared port not 5";
+    case NENGAPIKO_REFUSAL_ADDRESS: return "an address that is too large, or a device's unique address 0";
+    case NENGAPIKO_REFUSAL_COMMAND: return "command 254, or a short address with a command but 0";
+    case NENGAPIKO_REFUSAL_DATA_LONG: return "more data than a frame or the limit allows";
+    case NENGAPIKO_REFUSAL_IN_HAND: return "a message is in hand";
+    case NENGAPIKO_REFUSAL_NO_REQUEST: return "no request is in hand, or its time is over";
+    case NENGAPIKO_REFUSAL_DATA_LENGTH: return "a data length, or a limit, that is not allowed";
+    case NENGAPIKO_REFUSAL_WISH: return "a wish for burst that is not allowed in this answer";
+    case NENGAPIKO_REFUSAL_FEW_PREAMBLES: return "fewer than two preambles";
+    case NENGAPIKO_REFUSAL_NO_DELIMITER: return "no delimiter, or no frame type";
+    case NENGAPIKO_REFUSAL_ENDS_EARLY: return "the bytes end before the frame does";
+    case NENGAPIKO_REFUSAL_UNSOUND: return "an ACK or BACK with count below 2, or a wrong check byte";
+    case NENGAPIKO_REFUSAL_BUFFER_SHORT: return "a buffer that is too short";
+    case NENGAPIKO_REFUSAL_REVISION: return "a revision outside 3 to 7";
+    case NENGAPIKO_REFUSAL_TABLE_FULL: return "the table of readings is full";
+    case NENGAPIKO_REFUSAL_RECORDING: return "a recording of odd length, or with another value";
+    case NENGAPIKO_REFUSAL_UNEQUAL: return "two recordings of unequal lengths";
+    case NENGAPIKO_REFUSAL_DIFFER: return "two different characters in one tick";
+    case NENGAPIKO_REFUSAL_WAIT_SHORT: return "with 2 data bytes the wait is already longer";
+    default: return "no refusal of this number";
+    }
+}
 
 /* ------------------------------------------------------------------------ frames */
 
@@ -195,6 +229,26 @@ uint32_t nengapiko_read(const uint8_t *NENGAPIKO_RESTRICT bytes, size_t size,
  *
  * docs/C.md has the driver by which a party behind the modem chip of document 02, item 5,
  * hears and sends: which registers it reads and writes in each tick, and in which order.
+ *
+ * What a host must know, of a master and a device:
+ *
+ *   First tick. In its first tick after a start a party hears nothing, whatever heard says.
+ *   Silence. As a tick reader does, a party passes over one silent tick inside a frame, which counts in
+ *   no timer; where a second follows, the frame is broken and both count.
+ *   Profile. STO is within how many ticks a device must begin its answer; HOLD how many ticks a master's
+ *   window is open; RT1, the primary's and the secondary's, how many silent ticks a master waits for its
+ *   answer, and after a broken frame, before its window opens; RT2 those after its own answered message,
+ *   which lets the other master begin first.
+ *   Time of an answer. With the request's last character in tick T the device tells it in T + 1. Its host
+ *   may answer from that tick up to T + STO; an answer in T + 1 begins in T + 2, a later one in its own
+ *   tick. A character that is heard before it begins drops the request, an answer that was taken and its
+ *   wish.
+ *   Bit 7. An ACK with bit 7 of its first data byte set says that the device did not read the request: for
+ *   a master it is a failed attempt and no answer.
+ *   Command 11 by broadcast (unique address 0, the data a tag). Every device tells it as a request,
+ *   whosever tag it is: a host answers it only if the tag is its own, else two devices send at once. A wish
+ *   in that answer is refused with 10. The master sends it once: its answer is ANSWERED, with address 0; no
+ *   answer, or one with bit 7, is BROADCAST_SENT.
  */
 
 /* What was heard in a tick. Any other number is heard as silence. */
@@ -246,13 +300,13 @@ enum nengapiko_master_told {
     NENGAPIKO_MASTER_TOLD_NOTHING = 0,
     NENGAPIKO_MASTER_TOLD_ANSWERED = 1,      /* by the frame of this tick */
     NENGAPIKO_MASTER_TOLD_GIVEN_UP = 2,      /* after the attempts of this tick */
-    NENGAPIKO_MASTER_TOLD_BROADCAST_SENT = 3
+    NENGAPIKO_MASTER_TOLD_BROADCAST_SENT = 3 /* of command 11 by broadcast: and not answered, or with bit 7 */
 };
 
 /* What a device tells its host. */
 enum nengapiko_device_told {
     NENGAPIKO_DEVICE_TOLD_NOTHING = 0,
-    NENGAPIKO_DEVICE_TOLD_REQUEST = 1,  /* the frame of this tick, which the host may answer */
+    NENGAPIKO_DEVICE_TOLD_REQUEST = 1,  /* the frame of this tick, which the host may answer; command 11 by broadcast only for its own tag */
     NENGAPIKO_DEVICE_TOLD_BROADCAST = 2 /* the frame of this tick, which is never answered */
 };
 

@@ -561,6 +561,25 @@ static void read_frame_in_data(void)
     fill_with_pattern(data, sizeof data);
 }
 
+/* Each refusal has a text of its own, and a number that is none has the text that says so. */
+static void refusal_texts(void)
+{
+    const char *none = nengapiko_refusal_text(UINT32_MAX);
+    unsigned texts = 0;
+    for (uint32_t i = 0; i < 100; i++) {
+        const char *text = nengapiko_refusal_text(i);
+        CHECK(text[0] != '\0');
+        if (strcmp(text, none) == 0)
+            continue;
+        texts++;
+        for (uint32_t j = 0; j < i; j++)
+            CHECK(strcmp(text, nengapiko_refusal_text(j)) != 0);
+    }
+    CHECK(texts == 22);
+    CHECK(strcmp(nengapiko_refusal_text(16), none) == 0);
+    CHECK(strcmp(nengapiko_refusal_text(NENGAPIKO_REFUSAL_IN_HAND), "a message is in hand") == 0);
+}
+
 int main(void)
 {
     fill_with_pattern(data, sizeof data);
@@ -582,6 +601,7 @@ int main(void)
     read_growing();
     read_trailing_bytes();
     read_frame_in_data();
+    refusal_texts();
     printf("frame_c: %lu checks passed", passed);
     if (failed > 0)
         printf(", %lu failed", failed);

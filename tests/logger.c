@@ -20,7 +20,8 @@ enum { TICKS = 2150, TRANSMITTERS = 3, PARTIES = 2 + TRANSMITTERS };
 enum { STO = 28, HOLD = 2, RT2 = 8, RT1_PRIMARY = 33, RT1_SECONDARY = 41 };
 enum { RETRIES = 3, PREAMBLE = 5, REVISION = 7, LIMIT = 255 };
 
-/* Commands: who are you, your reading, burst on (data 1) or off (data 0). */
+/* Commands: who are you, your reading, burst on (data 1) or off (data 0). Their data are this program's
+ * own: an identity is the unique address alone, where the standard's command 0 has more, in another order. */
 enum { IDENTITY = 0, READING = 3, BURST_CONTROL = 109 };
 enum { STATUS_BYTES = 2, ADDRESS_BYTES = 5 };
 
