@@ -4,15 +4,15 @@ use native.Mathlib.Omega.{arith}
 use mathlib.Core.Bool.{Bool, true, false}
 use mathlib.Core.List.{List, [], _∷_}
 use mathlib.Core.Path.{_≡_, refl, ap, ap₂, _∙_}
-use Rattle.base.specs.Choice.{if_then_else_, _<?_, _=?_}
-use Rattle.base.specs.Refusal.{Called, accepted, refused}
-use Rattle.modem.specs.Chip.{receives, arrives, registerAt, controlled, dataWritten, chipAfter, elapsed}
-use Rattle.modem.specs.Accesses.{lookedBy, putBy, looks, puts}
-use Rattle.modem.specs.Run.{begins, reads, writes, ends, chipBehind, ticksIn, CountBehind, reading, ElapsedBehind}
+use Rattle.base.specs.Choice.{if_then_else_}
+use Rattle.modem.specs.Chip.{arrives, chipAfter, elapsed}
+use Rattle.modem.specs.Accesses.{Access, reads, writes, accessed}
+use Rattle.modem.specs.Run.{begins, accesses, ends, chipBehind, ticksIn, CountBehind, reading, ElapsedBehind}
 use Rattle.modem.specs.declared.Carried.{Carried}
 use Rattle.modem.specs.declared.Carried.the-variants.{Silence, Nine}
 use Rattle.modem.specs.declared.Chip.{Chip}
 use Rattle.modem.proofs.Sentences.{count-shown, elapsed-ticks}
+use Rattle.modem.proofs.Accessing.{after-read, after-write}
 
 -- ---- only a tick's end changes the count
 
@@ -26,26 +26,9 @@ module _ (x : Chip) where
   begun Silence = refl
   begun (Nine c bit mark) = one-of (x .deaf) _ _ refl refl
 
-  looked : (n : ℕ) → looks x n .chip .count ≡ x .count
-  unfolding if_then_else_ looks
-  looked n = go (7 <? n) (n =? 2)
-    where
-      cleared : Chip
-      cleared = receives x (x .carrier) (x .latest) (x .kind) false
-
-      go : (b d : Bool) → lookedBy x (if b then refused 19 else if d then accepted (record { value = registerAt x n; chip = cleared }) else accepted (record { value = registerAt x n; chip = x })) .chip .count ≡ x .count
-      go true d = refl
-      go false true = refl
-      go false false = refl
-
-  written : (n v : ℕ) → puts x n v .count ≡ x .count
-  unfolding if_then_else_ puts
-  written n v = go (n =? 1) (n =? 2)
-    where
-      go : (b d : Bool) → putBy x (if b then accepted (controlled x v) else if d then accepted (dataWritten x v) else refused 19) .count ≡ x .count
-      go true d = refl
-      go false true = one-of (x .ready) _ _ refl refl
-      go false false = refl
+  counted : (a : Access) → accessed x a .count ≡ x .count
+  counted (reads n) = after-read (λ (y : Chip). y .count ≡ x .count) x refl n (λ e. refl)
+  counted (writes n v) = after-write (λ (y : Chip). y .count ≡ x .count) x refl n v (λ e. refl) (λ e r. refl)
 
 -- ---- over any operations
 
@@ -66,8 +49,7 @@ unfolding chipBehind ticksIn
 count-behind x [] h = still (x .count) h
 count-behind x (ends ∷ os) h = count-behind (chipAfter x) os (within (x .count + 1)) ∙ one-more (x .count) (ticksIn os)
 count-behind x (begins w ∷ os) h = count-behind (arrives x w) os (below (x .count) _ (begun x w) h) ∙ ap (λ (n : ℕ). (n + ticksIn os) % 2 ^ 32) (begun x w)
-count-behind x (reads n ∷ os) h = count-behind (looks x n .chip) os (below (x .count) _ (looked x n) h) ∙ ap (λ (n : ℕ). (n + ticksIn os) % 2 ^ 32) (looked x n)
-count-behind x (writes n v ∷ os) h = count-behind (puts x n v) os (below (x .count) _ (written x n v) h) ∙ ap (λ (n : ℕ). (n + ticksIn os) % 2 ^ 32) (written x n v)
+count-behind x (accesses a ∷ os) h = count-behind (accessed x a) os (below (x .count) _ (counted x a) h) ∙ ap (λ (n : ℕ). (n + ticksIn os) % 2 ^ 32) (counted x a)
 
 -- ---- two readings
 

@@ -1,17 +1,15 @@
--- What the driver hears is what a party hears without the chip, and what it sends goes out with odd parity.
-use Prim.Native.Nat.{ℕ, _+_, _*_, _/_, _%_, _≤_}
-use native.Mathlib.Omega.{arith}
+-- What the driver hears is what a party hears without the chip.
+use Prim.Native.Nat.{ℕ, _/_, _%_}
 use mathlib.Core.Bool.{Bool, true, false}
 use mathlib.Core.Path.{_≡_, refl, ap, _∙_}
-use borrow.Author.Tests.{eq-eqb}
 use Rattle.base.specs.Choice.{if_then_else_, _=?_, bit}
 use Rattle.line.specs.declared.Damage.the-variants.{Parity, Overrun, Framing}
 use Rattle.line.specs.declared.Heard.{Heard}
 use Rattle.line.specs.declared.Heard.the-variants.{Silence, Character, Damaged}
 use Rattle.modem.specs.Parity.{ninth, kindOf}
-use Rattle.modem.specs.Chip.{receives, arrives, status, controlled, loaded, goesOut}
-use Rattle.modem.specs.Accesses.{looks, puts}
-use Rattle.modem.specs.Driver.{damagedBy, hears, transmits, staysSilent, other, wire}
+use Rattle.modem.specs.Chip.{receives, arrives, status}
+use Rattle.modem.specs.Accesses.{looks}
+use Rattle.modem.specs.Driver.{damagedBy, hears, other, wire}
 use Rattle.modem.specs.declared.Mark.{Mark}
 use Rattle.modem.specs.declared.Carried.{Carried}
 use Rattle.modem.specs.declared.Carried.the-variants.{Nine}
@@ -25,14 +23,14 @@ unfolding if_then_else_
 one-is true = refl
 one-is false = refl
 
-received-read : (x : Chip) → (status x / 32 % 2 =? 1) ≡ x .received
+pub received-read : (x : Chip) → (status x / 32 % 2 =? 1) ≡ x .received
 received-read x = ap (λ (n : ℕ). n =? 1) (status-bits x .received) ∙ one-is (x .received)
 
 -- a character that is unread, with its damage; else silence
-abbrev heardBy : Chip → Heard
+abbrev pub heardBy : Chip → Heard
 heardBy x = if x .received then damagedBy (x .latest) (x .kind) else Silence
 
-heard-is : (x : Chip) → hears x .heard ≡ heardBy x
+pub heard-is : (x : Chip) → hears x .heard ≡ heardBy x
 unfolding if_then_else_ looks
 heard-is x = ap (λ (b : Bool). if b then damagedBy (x .latest) (x .kind) else Silence) (received-read x)
 
@@ -102,30 +100,3 @@ module _ (x : Chip) where
       go : (b : Bool) → (if b then receives x false (x .latest) (x .kind) (x .received) else receives x true c (if x .received then 2 else kindOf c bit mark) true) .sending ≡ x .sending
       go true = refl
       go false = refl
-
--- ---- what is sent
-
-requesting : (n : ℕ) → ((n % 128 + 128) / 32 * 32 / 128 % 2 =? 1) ≡ true
-requesting n = eq-eqb _ 1 (one n)
-  where
-    one : (n : ℕ) → (n % 128 + 128) / 32 * 32 / 128 % 2 ≡ 1
-    one n = omega arith
-
--- the first write of a tick goes out
-pub transmits-is : (x : Chip) (c : ℕ) → x .ready ≡ true → transmits x c ≡ loaded (controlled x (x .control % 128 + 128)) true c
-unfolding if_then_else_ looks puts
-transmits-is x c e =
-    ap (λ (b : Bool). if b then loaded (controlled x (x .control % 128 + 128)) ((x .control % 128 + 128) / 32 * 32 / 128 % 2 =? 1) c else loaded (controlled x (x .control % 128 + 128)) (x .sending) (x .outgoing)) e
-    ∙ ap (λ (b : Bool). loaded (controlled x (x .control % 128 + 128)) b c) (requesting (x .control))
-
-pub silent-chip : (x : Chip) → staysSilent x ≡ controlled x (x .control % 128)
-unfolding if_then_else_ looks puts
-silent-chip x = refl
-
-pub character-out : (x : Chip) (c : ℕ) → x .ready ≡ true → goesOut (transmits x c) ≡ Nine c (ninth c) Mark.Sound
-unfolding if_then_else_
-character-out x c e = ap goesOut (transmits-is x c e)
-
-pub silence-out : (x : Chip) → x .sending ≡ false → goesOut (staysSilent x) ≡ Carried.Silence
-unfolding if_then_else_
-silence-out x e = ap goesOut (silent-chip x) ∙ ap (λ (b : Bool). if b then Nine (x .outgoing) (ninth (x .outgoing)) Mark.Sound else Carried.Silence) e

@@ -2,6 +2,7 @@
 -- Document 02, item 5: reads and writes of the registers. "It refuses a write to bytes 0, 3 and 4 to 7, and any byte above 7, with 19."
 use Prim.Native.Nat.{ℕ}
 use mathlib.Core.Bool.{false}
+use mathlib.Core.List.{List, [], _∷_}
 use Rattle.base.specs.Choice.{if_then_else_, _<?_, _=?_}
 use Rattle.base.specs.Refusal.{Called, accepted, refused, number}
 use Rattle.modem.specs.Chip.{receives, registerAt, controlled, dataWritten}
@@ -47,3 +48,19 @@ putBy x (refused why) = x
 
 unfoldable pub puts : Chip → ℕ → ℕ → Chip
 puts x n v = putBy x (registerWritten x n v)
+
+-- ---- accesses one after the other
+
+-- a register is read, or written
+pub data Access : Type 0 where
+  reads : ℕ → Access
+  writes : ℕ → ℕ → Access
+
+-- the chip after an access, and after all of a list
+abbrev pub accessed : Chip → Access → Chip
+accessed x (reads n) = looks x n .chip
+accessed x (writes n v) = puts x n v
+
+unfoldable pub afterAll : Chip → List Access → Chip
+afterAll x [] = x
+afterAll x (a ∷ more) = afterAll (accessed x a) more

@@ -4,21 +4,19 @@ use Prim.Native.Nat.{ℕ, _+_, _*_, _%_, _^_, _<_}
 use mathlib.Core.List.{List, [], _∷_}
 use mathlib.Core.Path.{_≡_}
 use Rattle.modem.specs.Chip.{arrives, chipAfter, registerAt, elapsed}
-use Rattle.modem.specs.Accesses.{looks, puts}
+use Rattle.modem.specs.Accesses.{Access, accessed}
 use Rattle.modem.specs.declared.Carried.{Carried}
 use Rattle.modem.specs.declared.Chip.{Chip}
 
--- a tick begins with what the line carried in the tick before; a register is read, or written; a tick ends
+-- a tick begins with what the line carried in the tick before; a register is read or written; a tick ends
 pub data Operation : Type 0 where
   begins : Carried → Operation
-  reads : ℕ → Operation
-  writes : ℕ → ℕ → Operation
+  accesses : Access → Operation
   ends : Operation
 
 abbrev pub operated : Chip → Operation → Chip
 operated x (begins w) = arrives x w
-operated x (reads n) = looks x n .chip
-operated x (writes n v) = puts x n v
+operated x (accesses a) = accessed x a
 operated x ends = chipAfter x
 
 -- the chip after any operations, and how many ticks end in them
@@ -30,8 +28,7 @@ unfoldable pub ticksIn : List Operation → ℕ
 ticksIn [] = 0
 ticksIn (ends ∷ os) = ticksIn os + 1
 ticksIn (begins w ∷ os) = ticksIn os
-ticksIn (reads n ∷ os) = ticksIn os
-ticksIn (writes n v ∷ os) = ticksIn os
+ticksIn (accesses a ∷ os) = ticksIn os
 
 -- "going from the largest value back to 0": after n ticks the count is n more, modulo 2^32
 abbrev pub CountBehind : Type 0
