@@ -1,10 +1,12 @@
 // What every layer shares: the refusals of documents 01 and 02, a range test, and whether two conditions both hold.
+#![tactic(auto)]
+
 ghost use Rattle.std.specs.Prelude.{◌≡◌, false};
 ghost use Rattle.base.specs.Choice.{if◌then◌else◌, ◌outside◌to◌};
 ghost use Rattle.base.specs.Refusal.{number};
 
 // Why a call is refused. Each has a number in document 01's table; the last ones are document 02's.
-#[derive(Drop)]
+#[derive(Clone, Copy)]
 pub enum Refusal {
     BadProfile,
     BadRetries,

@@ -1,5 +1,7 @@
 // Writes a capture of a recording, a pcap file with a packet for each whole frame: capture FILE > CAPTURE. A second argument names the profile whose ticks are told as times, fsk or c8psk; without one it is fsk.
 // The file is read twice, a piece at a time, first for refusal 21: then its number and the first bad tick are said on standard error, and nothing is written.
+#![tactic(auto)]
+
 ghost use Rattle.std.specs.Prelude.{◌≡◌, length};
 
 use libc::{SEEK_SET, STDERR_FILENO, STDOUT_FILENO};
@@ -84,7 +86,7 @@ fn write_header(out: &mut [u8]) -> bool {
 }
 
 // What is kept after a piece, and whether its packets were written.
-#[derive(Drop)]
+#[derive(Clone, Copy)]
 struct Went {
     progress: Progress,
     on: bool,

@@ -1,4 +1,6 @@
 // Turns the script on standard input into the other form, and writes it to standard output. Its argument is the size of the script's records, 4 or 6. A refusal is printed as its number.
+#![tactic(auto)]
+
 use base::Refusal;
 use libc::STDOUT_FILENO;
 use player_convert::Converted;

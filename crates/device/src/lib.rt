@@ -1,4 +1,6 @@
 // A HART device: a slave, with burst mode. The functions follow the definitions of crates/turns/specs/Device.antt, in their order.
+#![tactic(auto)]
+
 mod sends;
 
 ghost use Rattle.std.specs.Prelude.{◌≡◌, ◌≤◌, length, take};
@@ -17,14 +19,14 @@ pub use sends::sends_by;
 use turns::{Content, Device, DeviceSent, DeviceTaken, Turn, Wish};
 
 // What a start answers.
-#[derive(Drop)]
+#[derive(Clone, Copy)]
 pub enum DeviceStarted {
     Started(Device),
     Refused(Refusal),
 }
 
 // What a host's call answers.
-#[derive(Drop)]
+#[derive(Clone, Copy)]
 pub enum DeviceCalled {
     Accepted(Device),
     Refused(Refusal),
@@ -62,7 +64,7 @@ fn answer_header(h: Header, burst: bool) -> Header
 
 // Puts an ACK or BACK into the lent frame buffer, where the frame writer takes it.
 fn put_frame(preamble: u8, h: Header, bytes: &[u8], frame: &mut [u8; 284])
-    ensures { after frame ≡ write_buffer preamble h (before bytes) (before frame) 0 }
+    ensures { frame.new ≡ write_buffer preamble h bytes.now frame.old 0 }
 {
     frame_write::write(preamble as usize, h, bytes, frame, 0);
 }
@@ -70,7 +72,7 @@ fn put_frame(preamble: u8, h: Header, bytes: &[u8], frame: &mut [u8; 284])
 // The same with the first bytes of a burst content.
 fn put_part(preamble: u8, h: Header, count: u8, contents: &[u8], frame: &mut [u8; 284])
     requires { most_data ≤ length contents.now }
-    ensures { after frame ≡ write_buffer preamble h (take count (before contents)) (before frame) 0 }
+    ensures { frame.new ≡ write_buffer preamble h (take count contents.now) frame.old 0 }
 {
     let end = count as usize;
     put_frame(preamble, h, &contents[..end], frame);
@@ -78,7 +80,7 @@ fn put_part(preamble: u8, h: Header, count: u8, contents: &[u8], frame: &mut [u8
 
 // Puts the error answer to a damaged frame into the lent frame buffer.
 fn put_error(d: Device, w: Whole, m: FrameDamage, frame: &mut [u8; 284])
-    ensures { after frame ≡ error_frame d (Event.Damaged w m) (before frame) }
+    ensures { frame.new ≡ error_frame d (Event.Damaged w m) frame.old }
 {
     let h = w.header;
     if device_rules::has_error(d, w, m) {
@@ -89,7 +91,7 @@ fn put_error(d: Device, w: Whole, m: FrameDamage, frame: &mut [u8; 284])
 
 // The error answer, by what the reader tells.
 fn put_error_answer(d: Device, event: Event, frame: &mut [u8; 284])
-    ensures { after frame ≡ error_frame d event (before frame) }
+    ensures { frame.new ≡ error_frame d event frame.old }
 {
     match event {
         Event::Nothing => {}
@@ -102,7 +104,7 @@ fn put_error_answer(d: Device, event: Event, frame: &mut [u8; 284])
 
 // Takes what was heard: returns the device after it, and what it tells its host. The data of the frame being heard are in the lent data buffer, and an error answer is put into the lent frame buffer.
 pub fn take(d: Device, heard: Heard, bytes: &mut [u8; 255], frame: &mut [u8; 284]) -> DeviceTaken
-    ensures { DeviceTakeIs d heard (before bytes) (before frame) result (after bytes) (after frame) }
+    ensures { DeviceTakeIs d heard bytes.old frame.old result bytes.new frame.new }
 {
     let taken = device_rules::take(d, heard, bytes);
     let event = taken.event;
@@ -205,7 +207,7 @@ fn answer_by(limit: u8, d: Device, wish: Wish, count: usize) -> DeviceCalled
 
 // Puts the host's answer into the lent frame buffer.
 fn put_answer(d: Device, wish: Wish, bytes: &[u8], frame: &mut [u8; 284])
-    ensures { after frame ≡ answer_frame d wish (before bytes) (before frame) }
+    ensures { frame.new ≡ answer_frame d wish bytes.now frame.old }
 {
     let request = d.request;
     put_frame(
@@ -218,7 +220,7 @@ fn put_answer(d: Device, wish: Wish, bytes: &[u8], frame: &mut [u8; 284])
 
 // Takes the host's answer to the request in hand, on a link with this data limit, or refuses it with 8, 9 or 10 and leaves the lent frame buffer as it was.
 pub fn answer(limit: u8, d: Device, wish: Wish, bytes: &[u8], frame: &mut [u8; 284]) -> DeviceCalled
-    ensures { AnswerIs limit d wish (before bytes) (before frame) result (after frame) }
+    ensures { AnswerIs limit d wish bytes.now frame.old result frame.new }
 {
     let called = answer_by(limit, d, wish, bytes.len());
     match called {
@@ -247,7 +249,7 @@ fn back_header(d: Device) -> Header
 
 // Puts the next BACK into the lent frame buffer.
 fn put_back(d: Device, contents: &[u8; 255], frame: &mut [u8; 284])
-    ensures { after frame ≡ begun_frame d Turn.Follows (before contents) (before frame) }
+    ensures { frame.new ≡ begun_frame d Turn.Follows contents.now frame.old }
 {
     let content = d.content;
     put_part(d.preamble, back_header(d), content.count, contents, frame);
@@ -255,7 +257,7 @@ fn put_back(d: Device, contents: &[u8; 255], frame: &mut [u8; 284])
 
 // Puts the BACK that begins in this tick, if one does.
 fn put_begun(d: Device, contents: &[u8; 255], frame: &mut [u8; 284])
-    ensures { after frame ≡ begun_frame d d.turn (before contents) (before frame) }
+    ensures { frame.new ≡ begun_frame d d.turn contents.now frame.old }
 {
     let turn = d.turn;
     match turn {
@@ -271,7 +273,7 @@ fn put_begun(d: Device, contents: &[u8; 255], frame: &mut [u8; 284])
 
 // Sends a character of the frame in the lent frame buffer, or nothing. A BACK that begins is put there first, with what the host gave last.
 pub fn send(d: Device, contents: &[u8; 255], frame: &mut [u8; 284]) -> DeviceSent
-    ensures { SendIs d (before contents) (before frame) result (after frame) }
+    ensures { SendIs d contents.now frame.old result frame.new }
 {
     put_begun(d, contents, frame);
     sends::sends_by(d, frame)

@@ -111,7 +111,7 @@ fn behind_ack(burst: bool) -> Turn
 
 // One character of an ACK.
 fn answers_from(d: Device, frame: &[u8; 284], n: u16, burst: bool, primary: bool) -> DeviceSent
-    ensures { result ≡ answers_from d (before frame) n burst primary }
+    ensures { result ≡ answers_from d frame.now n burst primary }
 {
     let c = party::character_at(frame, n);
     let length = d.length;
@@ -123,7 +123,7 @@ fn answers_from(d: Device, frame: &[u8; 284], n: u16, burst: bool, primary: bool
 
 // One character of a BACK of this length.
 fn bursts_from(d: Device, frame: &[u8; 284], n: u16, length: u16, primary: bool) -> DeviceSent
-    ensures { result ≡ bursts_from d (before frame) n length primary }
+    ensures { result ≡ bursts_from d frame.now n length primary }
 {
     let c = party::character_at(frame, n);
     let profile = d.profile;
@@ -161,14 +161,14 @@ fn other(primary: bool) -> bool
 
 // The first character of a BACK.
 fn begins_back(d: Device, frame: &[u8; 284]) -> DeviceSent
-    ensures { result ≡ sends_by d (before frame) Turn.Follows }
+    ensures { result ≡ sends_by d frame.now Turn.Follows }
 {
     bursts_from(d, frame, 0, back_length(d), other(d.primary))
 }
 
 // The first character of an ACK.
 fn begins_answer(d: Device, frame: &[u8; 284]) -> DeviceSent
-    ensures { result ≡ sends_by d (before frame) Turn.Begins }
+    ensures { result ≡ sends_by d frame.now Turn.Begins }
 {
     let wish = d.wish;
     answers_from(d, frame, 0, wished_burst(d.burst, wish), first_for(d))
@@ -176,7 +176,7 @@ fn begins_answer(d: Device, frame: &[u8; 284]) -> DeviceSent
 
 // A character or none, by the device's turn.
 pub fn sends_by(d: Device, frame: &[u8; 284]) -> DeviceSent
-    ensures { result ≡ device_sends d (before frame) }
+    ensures { result ≡ device_sends d frame.now }
 {
     let turn = d.turn;
     match turn {

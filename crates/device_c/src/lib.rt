@@ -1,4 +1,6 @@
 // A device for programs in C: its state as words that the caller lends, and its tick.
+#![tactic(auto)]
+
 ghost use Rattle.std.specs.Prelude.{◌<◌, ◌^◌, ◌≡◌};
 ghost use Rattle.base.specs.Lent.{before, after};
 ghost use Rattle.line.specs.Heard.{heard_of};
@@ -15,7 +17,7 @@ use line::{Heard, Profile, Receiver};
 use turns::{Content, Device, DeviceTold, Turn, Wish};
 
 // What a device was started with.
-#[derive(Drop)]
+#[derive(Clone, Copy)]
 struct Settings {
     profile: Profile,
     preamble: u8,
@@ -24,7 +26,7 @@ struct Settings {
 }
 
 // The request that it has in hand, and its answer.
-#[derive(Drop)]
+#[derive(Clone, Copy)]
 struct Answering {
     deaf: bool,
     turn: Turn,
@@ -34,7 +36,7 @@ struct Answering {
 }
 
 // Its burst mode.
-#[derive(Drop)]
+#[derive(Clone, Copy)]
 struct Bursting {
     burst: bool,
     primary: bool,
@@ -109,7 +111,7 @@ fn wish_of(word: u64) -> Wish
 }
 
 fn settings_at(words: &[u64; 41]) -> Settings
-    ensures { result ≡ settings_at (before words) }
+    ensures { result ≡ settings_at words.now }
 {
     let profile = state_words::profile_at(words, 0);
     Settings {
@@ -121,7 +123,7 @@ fn settings_at(words: &[u64; 41]) -> Settings
 }
 
 fn answering_at(words: &[u64; 41]) -> Answering
-    ensures { result ≡ answering_at (before words) }
+    ensures { result ≡ answering_at words.now }
 {
     let turn = turn_of(state_words::word_at(words, 25));
     let wish = wish_of(state_words::word_at(words, 26));
@@ -136,7 +138,7 @@ fn answering_at(words: &[u64; 41]) -> Answering
 }
 
 fn content_at(words: &[u64], place: u16) -> Content
-    ensures { result ≡ content_at (before words) place }
+    ensures { result ≡ content_at words.now place }
 {
     let i = place as usize;
     Content {
@@ -147,7 +149,7 @@ fn content_at(words: &[u64], place: u16) -> Content
 }
 
 fn bursting_at(words: &[u64; 41]) -> Bursting
-    ensures { result ≡ bursting_at (before words) }
+    ensures { result ≡ bursting_at words.now }
 {
     let content = content_at(words, 37);
     Bursting {
@@ -186,7 +188,7 @@ fn join(s: Settings, r: Receiver, a: Answering, b: Bursting) -> Device
 
 // The device that some words stand for.
 pub fn unpack(words: &[u64; 41]) -> Device
-    ensures { result ≡ unpacked (before words) }
+    ensures { result ≡ unpacked words.now }
 {
     let settings = settings_at(words);
     let receiver = state_words::receiver_at(words, 8);
@@ -247,7 +249,7 @@ fn bursting_words(limit: u8, d: Device) -> [u64; 7]
 
 // The words of a device and its data limit.
 pub fn pack(words: &mut [u64; 41], limit: u8, d: Device)
-    ensures { after words ≡ packed limit d }
+    ensures { words.new ≡ packed limit d }
 {
     let p = d.profile;
     let r = d.receiver;
@@ -263,7 +265,7 @@ pub fn pack(words: &mut [u64; 41], limit: u8, d: Device)
 
 // The data limit that some words hold.
 pub fn limit_at(words: &[u64; 41]) -> u8
-    ensures { result ≡ limit_at (before words) }
+    ensures { result ≡ limit_at words.now }
 {
     state_words::u8_at(words, 40)
 }

@@ -1,4 +1,6 @@
 // What a device does after what it heard. The functions follow the definitions of crates/turns/specs/Device.antt, in their order.
+#![tactic(auto)]
+
 ghost use Rattle.std.specs.Prelude.{◌≡◌, false};
 ghost use Rattle.base.specs.Lent.{before, after};
 ghost use Rattle.base.specs.Choice.{if◌then◌else◌};
@@ -352,7 +354,7 @@ fn copy_device(d: Device) -> Device
 
 // Takes what was heard: returns the device after it, and what it tells its host. The data of the frame being heard are in the lent data buffer.
 pub fn take(d: Device, heard: Heard, bytes: &mut [u8; 255]) -> DeviceTaken
-    ensures { HeardIs d heard (before bytes) result (after bytes) }
+    ensures { HeardIs d heard bytes.old result bytes.new }
 {
     let own = copy_device(d);
     if own.deaf {

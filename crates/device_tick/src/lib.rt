@@ -1,4 +1,6 @@
 // A tick of a device: it takes what was heard, then its host's answer or burst content, then sends a character or none.
+#![tactic(auto)]
+
 ghost use Rattle.std.specs.Prelude.{◌≡◌, true, ◌≤◌, length};
 ghost use Rattle.base.specs.Lent.{before, after};
 ghost use Rattle.base.specs.Store.{stored};
@@ -14,7 +16,7 @@ use line::{Event, Heard};
 use turns::{CallResult, Content, Device, DeviceTold, Sent, Wish};
 
 // A host's call in a tick.
-#[derive(Drop)]
+#[derive(Clone, Copy)]
 pub enum DeviceCall {
     Nothing,
     Answers(Wish),
@@ -42,14 +44,14 @@ pub fn host_call_by(number: u8, command: u8) -> DeviceCall
 }
 
 // A device after its host's call.
-#[derive(Drop)]
+#[derive(Clone, Copy)]
 struct DeviceCallTaken {
     device: Device,
     result: CallResult,
 }
 
 // A device after a tick, what it sends, and what it tells its host.
-#[derive(Drop)]
+#[derive(Clone, Copy)]
 pub struct DeviceTicked {
     pub device: Device,
     pub sent: Sent,
@@ -106,7 +108,7 @@ fn content_by(limit: u8, d: Device, command: u8, count: usize) -> DeviceCalled
 // Puts the data at the front of the lent content.
 fn put_content(bytes: &[u8], contents: &mut [u8])
     requires { (length bytes.now ≤ most_data) × (most_data ≤ length contents.old) }
-    ensures { after contents ≡ stored (before contents) 0 (before bytes) }
+    ensures { contents.new ≡ stored contents.old 0 bytes.now }
 {
     let mut i = 0;
     while i < bytes.len() {
@@ -123,7 +125,7 @@ fn content(
     bytes: &[u8],
     contents: &mut [u8; 255],
 ) -> DeviceCalled
-    ensures { ContentIs limit d command (before bytes) (before contents) result (after contents) }
+    ensures { ContentIs limit d command bytes.now contents.old result contents.new }
 {
     let called = content_by(limit, d, command, bytes.len());
     match called {
@@ -168,8 +170,8 @@ fn take_call(
     contents: &mut [u8; 255],
     frame: &mut [u8; 284],
 ) -> DeviceCallTaken
-    ensures { DeviceCalledIs limit d call (before put) (before frame) (before contents) result
-        (after frame) (after contents) }
+    ensures { DeviceCalledIs limit d call put.now frame.old contents.old result
+        frame.new contents.new }
 {
     match call {
         DeviceCall::Nothing => no_call(d),
@@ -189,8 +191,8 @@ pub fn tick(
     frame: &mut [u8; 284],
     bytes: &mut [u8; 255],
 ) -> DeviceTicked
-    ensures { DeviceTickIs limit d heard call (before put) (before frame) (before bytes) (before contents) result
-        (after frame) (after bytes) (after contents) }
+    ensures { DeviceTickIs limit d heard call put.now frame.old bytes.old contents.old result
+        frame.new bytes.new contents.new }
 {
     let t = device::take(d, heard, bytes, frame);
     let taken = t.device;

@@ -1,4 +1,6 @@
 // What the example programs print: a frame's header as text, and a line.
+#![tactic(auto)]
+
 ghost use Rattle.std.specs.Prelude.{◌++◌};
 ghost use Rattle.base.specs.Lent.{before, after};
 ghost use Rattle.texts.specs.Digits.{decimal, bit_of};
@@ -11,14 +13,14 @@ use texts::{bit, put_field};
 
 // A name and a flag.
 fn put_flag(name: &[u8], on: bool, out: &mut [u8], at: usize) -> usize
-    ensures { PutIs (before name ++ decimal (bit_of on)) (before out) at result (after out) }
+    ensures { PutIs (name.now ++ decimal (bit_of on)) out.old at result out.new }
 {
     put_field(name, bit(on), out, at)
 }
 
 // The fields of a header, but for its command.
 pub fn put_header(h: Header, out: &mut [u8], at: usize) -> usize
-    ensures { PutIs (header_text h) (before out) at result (after out) }
+    ensures { PutIs (header_text h) out.old at result out.new }
 {
     let mut place = put_field(b" type ", h.kind as u64, out, at);
     place = put_flag(b" long ", h.long, out, place);

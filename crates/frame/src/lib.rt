@@ -1,4 +1,6 @@
 // The HART frame: what it says, the answers of its writer and its reader, and what both of them work out.
+#![tactic(auto)]
+
 ghost use Rattle.std.specs.Prelude.{◌≡◌};
 ghost use Rattle.base.specs.Lent.{before};
 ghost use Rattle.frame.specs.Delimiter.{delimiter_of, from_device, is_type};
@@ -15,7 +17,7 @@ pub const ACK: u8 = 6;
 pub const BACK: u8 = 1;
 
 // What a frame says, without preamble and data.
-#[derive(Drop)]
+#[derive(Clone, Copy)]
 pub struct Header {
     pub address: u64,
     // the frame type: STX, ACK or BACK
@@ -30,7 +32,7 @@ pub struct Header {
 }
 
 // What a byte means in the delimiter's place.
-#[derive(Drop)]
+#[derive(Clone, Copy)]
 pub enum Delimiter {
     // the frame type, whether the address is long, and how many expansion bytes there are
     Is(u8, bool, u8),
@@ -38,14 +40,14 @@ pub enum Delimiter {
 }
 
 // What the writer answers: where the frame ends in the buffer, or why nothing was written.
-#[derive(Drop)]
+#[derive(Clone, Copy)]
 pub enum Written {
     To(usize),
     Refused(Refusal),
 }
 
 // A frame that was read: its fields, and where its data and its end are in the caller's bytes.
-#[derive(Drop)]
+#[derive(Clone, Copy)]
 pub struct Found {
     pub preamble: usize,
     pub header: Header,
@@ -56,7 +58,7 @@ pub struct Found {
 }
 
 // What the reader answers.
-#[derive(Drop)]
+#[derive(Clone, Copy)]
 pub enum Read {
     Frame(Found),
     Refused(Refusal),
@@ -127,7 +129,7 @@ pub fn too_few(frame: u8, count: usize) -> bool
 
 // The exclusive-or of x and some bytes, byte by byte.
 pub fn xor_bytes(x: u8, bytes: &[u8]) -> u8
-    ensures { result ≡ xor_from x (before bytes) }
+    ensures { result ≡ xor_from x bytes.now }
 {
     let mut sum = x;
     let mut i = 0;

@@ -1,4 +1,6 @@
 // The frame writer and reader for programs in C: a frame's fields are arguments, and each call answers in numbers.
+#![tactic(auto)]
+
 ghost use Rattle.std.specs.Prelude.{◌≡◌};
 ghost use Rattle.base.specs.Choice.{bit};
 ghost use Rattle.frame_c.specs.Numbers.{header, found_numbers, WriteCall, ReadCall};

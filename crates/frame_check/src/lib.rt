@@ -1,4 +1,6 @@
 // The exclusive-or of bytes, worked out a 64-bit word at a time.
+#![tactic(auto)]
+
 ghost use Rattle.std.specs.Prelude.{◌≡◌, ◌+◌, ◌*◌, ◌/◌, ◌%◌, ◌≤◌, ◌<◌, length, take, drop};
 ghost use Rattle.base.specs.Lent.{before};
 ghost use Rattle.frame.specs.Check.{xor_from, exclusive_or};
@@ -14,7 +16,7 @@ fn wide(x: u8) -> u64
 // Two bytes as one number, the first the least significant.
 fn pair(p: &[u8], i: usize) -> u64
     requires { i + 2 ≤ length p.now }
-    ensures { NumberIs (before p) i 2 result × (result < 65536) }
+    ensures { NumberIs p.now i 2 result × (result < 65536) }
 {
     wide(p[i]) + wide(p[i + 1]) * 256
 }
@@ -22,7 +24,7 @@ fn pair(p: &[u8], i: usize) -> u64
 // Four bytes.
 fn quad(p: &[u8], i: usize) -> u64
     requires { i + 4 ≤ length p.now }
-    ensures { NumberIs (before p) i 4 result × (result < 4294967296) }
+    ensures { NumberIs p.now i 4 result × (result < 4294967296) }
 {
     pair(p, i) + pair(p, i + 2) * 65536
 }
@@ -30,7 +32,7 @@ fn quad(p: &[u8], i: usize) -> u64
 // Eight bytes, a word. It is compiled to one load.
 fn word(p: &[u8], i: usize) -> u64
     requires { i + 8 ≤ length p.now }
-    ensures { NumberIs (before p) i 8 result }
+    ensures { NumberIs p.now i 8 result }
 {
     quad(p, i) + quad(p, i + 4) * 4294967296
 }
@@ -48,7 +50,7 @@ fn fold(w: u64) -> u8
 // The exclusive-or of every second word of the eight from i on.
 fn every_other(p: &[u8], i: usize) -> u64
     requires { i + 56 ≤ length p.now }
-    ensures { folded result ≡ every_other (before p) i }
+    ensures { folded result ≡ every_other p.now i }
 {
     (word(p, i) ^ word(p, i + 16)) ^ (word(p, i + 32) ^ word(p, i + 48))
 }
@@ -56,7 +58,7 @@ fn every_other(p: &[u8], i: usize) -> u64
 // The exclusive-or of every second word of the sixteen from i on.
 fn every_other_of_16(p: &[u8], i: usize) -> u64
     requires { i + 120 ≤ length p.now }
-    ensures { folded result ≡ every_other_of16 (before p) i }
+    ensures { folded result ≡ every_other_of16 p.now i }
 {
     every_other(p, i) ^ every_other(p, i + 64)
 }
@@ -64,7 +66,7 @@ fn every_other_of_16(p: &[u8], i: usize) -> u64
 // The exclusive-or of x and the first n blocks of sixteen words, as a word. The two sums are compiled to one vector.
 fn xor_blocks(x: u8, bytes: &[u8], n: usize) -> u64
     requires { n * 128 ≤ length bytes.now }
-    ensures { folded result ≡ xor_from x (take (n * 128) (before bytes)) }
+    ensures { folded result ≡ xor_from x (take (n * 128) bytes.now) }
 {
     let mut a = wide(x);
     let mut b: u64 = 0;
@@ -79,7 +81,7 @@ fn xor_blocks(x: u8, bytes: &[u8], n: usize) -> u64
 
 // The exclusive-or of a word and the half block after the blocks, where there is one, as a word.
 fn xor_half_block(first: u64, bytes: &[u8]) -> u64
-    ensures { folded result ≡ xor_onto first (before bytes) (in_blocks (before bytes)) (length (before bytes) % 128 / 64 * 64) }
+    ensures { folded result ≡ xor_onto first bytes.now (in_blocks bytes.now) (length bytes.now % 128 / 64 * 64) }
 {
     let n = bytes.len();
     if n % 128 < 64 {
@@ -92,7 +94,7 @@ fn xor_half_block(first: u64, bytes: &[u8]) -> u64
 // The exclusive-or of a word and so many words from a start on, as a word.
 fn xor_words(first: u64, bytes: &[u8], start: usize, count: usize) -> u64
     requires { start + count * 8 ≤ length bytes.now }
-    ensures { folded result ≡ xor_onto first (before bytes) start (count * 8) }
+    ensures { folded result ≡ xor_onto first bytes.now start (count * 8) }
 {
     let mut sum = first;
     let mut i = 0;
@@ -105,7 +107,7 @@ fn xor_words(first: u64, bytes: &[u8], start: usize, count: usize) -> u64
 
 // The exclusive-or of x and all whole words, as a word. After the longest frame's blocks there are none left.
 fn xor_long(x: u8, bytes: &[u8]) -> u64
-    ensures { folded result ≡ xor_from x (take (in_words (before bytes)) (before bytes)) }
+    ensures { folded result ≡ xor_from x (take (in_words bytes.now) bytes.now) }
 {
     let n = bytes.len();
     let blocks = xor_blocks(x, bytes, n / 128);
@@ -119,7 +121,7 @@ fn xor_long(x: u8, bytes: &[u8]) -> u64
 // The bytes after the whole words, as a word: they are the high ones of the last eight bytes.
 fn last_bytes(bytes: &[u8]) -> u64
     requires { 8 ≤ length bytes.now }
-    ensures { folded result ≡ exclusive_or (drop (in_words (before bytes)) (before bytes)) }
+    ensures { folded result ≡ exclusive_or (drop (in_words bytes.now) bytes.now) }
 {
     let n = bytes.len();
     word(bytes, n - 8) >> 8 >> (56 - n % 8 * 8)
@@ -128,7 +130,7 @@ fn last_bytes(bytes: &[u8]) -> u64
 // The exclusive-or of a word and the bytes after the whole words.
 fn with_last(sum: u64, bytes: &[u8]) -> u8
     requires { 8 ≤ length bytes.now }
-    ensures { result ≡ xor_from (folded sum) (drop (in_words (before bytes)) (before bytes)) }
+    ensures { result ≡ xor_from (folded sum) (drop (in_words bytes.now) bytes.now) }
 {
     fold(sum ^ last_bytes(bytes))
 }
@@ -136,7 +138,7 @@ fn with_last(sum: u64, bytes: &[u8]) -> u8
 // The exclusive-or of x and fewer than sixteen bytes, as short frames have: one word at most.
 fn xor_short(x: u8, bytes: &[u8]) -> u8
     requires { length bytes.now < 16 }
-    ensures { result ≡ xor_from x (before bytes) }
+    ensures { result ≡ xor_from x bytes.now }
 {
     if 8 <= bytes.len() {
         return with_last(wide(x) ^ word(bytes, 0), bytes);
@@ -146,7 +148,7 @@ fn xor_short(x: u8, bytes: &[u8]) -> u8
 
 // The exclusive-or of x and some bytes: by words, where there are at least eight bytes. Fewer than eight words are compiled without a loop.
 pub fn xor_from(x: u8, bytes: &[u8]) -> u8
-    ensures { result ≡ xor_from x (before bytes) }
+    ensures { result ≡ xor_from x bytes.now }
 {
     if bytes.len() < 16 {
         return xor_short(x, bytes);

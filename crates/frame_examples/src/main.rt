@@ -1,4 +1,6 @@
 // Runs the worked bytes of document 01 and the standard's frame types through the frame writer and reader, and prints what they answer.
+#![tactic(auto)]
+
 use base::Refusal;
 use example_texts::{print_line, put_header};
 use frame::{ACK, BACK, Delimiter, Found, Header, Read, STX, Written};

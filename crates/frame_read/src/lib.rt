@@ -1,4 +1,6 @@
 // The frame reader: the frame at the front of the caller's bytes, and the part of those bytes that is its data.
+#![tactic(auto)]
+
 ghost use Rattle.std.specs.Prelude.{◌≡◌, ◌+◌, ◌^◌, ◌≤◌, ◌<◌, length};
 ghost use Rattle.base.specs.Lent.{before};
 ghost use Rattle.frame.specs.Limits.{most_data};
@@ -10,7 +12,7 @@ use frame::{Delimiter, Found, Header, Read};
 
 // How many 0xFF the bytes begin with.
 fn count_preambles(bytes: &[u8]) -> usize
-    ensures { (result ≡ preambles (before bytes)) × (result ≤ length (before bytes)) }
+    ensures { (result ≡ preambles bytes.now) × (result ≤ length bytes.now) }
 {
     let mut i = 0;
     while i < bytes.len() {
@@ -32,7 +34,7 @@ fn wide(x: u8) -> u64
 // The unique address in a body that is long enough to hold one.
 fn unique_address(body: &[u8]) -> u64
     requires { 6 ≤ length body.now }
-    ensures { result ≡ unique_address (before body) }
+    ensures { result ≡ unique_address body.now }
 {
     wide(body[1] % 64) * 4294967296
         + wide(body[2]) * 16777216
@@ -44,7 +46,7 @@ fn unique_address(body: &[u8]) -> u64
 // The address in a body whose command stands at place.
 fn address_of(body: &[u8], long: bool, place: usize) -> u64
     requires { (command_place long 0 ≤ place) × (place < length body.now) }
-    ensures { result ≡ address_of long (before body) }
+    ensures { result ≡ address_of long body.now }
 {
     if long {
         return unique_address(body);
@@ -55,7 +57,7 @@ fn address_of(body: &[u8], long: bool, place: usize) -> u64
 // The header in a body whose command stands at place.
 fn header_of(frame: u8, long: bool, place: usize, body: &[u8]) -> Header
     requires { (command_place long 0 ≤ place) × (place < length body.now) }
-    ensures { result ≡ header_of frame long place (before body) }
+    ensures { result ≡ header_of frame long place body.now }
 {
     let first = body[1];
     Header {
@@ -89,7 +91,7 @@ fn with_count(
     count: usize,
 ) -> Read
     requires { (command_place long 0 ≤ place) × (place ≤ 261) × (count ≤ most_data) × (preamble + length body.now < 2 ^ 64) }
-    ensures { read_as result ≡ with_count preamble (before body) frame long expansion place count }
+    ensures { read_as result ≡ with_count preamble body.now frame long expansion place count }
 {
     if body.len() <= place + 2 + count {
         return Read::Refused(Refusal::EndsEarly);
@@ -124,7 +126,7 @@ fn with_command(
     place: usize,
 ) -> Read
     requires { (command_place long 0 ≤ place) × (place ≤ 261) × (preamble + length body.now < 2 ^ 64) }
-    ensures { read_as result ≡ with_command preamble (before body) frame long expansion place }
+    ensures { read_as result ≡ with_command preamble body.now frame long expansion place }
 {
     if body.len() <= place + 1 {
         return Read::Refused(Refusal::EndsEarly);
@@ -136,7 +138,7 @@ fn with_command(
 // The frame whose delimiter is the first byte of a body, after so many preamble characters.
 fn read_body(preamble: usize, body: &[u8]) -> Read
     requires { preamble + length body.now < 2 ^ 64 }
-    ensures { read_as result ≡ read_body preamble (before body) }
+    ensures { read_as result ≡ read_body preamble body.now }
 {
     if body.len() == 0 {
         return Read::Refused(Refusal::EndsEarly);
@@ -153,7 +155,7 @@ fn read_body(preamble: usize, body: &[u8]) -> Read
 
 // The frame at the front of some bytes.
 pub fn read(bytes: &[u8]) -> Read
-    ensures { read_as result ≡ read_frame (before bytes) }
+    ensures { read_as result ≡ read_frame bytes.now }
 {
     let preamble = count_preambles(bytes);
     if preamble < 2 {
@@ -164,7 +166,7 @@ pub fn read(bytes: &[u8]) -> Read
 
 // The part of some bytes that begins at start and has count bytes; none where it would run past the end.
 pub fn part(bytes: &[u8], start: usize, count: usize) -> &[u8]
-    ensures { result.now ≡ part_of (before bytes) start count }
+    ensures { result.now ≡ part_of bytes.now start count }
 {
     if start <= bytes.len() {
         if count <= bytes.len() - start {

@@ -1,4 +1,6 @@
 // The frame writer: it takes a frame's fields and data, and writes its bytes into the part of a lent buffer that begins at the named place.
+#![tactic(auto)]
+
 ghost use Rattle.std.specs.Prelude.{◌≡◌, [], ◌∷◌, ◌+◌, ◌^◌, ◌≤◌, ◌<◌, length};
 ghost use Rattle.base.specs.Lent.{before, after};
 ghost use Rattle.base.specs.Choice.{if◌then◌else◌};
@@ -15,7 +17,7 @@ use frame::{Header, Written};
 
 // The preamble: every byte of its part is 0xFF.
 fn put_preamble(part: &mut [u8])
-    ensures { after part ≡ preamble_bytes (length (before part)) }
+    ensures { part.new ≡ preamble_bytes (length part.old) }
 {
     let mut i = 0;
     while i < part.len() {
@@ -53,7 +55,7 @@ fn delimiter_byte(h: Header) -> u8
 // Puts a field of one byte. Like each function that puts a field, it returns the exclusive-or of x and what it put.
 fn put_byte(part: &mut [u8], x: u8, byte: u8) -> u8
     requires { length part.old ≡ 1 }
-    ensures { PartIs x (byte ∷ []) (after part) result }
+    ensures { PartIs x (byte ∷ []) part.new result }
 {
     part[0] = byte;
     x ^ byte
@@ -62,7 +64,7 @@ fn put_byte(part: &mut [u8], x: u8, byte: u8) -> u8
 // Puts a unique address.
 fn put_long_address(part: &mut [u8], x: u8, h: Header) -> u8
     requires { (length part.old ≡ 5) × (h.address < 2 ^ 38) }
-    ensures { PartIs x (long_address h) (after part) result }
+    ensures { PartIs x (long_address h) part.new result }
 {
     let a = h.address;
     let first = first_byte(h, (a / 4294967296) as u8);
@@ -81,7 +83,7 @@ fn put_long_address(part: &mut [u8], x: u8, h: Header) -> u8
 // Puts the address.
 fn put_address(part: &mut [u8], x: u8, h: Header) -> u8
     requires { (length part.old ≡ address_length h.long) × (h.address ≤ largest_address h.long) }
-    ensures { PartIs x (address_bytes h) (after part) result }
+    ensures { PartIs x (address_bytes h) part.new result }
 {
     if h.long {
         return put_long_address(part, x, h);
@@ -92,7 +94,7 @@ fn put_address(part: &mut [u8], x: u8, h: Header) -> u8
 // Puts delimiter, address, command and byte count.
 fn put_header(part: &mut [u8], h: Header, count: u8) -> u8
     requires { (length part.old ≡ header_length h) × (h.kind ≤ 6) × (h.address ≤ largest_address h.long) }
-    ensures { PartIs 0 (header_bytes h count) (after part) result }
+    ensures { PartIs 0 (header_bytes h count) part.new result }
 {
     let address_end = part.len() - 2;
     let command_end = part.len() - 1;
@@ -105,7 +107,7 @@ fn put_header(part: &mut [u8], h: Header, count: u8) -> u8
 // Puts the data.
 fn put_data(part: &mut [u8], x: u8, bytes: &[u8]) -> u8
     requires { length part.old ≡ length bytes.now }
-    ensures { PartIs x (before bytes) (after part) result }
+    ensures { PartIs x bytes.now part.new result }
 {
     let mut sum = x;
     let mut i = 0;
@@ -131,7 +133,7 @@ fn header_length(h: Header) -> usize
 // Puts delimiter to check byte at the front of part.
 fn put_body(part: &mut [u8], h: Header, bytes: &[u8])
     requires { (header_length h + length bytes.now + 1 ≤ length part.old) × WithinLimits h (length bytes.now) }
-    ensures { after part ≡ stored (before part) 0 (body_bytes h (before bytes)) }
+    ensures { part.new ≡ stored part.old 0 (body_bytes h bytes.now) }
 {
     let start = header_length(h);
     let end = start + bytes.len();
@@ -143,7 +145,7 @@ fn put_body(part: &mut [u8], h: Header, bytes: &[u8])
 // Puts the whole frame at the front of part.
 fn put_frame(part: &mut [u8], preamble: usize, h: Header, bytes: &[u8])
     requires { (frame_length preamble h (length bytes.now) ≤ length part.old) × WithinLimits h (length bytes.now) }
-    ensures { after part ≡ stored (before part) 0 (frame_bytes preamble h (before bytes)) }
+    ensures { part.new ≡ stored part.old 0 (frame_bytes preamble h bytes.now) }
 {
     put_preamble(&mut part[0..preamble]);
     put_body(&mut part[preamble..], h, bytes);
@@ -204,7 +206,7 @@ fn answer(preamble: usize, h: Header, count: usize, room: usize, place: usize) -
 
 // Writes a frame into the buffer from a place on, or refuses and leaves the buffer as it was.
 pub fn write(preamble: usize, h: Header, bytes: &[u8], buffer: &mut [u8], place: usize) -> Written
-    ensures { WriteIs preamble h (before bytes) (before buffer) place result (after buffer) }
+    ensures { WriteIs preamble h bytes.now buffer.old place result buffer.new }
 {
     let written = answer(preamble, h, bytes.len(), buffer.len(), place);
     match written {

@@ -1,5 +1,7 @@
 // Prints the frames and breaks of a recording: frames FILE. A line has the first and the last tick, and whole, damaged or broken; for a whole frame there follow type, master, address, command, byte count and data in hexadecimal.
 // The file is read twice, a piece at a time, first for refusal 21: if it is refused, its number and the first bad tick are the only line.
+#![tactic(auto)]
+
 ghost use Rattle.std.specs.Prelude.{◌≡◌, length};
 
 use libc::{SEEK_SET, STDERR_FILENO, STDOUT_FILENO};
@@ -74,7 +76,7 @@ fn write_lines(out: &[u8]) -> bool {
 }
 
 // What is kept after a piece, and whether its lines were written.
-#[derive(Drop)]
+#[derive(Clone, Copy)]
 struct Went {
     progress: Progress,
     on: bool,

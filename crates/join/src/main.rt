@@ -1,4 +1,6 @@
 // Joins two recordings of one pair: join FIRST SECOND > JOINED. The files are read twice, a piece of each at a time, first for the answer and then to write: nothing is written for taps that are refused. A refusal is printed on standard error.
+#![tactic(auto)]
+
 use base::Refusal;
 use libc::{SEEK_SET, STDERR_FILENO, STDOUT_FILENO};
 use recording_join::JoinAnswer;

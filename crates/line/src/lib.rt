@@ -1,4 +1,6 @@
 // The line: what is heard in a tick, the profiles, and what the tick reader holds and tells.
+#![tactic(auto)]
+
 ghost use Rattle.std.specs.Prelude.{◌≡◌};
 ghost use Rattle.line.specs.Heard.{heard_of};
 ghost use Rattle.line.specs.Told.{event_number};
@@ -8,7 +10,7 @@ use base::Refusal;
 use frame::Header;
 
 // How a character was damaged.
-#[derive(Drop)]
+#[derive(Clone, Copy)]
 pub enum Damage {
     Parity,
     Overrun,
@@ -16,7 +18,7 @@ pub enum Damage {
 }
 
 // What a party hears in a tick.
-#[derive(Drop)]
+#[derive(Clone, Copy)]
 pub enum Heard {
     Silence,
     Character(u8),
@@ -24,7 +26,7 @@ pub enum Heard {
 }
 
 // The five numbers of a profile, in ticks.
-#[derive(Drop)]
+#[derive(Clone, Copy)]
 pub struct Profile {
     // slave time-out
     pub sto: u16,
@@ -38,14 +40,14 @@ pub struct Profile {
 }
 
 // What making a profile answers.
-#[derive(Drop)]
+#[derive(Clone, Copy)]
 pub enum MadeProfile {
     Made(Profile),
     Refused(Refusal),
 }
 
 // Where the tick reader stands.
-#[derive(Drop)]
+#[derive(Clone, Copy)]
 pub enum Place {
     // passes over characters until a silent tick
     Passing,
@@ -67,7 +69,7 @@ pub enum Place {
 }
 
 // What is wrong with a frame: damage in command, data or check byte by its kind, a wrong check byte, damage in address or expansion bytes.
-#[derive(Drop)]
+#[derive(Clone, Copy)]
 pub struct FrameDamage {
     pub parity: bool,
     pub overrun: bool,
@@ -77,7 +79,7 @@ pub struct FrameDamage {
 }
 
 // What the tick reader holds from tick to tick: its place, and what it has heard of the frame so far.
-#[derive(Drop)]
+#[derive(Clone, Copy)]
 pub struct Receiver {
     pub header: Header,
     pub place: Place,
@@ -91,7 +93,7 @@ pub struct Receiver {
 }
 
 // A frame that was heard to its end; its data are the first count bytes of the lent buffer.
-#[derive(Drop)]
+#[derive(Clone, Copy)]
 pub struct Whole {
     pub header: Header,
     pub expansion: u8,
@@ -99,7 +101,7 @@ pub struct Whole {
 }
 
 // What the tick reader tells in a tick.
-#[derive(Drop)]
+#[derive(Clone, Copy)]
 pub enum Event {
     Nothing,
     // a character that is passed over
@@ -113,7 +115,7 @@ pub enum Event {
 }
 
 // The tick reader after a tick, and what it tells.
-#[derive(Drop)]
+#[derive(Clone, Copy)]
 pub struct Taken {
     pub receiver: Receiver,
     pub event: Event,

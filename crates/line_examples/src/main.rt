@@ -1,4 +1,6 @@
 // Feeds recorded ticks to the tick reader, and prints each tick in which it tells something.
+#![tactic(auto)]
+
 use example_texts::{print_line, put_header};
 use line::{Event, FrameDamage, Whole};
 use texts::{bit, put_all_spaced, put_bytes, put_field};

@@ -1,4 +1,6 @@
 // The tick reader: in each tick it takes what is heard, and tells what became of a frame.
+#![tactic(auto)]
+
 ghost use Rattle.std.specs.Prelude.{◌≡◌, true, false};
 ghost use Rattle.base.specs.Lent.{before, after};
 ghost use Rattle.base.specs.Choice.{if◌then◌else◌, ◌=?◌};
@@ -567,7 +569,7 @@ fn heard_damage(r: Receiver, c: u8, kind: Damage) -> Taken
 
 // Keeps a data byte at its number in the lent buffer.
 fn keep_byte(n: u8, c: u8, bytes: &mut [u8; 255])
-    ensures { after bytes ≡ kept_byte n c (before bytes) }
+    ensures { bytes.new ≡ kept_byte n c bytes.old }
 {
     if n < 255 {
         let at = n as usize;
@@ -577,7 +579,7 @@ fn keep_byte(n: u8, c: u8, bytes: &mut [u8; 255])
 
 // The data buffer after a character.
 pub fn keep(place: Place, c: u8, bytes: &mut [u8; 255])
-    ensures { after bytes ≡ kept place c (before bytes) }
+    ensures { bytes.new ≡ kept place c bytes.old }
 {
     match place {
         Place::Passing => {}
@@ -595,7 +597,7 @@ pub fn keep(place: Place, c: u8, bytes: &mut [u8; 255])
 
 // A tick: it takes what was heard, and the buffer that holds the data of the frame being heard.
 pub fn take(r: Receiver, heard: Heard, bytes: &mut [u8; 255]) -> Taken
-    ensures { ReaderTakeIs r heard (before bytes) result (after bytes) }
+    ensures { ReaderTakeIs r heard bytes.old result bytes.new }
 {
     let place = r.place;
     match heard {

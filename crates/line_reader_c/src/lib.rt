@@ -1,4 +1,6 @@
 // The tick reader for programs in C: a tick of it, with its state as words that the caller lends.
+#![tactic(auto)]
+
 ghost use Rattle.line.specs.Heard.{heard_of};
 ghost use Rattle.line_reader_c.specs.Tick.{ReaderTicks};
 

@@ -1,4 +1,6 @@
 // Document 02, item 12: how much data for a wanted turn, and the longest wait for so much data.
+#![tactic(auto)]
+
 ghost use Rattle.std.specs.Prelude.{◌≡◌, ◌+◌, ◌*◌, ◌<◌};
 ghost use Rattle.frame.specs.Limits.{longest_frame};
 ghost use Rattle.turns.specs.Demand3.{longest_wait, longer_with_burst};
@@ -8,14 +10,14 @@ use base::Refusal;
 use line::{MadeProfile, Profile};
 
 // What is answered for a wait: so many data bytes, or a refusal.
-#[derive(Drop)]
+#[derive(Clone, Copy)]
 pub enum DataLength {
     Bytes(u8),
     Refused(Refusal),
 }
 
 // What is answered for a data length: so many ticks, or a refusal.
-#[derive(Drop)]
+#[derive(Clone, Copy)]
 pub enum LongestWait {
     Ticks(u32),
     Refused(Refusal),

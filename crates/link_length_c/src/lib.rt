@@ -1,4 +1,6 @@
 // The data length for a wait and the longest wait for a data length, for programs in C.
+#![tactic(auto)]
+
 ghost use Rattle.link_length_c.specs.Call.{profile, LengthCall, WaitCall};
 
 use line::Profile;

@@ -1,4 +1,6 @@
 // A list of ticks as bytes, and the calls of each tick. Every byte string is some list of ticks (specs/Ticks.antt).
+#![tactic(auto)]
+
 ghost use Rattle.std.specs.Prelude.{◌≡◌, ◌+◌, ◌*◌, ◌%◌, ◌^◌, ◌≤◌, ◌<◌, length, drop};
 ghost use Rattle.base.specs.Lent.{before};
 ghost use Rattle.frame.specs.Address.{byte_at};
@@ -17,7 +19,7 @@ fn wide(x: u8) -> u64
 // A byte of what stands from a place on, or 0 past the end.
 fn byte_in(ticks: &[u8], at: usize, k: usize) -> u8
     requires { at ≤ length ticks.now }
-    ensures { result ≡ byte_at (drop at (before ticks)) k }
+    ensures { result ≡ byte_at (drop at ticks.now) k }
 {
     if k < ticks.len() - at {
         return ticks[at + k];
@@ -35,7 +37,7 @@ fn length_of(high: u8, low: u8) -> u64
 // How long a call's data are.
 fn length_in(ticks: &[u8], at: usize) -> u64
     requires { at ≤ length ticks.now }
-    ensures { (result ≡ length_in (drop at (before ticks))) × (result < 257) }
+    ensures { (result ≡ length_in (drop at ticks.now)) × (result < 257) }
 {
     length_of(byte_in(ticks, at, 8), byte_in(ticks, at, 9))
 }
@@ -50,7 +52,7 @@ fn address_of(a: u8, b: u8, c: u8, d: u8, e: u8) -> u64
 // A call's address.
 fn address_in(ticks: &[u8], at: usize) -> u64
     requires { at ≤ length ticks.now }
-    ensures { result ≡ address_in (drop at (before ticks)) }
+    ensures { result ≡ address_in (drop at ticks.now) }
 {
     let a = byte_in(ticks, at, 3);
     let b = byte_in(ticks, at, 4);
@@ -63,7 +65,7 @@ fn address_in(ticks: &[u8], at: usize) -> u64
 // A call's data.
 fn part_in(ticks: &[u8], at: usize) -> Part
     requires { at ≤ length ticks.now }
-    ensures { result ≡ part_in (before ticks) at }
+    ensures { result ≡ part_in ticks.now at }
 {
     let room = ticks.len() - at;
     if room < 10 {
@@ -90,7 +92,7 @@ fn forward(at: usize, n: usize, end: usize) -> usize
 // The place after a call.
 fn next_in(ticks: &[u8], at: usize) -> usize
     requires { at ≤ length ticks.now }
-    ensures { (result ≡ next_in (before ticks) at) × (result ≤ length (before ticks)) }
+    ensures { (result ≡ next_in ticks.now at) × (result ≤ length ticks.now) }
 {
     if byte_in(ticks, at, 0) == 0 {
         return forward(at, 1, ticks.len());
@@ -102,7 +104,7 @@ fn next_in(ticks: &[u8], at: usize) -> usize
 // A master's request.
 fn wanted_in(ticks: &[u8], at: usize, long: bool) -> master::MasterCall
     requires { at ≤ length ticks.now }
-    ensures { result ≡ request_of long (drop at (before ticks)) }
+    ensures { result ≡ request_of long (drop at ticks.now) }
 {
     let kind = byte_in(ticks, at, 0);
     let preamble = byte_in(ticks, at, 1);
@@ -121,7 +123,7 @@ fn wanted_in(ticks: &[u8], at: usize, long: bool) -> master::MasterCall
 // A master's call, by its form.
 fn request_by(form: u8, ticks: &[u8], at: usize) -> master::MasterCall
     requires { at ≤ length ticks.now }
-    ensures { result ≡ request_by form (drop at (before ticks)) }
+    ensures { result ≡ request_by form (drop at ticks.now) }
 {
     if form == 1 {
         return wanted_in(ticks, at, false);
@@ -134,7 +136,7 @@ fn request_by(form: u8, ticks: &[u8], at: usize) -> master::MasterCall
 
 fn request_in(ticks: &[u8], at: usize) -> master::MasterCall
     requires { at ≤ length ticks.now }
-    ensures { result ≡ request_in (drop at (before ticks)) }
+    ensures { result ≡ request_in (drop at ticks.now) }
 {
     let kind = byte_in(ticks, at, 0);
     request_by(kind % 4, ticks, at)
@@ -143,14 +145,14 @@ fn request_in(ticks: &[u8], at: usize) -> master::MasterCall
 // A device's call, by its kind.
 fn answer_in(ticks: &[u8], at: usize) -> device_tick::DeviceCall
     requires { at ≤ length ticks.now }
-    ensures { result ≡ answer_in (drop at (before ticks)) }
+    ensures { result ≡ answer_in (drop at ticks.now) }
 {
     device_tick::host_call_by(byte_in(ticks, at, 0), byte_in(ticks, at, 2))
 }
 
 fn master_call(ticks: &[u8], at: usize) -> MasterCallWithPart
     requires { at ≤ length ticks.now }
-    ensures { result ≡ master_call_at (before ticks) at }
+    ensures { result ≡ master_call_at ticks.now at }
 {
     MasterCallWithPart {
         call: request_in(ticks, at),
@@ -160,7 +162,7 @@ fn master_call(ticks: &[u8], at: usize) -> MasterCallWithPart
 
 fn device_call(ticks: &[u8], at: usize) -> DeviceCallWithPart
     requires { at ≤ length ticks.now }
-    ensures { result ≡ device_call_at (before ticks) at }
+    ensures { result ≡ device_call_at ticks.now at }
 {
     DeviceCallWithPart {
         call: answer_in(ticks, at),
@@ -169,13 +171,13 @@ fn device_call(ticks: &[u8], at: usize) -> DeviceCallWithPart
 }
 
 // Calls that were read, and the place after them.
-#[derive(Drop)]
+#[derive(Clone, Copy)]
 struct MastersRead {
     calls: [MasterCallWithPart; 2],
     next: usize,
 }
 
-#[derive(Drop)]
+#[derive(Clone, Copy)]
 struct DevicesRead {
     calls: [DeviceCallWithPart; 6],
     next: usize,
@@ -183,7 +185,7 @@ struct DevicesRead {
 
 fn masters_read(ticks: &[u8], start: usize) -> MastersRead
     requires { start ≤ length ticks.now }
-    ensures { CallsRead master_call_at (before ticks) 2 start result.calls result.next }
+    ensures { CallsRead master_call_at ticks.now 2 start result.calls result.next }
 {
     let none = link_parties::no_master_call();
     let mut calls = [none; 2];
@@ -203,7 +205,7 @@ fn masters_read(ticks: &[u8], start: usize) -> MastersRead
 
 fn devices_read(ticks: &[u8], start: usize) -> DevicesRead
     requires { start ≤ length ticks.now }
-    ensures { CallsRead device_call_at (before ticks) 6 start result.calls result.next }
+    ensures { CallsRead device_call_at ticks.now 6 start result.calls result.next }
 {
     let none = link_parties::no_device_call();
     let mut calls = [none; 6];
@@ -222,7 +224,7 @@ fn devices_read(ticks: &[u8], start: usize) -> DevicesRead
 }
 
 // The calls of a tick, and the place after it.
-#[derive(Drop)]
+#[derive(Clone, Copy)]
 pub struct TickRead {
     pub calls: Calls,
     pub next: usize,
@@ -230,7 +232,7 @@ pub struct TickRead {
 
 fn tick_from(ticks: &[u8], at: usize) -> TickRead
     requires { at ≤ length ticks.now }
-    ensures { result ≡ tick_from (before ticks) at }
+    ensures { result ≡ tick_from ticks.now at }
 {
     let m = masters_read(ticks, at);
     let masters = m.calls;
@@ -248,7 +250,7 @@ fn tick_from(ticks: &[u8], at: usize) -> TickRead
 
 // The calls of the tick that stands at this place of the list, or at its end, and the place after it.
 pub fn read(ticks: &[u8], at: usize) -> TickRead
-    ensures { result ≡ tick_at (before ticks) at }
+    ensures { result ≡ tick_at ticks.now at }
 {
     if at < ticks.len() {
         return tick_from(ticks, at);

@@ -1,4 +1,6 @@
 // The parties of a link: two masters and six slots for devices, the calls to them, and the shorter ticks of a party that only counts a silent tick or only hears a character.
+#![tactic(auto)]
+
 ghost use Rattle.std.specs.Prelude.{◌≡◌, ◌<◌};
 ghost use Rattle.base.specs.Lent.{before, after};
 ghost use Rattle.line.specs.Reader.{taken, taken_data};
@@ -18,14 +20,14 @@ use master::MasterTicked;
 use turns::{CallResult, Device, DeviceTold, Master, MasterTold, Sent, Stage, Timer, Turn, Wish};
 
 // The data of a call: so many of the lent bytes from a place on, or as many as there are.
-#[derive(Drop)]
+#[derive(Clone, Copy)]
 pub struct Part {
     pub from: usize,
     pub count: usize,
 }
 
 // Where a part of so many lent bytes begins, and where it ends.
-#[derive(Drop)]
+#[derive(Clone, Copy)]
 struct Bounds {
     start: usize,
     end: usize,
@@ -64,35 +66,35 @@ fn bounds_of(part: Part, room: usize) -> Bounds
 }
 
 // A host's call to a master in a tick, with the data of a request.
-#[derive(Drop)]
+#[derive(Clone, Copy)]
 pub struct MasterCallWithPart {
     pub call: master::MasterCall,
     pub part: Part,
 }
 
 // A host's call to a device in a tick, with the data of an answer or of a burst content.
-#[derive(Drop)]
+#[derive(Clone, Copy)]
 pub struct DeviceCallWithPart {
     pub call: device_tick::DeviceCall,
     pub part: Part,
 }
 
 // A tick's calls, at most one for each party.
-#[derive(Drop)]
+#[derive(Clone, Copy)]
 pub struct Calls {
     pub masters: [MasterCallWithPart; 2],
     pub devices: [DeviceCallWithPart; 6],
 }
 
 // A place for a device. Where it has none, any value may stand in `device`.
-#[derive(Drop)]
+#[derive(Clone, Copy)]
 pub struct Slot {
     pub device: Device,
     pub here: bool,
 }
 
 // A link: its parties, and what the line carried in the last tick. The first master is the primary.
-#[derive(Drop)]
+#[derive(Clone, Copy)]
 pub struct Link {
     pub masters: [Master; 2],
     pub devices: [Slot; 6],
@@ -100,20 +102,20 @@ pub struct Link {
 }
 
 // What a host was told, and what became of its call.
-#[derive(Drop)]
+#[derive(Clone, Copy)]
 pub struct MasterDid {
     pub told: MasterTold,
     pub result: CallResult,
 }
 
-#[derive(Drop)]
+#[derive(Clone, Copy)]
 pub struct DeviceDid {
     pub told: DeviceTold,
     pub result: CallResult,
 }
 
 // A link after so many ticks, and what the hosts were told and answered in them.
-#[derive(Drop)]
+#[derive(Clone, Copy)]
 pub struct Ticked {
     pub link: Link,
     pub count: u16,
@@ -191,7 +193,7 @@ fn calls_device(c: DeviceCallWithPart) -> bool
 
 // The data buffer after what was heard.
 pub fn keep(reader: Receiver, heard: Heard, bytes: &mut [u8; 255])
-    ensures { after bytes ≡ taken_data reader heard (before bytes) }
+    ensures { bytes.new ≡ taken_data reader heard bytes.old }
 {
     let place = reader.place;
     match heard {
@@ -216,7 +218,7 @@ fn is_listening(turn: Turn) -> bool
 }
 
 // How a party's tick goes: it only counts a silent tick, it only hears a character as the line's reader does, or it acts.
-#[derive(Drop)]
+#[derive(Clone, Copy)]
 pub enum Way {
     Counts,
     Hears,
@@ -224,7 +226,7 @@ pub enum Way {
 }
 
 // The line's reader after a tick, built again field by field (docs/BENCHMARKS.md, "The link"), and whether it finds nothing there.
-#[derive(Drop)]
+#[derive(Clone, Copy)]
 pub struct LineStep {
     pub reader: Receiver,
     pub quiet: bool,
@@ -631,7 +633,7 @@ pub fn master_tick(
     frame: &mut [u8; 284],
     bytes: &mut [u8; 255],
 ) -> MasterTicked
-    ensures { MasterIs limit m heard called (before put) frame bytes result }
+    ensures { MasterIs limit m heard called put.now frame bytes result }
 {
     let call = called.call;
     let part = called.part;
@@ -652,7 +654,7 @@ pub fn device_tick(
     bytes: &mut [u8; 255],
     contents: &mut [u8; 255],
 ) -> DeviceTicked
-    ensures { DeviceIs limit d heard called (before put) frame bytes contents result }
+    ensures { DeviceIs limit d heard called put.now frame bytes contents result }
 {
     let call = called.call;
     let part = called.part;

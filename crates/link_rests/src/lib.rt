@@ -1,4 +1,6 @@
 // A link that rests: the line is silent, and every party only counts. Until a host calls, nothing but timers changes. What it is after any number of ticks is worked out party by party.
+#![tactic(auto)]
+
 ghost use Rattle.std.specs.Prelude.{◌≡◌, map, ◌-◌};
 ghost use Rattle.link_rests.specs.Rests.{only_counts, device_rests, master_rests, slot_rests, slots_rest, masters_rest, link_rests};
 ghost use Rattle.link_rests.specs.Rests.{device_rested, timer_rested, master_rested, slot_rested, masters_rested, link_rested};

@@ -1,4 +1,6 @@
 // A run of the link over a lent list of ticks, in which each master starts at a tick of its own: item 14 is promised of it, and where both start in tick 0 demand 3, the credited answer and the BACKs.
+#![tactic(auto)]
+
 ghost use Rattle.std.specs.Prelude.{◌≡◌, ◌+◌, ◌-◌, ◌*◌, ◌≤◌, length};
 ghost use Rattle.base.specs.Events.{RunIs};
 ghost use Rattle.base.specs.Lent.{before, after};
@@ -38,12 +40,12 @@ fn taken_of(res: CallResult) -> u8
 // There are eight numbers in a row: what the array's type says, in words that the promise below needs.
 fn eight_numbers(row: &[u16])
     requires { length row.now ≡ 8 }
-    ensures { length (before row) ≡ 8 }
+    ensures { length row.now ≡ 8 }
 {}
 
 // How many send.
 fn senders_of(row: &[u16; 8]) -> u8
-    ensures { (result ≡ senders_in (before row)) × (result ≤ 8) }
+    ensures { (result ≡ senders_in row.now) × (result ≤ 8) }
 {
     eight_numbers(row);
     let mut senders = 0;
@@ -66,7 +68,7 @@ fn master_number(did: MasterDid, code: u16) -> u8
 
 // The number of a tick in which each party sent this and the masters' hosts were answered so.
 fn tick_number(row: &[u16; 8], masters: [MasterDid; 2]) -> u8
-    ensures { result ≡ row_number (before row) masters }
+    ensures { result ≡ row_number row.now masters }
 {
     let senders = senders_of(row);
     let a = master_number(masters[0], row[0]);
@@ -75,7 +77,7 @@ fn tick_number(row: &[u16; 8], masters: [MasterDid; 2]) -> u8
 }
 
 // In how many ticks each master starts: 0 for one that has started.
-#[derive(Drop)]
+#[derive(Clone, Copy)]
 pub struct StartTicks {
     pub primary: u64,
     pub secondary: u64,
@@ -169,7 +171,7 @@ fn link_behind(s: StartTicks, l: Link, t: Link) -> Link
 }
 
 // A link after a tick of a list, the tick's number, and the place after it.
-#[derive(Drop)]
+#[derive(Clone, Copy)]
 struct Stepped {
     link: Link,
     number: u8,
@@ -177,7 +179,7 @@ struct Stepped {
 }
 
 // A link with a data limit whose masters have so many ticks to wait for their start.
-#[derive(Drop)]
+#[derive(Clone, Copy)]
 struct Late {
     limit: u8,
     link: Link,
@@ -194,7 +196,7 @@ fn step_at(
     contents: &mut [[u8; 255]; 6],
     sent: &mut [[u16; 8]; 64],
 ) -> Stepped
-    ensures { LateStepIs x.limit x.link x.starts (before ticks) at frames bytes contents result }
+    ensures { LateStepIs x.limit x.link x.starts ticks.now at frames bytes contents result }
 {
     let limit = x.limit;
     let l = x.link;
@@ -228,7 +230,7 @@ fn run_from(
     contents: &mut [[u8; 255]; 6],
 ) -> usize
     requires { LateReady starts start }
-    ensures { LateRunIs limit start starts (before ticks) events frames bytes contents result }
+    ensures { LateRunIs limit start starts ticks.now events frames bytes contents result }
 {
     let mut sent = [[0u16; 8]; 64];
     let mut l = start;
@@ -258,7 +260,7 @@ fn run_from(
 // A run of a link that was started, with rows of its own.
 fn run_started(limit: u8, start: Link, starts: StartTicks, ticks: &[u8], events: &mut [u8]) -> usize
     requires { LateReady starts start }
-    ensures { RunIs (late_numbers limit start starts rows_fresh (before ticks)) (before events) result (after events) }
+    ensures { RunIs (late_numbers limit start starts rows_fresh ticks.now) events.old result events.new }
 {
     let mut frames = [[0u8; 284]; 8];
     let mut bytes = [[0u8; 255]; 8];
@@ -276,7 +278,7 @@ fn run_started(limit: u8, start: Link, starts: StartTicks, ticks: &[u8], events:
 }
 
 // What a run answers: how many ticks it gave numbers of, or why the link's start was refused.
-#[derive(Drop)]
+#[derive(Clone, Copy)]
 pub enum RunEnded {
     Ran(usize),
     Refused(Refusal),
@@ -292,7 +294,7 @@ pub fn late_run(
     ticks: &[u8],
     events: &mut [u8],
 ) -> RunEnded
-    ensures { LateKeeps limit profile retries settings starts.primary starts.secondary (before ticks) (before events) result (after events) }
+    ensures { LateKeeps limit profile retries settings starts.primary starts.secondary ticks.now events.old result events.new }
 {
     let started = link_start::start_limited(limit, profile, retries, settings);
     let answer = started.answer;
@@ -318,7 +320,7 @@ pub fn run(
     ticks: &[u8],
     events: &mut [u8],
 ) -> RunEnded
-    ensures { RunKeeps limit profile retries settings (before ticks) (before events) result (after events) }
+    ensures { RunKeeps limit profile retries settings ticks.now events.old result events.new }
 {
     let starts = StartTicks {
         primary: 0,

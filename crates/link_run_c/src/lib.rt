@@ -1,4 +1,6 @@
 // A run of the link for programs in C and Rust, in which each master starts at a tick of its own.
+#![tactic(auto)]
+
 ghost use Rattle.std.specs.Prelude.{◌≡◌, length};
 ghost use Rattle.base.specs.Lent.{before};
 ghost use Rattle.link_run_c.specs.Settings.{profile_of, setting_of, settings_in, EndsAs, RunsAs};
@@ -22,7 +24,7 @@ fn setting_of(preamble: u8, polling: u8, unique: u64) -> Setting
 // There is a number for each slot: what the arrays' types say, in words that the promise below needs.
 fn six_each(preambles: &[u8], pollings: &[u8], uniques: &[u64])
     requires { (length preambles.now ≡ 6) × (length pollings.now ≡ 6) × (length uniques.now ≡ 6) }
-    ensures { (length (before preambles) ≡ 6) × (length (before pollings) ≡ 6) × (length (before uniques) ≡ 6) }
+    ensures { (length preambles.now ≡ 6) × (length pollings.now ≡ 6) × (length uniques.now ≡ 6) }
 {}
 
 fn settings_of(preambles: &[u8; 6], pollings: &[u8; 6], uniques: &[u64; 6]) -> [Setting; 6]

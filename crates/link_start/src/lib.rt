@@ -1,4 +1,6 @@
 // The start of a link.
+#![tactic(auto)]
+
 ghost use Rattle.std.specs.Prelude.{◌≡◌};
 ghost use Rattle.base.specs.Refusal.{number, accepted, refused};
 ghost use Rattle.turns.specs.Master.{master_starts};
@@ -12,7 +14,7 @@ use master::MasterStarted;
 use turns::{Device, Master};
 
 // What a device is started with, where the slot has one.
-#[derive(Drop)]
+#[derive(Clone, Copy)]
 pub struct Setting {
     pub here: bool,
     pub preamble: usize,
@@ -21,39 +23,39 @@ pub struct Setting {
 }
 
 // What became of some starts: all were taken, or the lowest of their refusals.
-#[derive(Drop)]
+#[derive(Clone, Copy)]
 pub enum StartAnswer {
     Started,
     Refused(Refusal),
 }
 
 // What became of a link's start, and the link. Where it was refused, that is a link without a device.
-#[derive(Drop)]
+#[derive(Clone, Copy)]
 pub struct LinkStarted {
     pub answer: StartAnswer,
     pub link: Link,
 }
 
 // Parties whose start was taken; where it was refused, any value may stand there.
-#[derive(Drop)]
+#[derive(Clone, Copy)]
 struct MasterBegun {
     master: Master,
     answer: StartAnswer,
 }
 
-#[derive(Drop)]
+#[derive(Clone, Copy)]
 struct MastersBegun {
     masters: [Master; 2],
     answer: StartAnswer,
 }
 
-#[derive(Drop)]
+#[derive(Clone, Copy)]
 struct SlotBegun {
     slot: Slot,
     answer: StartAnswer,
 }
 
-#[derive(Drop)]
+#[derive(Clone, Copy)]
 struct DevicesBegun {
     devices: [Slot; 6],
     answer: StartAnswer,

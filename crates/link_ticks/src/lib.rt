@@ -1,4 +1,6 @@
 // Ticks of a link: two masters and six slots for devices on one line. All parties tick in one function, so that no state is copied from tick to tick: docs/BENCHMARKS.md, "The link".
+#![tactic(auto)]
+
 ghost use Rattle.std.specs.Prelude.{◌≡◌, length};
 ghost use Rattle.base.specs.Lent.{before};
 ghost use Rattle.link_parties.specs.Ways.{in_slot};
@@ -157,7 +159,7 @@ fn goes_on(t: u16, most: u16, told: bool) -> bool
 // There is a row for each party: the arrays' types say so, and the promise below needs it in words.
 fn rows_each(frames: &[[u8; 284]], bytes: &[[u8; 255]], contents: &[[u8; 255]], sent: &[[u16; 8]])
     requires { (length frames.now ≡ 8) × (length bytes.now ≡ 8) × (length contents.now ≡ 6) × (length sent.now ≡ 64) }
-    ensures { (length (before frames) ≡ 8) × (length (before bytes) ≡ 8) × (length (before contents) ≡ 6) × (length (before sent) ≡ 64) }
+    ensures { (length frames.now ≡ 8) × (length bytes.now ≡ 8) × (length contents.now ≡ 6) × (length sent.now ≡ 64) }
 {}
 
 // The ticks, with link and calls given part by part. In each the devices tick from the last to the first, then the masters, and the line joins what they send in that order. `reader` is the line's, and ms_follow and ds_follow say whose reader is known to equal it: whoever heard in the last tick as it did.
@@ -175,7 +177,7 @@ fn ticks_of(
     contents: &mut [[u8; 255]; 6],
     sent: &mut [[u16; 8]; 64],
 ) -> Ticked
-    ensures { TicksAre limit (link_with masters devices heard) (calls_with requests calls) (before put) most frames bytes contents sent result }
+    ensures { TicksAre limit (link_with masters devices heard) (calls_with requests calls) put.now most frames bytes contents sent result }
 {
     rows_each(frames, bytes, contents, sent);
     let mut ms = masters;
@@ -314,7 +316,7 @@ fn ticks_of(
 }
 
 // The most that is taken: so many ticks, and so many bytes of data in a host's call, the link's data limit.
-#[derive(Drop)]
+#[derive(Clone, Copy)]
 pub struct Most {
     pub ticks: u16,
     pub data: u8,
@@ -331,7 +333,7 @@ pub fn ticks(
     contents: &mut [[u8; 255]; 6],
     sent: &mut [[u16; 8]; 64],
 ) -> Ticked
-    ensures { TicksAre most.data link calls (before put) most.ticks frames bytes contents sent result }
+    ensures { TicksAre most.data link calls put.now most.ticks frames bytes contents sent result }
 {
     let masters = link.masters;
     let devices = link.devices;

@@ -1,4 +1,6 @@
 // Writes the script of a load to standard output: its arguments are the seed and the number of records, in decimal. A refusal is printed as its number.
+#![tactic(auto)]
+
 ghost use Rattle.std.specs.Prelude.{◌≡◌, ◌≤◌, length};
 ghost use Rattle.base.specs.Lent.{before};
 ghost use Rattle.load.specs.Arguments.{number_from};
@@ -24,7 +26,7 @@ fn wide(x: u8) -> usize
 
 // A number in decimal, or 0.
 fn number_of(text: &[u8]) -> u32
-    ensures { result ≡ number_from 0 (before text) }
+    ensures { result ≡ number_from 0 text.now }
 {
     let mut n: usize = 0;
     let mut i = 0;

@@ -1,4 +1,6 @@
 // The load from a seed number: a player script, written into a lent buffer.
+#![tactic(auto)]
+
 ghost use Rattle.std.specs.Prelude.{◌≡◌, [], ◌+◌, ◌*◌, ◌≤◌, ◌<◌, length, get_or, take};
 ghost use Rattle.base.specs.Lent.{before, after};
 ghost use Rattle.base.specs.Store.{stored};
@@ -11,7 +13,7 @@ use base::Refusal;
 use player_script::Entry;
 
 // What the writer answers: how many bytes the script has, or why there is none.
-#[derive(Drop)]
+#[derive(Clone, Copy)]
 pub enum Loaded {
     To(usize),
     Refused(Refusal),
@@ -169,7 +171,7 @@ fn upper(tick: usize, x: u32) -> Entry
 // A record's four bytes.
 fn put_record(out: &mut [u8], at: usize, e: Entry)
     requires { (at + 4 ≤ length out.old) × Fits e }
-    ensures { after out ≡ stored (before out) at (entry_bytes e []) }
+    ensures { out.new ≡ stored out.old at (entry_bytes e []) }
 {
     let tick = e.tick;
     let party = e.party;
@@ -182,7 +184,7 @@ fn put_record(out: &mut [u8], at: usize, e: Entry)
 // Puts the first n records of the opening and the mark at the front.
 fn put_front(out: &mut [u8], x: u32, n: usize)
     requires { (n ≤ 12) × (4 * n ≤ length out.old) }
-    ensures { after out ≡ stored (before out) 0 (script_bytes (take n (front x))) }
+    ensures { out.new ≡ stored out.old 0 (script_bytes (take n (front x))) }
 {
     let mut i = 0;
     while i < n {
@@ -195,7 +197,7 @@ fn put_front(out: &mut [u8], x: u32, n: usize)
 // Puts the last record or two, from pair k on.
 fn put_last(out: &mut [u8], at: usize, k: usize, x: u32, n: usize)
     requires { (1 ≤ n) × (n ≤ 2) × (k ≤ 32762) × (at + 4 * n ≤ length out.old) }
-    ensures { after out ≡ stored (before out) at (script_bytes (drawn_from k x n)) }
+    ensures { out.new ≡ stored out.old at (script_bytes (drawn_from k x n)) }
 {
     let tick = pair_tick(k);
     let stop = call(tick, 0, 0, 0);
@@ -211,7 +213,7 @@ fn put_last(out: &mut [u8], at: usize, k: usize, x: u32, n: usize)
 // Puts so many drawn records, the stop among them, at the front.
 fn put_drawn(out: &mut [u8], first: u32, count: usize)
     requires { (1 ≤ count) × (count ≤ 65524) × (4 * count ≤ length out.old) }
-    ensures { after out ≡ stored (before out) 0 (script_bytes (drawn_from 0 first count)) }
+    ensures { out.new ≡ stored out.old 0 (script_bytes (drawn_from 0 first count)) }
 {
     let mut k = 0;
     let mut x = first;
@@ -235,7 +237,7 @@ fn put_drawn(out: &mut [u8], first: u32, count: usize)
 // Puts a script of so many records at the front.
 fn put_script(out: &mut [u8], seed: u32, count: usize)
     requires { (1 ≤ count) × (count ≤ most_records) × (4 * count ≤ length out.old) }
-    ensures { after out ≡ stored (before out) 0 (script_bytes (load seed count)) }
+    ensures { out.new ≡ stored out.old 0 (script_bytes (load seed count)) }
 {
     let x = draw(seed);
     if count <= 12 {
@@ -277,7 +279,7 @@ fn answer(seed: u32, count: usize, room: usize) -> Loaded
 
 // Writes the script of a seed, so many records with the stop among them, at the front of the buffer; or refuses and leaves the buffer as it was.
 pub fn write(seed: u32, count: u32, out: &mut [u8]) -> Loaded
-    ensures { LoadIs seed count (before out) result (after out) }
+    ensures { LoadIs seed count out.old result out.new }
 {
     let records = count as usize;
     let loaded = answer(seed, records, out.len());

@@ -11,7 +11,7 @@ use turns::{Ending, Master, MasterTaken, MasterTold, Stage, Timer};
 
 // After a whole frame: BURST, then the timer, and the message.
 fn after_frame(m: Master, r: Receiver, w: Whole, bytes: &[u8; 255]) -> MasterTaken
-    ensures { result ≡ after_frame m r w (before bytes) }
+    ensures { result ≡ after_frame m r w bytes.now }
 {
     let h = w.header;
     let g = m.message;
@@ -67,7 +67,7 @@ fn inside_frame(m: Master, r: Receiver) -> MasterTaken
 
 // After a character, by what the reader tells.
 fn on_character(m: Master, r: Receiver, event: Event, bytes: &[u8; 255]) -> MasterTaken
-    ensures { result ≡ on_character m r event (before bytes) }
+    ensures { result ≡ on_character m r event bytes.now }
 {
     match event {
         Event::Nothing => inside_frame(m, r),
@@ -269,7 +269,7 @@ fn hears_silence(m: Master) -> MasterTaken
 
 // Takes what was heard. The data of the frame being heard are kept in the lent bytes.
 pub fn take(m: Master, heard: Heard, bytes: &mut [u8; 255]) -> MasterTaken
-    ensures { MasterTakeIs m heard (before bytes) result (after bytes) }
+    ensures { MasterTakeIs m heard bytes.old result bytes.new }
 {
     if m.deaf {
         return hears_nothing(m);

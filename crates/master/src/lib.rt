@@ -1,4 +1,6 @@
 // A master: its start, its host's requests, what it sends, and its tick, in which it takes what was heard, then a request, then sends a character or none.
+#![tactic(auto)]
+
 mod hears;
 
 ghost use Rattle.std.specs.Prelude.{◌≡◌, true, false, length, ◌≤◌};
@@ -20,35 +22,35 @@ use turns::{
 };
 
 // What a start answers.
-#[derive(Drop)]
+#[derive(Clone, Copy)]
 pub enum MasterStarted {
     Started(Master),
     Refused(Refusal),
 }
 
 // What a request answers.
-#[derive(Drop)]
+#[derive(Clone, Copy)]
 pub enum MasterRequested {
     Accepted(Master),
     Refused(Refusal),
 }
 
 // A host's call in a tick.
-#[derive(Drop)]
+#[derive(Clone, Copy)]
 pub enum MasterCall {
     Nothing,
     Requests(Request),
 }
 
 // A master after its host's call.
-#[derive(Drop)]
+#[derive(Clone, Copy)]
 struct MasterCallTaken {
     master: Master,
     result: CallResult,
 }
 
 // A master after a tick, what it sends, and what it tells its host.
-#[derive(Drop)]
+#[derive(Clone, Copy)]
 pub struct MasterTicked {
     pub master: Master,
     pub sent: Sent,
@@ -103,7 +105,7 @@ fn with_message(m: Master, h: Header, length: u16) -> Master
 // Puts an STX that can be written into the lent frame buffer; returns how many characters it has.
 fn put_stx(preamble: usize, h: Header, bytes: &[u8], frame: &mut [u8; 284]) -> u16
     requires { Fits preamble h (length bytes.now) }
-    ensures { FramePutIs preamble h (before bytes) (before frame) result (after frame) }
+    ensures { FramePutIs preamble h bytes.now frame.old result frame.new }
 {
     let written = frame_write::write(preamble, h, bytes, frame, 0);
     match written {
@@ -132,7 +134,7 @@ fn request_up_to(
     frame: &mut [u8; 284],
 ) -> MasterRequested
     requires { Fitting polling q.preamble }
-    ensures { UpToIs limit polling m q (before bytes) (before frame) result (after frame) }
+    ensures { UpToIs limit polling m q bytes.now frame.old result frame.new }
 {
     let g = m.message;
     let stage = g.stage;
@@ -168,7 +170,7 @@ pub fn request(
     bytes: &[u8],
     frame: &mut [u8; 284],
 ) -> MasterRequested
-    ensures { RequestIs limit m q (before bytes) (before frame) result (after frame) }
+    ensures { RequestIs limit m q bytes.now frame.old result frame.new }
 {
     if base::outside(q.preamble, 5, 20) {
         return MasterRequested::Refused(Refusal::PreambleLength);
@@ -246,7 +248,7 @@ fn sends_character(m: Master, t: Timer, stage: Stage, attempts: u16, c: u8) -> M
 
 // The character with this number of the STX.
 fn sends_at(m: Master, frame: &[u8; 284], n: u16, attempts: u16) -> MasterSent
-    ensures { result ≡ sends_at m (before frame) n attempts }
+    ensures { result ≡ sends_at m frame.now n attempts }
 {
     let g = m.message;
     let c = party::character_at(frame, n);
@@ -271,7 +273,7 @@ fn sends_at(m: Master, frame: &[u8; 284], n: u16, attempts: u16) -> MasterSent
 
 // A waiting message begins where a window is open.
 fn sends_waiting(m: Master, frame: &[u8; 284]) -> MasterSent
-    ensures { result ≡ sends_by m (before frame) Stage.Waiting }
+    ensures { result ≡ sends_by m frame.now Stage.Waiting }
 {
     let t = m.timer;
     let g = m.message;
@@ -283,7 +285,7 @@ fn sends_waiting(m: Master, frame: &[u8; 284]) -> MasterSent
 
 // Sends a character of the STX that stands in the lent frame buffer, or none.
 pub fn send(m: Master, frame: &[u8; 284]) -> MasterSent
-    ensures { result ≡ master_sends m (before frame) }
+    ensures { result ≡ master_sends m frame.now }
 {
     let g = m.message;
     let stage = g.stage;
@@ -355,7 +357,7 @@ fn request_by(
     put: &[u8],
     frame: &mut [u8; 284],
 ) -> MasterCallTaken
-    ensures { MasterCalledIs limit m (MasterCall.Requests q) (before put) (before frame) result (after frame) }
+    ensures { MasterCalledIs limit m (MasterCall.Requests q) put.now frame.old result frame.new }
 {
     let r = request(limit, m, q, put, frame);
     match r {
@@ -386,7 +388,7 @@ fn take_call(
     put: &[u8],
     frame: &mut [u8; 284],
 ) -> MasterCallTaken
-    ensures { MasterCalledIs limit m call (before put) (before frame) result (after frame) }
+    ensures { MasterCalledIs limit m call put.now frame.old result frame.new }
 {
     match call {
         MasterCall::Nothing => no_call(m),
@@ -452,7 +454,7 @@ pub fn tick(
     frame: &mut [u8; 284],
     bytes: &mut [u8; 255],
 ) -> MasterTicked
-    ensures { MasterTickIs limit m heard call (before put) (before frame) (before bytes) result (after frame) (after bytes) }
+    ensures { MasterTickIs limit m heard call put.now frame.old bytes.old result frame.new bytes.new }
 {
     let own = copy_master(m);
     let t = hears::take(own, heard, bytes);

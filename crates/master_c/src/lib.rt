@@ -1,4 +1,6 @@
 // A master for programs in C: its state as words that the caller lends, and its tick.
+#![tactic(auto)]
+
 ghost use Rattle.std.specs.Prelude.{◌<◌, ◌^◌, ◌≡◌};
 ghost use Rattle.base.specs.Lent.{before, after};
 ghost use Rattle.line.specs.Heard.{heard_of};
@@ -44,7 +46,7 @@ fn stage_of(word: u64) -> Stage
 }
 
 fn message_at(words: &[u64], place: u16) -> Message
-    ensures { result ≡ message_at (before words) place }
+    ensures { result ≡ message_at words.now place }
 {
     let i = place as usize;
     let header = state_words::header_at(words, place);
@@ -58,7 +60,7 @@ fn message_at(words: &[u64], place: u16) -> Message
 }
 
 fn timer_at(words: &[u64], place: u16) -> Timer
-    ensures { result ≡ timer_at (before words) place }
+    ensures { result ≡ timer_at words.now place }
 {
     let i = place as usize;
     Timer {
@@ -69,7 +71,7 @@ fn timer_at(words: &[u64], place: u16) -> Timer
 }
 
 fn noted_at(words: &[u64], place: u16) -> Noted
-    ensures { result ≡ noted_at (before words) place }
+    ensures { result ≡ noted_at words.now place }
 {
     let i = place as usize;
     Noted {
@@ -80,7 +82,7 @@ fn noted_at(words: &[u64], place: u16) -> Noted
 
 // The master that some words stand for.
 pub fn unpack(words: &[u64; 40]) -> Master
-    ensures { result ≡ unpacked (before words) }
+    ensures { result ≡ unpacked words.now }
 {
     let profile = state_words::profile_at(words, 1);
     let timer = timer_at(words, 9);
@@ -146,7 +148,7 @@ fn end_words(limit: u8, m: Master) -> [u64; 12]
 
 // The words of a master and its data limit.
 pub fn pack(words: &mut [u64; 40], limit: u8, m: Master)
-    ensures { after words ≡ packed limit m }
+    ensures { words.new ≡ packed limit m }
 {
     let r = m.receiver;
     let front = front_words(m);
@@ -159,7 +161,7 @@ pub fn pack(words: &mut [u64; 40], limit: u8, m: Master)
 
 // The data limit that some words hold.
 pub fn limit_at(words: &[u64; 40]) -> u8
-    ensures { result ≡ limit_at (before words) }
+    ensures { result ≡ limit_at words.now }
 {
     state_words::u8_at(words, 39)
 }

@@ -1,4 +1,6 @@
 // What a master works out: its timers and windows, BURST, and what becomes of its message.
+#![tactic(auto)]
+
 ghost use Rattle.std.specs.Prelude.{◌≡◌};
 ghost use Rattle.base.specs.Lent.{before};
 ghost use Rattle.turns.specs.Master.{own_rt1, quiet_time, master_with, message_at, timer, burst_timer, opened, count_clear, count_burst, timer_counted, burst_counted, names_device, noted_from, is_noted, burst_after, noted_after, to_itself, broken, ended_by, timer_after, ends, fails, same_bit, is_answer, at_break, answers_message, at_frame, if_awaiting};
@@ -367,7 +369,7 @@ fn answers_message(m: Master, h: Header) -> bool
 
 // What a whole frame does to a message whose ACK is awaited.
 pub fn at_frame(m: Master, w: Whole, bytes: &[u8; 255]) -> Ending
-    ensures { result ≡ at_frame m w (before bytes) }
+    ensures { result ≡ at_frame m w bytes.now }
 {
     let g = m.message;
     let h = w.header;

@@ -1,6 +1,8 @@
 // The modem chip of document 02, item 5: its registers, its tick, and a driver that hears and sends through them.
 //
 // In a tick: `arrive` with what the line carried in the tick before; then any reads and writes of registers; then `end_tick`, which says what goes out.
+#![tactic(auto)]
+
 ghost use Rattle.std.specs.Prelude.{◌≡◌, ◌≤◌};
 ghost use Rattle.base.specs.Choice.{if◌then◌else◌};
 ghost use Rattle.modem.specs.Parity.{ninth, kind_of};
@@ -12,7 +14,7 @@ use base::Refusal;
 use line::{Damage, Heard};
 
 // A mark that the line carries beside the nine bits.
-#[derive(Drop)]
+#[derive(Clone, Copy)]
 pub enum Mark {
     Sound,
     Overrun,
@@ -20,14 +22,14 @@ pub enum Mark {
 }
 
 // What the line carries in a tick: nothing, or a character, its ninth bit and a mark.
-#[derive(Drop)]
+#[derive(Clone, Copy)]
 pub enum Carried {
     Silence,
     Nine(u8, bool, Mark),
 }
 
 // The chip. The fields' order is chosen for speed: docs/BENCHMARKS.md, "Behind a modem chip".
-#[derive(Drop)]
+#[derive(Clone, Copy)]
 pub struct Chip {
     // byte 1
     pub control: u8,
@@ -49,35 +51,35 @@ pub struct Chip {
 }
 
 // What reading a register answers: its value, and the chip after the read.
-#[derive(Drop)]
+#[derive(Clone, Copy)]
 pub enum RegisterRead {
     Value(u8, Chip),
     Refused(Refusal),
 }
 
 // What writing a register answers.
-#[derive(Drop)]
+#[derive(Clone, Copy)]
 pub enum RegisterWritten {
     Accepted(Chip),
     Refused(Refusal),
 }
 
 // What a register shows, and the chip after the read.
-#[derive(Drop)]
+#[derive(Clone, Copy)]
 pub struct Looked {
     pub value: u8,
     pub chip: Chip,
 }
 
 // The chip after a tick, and what goes out in it.
-#[derive(Drop)]
+#[derive(Clone, Copy)]
 pub struct TickEnded {
     pub chip: Chip,
     pub carried: Carried,
 }
 
 // The chip after the driver has heard, and what was heard.
-#[derive(Drop)]
+#[derive(Clone, Copy)]
 pub struct ChipHeard {
     pub chip: Chip,
     pub heard: Heard,

@@ -1,4 +1,6 @@
 // The modem chip for programs in C and Rust, run over a script of accesses, with a number for each.
+#![tactic(auto)]
+
 ghost use Rattle.std.specs.Prelude.{◌≡◌};
 ghost use Rattle.base.specs.Lent.{before, after};
 ghost use Rattle.recording.specs.Recording.{RunIs};
@@ -9,7 +11,7 @@ ghost use Rattle.modem_c.specs.Script.{gives, accessed_as, register_of, read_ref
 use modem::{Carried, Chip, Mark, RegisterRead, RegisterWritten};
 
 // The chip after an access, and what it gives.
-#[derive(Drop)]
+#[derive(Clone, Copy)]
 struct Accessed {
     number: u8,
     chip: Chip,
@@ -196,7 +198,7 @@ fn access(x: Chip, first: u8, v: u8) -> Accessed
 // What each access of a script gives, from a fresh chip on: at the front of events, for as many accesses as both have room for. Returns their number.
 #[unsafe(no_mangle)]
 pub extern "C" fn nengapiko_modem(script: &[u8], events: &mut [u8]) -> usize
-    ensures { RunIs (answers (before script)) (before events) result (after events) }
+    ensures { RunIs (answers script.now) events.old result events.new }
 {
     let mut x = modem::fresh();
     let mut at = 0;

@@ -2,6 +2,8 @@
 // A primary asks command 0 of polling address 0 in tick 0; the ACK comes with a wrong ninth bit in one data byte and a framing mark on the other. In tick 59 the host asks again, and is refused, since a damaged ACK is no answer and the message waits for its next attempt, whose ACK is the answer.
 // A device of polling address 0 hears that request: the line carries it in ticks 1 to 10, so the host is told in tick 11. Its answer in tick 0 is refused, since no request is in hand; its answer in tick 12, T+2, is taken, and the ACK begins in that tick and ends in tick 23.
 // Control bit 6 is set throughout. Printed are, for each tick in which the line carried something, the chip sends or the host calls: the registers after the tick's beginning, the status after the driver's reads and after its writes, what goes out with its ninth bit, what is told and what the call came to. The stored lines were worked out before the program ran: ticks and characters by document 01, the ninth bit, 1 where a character's ones are even, and the registers by document 02.
+#![tactic(auto)]
+
 use device::DeviceStarted;
 use device_tick::DeviceCall;
 use libc::STDOUT_FILENO;
@@ -13,7 +15,7 @@ use texts::{put_bytes, put_decimal, put_field, put_hexadecimal};
 use turns::{CallResult, Device, DeviceTold, Master, MasterTold, Request, Wish};
 
 // What a host is told, by either party.
-#[derive(Drop)]
+#[derive(Clone, Copy)]
 enum Told {
     Nothing,
     Answered,

@@ -1,4 +1,6 @@
 // A master and a device behind a modem chip. In a tick the chip takes what the line carried, the driver reads the registers, the party has its tick, the driver writes what it sends, and the tick ends.
+#![tactic(auto)]
+
 ghost use Rattle.std.specs.Prelude.{◌≡◌};
 ghost use Rattle.modem_party.specs.Behind.{says};
 ghost use Rattle.modem_party.specs.Ticks.{MasterTicks, DeviceTicks};
@@ -9,21 +11,21 @@ use modem::{Carried, Chip, TickEnded};
 use turns::{Device, Master, Sent};
 
 // A chip, and what the line carried in the tick before.
-#[derive(Drop)]
+#[derive(Clone, Copy)]
 pub struct Arrival {
     pub chip: Chip,
     pub carried: Carried,
 }
 
 // A master after a tick, and its chip with what goes out.
-#[derive(Drop)]
+#[derive(Clone, Copy)]
 pub struct MasterBehind {
     pub ticked: MasterTicked,
     pub ended: TickEnded,
 }
 
 // A device after a tick, and its chip with what goes out.
-#[derive(Drop)]
+#[derive(Clone, Copy)]
 pub struct DeviceBehind {
     pub ticked: DeviceTicked,
     pub ended: TickEnded,

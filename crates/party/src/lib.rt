@@ -1,4 +1,6 @@
 // What master and device have in common: what silence and a broadcast are, how a count goes down, the characters of a frame that is sent, and the numbers of what is sent and of what became of a call.
+#![tactic(auto)]
+
 ghost use Rattle.std.specs.Prelude.{◌≡◌, ◌-◌, ◌<◌};
 ghost use Rattle.base.specs.Lent.{before};
 ghost use Rattle.frame.specs.Address.{byte_at};
@@ -33,7 +35,7 @@ pub fn one_less(n: u32) -> u32
 
 // The byte at a place, or 0 past the last.
 fn byte_at(bytes: &[u8], place: usize) -> u8
-    ensures { result ≡ byte_at (before bytes) place }
+    ensures { result ≡ byte_at bytes.now place }
 {
     if place < bytes.len() {
         return bytes[place];
@@ -43,7 +45,7 @@ fn byte_at(bytes: &[u8], place: usize) -> u8
 
 // The character with this number in a frame that is sent, or 0 past the buffer's end.
 pub fn character_at(frame: &[u8; 284], n: u16) -> u8
-    ensures { result ≡ byte_at (before frame) n }
+    ensures { result ≡ byte_at frame.now n }
 {
     byte_at(frame, n as usize)
 }

@@ -7,6 +7,8 @@
 //     dc        the device's host gives burst content: command 3 with that many zero bytes
 //     M.. D..   the master or the device hears what it would hear damaged by parity (p), overrun (o) or framing (f), with the bits of the number changed; silence (s); or the character of the number (c)
 //     oc        a third party sends the character of the number
+#![tactic(auto)]
+
 mod show;
 
 use device::DeviceStarted;
@@ -18,14 +20,14 @@ use show::Reception;
 use turns::{CallResult, Device, DeviceTold, Master, MasterTold, Request, Sent, Wish};
 
 // An order of a script: a letter for what is done, 0 for none, and its number.
-#[derive(Drop)]
+#[derive(Clone, Copy)]
 struct Order {
     what: u8,
     number: u8,
 }
 
 // A master after a tick, the buffer of its frame, and the data that it heard.
-#[derive(Drop)]
+#[derive(Clone, Copy)]
 struct MasterSide {
     ticked: MasterTicked,
     frame: [u8; 284],
@@ -33,7 +35,7 @@ struct MasterSide {
 }
 
 // A device, likewise, and its burst content.
-#[derive(Drop)]
+#[derive(Clone, Copy)]
 struct DeviceSide {
     ticked: DeviceTicked,
     contents: [u8; 255],
@@ -42,7 +44,7 @@ struct DeviceSide {
 }
 
 // Both parties, what each hears in the next tick, and the log of what was sent.
-#[derive(Drop)]
+#[derive(Clone, Copy)]
 struct Both {
     m: MasterSide,
     d: DeviceSide,

@@ -10,7 +10,7 @@ use texts::{put_all_spaced, put_bytes, put_field, put_spaced};
 use turns::{CallResult, DeviceTold, MasterTold};
 
 // What a party hears in a tick, and whether the script changed it.
-#[derive(Drop)]
+#[derive(Clone, Copy)]
 pub struct Reception {
     pub heard: Heard,
     pub changed: bool,

@@ -1,4 +1,6 @@
 // Plays the script on standard input, and writes what the player prints to standard output, piece by piece. Its argument is the size of a record, 4 or 6; without one it is 4.
+#![tactic(auto)]
+
 use base::Refusal;
 use libc::STDOUT_FILENO;
 use player::{Playing, Told};

@@ -1,4 +1,6 @@
 // Plays the scripts that its arguments name, and prints each name with its listing.
+#![tactic(auto)]
+
 use libc::STDOUT_FILENO;
 
 // What the player prints for a script of the old form. Every listing of the examples is shorter than the buffer.

@@ -1,4 +1,6 @@
 // The player: it plays a script on a link and lists the frames that were sent to the end.
+#![tactic(auto)]
+
 ghost use Rattle.std.specs.Prelude.{◌≡◌, true, ◌+◌, ◌≤◌, ◌<◌, length};
 ghost use Rattle.base.specs.Lent.{before, after};
 ghost use Rattle.texts.specs.Put.{PutIs};
@@ -16,14 +18,14 @@ use player_listing::Monitors;
 use player_script::{Form, SizedForm};
 
 // What a play is told of its script: the form of its records, and its stop's tick.
-#[derive(Drop)]
+#[derive(Clone, Copy)]
 pub struct Told {
     pub form: Form,
     pub stop: u32,
 }
 
 // A play before a tick: the link and the monitors, and the places of the next record in the script and of the next byte in the output.
-#[derive(Drop)]
+#[derive(Clone, Copy)]
 pub struct Playing {
     pub link: Link,
     pub monitors: Monitors,
@@ -249,7 +251,7 @@ fn ready_link() -> Link
 
 // What a play is told of a script of this form.
 pub fn told_of(form: Form, script: &[u8]) -> Told
-    ensures { result ≡ told_of form (before script) }
+    ensures { result ≡ told_of form script.now }
 {
     Told {
         form: form,
@@ -259,7 +261,7 @@ pub fn told_of(form: Form, script: &[u8]) -> Told
 
 // A play before its first tick: the header line at the output's front.
 pub fn play_begin(out: &mut [u8]) -> Playing
-    ensures { Begun (before out) result (after out) }
+    ensures { Begun out.old result out.new }
 {
     let link = ready_link();
     let monitors = player_listing::quiet_monitors();
@@ -276,7 +278,7 @@ pub fn play_begin(out: &mut [u8]) -> Playing
 // The listing of a good script: the header line, and the lines of a play from the ready link on.
 fn play_good(form: Form, script: &[u8], out: &mut [u8]) -> usize
     requires { good_in form script.now ≡ true }
-    ensures { PutIs (listing (records_in form (before script))) (before out) 0 result (after out) }
+    ensures { PutIs (listing (records_in form script.now)) out.old 0 result out.new }
 {
     let mut frames = [[0u8; 284]; 8];
     let mut bytes = [[0u8; 255]; 8];
@@ -288,7 +290,7 @@ fn play_good(form: Form, script: &[u8], out: &mut [u8]) -> usize
 
 // Plays a script of this form.
 fn play_form(form: Form, script: &[u8], out: &mut [u8]) -> usize
-    ensures { PutIs (play form (before script)) (before out) 0 result (after out) }
+    ensures { PutIs (play form script.now) out.old 0 result out.new }
 {
     if player_script::is_good(form, script) {
         return play_good(form, script, out);
@@ -298,7 +300,7 @@ fn play_form(form: Form, script: &[u8], out: &mut [u8]) -> usize
 
 // Plays a script whose records have so many bytes into any output: it puts what is printed, as much as there is room for, and returns how much that is.
 pub fn play_into(size: usize, script: &[u8], out: &mut [u8]) -> usize
-    ensures { PutIs (play_sized size (before script)) (before out) 0 result (after out) }
+    ensures { PutIs (play_sized size script.now) out.old 0 result out.new }
 {
     let sized = player_script::form_of(size);
     match sized {

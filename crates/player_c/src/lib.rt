@@ -1,4 +1,6 @@
 // What plays and what is played, for programs in C and Rust: the player, the conversion of scripts and the writer of loads.
+#![tactic(auto)]
+
 ghost use Rattle.base.specs.Lent.{before, after};
 ghost use Rattle.texts.specs.Put.{PutIs};
 ghost use Rattle.player.specs.Play.{play_sized};
@@ -10,7 +12,7 @@ use player_convert::Converted;
 // Plays a script whose records have so many bytes: what it prints at the front of out, as much as there is room for, and how much that is.
 #[unsafe(no_mangle)]
 pub extern "C" fn nengapiko_play(size: usize, script: &[u8], out: &mut [u8]) -> usize
-    ensures { PutIs (play_sized size (before script)) (before out) 0 result (after out) }
+    ensures { PutIs (play_sized size script.now) out.old 0 result out.new }
 {
     player::play_into(size, script, out)
 }

@@ -1,4 +1,6 @@
 // The calls of a tick that a script wants, for the link. Their data are the first of so many zero bytes.
+#![tactic(auto)]
+
 ghost use Rattle.std.specs.Prelude.{◌≡◌};
 ghost use Rattle.player_calls.specs.Calls.{zeros, master_call_for, request_with, device_call_for, answer_with, device_call_in, calls_for};
 

@@ -1,4 +1,6 @@
 // Scripts turned from one form into the other.
+#![tactic(auto)]
+
 ghost use Rattle.std.specs.Prelude.{◌≡◌, true, ◌*◌, ◌%◌, ◌≤◌, length};
 ghost use Rattle.base.specs.Lent.{before, after};
 ghost use Rattle.player_script.specs.Script.{records_in, good_in};
@@ -9,7 +11,7 @@ use base::Refusal;
 use player_script::{Form, SizedForm};
 
 // What a conversion answers: how many bytes the result has, or a refusal.
-#[derive(Drop)]
+#[derive(Clone, Copy)]
 pub enum Converted {
     To(usize),
     Refused(Refusal),
@@ -18,7 +20,7 @@ pub enum Converted {
 // Puts an old script's records in the new form at the front of the lent bytes; returns how many bytes they take.
 fn widen(script: &[u8], out: &mut [u8]) -> usize
     requires { (length script.now % 4 ≡ 0) × (3 * length script.now ≤ 2 * length out.old) }
-    ensures { PutsRecords Old New (before script) (before out) result (after out) }
+    ensures { PutsRecords Old New script.now out.old result out.new }
 {
     let mut at = 0;
     let mut to = 0;
@@ -38,7 +40,7 @@ fn widen(script: &[u8], out: &mut [u8]) -> usize
 // Puts a new script's records, whose ticks fit, in the old form.
 fn narrow(script: &[u8], out: &mut [u8]) -> usize
     requires { (length script.now % 6 ≡ 0) × (2 * length script.now ≤ 3 * length out.old) × Sayable Old (records_in New script.now) }
-    ensures { PutsRecords New Old (before script) (before out) result (after out) }
+    ensures { PutsRecords New Old script.now out.old result out.new }
 {
     let mut at = 0;
     let mut to = 0;
@@ -56,7 +58,7 @@ fn narrow(script: &[u8], out: &mut [u8]) -> usize
 // An old script into the new form, if there is room.
 fn into_new(script: &[u8], out: &mut [u8]) -> Converted
     requires { length script.now % 4 ≡ 0 }
-    ensures { ConvertIs (by_room (turned New (records_in Old (before script))) (length (before out))) (before out) result (after out) }
+    ensures { ConvertIs (by_room (turned New (records_in Old script.now)) (length out.old)) out.old result out.new }
 {
     if out.len() / 6 < script.len() / 4 {
         return Converted::Refused(Refusal::BufferShort);
@@ -68,7 +70,7 @@ fn into_new(script: &[u8], out: &mut [u8]) -> Converted
 // A new script into the old form, if there is room. Its ticks fit.
 fn into_old(script: &[u8], out: &mut [u8]) -> Converted
     requires { (length script.now % 6 ≡ 0) × Sayable Old (records_in New script.now) }
-    ensures { ConvertIs (by_room (turned Old (records_in New (before script))) (length (before out))) (before out) result (after out) }
+    ensures { ConvertIs (by_room (turned Old (records_in New script.now)) (length out.old)) out.old result out.new }
 {
     if out.len() / 4 < script.len() / 6 {
         return Converted::Refused(Refusal::BufferShort);
@@ -80,7 +82,7 @@ fn into_old(script: &[u8], out: &mut [u8]) -> Converted
 // Turns a good new script back, if its ticks fit: the stop's tick is the largest.
 fn turn_back(script: &[u8], out: &mut [u8]) -> Converted
     requires { good_in New script.now ≡ true }
-    ensures { ConvertIs (by_ticks New (before script) (length (before out))) (before out) result (after out) }
+    ensures { ConvertIs (by_ticks New script.now (length out.old)) out.old result out.new }
 {
     let stop = player_script::stop_tick(Form::New, script);
     if 65535 < stop {
@@ -92,7 +94,7 @@ fn turn_back(script: &[u8], out: &mut [u8]) -> Converted
 // Turns a good script. An old one's ticks always fit.
 fn convert_good(form: Form, script: &[u8], out: &mut [u8]) -> Converted
     requires { good_in form script.now ≡ true }
-    ensures { ConvertIs (by_ticks form (before script) (length (before out))) (before out) result (after out) }
+    ensures { ConvertIs (by_ticks form script.now (length out.old)) out.old result out.new }
 {
     match form {
         Form::Old => into_new(script, out),
@@ -101,7 +103,7 @@ fn convert_good(form: Form, script: &[u8], out: &mut [u8]) -> Converted
 }
 
 fn convert_from(form: Form, script: &[u8], out: &mut [u8]) -> Converted
-    ensures { ConvertIs (converted form (before script) (length (before out))) (before out) result (after out) }
+    ensures { ConvertIs (converted form script.now (length out.old)) out.old result out.new }
 {
     if player_script::is_good(form, script) {
         return convert_good(form, script, out);
@@ -111,7 +113,7 @@ fn convert_from(form: Form, script: &[u8], out: &mut [u8]) -> Converted
 
 // Turns a script whose records have so many bytes, 4 or 6, into the other form, at the front of the lent bytes. A refusal is 24, 16, 25 or 15, and leaves them as they were.
 pub fn convert(size: usize, script: &[u8], out: &mut [u8]) -> Converted
-    ensures { ConvertIs (conversion size (before script) (length (before out))) (before out) result (after out) }
+    ensures { ConvertIs (conversion size script.now (length out.old)) out.old result out.new }
 {
     let sized = player_script::form_of(size);
     match sized {

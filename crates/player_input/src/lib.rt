@@ -1,4 +1,6 @@
 // What the programs play and convert share: the script on standard input, and a refusal that is printed.
+#![tactic(auto)]
+
 ghost use Rattle.std.specs.Prelude.{◌≡◌, ◌<◌, length, take};
 ghost use Rattle.base.specs.Lent.{before, after};
 ghost use Rattle.player_script.specs.Script.{records_in};
@@ -16,7 +18,7 @@ pub const ROOM: usize = 3_145_740;
 const PIECE: usize = 3_145_728;
 
 // A script on standard input: so many bytes; or longer than the room, and then good, with its stop's tick, or bad.
-#[derive(Drop)]
+#[derive(Clone, Copy)]
 pub enum Input {
     Whole(usize),
     LongGood(u32),
@@ -33,7 +35,7 @@ pub fn print_refusal(why: Refusal) {
 
 // The first bytes of a room, so many, are walked as calls.
 fn walk_front(form: Form, room: &[u8], count: usize, last: usize, marks: &mut [usize; 8]) -> Walked
-    ensures { walked_as result (after marks) ≡ walked_by (up_to last (before marks)) (records_in form (take count (before room))) }
+    ensures { walked_as result marks.new ≡ walked_by (up_to last marks.old) (records_in form (take count room.now)) }
 {
     player_script::walk(form, texts::front(room, count), last, marks)
 }
@@ -41,7 +43,7 @@ fn walk_front(form: Form, room: &[u8], count: usize, last: usize, marks: &mut [u
 // Its other bytes, at least one record, go to the front.
 fn keep_end(room: &mut [u8])
     requires { length room.old ≡ 3145740 }
-    ensures { after room ≡ end_kept (before room) }
+    ensures { room.new ≡ end_kept room.old }
 {
     let mut i = 0;
     while i < 12 {
@@ -53,7 +55,7 @@ fn keep_end(room: &mut [u8])
 // More of the script, after them; how many bytes were read.
 fn read_more(room: &mut [u8]) -> usize
     requires { length room.old ≡ 3145740 }
-    ensures { EndStays (before room) (after room) }
+    ensures { EndStays room.old room.new }
 {
     keep_end(room);
     io::read_full(STDIN_FILENO, &mut room[12..])
@@ -61,7 +63,7 @@ fn read_more(room: &mut [u8]) -> usize
 
 // What the last bytes of a script tell of it, after the pieces that were walked.
 fn end_of(form: Form, rest: &[u8], last: usize, marks: &mut [usize; 8]) -> Input
-    ensures { result ≡ end_of form (up_to last (before marks)) (before rest) }
+    ensures { result ≡ end_of form (up_to last marks.old) rest.now }
 {
     if player_script::good_after(form, rest, last, marks) {
         return Input::LongGood(player_script::stop_tick(form, rest));

@@ -1,4 +1,6 @@
 // The player's output: a monitor for each party that listens to what it sends, and the lines of the frames that it hears, put as text into a lent buffer.
+#![tactic(auto)]
+
 ghost use Rattle.std.specs.Prelude.{◌≡◌, [], ◌∷◌, length, replicate, ◌<◌, ◌+◌};
 ghost use Rattle.base.specs.Lent.{before, after};
 ghost use Rattle.texts.specs.Put.{PutIs};
@@ -13,7 +15,7 @@ use texts::{put_byte, put_bytes, put_digits};
 use turns::Sent;
 
 // What was heard of one party's characters.
-#[derive(Drop)]
+#[derive(Clone, Copy)]
 pub struct Monitor {
     pub receiver: Receiver,
     // how many characters of the frame there were
@@ -26,14 +28,14 @@ pub struct Monitor {
 pub type Monitors = [Monitor; 8];
 
 // The monitors after some ticks, and the place after their lines in the output.
-#[derive(Drop)]
+#[derive(Clone, Copy)]
 pub struct Listened {
     pub monitors: Monitors,
     pub at: usize,
 }
 
 // The same for one party and one tick.
-#[derive(Drop)]
+#[derive(Clone, Copy)]
 struct MonitorHeard {
     monitor: Monitor,
     at: usize,
@@ -41,21 +43,21 @@ struct MonitorHeard {
 
 // A number in decimal.
 fn put_decimal(n: u32, out: &mut [u8], at: usize) -> usize
-    ensures { PutIs (decimal n) (before out) at result (after out) }
+    ensures { PutIs (decimal n) out.old at result out.new }
 {
     put_digits(10, n as u64, out, at)
 }
 
 // The header line.
 pub fn put_head(out: &mut [u8], at: usize) -> usize
-    ensures { PutIs head_line (before out) at result (after out) }
+    ensures { PutIs head_line out.old at result out.new }
 {
     put_bytes(b"tick party type master length\n", out, at)
 }
 
 // The name of a frame type.
 fn put_type(frame: u8, out: &mut [u8], at: usize) -> usize
-    ensures { PutIs (type_name frame) (before out) at result (after out) }
+    ensures { PutIs (type_name frame) out.old at result out.new }
 {
     if frame == frame::STX {
         return put_bytes(b"STX", out, at);
@@ -78,21 +80,21 @@ fn master_digit(primary: bool) -> u8
 
 // The words of a line, each with a space after it.
 fn put_number_word(n: u32, out: &mut [u8], at: usize) -> usize
-    ensures { PutIs (word (decimal n)) (before out) at result (after out) }
+    ensures { PutIs (word (decimal n)) out.old at result out.new }
 {
     let place = put_decimal(n, out, at);
     put_byte(b' ', out, place)
 }
 
 pub fn put_type_word(frame: u8, out: &mut [u8], at: usize) -> usize
-    ensures { PutIs (word (type_name frame)) (before out) at result (after out) }
+    ensures { PutIs (word (type_name frame)) out.old at result out.new }
 {
     let place = put_type(frame, out, at);
     put_byte(b' ', out, place)
 }
 
 pub fn put_master_word(primary: bool, out: &mut [u8], at: usize) -> usize
-    ensures { PutIs (word (master_digit primary ∷ [])) (before out) at result (after out) }
+    ensures { PutIs (word (master_digit primary ∷ [])) out.old at result out.new }
 {
     let digit = master_digit(primary);
     let place = put_byte(digit, out, at);
@@ -101,7 +103,7 @@ pub fn put_master_word(primary: bool, out: &mut [u8], at: usize) -> usize
 
 // The line of a frame: the tick of its last character, its sender, its type, its master, and its length in characters.
 fn put_line(tick: u32, party: u16, header: Header, length: u16, out: &mut [u8], at: usize) -> usize
-    ensures { PutIs (line_text (line_of tick party header length)) (before out) at result (after out) }
+    ensures { PutIs (line_text (line_of tick party header length)) out.old at result out.new }
 {
     let frame = header.kind;
     let primary = header.primary;
@@ -153,7 +155,7 @@ fn frame_ends(
     out: &mut [u8],
     at: usize,
 ) -> MonitorHeard
-    ensures { PartyIs (frame_ends (line_of tick party header length) alone) (before out) at result.monitor result.at (after out) }
+    ensures { PartyIs (frame_ends (line_of tick party header length) alone) out.old at result.monitor result.at out.new }
 {
     let monitor = quiet_monitor();
     if alone {
@@ -179,7 +181,7 @@ fn ends_with(
     out: &mut [u8],
     at: usize,
 ) -> MonitorHeard
-    ensures { PartyIs (ends_with tick party count alone t) (before out) at result.monitor result.at (after out) }
+    ensures { PartyIs (ends_with tick party count alone t) out.old at result.monitor result.at out.new }
 {
     let r = t.receiver;
     let event = t.event;
@@ -214,7 +216,7 @@ fn hear(
     out: &mut [u8],
     at: usize,
 ) -> MonitorHeard
-    ensures { PartyIs (listens tick party lone monitor (Sent.Character c)) (before out) at result.monitor result.at (after out) }
+    ensures { PartyIs (listens tick party lone monitor (Sent.Character c)) out.old at result.monitor result.at out.new }
 {
     let r = monitor.receiver;
     let t = line_reader::heard_character(r, c);
@@ -244,17 +246,17 @@ fn rows_listed(tick: u32, count: u16) -> u32
 // There are eight numbers in a row, and 64 rows: the arrays' types say so, and the promises below need it in words.
 fn eight_numbers(row: &[u16])
     requires { length row.now ≡ 8 }
-    ensures { length (before row) ≡ 8 }
+    ensures { length row.now ≡ 8 }
 {}
 
 fn all_rows(rows: &[[u16; 8]])
     requires { length rows.now ≡ 64 }
-    ensures { length (before rows) ≡ 64 }
+    ensures { length rows.now ≡ 64 }
 {}
 
 // Whether at most one party sends in a tick.
 fn row_is_lone(row: &[u16; 8]) -> bool
-    ensures { RowIs (before row) result }
+    ensures { RowIs row.now result }
 {
     eight_numbers(row);
     let mut n: usize = 0;

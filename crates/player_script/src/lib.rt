@@ -1,4 +1,6 @@
 // The player's script: whether it is good, its stop's tick, and the calls of each tick.
+#![tactic(auto)]
+
 ghost use Rattle.std.specs.Prelude.{◌≡◌, ◌+◌, ◌-◌, ◌%◌, ◌<◌, ◌≤◌, length};
 ghost use Rattle.base.specs.Lent.{before, after};
 ghost use Rattle.base.specs.Choice.{if◌then◌else◌, ◌<?◌};
@@ -9,21 +11,21 @@ ghost use Rattle.player_script.specs.Walk.{entry_at, long_entry_at, entry_in, wa
 use base::Refusal;
 
 // A script's form: old records have 4 bytes, new ones 6, with a tick of 32 bits.
-#[derive(Drop)]
+#[derive(Clone, Copy)]
 pub enum Form {
     Old,
     New,
 }
 
 // The form of records of so many bytes, or a refusal.
-#[derive(Drop)]
+#[derive(Clone, Copy)]
 pub enum SizedForm {
     Is(Form),
     Refused(Refusal),
 }
 
 // A record of a script.
-#[derive(Drop)]
+#[derive(Clone, Copy)]
 pub struct Entry {
     pub tick: usize,
     pub party: usize,
@@ -32,14 +34,14 @@ pub struct Entry {
 }
 
 // Where a walk over a script's calls stands: one is bad, or the last call's tick.
-#[derive(Drop)]
+#[derive(Clone, Copy)]
 pub enum Walked {
     Bad,
     UpTo(usize),
 }
 
 // What a script wants of a party in a tick.
-#[derive(Drop)]
+#[derive(Clone, Copy)]
 pub enum ScriptCall {
     Nothing,
     // an action and its argument
@@ -47,7 +49,7 @@ pub enum ScriptCall {
 }
 
 // What a script wants of each party in a tick, and the place after that tick's records.
-#[derive(Drop)]
+#[derive(Clone, Copy)]
 pub struct ScriptTick {
     pub primary: ScriptCall,
     pub secondary: ScriptCall,
@@ -87,7 +89,7 @@ fn digit_size(c: u8) -> usize
 
 // The record size that a word says, for programs that are told it; 0 for a word that says none.
 pub fn size_in(word: &[u8]) -> usize
-    ensures { result ≡ size_in (before word) }
+    ensures { result ≡ size_in word.now }
 {
     if word.len() == 1 {
         return digit_size(word[0]);
@@ -131,14 +133,14 @@ fn long_entry_of(a: u8, b: u8, c: u8, d: u8, e: u8, f: u8) -> Entry
 
 fn old_at(script: &[u8], at: usize) -> Entry
     requires { at + 4 ≤ length script.now }
-    ensures { (result ≡ entry_at (before script) at) × (result.tick < 4294967296) × (result.party < 16) }
+    ensures { (result ≡ entry_at script.now at) × (result.tick < 4294967296) × (result.party < 16) }
 {
     entry_of(script[at], script[at + 1], script[at + 2], script[at + 3])
 }
 
 fn new_at(script: &[u8], at: usize) -> Entry
     requires { at + 6 ≤ length script.now }
-    ensures { (result ≡ long_entry_at (before script) at) × (result.tick < 4294967296) × (result.party < 16) }
+    ensures { (result ≡ long_entry_at script.now at) × (result.tick < 4294967296) × (result.party < 16) }
 {
     long_entry_of(
         script[at],
@@ -153,7 +155,7 @@ fn new_at(script: &[u8], at: usize) -> Entry
 // The record at a place.
 fn entry_at(form: Form, script: &[u8], at: usize) -> Entry
     requires { at + width form ≤ length script.now }
-    ensures { (result ≡ entry_in form (before script) at) × (result.tick < 4294967296) × (result.party < 16) }
+    ensures { (result ≡ entry_in form script.now at) × (result.tick < 4294967296) × (result.party < 16) }
 {
     match form {
         Form::Old => old_at(script, at),
@@ -208,7 +210,7 @@ fn is_stop(e: Entry) -> bool
 
 // Walks on over records that must be calls, after calls up to this tick. Of each party, marks holds one more than the tick of its last call, and 0 before the first.
 pub fn walk(form: Form, piece: &[u8], since: usize, marks: &mut [usize; 8]) -> Walked
-    ensures { walked_as result (after marks) ≡ walked_by (up_to since (before marks)) (records_in form (before piece)) }
+    ensures { walked_as result marks.new ≡ walked_by (up_to since marks.old) (records_in form piece.now) }
 {
     let w = width(form);
     let mut last = since;
@@ -247,7 +249,7 @@ fn stops_after(last: usize, e: Entry) -> bool
 // Whether the records that are left are good: calls, and the stop.
 fn rest_good(form: Form, rest: &[u8], since: usize, marks: &mut [usize; 8]) -> bool
     requires { length rest.now % width form ≡ 0 }
-    ensures { result ≡ rest_good (up_to since (before marks)) (records_in form (before rest)) }
+    ensures { result ≡ rest_good (up_to since marks.old) (records_in form rest.now) }
 {
     let w = width(form);
     if rest.len() < w {
@@ -263,7 +265,7 @@ fn rest_good(form: Form, rest: &[u8], since: usize, marks: &mut [usize; 8]) -> b
 
 // Whether what is left of a script is good, after calls that were walked.
 pub fn good_after(form: Form, rest: &[u8], since: usize, marks: &mut [usize; 8]) -> bool
-    ensures { result ≡ good_after form (up_to since (before marks)) (before rest) }
+    ensures { result ≡ good_after form (up_to since marks.old) rest.now }
 {
     let w = width(form);
     if rest.len() % w == 0 {
@@ -274,7 +276,7 @@ pub fn good_after(form: Form, rest: &[u8], since: usize, marks: &mut [usize; 8])
 
 // Whether a script is good.
 pub fn is_good(form: Form, script: &[u8]) -> bool
-    ensures { result ≡ good_in form (before script) }
+    ensures { result ≡ good_in form script.now }
 {
     let mut marks = [0usize; 8];
     good_after(form, script, 0, &mut marks)
@@ -282,7 +284,7 @@ pub fn is_good(form: Form, script: &[u8]) -> bool
 
 // The stop's tick: that of the last whole record, and 0 where there is none.
 pub fn stop_tick(form: Form, script: &[u8]) -> u32
-    ensures { result ≡ stop_of (records_in form (before script)) }
+    ensures { result ≡ stop_of (records_in form script.now) }
 {
     let w = width(form);
     let left = script.len() % w;
@@ -364,7 +366,7 @@ fn no_calls(at: usize) -> ScriptTick
 
 // What a script wants of each party in a tick, read from a place on, and the place after that tick's records.
 pub fn calls_at(form: Form, script: &[u8], at: usize, tick: usize) -> ScriptTick
-    ensures { result ≡ tick_at form (before script) at tick }
+    ensures { result ≡ tick_at form script.now at tick }
 {
     let w = width(form);
     let mut t = no_calls(at);
@@ -404,7 +406,7 @@ fn ticks_to(end: u32, tick: u32) -> u32
 
 // How many ticks from this one on have no record, before the stop. The next record stands at this place.
 pub fn free_ticks(form: Form, script: &[u8], at: usize, tick: u32, stop: u32) -> u32
-    ensures { result ≡ free_ticks form (before script) at tick stop }
+    ensures { result ≡ free_ticks form script.now at tick stop }
 {
     let w = width(form);
     if tick == 0 {

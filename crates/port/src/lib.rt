@@ -1,4 +1,6 @@
 // The infrared port of document 02, item 13: what its master and its devices hold from tick to tick. The rules by which they change are the definitions in specs/.
+#![tactic(auto)]
+
 use line::{Event, Heard};
 use turns::{Device, DeviceTold, Master, MasterTold, Sent};
 
@@ -15,7 +17,7 @@ pub const PREAMBLE: usize = 5;
 pub const IDENTITY_STO: u16 = 52;
 
 // What a master does for its wake-up.
-#[derive(Drop)]
+#[derive(Clone, Copy)]
 pub enum WakeUp {
     // none is being sent
     Off,
@@ -24,7 +26,7 @@ pub enum WakeUp {
 }
 
 // A master of the port.
-#[derive(Drop)]
+#[derive(Clone, Copy)]
 pub struct PortMaster {
     pub master: Master,
     // ticks since an answer's last character, this one included; 20,947 where there are more, and where none was heard
@@ -33,7 +35,7 @@ pub struct PortMaster {
 }
 
 // A master after what it heard, and what it tells.
-#[derive(Drop)]
+#[derive(Clone, Copy)]
 pub struct PortMasterTaken {
     pub master: PortMaster,
     pub told: MasterTold,
@@ -41,14 +43,14 @@ pub struct PortMasterTaken {
 }
 
 // A master after a tick, and what it sends.
-#[derive(Drop)]
+#[derive(Clone, Copy)]
 pub struct PortMasterSent {
     pub master: PortMaster,
     pub sent: Sent,
 }
 
 // How a device listens.
-#[derive(Drop)]
+#[derive(Clone, Copy)]
 pub enum Ear {
     // its reader reads
     Awake,
@@ -59,7 +61,7 @@ pub enum Ear {
 }
 
 // A device of the port.
-#[derive(Drop)]
+#[derive(Clone, Copy)]
 pub struct PortDevice {
     pub device: Device,
     pub ear: Ear,
@@ -68,7 +70,7 @@ pub struct PortDevice {
 }
 
 // A device after what it heard, and what it tells.
-#[derive(Drop)]
+#[derive(Clone, Copy)]
 pub struct PortDeviceTaken {
     pub device: PortDevice,
     pub told: DeviceTold,
@@ -76,7 +78,7 @@ pub struct PortDeviceTaken {
 }
 
 // A device after a tick, and what it sends.
-#[derive(Drop)]
+#[derive(Clone, Copy)]
 pub struct PortDeviceSent {
     pub device: PortDevice,
     pub sent: Sent,

@@ -1,4 +1,6 @@
 // The infrared port's master and devices for programs in C: their states as words that the caller lends (those of a master or a device of the pair, and beside them the port's), their starts and their ticks.
+#![tactic(auto)]
+
 ghost use Rattle.std.specs.Prelude.{◌<◌, ◌^◌, ◌≡◌};
 ghost use Rattle.base.specs.Lent.{before};
 ghost use Rattle.base.specs.Refusal.{accepted};
@@ -106,7 +108,7 @@ fn wake_of(word: u64) -> WakeUp
 
 // The master that some words stand for.
 fn unpack_master(state: &[u64; 40], port: &[u64; 2]) -> PortMaster
-    ensures { result ≡ unpacked_master (before state) (before port) }
+    ensures { result ≡ unpacked_master state.now port.now }
 {
     let m = master_c::unpack(state);
     let since = state_words::u16_at(port, 0);
@@ -318,7 +320,7 @@ fn ear_by(number: u64, a: Heard, b: Heard) -> Ear
 
 // The device that some words stand for.
 fn unpack_device(state: &[u64; 41], port: &[u64; 6]) -> PortDevice
-    ensures { result ≡ unpacked_device (before state) (before port) }
+    ensures { result ≡ unpacked_device state.now port.now }
 {
     let d = device_c::unpack(state);
     let a = line::heard_of(state_words::u8_at(port, 1), state_words::u8_at(port, 2));

@@ -1,4 +1,6 @@
 // A device of the infrared port: its start, how it listens and dozes, its host's answers, and its tick. The functions follow the definitions of crates/port/specs/Device.antt, in their order.
+#![tactic(auto)]
+
 ghost use Rattle.std.specs.Prelude.{◌≡◌, true, false};
 ghost use Rattle.base.specs.Lent.{before, after};
 ghost use Rattle.line.specs.Reader.{no_damage, blank};
@@ -20,14 +22,14 @@ use turns::{CallResult, Device, DeviceTaken, DeviceTold, Sent, Turn, Wish};
 const LONGEST_STO: u16 = 87;
 
 // What a start answers.
-#[derive(Drop)]
+#[derive(Clone, Copy)]
 pub enum PortDeviceStarted {
     Started(PortDevice),
     Refused(Refusal),
 }
 
 // A host's call in a tick.
-#[derive(Drop)]
+#[derive(Clone, Copy)]
 pub enum PortCall {
     Nothing,
     // the answer, whose data are lent
@@ -35,14 +37,14 @@ pub enum PortCall {
 }
 
 // A device after its host's call.
-#[derive(Drop)]
+#[derive(Clone, Copy)]
 struct PortCallTaken {
     device: PortDevice,
     result: CallResult,
 }
 
 // A device after a tick, what it sends, and what it tells its host.
-#[derive(Drop)]
+#[derive(Clone, Copy)]
 pub struct PortDeviceTicked {
     pub device: PortDevice,
     pub sent: Sent,
@@ -365,7 +367,7 @@ fn take_awake(
     bytes: &mut [u8; 255],
     frame: &mut [u8; 284],
 ) -> PortDeviceTaken
-    ensures { AwakeIs y heard (before bytes) (before frame) result (after bytes) (after frame) }
+    ensures { AwakeIs y heard bytes.old frame.old result bytes.new frame.new }
 {
     let d = y.device;
     if hears_wake_up(d, heard) {
@@ -399,7 +401,7 @@ fn take(
     bytes: &mut [u8; 255],
     frame: &mut [u8; 284],
 ) -> PortDeviceTaken
-    ensures { PortTakeIs y heard (before bytes) (before frame) result (after bytes) (after frame) }
+    ensures { PortTakeIs y heard bytes.old frame.old result bytes.new frame.new }
 {
     let d = y.device;
     let ear = y.ear;
@@ -460,7 +462,7 @@ fn too_late(d: Device) -> bool
 
 // Takes the host's answer to the request in hand, or refuses it with 8, 9 or 10 and leaves the lent frame buffer as it was.
 fn answer(limit: u8, d: Device, wish: Wish, bytes: &[u8], frame: &mut [u8; 284]) -> DeviceCalled
-    ensures { PortAnswerIs limit d wish (before bytes) (before frame) result (after frame) }
+    ensures { PortAnswerIs limit d wish bytes.now frame.old result frame.new }
 {
     if too_late(d) {
         return DeviceCalled::Refused(Refusal::NoRequest);
@@ -487,7 +489,7 @@ fn answer_by(
     put: &[u8],
     frame: &mut [u8; 284],
 ) -> PortCallTaken
-    ensures { PortCalledIs limit y (PortCall.Answers wish) (before put) (before frame) result (after frame) }
+    ensures { PortCalledIs limit y (PortCall.Answers wish) put.now frame.old result frame.new }
 {
     let d = y.device;
     let r = answer(limit, d, wish, put, frame);
@@ -519,7 +521,7 @@ fn take_call(
     put: &[u8],
     frame: &mut [u8; 284],
 ) -> PortCallTaken
-    ensures { PortCalledIs limit y call (before put) (before frame) result (after frame) }
+    ensures { PortCalledIs limit y call put.now frame.old result frame.new }
 {
     match call {
         PortCall::Nothing => no_call(y),
@@ -539,7 +541,7 @@ fn quiet_sending(n: u16, sent: Sent) -> u16
 
 // Sends a character of the ACK in the lent frame buffer, or none.
 fn send(y: PortDevice, frame: &[u8; 284]) -> PortDeviceSent
-    ensures { result ≡ port_device_sends y (before frame) }
+    ensures { result ≡ port_device_sends y frame.now }
 {
     let d = y.device;
     let ear = y.ear;
@@ -591,8 +593,8 @@ pub fn tick(
     frame: &mut [u8; 284],
     bytes: &mut [u8; 255],
 ) -> PortDeviceTicked
-    ensures { PortDeviceTickIs limit y heard call (before put) (before frame) (before bytes) result
-        (after frame) (after bytes) }
+    ensures { PortDeviceTickIs limit y heard call put.now frame.old bytes.old result
+        frame.new bytes.new }
 {
     let t = take(y, heard, bytes, frame);
     let taken = t.device;

@@ -6,6 +6,8 @@
 //     da dn df  the device's host answers with that many zero bytes, with burst as it is, on or off
 //     M.. D..   the master or the device hears what it would hear damaged by parity (p), overrun (o) or framing (f), with the bits of the number changed; silence (s); or the character of the number (c)
 //     oc        a third party sends the character of the number
+#![tactic(auto)]
+
 mod show;
 
 use libc::{STDIN_FILENO, STDOUT_FILENO};
@@ -18,14 +20,14 @@ use show::{Reception, Speech};
 use turns::{CallResult, DeviceTold, MasterTold, Request, Sent, Wish};
 
 // An order of a script: a letter for what is done, 0 for none, and its number.
-#[derive(Drop)]
+#[derive(Clone, Copy)]
 struct Order {
     what: u8,
     number: u8,
 }
 
 // The master after a tick, the buffer of its frame, and the data that it heard.
-#[derive(Drop)]
+#[derive(Clone, Copy)]
 struct MasterSide {
     ticked: PortMasterTicked,
     frame: [u8; 284],
@@ -33,7 +35,7 @@ struct MasterSide {
 }
 
 // The device, likewise.
-#[derive(Drop)]
+#[derive(Clone, Copy)]
 struct DeviceSide {
     ticked: PortDeviceTicked,
     frame: [u8; 284],
@@ -41,7 +43,7 @@ struct DeviceSide {
 }
 
 // Both parties, what each hears in the next tick, and what each is sending.
-#[derive(Drop)]
+#[derive(Clone, Copy)]
 struct Both {
     m: MasterSide,
     d: DeviceSide,

@@ -6,14 +6,14 @@ use texts::{put_all_spaced, put_bytes, put_field, put_spaced};
 use turns::{CallResult, DeviceTold, MasterTold, Sent};
 
 // What a party hears in a tick, and whether the script changed it.
-#[derive(Drop)]
+#[derive(Clone, Copy)]
 pub struct Reception {
     pub heard: Heard,
     pub changed: bool,
 }
 
 // What a party is sending, and since when: 0 nothing, 1 a wake-up, 2 a frame.
-#[derive(Drop)]
+#[derive(Clone, Copy)]
 pub struct Speech {
     pub kind: u8,
     pub from: u32,

@@ -1,4 +1,6 @@
 // The master of the infrared port: its start, its host's requests, its wake-up, and its tick. The functions follow the definitions of crates/port/specs/Master.antt, in their order.
+#![tactic(auto)]
+
 ghost use Rattle.std.specs.Prelude.{◌≡◌, ◌-◌};
 ghost use Rattle.base.specs.Lent.{before, after};
 ghost use Rattle.line.specs.Reader.{no_damage};
@@ -16,21 +18,21 @@ use port::{PortMaster, PortMasterSent, PortMasterTaken, WakeUp};
 use turns::{CallResult, Master, MasterTaken, MasterTold, Request, Sent, Stage};
 
 // What a start answers.
-#[derive(Drop)]
+#[derive(Clone, Copy)]
 pub enum PortMasterStarted {
     Started(PortMaster),
     Refused(Refusal),
 }
 
 // A master after its host's call.
-#[derive(Drop)]
+#[derive(Clone, Copy)]
 struct PortCallTaken {
     master: PortMaster,
     result: CallResult,
 }
 
 // A master after a tick, what it sends, and what it tells its host.
-#[derive(Drop)]
+#[derive(Clone, Copy)]
 pub struct PortMasterTicked {
     pub master: PortMaster,
     pub sent: Sent,
@@ -53,7 +55,7 @@ fn no_damage() -> FrameDamage
 
 // After a frame that is no BACK: BURST stays as it is.
 fn after_other(m: Master, r: Receiver, w: Whole, bytes: &[u8; 255]) -> MasterTaken
-    ensures { result ≡ after_other m r w (before bytes) }
+    ensures { result ≡ after_other m r w bytes.now }
 {
     let h = w.header;
     let noted = m.noted;
@@ -73,7 +75,7 @@ fn after_other(m: Master, r: Receiver, w: Whole, bytes: &[u8; 255]) -> MasterTak
 
 // After a whole frame without damage: a BACK counts as a damaged frame.
 fn after_port_frame(m: Master, r: Receiver, w: Whole, bytes: &[u8; 255]) -> MasterTaken
-    ensures { result ≡ after_port_frame m r w (before bytes) }
+    ensures { result ≡ after_port_frame m r w bytes.now }
 {
     let h = w.header;
     if h.kind == frame::BACK {
@@ -84,7 +86,7 @@ fn after_port_frame(m: Master, r: Receiver, w: Whole, bytes: &[u8; 255]) -> Mast
 
 // By what the pair's master m finds in this tick.
 fn by_found(m: Master, t: MasterTaken, bytes: &[u8; 255]) -> MasterTaken
-    ensures { result ≡ by_found m (before bytes) t t.event }
+    ensures { result ≡ by_found m bytes.now t t.event }
 {
     let event = t.event;
     let n = t.master;
@@ -133,7 +135,7 @@ fn since_after(n: u16, event: Event) -> u16
 
 // Takes what was heard. The data of the frame being heard are kept in the lent bytes.
 fn take(x: PortMaster, heard: Heard, bytes: &mut [u8; 255]) -> PortMasterTaken
-    ensures { PortTakeIs x heard (before bytes) result (after bytes) }
+    ensures { PortTakeIs x heard bytes.old result bytes.new }
 {
     let m = x.master;
     let wake = x.wake;
@@ -156,7 +158,7 @@ fn take(x: PortMaster, heard: Heard, bytes: &mut [u8; 255]) -> PortMasterTaken
 
 // A host's request: its STX is put into the lent frame buffer, or it is refused and the buffer stays as it was.
 fn request(limit: u8, m: Master, q: Request, bytes: &[u8], frame: &mut [u8; 284]) -> MasterRequested
-    ensures { PortRequestIs limit m q (before bytes) (before frame) result (after frame) }
+    ensures { PortRequestIs limit m q bytes.now frame.old result frame.new }
 {
     if q.preamble == port::PREAMBLE {
         return master::request(limit, m, q, bytes, frame);
@@ -183,7 +185,7 @@ fn request_by(
     put: &[u8],
     frame: &mut [u8; 284],
 ) -> PortCallTaken
-    ensures { PortCalledIs limit x (MasterCall.Requests q) (before put) (before frame) result (after frame) }
+    ensures { PortCalledIs limit x (MasterCall.Requests q) put.now frame.old result frame.new }
 {
     let m = x.master;
     let r = request(limit, m, q, put, frame);
@@ -215,7 +217,7 @@ fn take_call(
     put: &[u8],
     frame: &mut [u8; 284],
 ) -> PortCallTaken
-    ensures { PortCalledIs limit x call (before put) (before frame) result (after frame) }
+    ensures { PortCalledIs limit x call put.now frame.old result frame.new }
 {
     match call {
         MasterCall::Nothing => no_call(x),
@@ -311,7 +313,7 @@ fn send_wake_up(x: PortMaster, n: u16) -> PortMasterSent
 
 // What document 01's master sends.
 fn send_plain(x: PortMaster, frame: &[u8; 284]) -> PortMasterSent
-    ensures { result ≡ sends_plain x (before frame) }
+    ensures { result ≡ sends_plain x frame.now }
 {
     let m = x.master;
     let s = master::send(m, frame);
@@ -330,7 +332,7 @@ fn send_plain(x: PortMaster, frame: &[u8; 284]) -> PortMasterSent
 
 // No wake-up is being sent.
 fn send_off(x: PortMaster, frame: &[u8; 284]) -> PortMasterSent
-    ensures { result ≡ P.sends_by x (before frame) WakeUp.Off }
+    ensures { result ≡ P.sends_by x frame.now WakeUp.Off }
 {
     if wakes_first(x) {
         return send_wake_up(x, port::WAKE_UP_LENGTH);
@@ -340,7 +342,7 @@ fn send_off(x: PortMaster, frame: &[u8; 284]) -> PortMasterSent
 
 // So many characters of the wake-up are still to be sent.
 fn send_left(x: PortMaster, n: u16, frame: &[u8; 284]) -> PortMasterSent
-    ensures { result ≡ P.sends_by x (before frame) (WakeUp.Left n) }
+    ensures { result ≡ P.sends_by x frame.now (WakeUp.Left n) }
 {
     if n == 0 {
         return send_plain(x, frame);
@@ -350,7 +352,7 @@ fn send_left(x: PortMaster, n: u16, frame: &[u8; 284]) -> PortMasterSent
 
 // Sends a character of the wake-up or of the STX that stands in the lent frame buffer, or none.
 fn send(x: PortMaster, frame: &[u8; 284]) -> PortMasterSent
-    ensures { result ≡ port_master_sends x (before frame) }
+    ensures { result ≡ port_master_sends x frame.now }
 {
     let wake = x.wake;
     match wake {
@@ -384,8 +386,8 @@ pub fn tick(
     frame: &mut [u8; 284],
     bytes: &mut [u8; 255],
 ) -> PortMasterTicked
-    ensures { PortMasterTickIs limit x heard call (before put) (before frame) (before bytes) result
-        (after frame) (after bytes) }
+    ensures { PortMasterTickIs limit x heard call put.now frame.old bytes.old result
+        frame.new bytes.new }
 {
     let t = take(x, heard, bytes);
     let taken = t.master;

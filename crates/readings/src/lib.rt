@@ -1,4 +1,6 @@
 // The latest readings table (document 02, items 7 and 8): its rows, and the code that needs no table in hand, over numbers, rows by value and the lent byte area.
+#![tactic(auto)]
+
 ghost use Rattle.std.specs.Prelude.{◌+◌, ◌*◌, ◌≤◌, ◌≡◌, length, take};
 ghost use Rattle.base.specs.Choice.{if◌then◌else◌};
 ghost use Rattle.base.specs.Store.{stored};
@@ -17,7 +19,7 @@ const MORE_STATUS: u8 = 0x10;
 
 // A row: the newest reading of a device and a command. Address 0 is an empty row.
 #[repr(C)]
-#[derive(Drop)]
+#[derive(Clone, Copy)]
 pub struct Row {
     pub address: u64,
     // the tick of its last character
@@ -34,14 +36,14 @@ pub struct Row {
 }
 
 // What a row is found by.
-#[derive(Drop)]
+#[derive(Clone, Copy)]
 pub struct Key {
     pub address: u64,
     pub command: u8,
 }
 
 // Where a frame goes in a table.
-#[derive(Drop)]
+#[derive(Clone, Copy)]
 pub enum Sought {
     // the first row of its address and command, and what it holds
     Match(usize, Row),
@@ -51,7 +53,7 @@ pub enum Sought {
 }
 
 // What is put into a table's rows: a row at a place, or none where the place is past the last row; and 0 or the refusal's number.
-#[derive(Drop)]
+#[derive(Clone, Copy)]
 pub struct Put {
     pub at: usize,
     pub row: Row,
@@ -146,7 +148,7 @@ pub fn looked_up(rows: usize, s: Sought, k: Key) -> usize
 
 // Whether a frame is entered.
 fn is_reading(w: Whole, bytes: &[u8; 255]) -> bool
-    ensures { result ≡ is_reading w (before bytes) }
+    ensures { result ≡ is_reading w bytes.now }
 {
     let h = w.header;
     if 128 <= bytes[0] {
@@ -223,7 +225,7 @@ pub fn shown_byte(stored: u8, bits: u8) -> u8
 // Copies the first count bytes to the front of a part of the area, as they are stored.
 fn copy(to: &mut [u8], bytes: &[u8], count: u8)
     requires { (count ≤ length to.old) × (count ≤ length bytes.now) }
-    ensures { after to ≡ stored (before to) 0 (take count (stored_bytes (before bytes))) }
+    ensures { to.new ≡ stored to.old 0 (take count (stored_bytes bytes.now)) }
 {
     let n = count as usize;
     let mut i = 0;
@@ -257,7 +259,7 @@ fn row_for(i: usize, tick: u64, w: Whole, second: u8, was: Row) -> Row
 // Stores the data of a frame that goes to row i.
 fn put_row(area: &mut [u8], i: usize, tick: u64, w: Whole, bytes: &[u8; 255], was: Row) -> Put
     requires { row_bytes * i + row_bytes ≤ length area.old }
-    ensures { RowIs (before area) (after area) i tick w (before bytes) was result }
+    ensures { RowIs area.old area.new i tick w bytes.now was result }
 {
     let start = 255 * i;
     let count = w.count;
@@ -293,7 +295,7 @@ fn put_at(
     was: Row,
 ) -> Put
     requires { row_bytes * rows ≤ length area.old }
-    ensures { PutIs (before area) (after area) rows i tick w (before bytes) was result }
+    ensures { PutIs area.old area.new rows i tick w bytes.now was result }
 {
     if i < rows {
         return put_row(area, i, tick, w, bytes, was);
@@ -304,7 +306,7 @@ fn put_at(
 // The same, by where the frame goes; a full table refuses it.
 fn put_by(area: &mut [u8], rows: usize, s: Sought, tick: u64, w: Whole, bytes: &[u8; 255]) -> Put
     requires { row_bytes * rows ≤ length area.old }
-    ensures { PutByIs (before area) (after area) rows s tick w (before bytes) result }
+    ensures { PutByIs area.old area.new rows s tick w bytes.now result }
 {
     match s {
         Sought::Match(i, was) => put_at(area, rows, i, tick, w, bytes, was),
@@ -315,7 +317,7 @@ fn put_by(area: &mut [u8], rows: usize, s: Sought, tick: u64, w: Whole, bytes: &
 
 fn put_frame(area: &mut [u8], rows: usize, s: Sought, tick: u64, w: Whole, bytes: &[u8; 255]) -> Put
     requires { row_bytes * rows ≤ length area.old }
-    ensures { FrameIs (before area) (after area) rows s tick w (before bytes) result }
+    ensures { FrameIs area.old area.new rows s tick w bytes.now result }
 {
     if is_reading(w, bytes) {
         return put_by(area, rows, s, tick, w, bytes);
@@ -332,7 +334,7 @@ pub fn store(
     event: Event,
     bytes: &[u8; 255],
 ) -> Put
-    ensures { StoreIs (before area) (after area) rows s tick event (before bytes) result }
+    ensures { StoreIs area.old area.new rows s tick event bytes.now result }
 {
     if area.len() / 255 < rows {
         return nothing_put(rows, Refusal::BufferShort.number());
@@ -349,7 +351,7 @@ pub fn store(
 // The row that begins at a place of flat numbers.
 fn row_at(numbers: &[u64], i: usize) -> Row
     requires { i + 7 ≤ length numbers.now }
-    ensures { result ≡ row_at (before numbers) i }
+    ensures { result ≡ row_at numbers.now i }
 {
     Row {
         address: numbers[i],
@@ -365,7 +367,7 @@ fn row_at(numbers: &[u64], i: usize) -> Row
 
 // The search over flat numbers, seven for a row.
 pub fn search(numbers: &[u64], k: Key) -> Sought
-    ensures { result ≡ sought (rows_of (before numbers)) k }
+    ensures { result ≡ sought (rows_of numbers.now) k }
 {
     let rows = numbers.len() / 7;
     let mut s = Sought::Full;

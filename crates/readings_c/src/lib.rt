@@ -1,4 +1,6 @@
 // The latest readings table for programs in C: a lent slice of rows. Each function over it is proved by hand, step by step over its MIR.
+#![tactic(auto)]
+
 ghost use Rattle.std.specs.Prelude.{◌≡◌};
 ghost use Rattle.base.specs.Lent.{before, after};
 ghost use Rattle.readings.specs.Table.{cleared, looked_up, shown_byte};
@@ -10,7 +12,7 @@ use readings::Row;
 // Empties every row; the byte area stays as it is.
 #[unsafe(no_mangle)]
 pub extern "C" fn nengapiko_readings_clear(rows: &mut [Row])
-    ensures { after rows ≡ cleared (before rows) }
+    ensures { rows.new ≡ cleared rows.old }
 {
     let row = readings::empty_row();
     let mut i = 0;
@@ -29,7 +31,7 @@ pub extern "C" fn nengapiko_readings_enter(
     results: &[u64; 17],
     bytes: &[u8; 255],
 ) -> u32
-    ensures { EnterIs (before rows) (after rows) (before area) (after area) tick (event_at (before results)) (before bytes) result }
+    ensures { EnterIs rows.old rows.new area.old area.new tick (event_at results.now) bytes.now result }
 {
     let event = state_words::event_at(results);
     let k = readings::told_key(event);
@@ -42,7 +44,7 @@ pub extern "C" fn nengapiko_readings_enter(
 // The number of the first row of an address and a command, or the number of rows where there is none.
 #[unsafe(no_mangle)]
 pub extern "C" fn nengapiko_readings_find(rows: &[Row], address: u64, command: u8) -> usize
-    ensures { result ≡ looked_up (before rows) (record { address = address; command = command }) }
+    ensures { result ≡ looked_up rows.now (record { address = address; command = command }) }
 {
     let k = readings::key_of(address, command);
     let s = readings_rows::search(rows, k);

@@ -1,4 +1,6 @@
 // The latest readings table over flat numbers, for tests: the search that document 01 names, with what rests on it.
+#![tactic(auto)]
+
 ghost use Rattle.std.specs.Prelude.{◌≡◌};
 ghost use Rattle.base.specs.Lent.{before, after};
 ghost use Rattle.readings.specs.Search.{row_numbers};
@@ -23,7 +25,7 @@ fn row_numbers(row: Row) -> [u64; 7]
 
 // Puts a row at a place; nothing where the place is past the last row.
 fn put(numbers: &mut [u64], at: usize, row: Row)
-    ensures { RowIsPut (before numbers) (after numbers) at row }
+    ensures { RowIsPut numbers.old numbers.new at row }
 {
     if numbers.len() / 7 <= at {
         return;
@@ -42,7 +44,7 @@ pub extern "C" fn nengapiko_readings_flat(
     results: &[u64; 17],
     bytes: &[u8; 255],
 ) -> u32
-    ensures { FlatIs (before numbers) (after numbers) (before area) (after area) tick (event_at (before results)) (before bytes) result }
+    ensures { FlatIs numbers.old numbers.new area.old area.new tick (event_at results.now) bytes.now result }
 {
     let event = state_words::event_at(results);
     let k = readings::told_key(event);

@@ -1,4 +1,6 @@
 // The latest readings table as a lent slice of rows, in few thin functions; each is proved by hand, step by step over its MIR.
+#![tactic(auto)]
+
 ghost use Rattle.std.specs.Prelude.{◌≡◌, set};
 ghost use Rattle.base.specs.Lent.{before, after};
 ghost use Rattle.readings.specs.Table.{sought};
@@ -7,7 +9,7 @@ use readings::{Key, Row, Sought};
 
 // Where a frame goes.
 pub fn search(rows: &[Row], k: Key) -> Sought
-    ensures { result ≡ sought (before rows) k }
+    ensures { result ≡ sought rows.now k }
 {
     let mut s = Sought::Full;
     let mut i = 0;
@@ -21,7 +23,7 @@ pub fn search(rows: &[Row], k: Key) -> Sought
 
 // Puts a row at a place; nothing where the place is past the last row.
 pub fn put(rows: &mut [Row], at: usize, row: Row)
-    ensures { after rows ≡ set (before rows) at row }
+    ensures { rows.new ≡ set rows.old at row }
 {
     if at < rows.len() {
         rows[at] = row;

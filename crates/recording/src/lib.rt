@@ -1,4 +1,6 @@
 // A recording of what a party hears, two bytes for each tick.
+#![tactic(auto)]
+
 ghost use Rattle.std.specs.Prelude.{◌≡◌, ◌≤◌};
 ghost use Rattle.base.specs.Lent.{before};
 ghost use Rattle.base.specs.Choice.{if◌then◌else◌, ◌=?◌, ◌<?◌};
@@ -15,7 +17,7 @@ fn wide(x: u8) -> u16
 
 // The two bytes of a tick as one number, the character the high byte; 0 where there is no such tick. It is compiled to one load, and a loop over ticks to vectors.
 pub fn tick_at(recording: &[u8], t: usize) -> u16
-    ensures { TickAt (before recording) t result }
+    ensures { TickAt recording.now t result }
 {
     if t < recording.len() / 2 {
         return wide(recording[2 * t]) + 256 * wide(recording[2 * t + 1]);
@@ -60,7 +62,7 @@ fn either(a: u16, b: u16) -> u16
 
 // Whether no recording has these bytes. It goes on to the end, whatever it meets: a loop that can stop is not compiled to vectors.
 pub fn is_bad(recording: &[u8]) -> bool
-    ensures { result ≡ bad_recording (before recording) }
+    ensures { result ≡ bad_recording recording.now }
 {
     let ticks = recording.len() / 2;
     let mut bad = 0u16;

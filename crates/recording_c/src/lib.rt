@@ -1,4 +1,6 @@
 // Recordings for programs in C and Rust: what the tick reader tells in each tick of one, the list of its frames and breaks, and two taps joined.
+#![tactic(auto)]
+
 ghost use Rattle.std.specs.Prelude.{◌≡◌};
 ghost use Rattle.base.specs.Lent.{before, after};
 ghost use Rattle.base.specs.Events.{RunIs};
@@ -19,7 +21,7 @@ fn stepped(r: Receiver, first: u8, c: u8, bytes: &mut [u8; 255]) -> Taken
 
 // The reader over a recording, from its start on; bytes holds the data of the frame being heard.
 fn run(recording: &[u8], events: &mut [u8], bytes: &mut [u8; 255]) -> usize
-    ensures { RunIs (told (before recording)) (before events) result (after events) }
+    ensures { RunIs (told recording.now) events.old result events.new }
 {
     let mut r = line_reader::passing_reader();
     let mut at = 0;
@@ -41,7 +43,7 @@ fn run(recording: &[u8], events: &mut [u8], bytes: &mut [u8; 255]) -> usize
 // What the reader tells in each tick of a recording, from its start on: at the front of events, for as many ticks as both have room for. Returns their number.
 #[unsafe(no_mangle)]
 pub extern "C" fn nengapiko_ticks(recording: &[u8], events: &mut [u8]) -> usize
-    ensures { RunIs (told (before recording)) (before events) result (after events) }
+    ensures { RunIs (told recording.now) events.old result events.new }
 {
     let mut bytes = [0u8; 255];
     run(recording, events, &mut bytes)

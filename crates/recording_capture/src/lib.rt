@@ -1,4 +1,6 @@
 // What the program `capture` writes of a recording, piece by piece: a pcap file with a packet for each whole frame.
+#![tactic(auto)]
+
 ghost use Rattle.std.specs.Prelude.{◌≡◌, ◌+◌, ◌-◌, ◌*◌, ◌/◌, ◌%◌, ◌≤◌, length};
 ghost use Rattle.base.specs.Lent.{before, after};
 ghost use Rattle.texts.specs.Put.{PutIs};
@@ -12,14 +14,14 @@ use line::{Event, Heard, Place, Receiver, Taken};
 use texts::{put_byte, put_bytes};
 
 // The profile whose ticks are told as times.
-#[derive(Drop)]
+#[derive(Clone, Copy)]
 pub enum Clock {
     Fsk,
     C8psk,
 }
 
 // What is kept from piece to piece, beside data and bytes of the frame being heard: the tick reader, the clock, the tick and the packet's number that come next, and how many bytes of the frame there are, from its delimiter on.
-#[derive(Drop)]
+#[derive(Clone, Copy)]
 pub struct Progress {
     pub receiver: Receiver,
     pub clock: Clock,
@@ -29,7 +31,7 @@ pub struct Progress {
 }
 
 // What is kept after some ticks, and the place after their packets in the output.
-#[derive(Drop)]
+#[derive(Clone, Copy)]
 pub struct Captured {
     pub progress: Progress,
     pub at: usize,
@@ -51,7 +53,7 @@ pub fn start(clock: Clock) -> Progress
 
 // The file's header.
 pub fn put_file_header(out: &mut [u8], at: usize) -> usize
-    ensures { PutIs file_header (before out) at result (after out) }
+    ensures { PutIs file_header out.old at result out.new }
 {
     put_bytes(
         b"\xA1\xB2\xC3\xD4\x00\x02\x00\x04\x00\x00\x00\x00\x00\x00\x00\x00\x00\x00\xFF\xFF\x00\x00\x00\x65",
@@ -62,7 +64,7 @@ pub fn put_file_header(out: &mut [u8], at: usize) -> usize
 
 // A number of two bytes, most significant first.
 fn put_two(n: u64, out: &mut [u8], at: usize) -> usize
-    ensures { PutIs (big16 n) (before out) at result (after out) }
+    ensures { PutIs (big16 n) out.old at result out.new }
 {
     let place = put_byte((n / 256 % 256) as u8, out, at);
     put_byte((n % 256) as u8, out, place)
@@ -70,7 +72,7 @@ fn put_two(n: u64, out: &mut [u8], at: usize) -> usize
 
 // A number of four bytes.
 fn put_four(n: u64, out: &mut [u8], at: usize) -> usize
-    ensures { PutIs (big32 n) (before out) at result (after out) }
+    ensures { PutIs (big32 n) out.old at result out.new }
 {
     let place = put_two(n / 65536, out, at);
     put_two(n, out, place)
@@ -117,7 +119,7 @@ fn microseconds_of(clock: Clock, tick: u64) -> u64
 
 // A packet's own header.
 fn put_record(clock: Clock, tick: u64, size: u64, out: &mut [u8], at: usize) -> usize
-    ensures { PutIs (record_header clock tick size) (before out) at result (after out) }
+    ensures { PutIs (record_header clock tick size) out.old at result out.new }
 {
     let seconds = seconds_of(clock, tick);
     let microseconds = microseconds_of(clock, tick);
@@ -205,7 +207,7 @@ fn checksum_of(size: u64, source: u64, target: u64) -> u64
 
 // The IPv4 header up to its checksum.
 fn put_ip_front(size: u64, out: &mut [u8], at: usize) -> usize
-    ensures { PutIs (ip_front size) (before out) at result (after out) }
+    ensures { PutIs (ip_front size) out.old at result out.new }
 {
     let a = put_bytes(b"\x45\x00", out, at);
     let b = put_two(size, out, a);
@@ -214,7 +216,7 @@ fn put_ip_front(size: u64, out: &mut [u8], at: usize) -> usize
 
 // The rest of it: checksum and addresses.
 fn put_ip_ends(size: u64, header: Header, out: &mut [u8], at: usize) -> usize
-    ensures { PutIs (ip_ends size header) (before out) at result (after out) }
+    ensures { PutIs (ip_ends size header) out.old at result out.new }
 {
     let source = source_of(header);
     let target = target_of(header);
@@ -225,7 +227,7 @@ fn put_ip_ends(size: u64, header: Header, out: &mut [u8], at: usize) -> usize
 }
 
 fn put_udp(size: u64, out: &mut [u8], at: usize) -> usize
-    ensures { PutIs (udp_header size) (before out) at result (after out) }
+    ensures { PutIs (udp_header size) out.old at result out.new }
 {
     let a = put_two(5094, out, at);
     let b = put_two(5094, out, a);
@@ -247,7 +249,7 @@ fn message_type(frame: u8) -> u8
 
 // The HART-IP header.
 fn put_hart(frame: u8, number: u16, size: u64, out: &mut [u8], at: usize) -> usize
-    ensures { PutIs (hart_header frame number size) (before out) at result (after out) }
+    ensures { PutIs (hart_header frame number size) out.old at result out.new }
 {
     let kind = message_type(frame);
     let a = put_byte(1, out, at);
@@ -259,7 +261,7 @@ fn put_hart(frame: u8, number: u16, size: u64, out: &mut [u8], at: usize) -> usi
 
 // How many bytes a message has, in 16 bits.
 fn length_of(message: &[u8]) -> u16
-    ensures { result ≡ length (before message) % 65536 }
+    ensures { result ≡ length message.now % 65536 }
 {
     (message.len() % 65536) as u16
 }
@@ -273,7 +275,7 @@ fn put_packet(
     out: &mut [u8],
     at: usize,
 ) -> usize
-    ensures { PutIs (packet clock tick number header (before message)) (before out) at result (after out) }
+    ensures { PutIs (packet clock tick number header message.now) out.old at result out.new }
 {
     let frame = header.kind;
     let count = length_of(message);
@@ -288,7 +290,7 @@ fn put_packet(
 
 // The packet of a tick, by what the reader tells in it.
 fn put_event(p: Progress, event: Event, message: &[u8], out: &mut [u8], at: usize) -> usize
-    ensures { PutIs (packet_by p.clock p.tick p.number event (before message)) (before out) at result (after out) }
+    ensures { PutIs (packet_by p.clock p.tick p.number event message.now) out.old at result out.new }
 {
     let clock = p.clock;
     match event {
@@ -326,7 +328,7 @@ fn number_after(event: Event, n: u16) -> u16
 
 // What was heard, after the bytes of its frame.
 fn put_heard(heard: Heard, frame: &mut [u8], held: usize) -> usize
-    ensures { PutIs (heard_text heard) (before frame) held result (after frame) }
+    ensures { PutIs (heard_text heard) frame.old held result frame.new }
 {
     match heard {
         Heard::Silence => held,
@@ -391,7 +393,7 @@ fn tick(
     out: &mut [u8],
     at: usize,
 ) -> Captured
-    ensures { TickIs p heard (before bytes) (after bytes) (before frame) (after frame) (before out) at result (after out) }
+    ensures { TickIs p heard bytes.old bytes.new frame.old frame.new out.old at result out.new }
 {
     let r = p.receiver;
     let taken = line_reader::take(r, heard, bytes);
@@ -407,7 +409,7 @@ fn tick(
 
 // How many ticks a piece has; a last odd byte is no tick.
 fn ticks_of(piece: &[u8]) -> usize
-    ensures { (result ≡ length (before piece) / 2) × (result ≤ 18446744073709551615) }
+    ensures { (result ≡ length piece.now / 2) × (result ≤ 18446744073709551615) }
 {
     piece.len() / 2
 }
@@ -420,7 +422,7 @@ pub fn packets(
     frame: &mut [u8],
     out: &mut [u8],
 ) -> Captured
-    ensures { PacketsAre p (ticks_of (before piece)) (before bytes) (after bytes) (before frame) (after frame) (before out) result (after out) }
+    ensures { PacketsAre p (ticks_of piece.now) bytes.old bytes.new frame.old frame.new out.old result out.new }
 {
     let ticks = ticks_of(piece);
     let mut kept = p;

@@ -1,4 +1,6 @@
 // Two recordings of one pair, joined into one: document 02, item 10.
+#![tactic(auto)]
+
 ghost use Rattle.std.specs.Prelude.{◌≡◌, ◌+◌, ◌/◌, ◌%◌, ◌≤◌, true, false, length};
 ghost use Rattle.base.specs.Lent.{before, after};
 ghost use Rattle.base.specs.Choice.{if◌then◌else◌, ◌<?◌};
@@ -11,14 +13,14 @@ ghost use Rattle.recording_join.specs.Choosing.{takes_second, differs, Differenc
 use base::Refusal;
 
 // The first tick with two different characters.
-#[derive(Drop)]
+#[derive(Clone, Copy)]
 enum Difference {
     InTick(usize),
     Nowhere,
 }
 
 // What joining answers: the two are joined, why they are not, or the first tick with two different characters.
-#[derive(Drop)]
+#[derive(Clone, Copy)]
 pub enum JoinAnswer {
     Joined,
     Refused(Refusal),
@@ -67,7 +69,7 @@ fn differ(v: u16, w: u16) -> bool
 // How many ticks two recordings of equal length have: the lower number. By it the compiler sees that each place is within both, and compiles a loop over ticks to vectors.
 fn ticks_of_both(first: &[u8], second: &[u8]) -> usize
     requires { length first.now ≡ length second.now }
-    ensures { result ≡ length (before first) / 2 }
+    ensures { result ≡ length first.now / 2 }
 {
     let ticks = first.len() / 2;
     let others = second.len() / 2;
@@ -81,7 +83,7 @@ fn ticks_of_both(first: &[u8], second: &[u8]) -> usize
 fn first_difference(first: &[u8], second: &[u8]) -> Difference
     requires first_value { (bad_recording first.now ≡ false) × (bad_recording second.now ≡ false) }
     requires first_len { length first.now ≡ length second.now }
-    ensures { result ≡ difference_of (before first) (before second) }
+    ensures { result ≡ difference_of first.now second.now }
 {
     let ticks = ticks_of_both(first, second);
     let mut t = 0;
@@ -100,7 +102,7 @@ fn join_into(first: &[u8], second: &[u8], out: &mut [u8])
     requires first_len { length first.now ≡ length second.now }
     requires first_in_bounds { length first.now ≤ length out.old }
     requires second_value { difference_of first.now second.now ≡ Difference.Nowhere }
-    ensures { after out ≡ stored (before out) 0 (joined_of (before first) (before second)) }
+    ensures { out.new ≡ stored out.old 0 (joined_of first.now second.now) }
 {
     let ticks = ticks_of_both(first, second);
     let mut t = 0;
@@ -117,7 +119,7 @@ fn by_difference(first: &[u8], second: &[u8], out: &mut [u8]) -> JoinAnswer
     requires first_value { (bad_recording first.now ≡ false) × (bad_recording second.now ≡ false) }
     requires first_len { length first.now ≡ length second.now }
     requires first_in_bounds { length first.now ≤ length out.old }
-    ensures { DifferenceJoinIs (before first) (before second) (before out) result (after out) }
+    ensures { DifferenceJoinIs first.now second.now out.old result out.new }
 {
     let found = first_difference(first, second);
     match found {
@@ -131,7 +133,7 @@ fn by_difference(first: &[u8], second: &[u8], out: &mut [u8]) -> JoinAnswer
 
 // Joins two recordings of one pair that begin in the same tick, at the front of a buffer. A refusal leaves the buffer as it was.
 pub fn join(first: &[u8], second: &[u8], out: &mut [u8]) -> JoinAnswer
-    ensures { JoinIs (before first) (before second) (before out) result (after out) }
+    ensures { JoinIs first.now second.now out.old result out.new }
 {
     if recording::is_bad(first) {
         return JoinAnswer::Refused(Refusal::BadRecording);

@@ -1,4 +1,6 @@
 // What the program `frames` prints of a recording, piece by piece: a line for each frame and break, and the first bad tick.
+#![tactic(auto)]
+
 ghost use Rattle.std.specs.Prelude.{◌≡◌, ◌/◌};
 ghost use Rattle.base.specs.Lent.{before, after};
 ghost use Rattle.line.specs.Reader.{ReaderTakeIs};
@@ -16,7 +18,7 @@ use line::{Event, Place, Receiver, Taken, Whole};
 use texts::{put_byte, put_bytes, put_decimal};
 
 // What is kept from piece to piece, beside the data of the frame being heard: the tick reader, the tick that comes next, and the first tick of the frame that the reader is in.
-#[derive(Drop)]
+#[derive(Clone, Copy)]
 pub struct Progress {
     pub receiver: Receiver,
     pub tick: u64,
@@ -24,7 +26,7 @@ pub struct Progress {
 }
 
 // What is kept after some ticks, and the place after their lines in the output.
-#[derive(Drop)]
+#[derive(Clone, Copy)]
 pub struct Printed {
     pub progress: Progress,
     pub at: usize,
@@ -44,7 +46,7 @@ pub fn start() -> Progress
 
 // A number, with a space after it.
 fn put_word(n: u64, out: &mut [u8], at: usize) -> usize
-    ensures { PutIs (word (decimal n)) (before out) at result (after out) }
+    ensures { PutIs (word (decimal n)) out.old at result out.new }
 {
     let place = put_decimal(n, out, at);
     put_byte(b' ', out, place)
@@ -52,21 +54,21 @@ fn put_word(n: u64, out: &mut [u8], at: usize) -> usize
 
 // The first and the last tick.
 fn put_ticks(first: u64, last: u64, out: &mut [u8], at: usize) -> usize
-    ensures { PutIs (ticks_text first last) (before out) at result (after out) }
+    ensures { PutIs (ticks_text first last) out.old at result out.new }
 {
     let place = put_word(first, out, at);
     put_word(last, out, place)
 }
 
 fn put_broken(first: u64, last: u64, out: &mut [u8], at: usize) -> usize
-    ensures { PutIs (broken_line first last) (before out) at result (after out) }
+    ensures { PutIs (broken_line first last) out.old at result out.new }
 {
     let place = put_ticks(first, last, out, at);
     put_bytes(b"broken\n", out, place)
 }
 
 fn put_damaged(first: u64, last: u64, out: &mut [u8], at: usize) -> usize
-    ensures { PutIs (damaged_line first last) (before out) at result (after out) }
+    ensures { PutIs (damaged_line first last) out.old at result out.new }
 {
     let place = put_ticks(first, last, out, at);
     put_bytes(b"damaged\n", out, place)
@@ -74,7 +76,7 @@ fn put_damaged(first: u64, last: u64, out: &mut [u8], at: usize) -> usize
 
 // Type, master, address, command and byte count.
 fn put_fields(header: Header, count: u8, out: &mut [u8], at: usize) -> usize
-    ensures { PutIs (fields_text header count) (before out) at result (after out) }
+    ensures { PutIs (fields_text header count) out.old at result out.new }
 {
     let frame = header.kind;
     let primary = header.primary;
@@ -88,7 +90,7 @@ fn put_fields(header: Header, count: u8, out: &mut [u8], at: usize) -> usize
 }
 
 fn put_whole(first: u64, last: u64, w: Whole, bytes: &[u8], out: &mut [u8], at: usize) -> usize
-    ensures { PutIs (whole_line first last w (before bytes)) (before out) at result (after out) }
+    ensures { PutIs (whole_line first last w bytes.now) out.old at result out.new }
 {
     let header = w.header;
     let count = w.count;
@@ -101,7 +103,7 @@ fn put_whole(first: u64, last: u64, w: Whole, bytes: &[u8], out: &mut [u8], at: 
 
 // The line of a tick, by what the reader tells in it.
 fn put_event(first: u64, last: u64, event: Event, bytes: &[u8], out: &mut [u8], at: usize) -> usize
-    ensures { PutIs (line_by first last event (before bytes)) (before out) at result (after out) }
+    ensures { PutIs (line_by first last event bytes.now) out.old at result out.new }
 {
     match event {
         Event::Nothing => at,
@@ -157,7 +159,7 @@ fn next_tick(t: u64) -> u64
 
 // A tick of the reader, made from the two bytes of a recording.
 fn hear(r: Receiver, first: u8, c: u8, bytes: &mut [u8; 255]) -> Taken
-    ensures { ReaderTakeIs r (heard_of (first / 32) c) (before bytes) result (after bytes) }
+    ensures { ReaderTakeIs r (heard_of (first / 32) c) bytes.old result bytes.new }
 {
     let heard = line::heard_of(first / 32, c);
     line_reader::take(r, heard, bytes)
@@ -165,7 +167,7 @@ fn hear(r: Receiver, first: u8, c: u8, bytes: &mut [u8; 255]) -> Taken
 
 // A tick of the recording: its line from a place on.
 fn tick(p: Progress, first: u8, c: u8, bytes: &mut [u8; 255], out: &mut [u8], at: usize) -> Printed
-    ensures { TickIs p (heard_of (first / 32) c) (before bytes) (after bytes) (before out) at result (after out) }
+    ensures { TickIs p (heard_of (first / 32) c) bytes.old bytes.new out.old at result out.new }
 {
     let r = p.receiver;
     let begun = first_of(p);
@@ -187,7 +189,7 @@ fn tick(p: Progress, first: u8, c: u8, bytes: &mut [u8; 255], out: &mut [u8], at
 
 // The lines of a piece of a recording, at the front of the output, and what is kept after it. An odd last byte is no tick.
 pub fn lines(p: Progress, piece: &[u8], bytes: &mut [u8; 255], out: &mut [u8]) -> Printed
-    ensures { LinesAre p (ticks_of (before piece)) (before bytes) (after bytes) (before out) result (after out) }
+    ensures { LinesAre p (ticks_of piece.now) bytes.old bytes.new out.old result out.new }
 {
     let ticks = piece.len() / 2;
     let mut kept = p;
@@ -206,7 +208,7 @@ pub fn lines(p: Progress, piece: &[u8], bytes: &mut [u8; 255], out: &mut [u8]) -
 }
 
 // The first tick for which a recording is refused; an odd last byte counts as such a tick.
-#[derive(Drop)]
+#[derive(Clone, Copy)]
 pub enum FirstBad {
     Tick(usize),
     None,
@@ -233,7 +235,7 @@ fn is_refused(first: u8, c: u8) -> bool
 
 // The first bad tick.
 pub fn first_bad(recording: &[u8]) -> FirstBad
-    ensures { result ≡ first_bad 0 (before recording) }
+    ensures { result ≡ first_bad 0 recording.now }
 {
     let ticks = recording.len() / 2;
     let mut t = 0;

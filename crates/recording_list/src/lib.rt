@@ -1,4 +1,6 @@
 // A recording read by jumps, from each start of a frame to its end: document 02, item 9.
+#![tactic(auto)]
+
 ghost use Rattle.std.specs.Prelude.{◌≡◌, true, false, ◌++◌, ◌+◌, ◌-◌, ◌*◌, ◌/◌, ◌%◌, ◌≤◌, ◌<◌, length};
 ghost use Rattle.std.specs.Int.Bits.{bit_xor};
 ghost use Rattle.base.specs.Lent.{before, after};
@@ -15,14 +17,14 @@ use frame::Delimiter;
 use line::Place;
 
 // What listing answers: how many entries there are, or why there are none.
-#[derive(Drop)]
+#[derive(Clone, Copy)]
 pub enum Listed {
     Entries(usize),
     Refused(Refusal),
 }
 
 // Inside a frame: the tick of the next character, the second silent tick that breaks the frame, or that the recording is over.
-#[derive(Drop)]
+#[derive(Clone, Copy)]
 enum Next {
     At(usize),
     Broke(usize),
@@ -30,7 +32,7 @@ enum Next {
 }
 
 // So many characters: the tick after the last, their exclusive-or and whether one was damaged.
-#[derive(Drop)]
+#[derive(Clone, Copy)]
 enum Run {
     To(usize, u8, bool),
     RunBroke(usize),
@@ -38,7 +40,7 @@ enum Run {
 }
 
 // What became of a frame: the tick that ends it with its verdict (0 where silence broke it), the character that breaks it, or that the recording is over.
-#[derive(Drop)]
+#[derive(Clone, Copy)]
 enum Outcome {
     Ends(usize, u8),
     Breaks(usize),
@@ -46,14 +48,14 @@ enum Outcome {
 }
 
 // A character of the preamble: the tick after another 0xFF, or what became of the frame.
-#[derive(Drop)]
+#[derive(Clone, Copy)]
 enum Step {
     More(usize),
     Ended(Outcome),
 }
 
 // An entry: its tick and verdict, and the tick from which the reader is before a frame again.
-#[derive(Drop)]
+#[derive(Clone, Copy)]
 enum Item {
     Told(usize, u8, usize),
     Done,
@@ -69,7 +71,7 @@ fn wide(x: u8) -> u16
 // The two bytes of a tick as one number, the character the high byte. It is compiled to one load, and a loop over ticks to vectors.
 fn tick_at(recording: &[u8], t: usize) -> u16
     requires { 2 * t + 2 ≤ length recording.now }
-    ensures { TickIs (before recording) t result }
+    ensures { TickIs recording.now t result }
 {
     wide(recording[2 * t]) + 256 * wide(recording[2 * t + 1])
 }
@@ -77,7 +79,7 @@ fn tick_at(recording: &[u8], t: usize) -> u16
 // The next character inside a frame. One silent tick is passed over.
 fn next_character(recording: &[u8], t: usize) -> Next
     requires { bad_recording recording.now ≡ false }
-    ensures { NextIs (before recording) t result }
+    ensures { NextIs recording.now t result }
 {
     let ticks = recording.len() / 2;
     if ticks <= t {
@@ -115,7 +117,7 @@ fn harmed(harm: bool, v: u16) -> bool
 // So many characters from a tick on, one by one.
 fn one_by_one(recording: &[u8], from: usize, need: usize, prior: u8, hurt: bool) -> Run
     requires { bad_recording recording.now ≡ false }
-    ensures { RunIs (before recording) from need prior hurt result }
+    ensures { RunIs recording.now from need prior hurt result }
 {
     let mut t = from;
     let mut count = 0;
@@ -146,7 +148,7 @@ fn other_than_sound(other: u16, v: u16) -> u16
 }
 
 // So many ticks: whether each is an undamaged character, and the exclusive-or if so.
-#[derive(Drop)]
+#[derive(Clone, Copy)]
 struct Plain {
     plain: bool,
     sum: u8,
@@ -155,7 +157,7 @@ struct Plain {
 // It goes on to the end, whatever it finds: so the loop is compiled to vectors.
 fn plain_run(recording: &[u8], t: usize, need: usize, prior: u8) -> Plain
     requires { 2 * (t + need) ≤ length recording.now }
-    ensures { PlainIs (before recording) t need prior result }
+    ensures { PlainIs recording.now t need prior result }
 {
     let mut other = 0u16;
     let mut sum = 256 * wide(prior);
@@ -175,7 +177,7 @@ fn plain_run(recording: &[u8], t: usize, need: usize, prior: u8) -> Plain
 // So many characters from a tick on: at once, where no tick among them is silent or damaged.
 fn characters(recording: &[u8], t: usize, need: usize, prior: u8, hurt: bool) -> Run
     requires { (bad_recording recording.now ≡ false) × (2 * t ≤ length recording.now) }
-    ensures { RunIs (before recording) t need prior hurt result }
+    ensures { RunIs recording.now t need prior hurt result }
 {
     if need <= recording.len() / 2 - t {
         let p = plain_run(recording, t, need, prior);
@@ -203,7 +205,7 @@ fn verdict_of(sum: u8, harm: bool) -> u8
 // The data and the check byte.
 fn tail_from(recording: &[u8], t: usize, count: usize, sum: u8, harm: bool) -> Outcome
     requires { (bad_recording recording.now ≡ false) × (2 * t ≤ length recording.now) × (count < 256) }
-    ensures { TailIs (before recording) t count sum harm result }
+    ensures { TailIs recording.now t count sum harm result }
 {
     let run = characters(recording, t, count + 1, sum, harm);
     match run {
@@ -216,7 +218,7 @@ fn tail_from(recording: &[u8], t: usize, count: usize, sum: u8, harm: bool) -> O
 // The byte count, at a tick with a character.
 fn count_at(recording: &[u8], u: usize, v: u16, frame: u8, sum: u8, harm: bool) -> Outcome
     requires { (bad_recording recording.now ≡ false) × (2 * u + 2 ≤ length recording.now) × TickIs recording.now u v × (v ≡ 0 → ⊥) }
-    ensures { CountIs (before recording) u frame sum harm result }
+    ensures { CountIs recording.now u frame sum harm result }
 {
     if v % 256 == 32 {
         let c = character_of(v);
@@ -230,7 +232,7 @@ fn count_at(recording: &[u8], u: usize, v: u16, frame: u8, sum: u8, harm: bool) 
 
 fn count_from(recording: &[u8], t: usize, frame: u8, sum: u8, harm: bool) -> Outcome
     requires { bad_recording recording.now ≡ false }
-    ensures { CountIs (before recording) t frame sum harm result }
+    ensures { CountIs recording.now t frame sum harm result }
 {
     let next = next_character(recording, t);
     match next {
@@ -253,7 +255,7 @@ fn head_length(long: bool, expansion: u8) -> usize
 // Address, expansion bytes and command, then the byte count.
 fn head_from(recording: &[u8], t: usize, need: usize, frame: u8, sum: u8) -> Outcome
     requires { (bad_recording recording.now ≡ false) × (2 * t ≤ length recording.now) }
-    ensures { HeadIs (before recording) t frame need sum result }
+    ensures { HeadIs recording.now t frame need sum result }
 {
     let run = characters(recording, t, need, sum, false);
     match run {
@@ -267,7 +269,7 @@ fn head_from(recording: &[u8], t: usize, need: usize, frame: u8, sum: u8) -> Out
 fn delimiter_at(recording: &[u8], u: usize, v: u16, two: bool) -> Outcome
     requires recording_value { (bad_recording recording.now ≡ false) × (2 * u + 2 ≤ length recording.now) }
     requires tick_is { TickIs recording.now u v × (v % 256 ≡ 32) × (v / 256 ≡ 255 → ⊥) }
-    ensures { FrameIs (before recording) u (in_preamble two) result }
+    ensures { FrameIs recording.now u (in_preamble two) result }
 {
     if two {
         let c = character_of(v);
@@ -290,7 +292,7 @@ fn delimiter_at(recording: &[u8], u: usize, v: u16, two: bool) -> Outcome
 fn other_at(recording: &[u8], u: usize, v: u16, two: bool) -> Outcome
     requires recording_value { (bad_recording recording.now ≡ false) × (2 * u + 2 ≤ length recording.now) }
     requires tick_is { TickIs recording.now u v × (v ≡ 0 → ⊥) × (v ≡ 65312 → ⊥) }
-    ensures { FrameIs (before recording) u (in_preamble two) result }
+    ensures { FrameIs recording.now u (in_preamble two) result }
 {
     if v % 256 == 32 {
         return delimiter_at(recording, u, v, two);
@@ -301,7 +303,7 @@ fn other_at(recording: &[u8], u: usize, v: u16, two: bool) -> Outcome
 // A character of the preamble, after one 0xFF or after two.
 fn preamble_at(recording: &[u8], u: usize, two: bool) -> Step
     requires { (bad_recording recording.now ≡ false) × SoundTick recording.now u }
-    ensures { StepIs (before recording) u two result }
+    ensures { StepIs recording.now u two result }
 {
     let v = tick_at(recording, u);
     if v == 0xFF20 {
@@ -313,7 +315,7 @@ fn preamble_at(recording: &[u8], u: usize, two: bool) -> Step
 // The next character of the preamble. One silent tick is passed over.
 fn preamble_step(recording: &[u8], t: usize, two: bool) -> Step
     requires { bad_recording recording.now ≡ false }
-    ensures { StepIs (before recording) t two result }
+    ensures { StepIs recording.now t two result }
 {
     let next = next_character(recording, t);
     match next {
@@ -326,7 +328,7 @@ fn preamble_step(recording: &[u8], t: usize, two: bool) -> Step
 // The preamble, after one 0xFF or after two, from a tick on.
 fn preamble_with_gaps(recording: &[u8], from: usize, prior: bool) -> Outcome
     requires { (bad_recording recording.now ≡ false) × (2 * from ≤ length recording.now) }
-    ensures { FrameIs (before recording) from (in_preamble prior) result }
+    ensures { FrameIs recording.now from (in_preamble prior) result }
 {
     let ticks = recording.len() / 2;
     let mut t = from;
@@ -347,7 +349,7 @@ fn preamble_with_gaps(recording: &[u8], from: usize, prior: bool) -> Outcome
 // The preamble from its second character on: first each 0xFF that follows without a gap, then those with silent ticks between them.
 fn preamble_from(recording: &[u8], from: usize) -> Outcome
     requires { (bad_recording recording.now ≡ false) × (2 * from ≤ length recording.now) }
-    ensures { FrameIs (before recording) from (blank (Place.Preamble 1)) result }
+    ensures { FrameIs recording.now from (blank (Place.Preamble 1)) result }
 {
     let ticks = recording.len() / 2;
     let mut t = from;
@@ -366,7 +368,7 @@ fn preamble_from(recording: &[u8], from: usize) -> Outcome
 // A frame, or a break, from a tick with a character on; before that tick the reader is before a frame.
 fn frame_from(recording: &[u8], t: usize) -> Outcome
     requires { (bad_recording recording.now ≡ false) × SoundTick recording.now t }
-    ensures { FrameIs (before recording) t idle result }
+    ensures { FrameIs recording.now t idle result }
 {
     let v = tick_at(recording, t);
     if v % 256 == 32 {
@@ -381,7 +383,7 @@ fn frame_from(recording: &[u8], t: usize) -> Outcome
 // The first silent tick from t on, or the recording's end.
 fn silence_from(recording: &[u8], from: usize) -> usize
     requires { (bad_recording recording.now ≡ false) × (2 * from ≤ length recording.now) × (1 ≤ from) }
-    ensures { LeftOut (before recording) from passing result idle }
+    ensures { LeftOut recording.now from passing result idle }
 {
     let ticks = recording.len() / 2;
     let mut t = from;
@@ -397,7 +399,7 @@ fn silence_from(recording: &[u8], from: usize) -> usize
 // The first character from t on, or the recording's end.
 fn sound_from(recording: &[u8], from: usize) -> usize
     requires { (bad_recording recording.now ≡ false) × (2 * from ≤ length recording.now) }
-    ensures { SoundFrom (before recording) from result }
+    ensures { SoundFrom recording.now from result }
 {
     let ticks = recording.len() / 2;
     let mut t = from;
@@ -414,7 +416,7 @@ fn sound_from(recording: &[u8], from: usize) -> usize
 // The entry of a tick with a character; before that tick the reader is before a frame.
 fn item_at(recording: &[u8], t: usize) -> Item
     requires { (bad_recording recording.now ≡ false) × SoundTick recording.now t }
-    ensures { ItemIs (before recording) t result }
+    ensures { ItemIs recording.now t result }
 {
     let outcome = frame_from(recording, t);
     match outcome {
@@ -427,7 +429,7 @@ fn item_at(recording: &[u8], t: usize) -> Item
 // An entry, at the front of a part.
 fn put_entry(part: &mut [u8], tick: usize, verdict: u8)
     requires { 9 ≤ length part.old }
-    ensures { after part ≡ stored (before part) 0 (entry tick verdict) }
+    ensures { part.new ≡ stored part.old 0 (entry tick verdict) }
 {
     part[0] = (tick / 72057594037927936 % 256) as u8;
     part[1] = (tick / 281474976710656 % 256) as u8;
@@ -443,7 +445,7 @@ fn put_entry(part: &mut [u8], tick: usize, verdict: u8)
 // Puts an entry at the place of its number, where the list is put and not only counted.
 fn put_if(put: bool, out: &mut [u8], n: usize, tick: usize, verdict: u8)
     requires { HasRoom put (9 * n + 9) out.old }
-    ensures { after out ≡ (if put then stored (before out) (9 * n) (entry tick verdict) else before out) }
+    ensures { out.new ≡ (if put then stored out.old (9 * n) (entry tick verdict) else out.old) }
 {
     if put {
         let place = 9 * n;
@@ -455,7 +457,7 @@ fn put_if(put: bool, out: &mut [u8], n: usize, tick: usize, verdict: u8)
 fn entries_from(recording: &[u8], from: usize, prior: usize, put: bool, out: &mut [u8]) -> usize
     requires recording_value { (bad_recording recording.now ≡ false) × (2 * from ≤ length recording.now) × (prior ≤ from) }
     requires has_room { HasRoom put (9 * prior + length (found_from recording.now from idle)) out.old }
-    ensures { EntriesAre put (found_from (before recording) from idle) prior (before out) result (after out) }
+    ensures { EntriesAre put (found_from recording.now from idle) prior out.old result out.new }
 {
     let ticks = recording.len() / 2;
     let mut t = from;
@@ -482,7 +484,7 @@ fn entries_from(recording: &[u8], from: usize, prior: usize, put: bool, out: &mu
 fn entries(recording: &[u8], put: bool, out: &mut [u8]) -> usize
     requires recording_value { bad_recording recording.now ≡ false }
     requires has_room { HasRoom put (length (listing_of recording.now)) out.old }
-    ensures { EntriesAre put (listing_of (before recording)) 0 (before out) result (after out) }
+    ensures { EntriesAre put (listing_of recording.now) 0 out.old result out.new }
 {
     if recording.len() < 2 {
         return 0;
@@ -497,7 +499,7 @@ fn entries(recording: &[u8], put: bool, out: &mut [u8]) -> usize
 // Whether the buffer has room for the list. It has at most half as many entries as ticks, rounded up: with room for these nothing is counted.
 fn has_room(recording: &[u8], out: &mut [u8]) -> bool
     requires { bad_recording recording.now ≡ false }
-    ensures { RoomIs (before recording) (before out) result (after out) }
+    ensures { RoomIs recording.now out.old result out.new }
 {
     let room = out.len() / 9;
     if recording.len() / 2 < room * 2 {
@@ -509,7 +511,7 @@ fn has_room(recording: &[u8], out: &mut [u8]) -> bool
 
 // Lists the frames and breaks of a recording, at the front of a buffer. A refusal leaves the buffer as it was.
 pub fn list(recording: &[u8], out: &mut [u8]) -> Listed
-    ensures { ListIs (before recording) (before out) result (after out) }
+    ensures { ListIs recording.now out.old result out.new }
 {
     if recording::is_bad(recording) {
         return Listed::Refused(Refusal::BadRecording);

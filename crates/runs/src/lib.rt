@@ -1,1 +1,2 @@
 // What holds of whole runs of the link: claims in specs/, theorems in proofs/. It has no functions.
+#![tactic(auto)]

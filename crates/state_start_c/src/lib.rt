@@ -1,4 +1,6 @@
 // The starts for programs in C: of the tick reader, a master and a device, each in words that the caller lends.
+#![tactic(auto)]
+
 ghost use Rattle.std.specs.Prelude.{◌≡◌};
 ghost use Rattle.base.specs.Refusal.{accepted};
 ghost use Rattle.line.specs.Profile.{profile_made, made_as};

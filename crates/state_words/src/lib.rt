@@ -1,4 +1,6 @@
 // A state as words of 64 bits, one for each field, in memory that a program in C lends: the fields, and the parts that master, device and tick reader share; and what is told of a tick, as numbers.
+#![tactic(auto)]
+
 ghost use Rattle.std.specs.Prelude.{◌<◌, ◌^◌, ◌≡◌, ◌∷◌};
 ghost use Rattle.base.specs.Lent.{before, after};
 ghost use Rattle.base.specs.Store.{stored};
@@ -12,7 +14,7 @@ use line::{Event, FrameDamage, Place, Profile, Receiver, Whole};
 
 // The word at a place, or 0 past the last.
 pub fn word_at(words: &[u64], place: usize) -> u64
-    ensures { result ≡ word_at (before words) place }
+    ensures { result ≡ word_at words.now place }
 {
     if place < words.len() {
         return words[place];
@@ -22,33 +24,33 @@ pub fn word_at(words: &[u64], place: usize) -> u64
 
 // The lowest 8, 16 or 32 bits of the word at a place.
 pub fn u8_at(words: &[u64], place: usize) -> u8
-    ensures { result ≡ number_at 8 (before words) place }
+    ensures { result ≡ number_at 8 words.now place }
 {
     (word_at(words, place) % 0x100) as u8
 }
 
 pub fn u16_at(words: &[u64], place: usize) -> u16
-    ensures { result ≡ number_at 16 (before words) place }
+    ensures { result ≡ number_at 16 words.now place }
 {
     (word_at(words, place) % 0x10000) as u16
 }
 
 pub fn u32_at(words: &[u64], place: usize) -> u32
-    ensures { result ≡ number_at 32 (before words) place }
+    ensures { result ≡ number_at 32 words.now place }
 {
     (word_at(words, place) % 0x100000000) as u32
 }
 
 // Whether the word at a place is 1.
 pub fn flag_at(words: &[u64], place: usize) -> bool
-    ensures { result ≡ flag_at (before words) place }
+    ensures { result ≡ flag_at words.now place }
 {
     word_at(words, place) == 1
 }
 
 // Puts some words from a place on, as many as there is room for.
 pub fn put(words: &mut [u64], place: u8, part: &[u64])
-    ensures { after words ≡ stored (before words) place (before part) }
+    ensures { words.new ≡ stored words.old place part.now }
 {
     let mut at = place as usize;
     let mut i = 0;
@@ -64,7 +66,7 @@ pub fn put(words: &mut [u64], place: u8, part: &[u64])
 
 // The header from a place on; a place is at most 65,535, so that no sum wraps.
 pub fn header_at(words: &[u64], place: u16) -> Header
-    ensures { result ≡ header_at (before words) place }
+    ensures { result ≡ header_at words.now place }
 {
     let i = place as usize;
     Header {
@@ -78,7 +80,7 @@ pub fn header_at(words: &[u64], place: u16) -> Header
 }
 
 pub fn profile_at(words: &[u64], place: u16) -> Profile
-    ensures { result ≡ profile_at (before words) place }
+    ensures { result ≡ profile_at words.now place }
 {
     let i = place as usize;
     Profile {
@@ -141,7 +143,7 @@ fn place_by(number: u64, n: u8) -> Place
 }
 
 fn damage_at(words: &[u64], place: u16) -> FrameDamage
-    ensures { result ≡ damage_at (before words) place }
+    ensures { result ≡ damage_at words.now place }
 {
     let i = place as usize;
     FrameDamage {
@@ -186,7 +188,7 @@ fn place_of(word: u64) -> Place
 }
 
 pub fn receiver_at(words: &[u64], place: u8) -> Receiver
-    ensures { result ≡ receiver_at (before words) place }
+    ensures { result ≡ receiver_at words.now place }
 {
     let i = place as usize;
     let header = header_at(words, place as u16);
@@ -314,7 +316,7 @@ pub fn tick_numbers(sent: u64, told: u64, attempts: u64, event: Event) -> [u64; 
 }
 
 fn whole_at(numbers: &[u64]) -> Whole
-    ensures { result ≡ whole_at (before numbers) }
+    ensures { result ≡ whole_at numbers.now }
 {
     let h = Header {
         kind: u8_at(numbers, 4),
@@ -351,7 +353,7 @@ fn event_by(event: u64, w: Whole, m: FrameDamage) -> Event
 
 // What a tick's numbers tell.
 pub fn event_at(numbers: &[u64; 17]) -> Event
-    ensures { result ≡ event_at (before numbers) }
+    ensures { result ≡ event_at numbers.now }
 {
     let w = whole_at(numbers);
     let m = damage_at(numbers, 12);

@@ -1,4 +1,6 @@
 // Text in ASCII for the programs that print: it is put into a lent buffer from a place on, or read. What does not fit is left out.
+#![tactic(auto)]
+
 ghost use Rattle.std.specs.Prelude.{◌≡◌, [], ◌∷◌, ◌++◌, false, take, ◌<◌, ◌+◌};
 ghost use Rattle.base.specs.Lent.{before, after};
 ghost use Rattle.texts.specs.Decimal.{decimal_of};
@@ -7,7 +9,7 @@ ghost use Rattle.texts.specs.Put.{PutIs};
 
 // Puts a byte at a place, if there is room for it; returns the next place.
 pub fn put_byte(b: u8, out: &mut [u8], at: usize) -> usize
-    ensures { PutIs (b ∷ []) (before out) at result (after out) }
+    ensures { PutIs (b ∷ []) out.old at result out.new }
 {
     if at < out.len() {
         out[at] = b;
@@ -18,7 +20,7 @@ pub fn put_byte(b: u8, out: &mut [u8], at: usize) -> usize
 
 // Bytes, one after the other.
 pub fn put_bytes(text: &[u8], out: &mut [u8], at: usize) -> usize
-    ensures { PutIs (before text) (before out) at result (after out) }
+    ensures { PutIs text.now out.old at result out.new }
 {
     let mut place = at;
     let mut i = 0;
@@ -32,14 +34,14 @@ pub fn put_bytes(text: &[u8], out: &mut [u8], at: usize) -> usize
 // A digit, 0 to 9.
 fn put_digit(n: u64, out: &mut [u8], at: usize) -> usize
     requires { n < 10 }
-    ensures { PutIs ((48 + n) ∷ []) (before out) at result (after out) }
+    ensures { PutIs ((48 + n) ∷ []) out.old at result out.new }
 {
     put_byte((48 + n) as u8, out, at)
 }
 
 // A number in decimal, up to this many digits.
 pub fn put_digits(digits: u8, n: u64, out: &mut [u8], at: usize) -> usize
-    ensures { PutIs (decimal_of digits n) (before out) at result (after out) }
+    ensures { PutIs (decimal_of digits n) out.old at result out.new }
 {
     if digits == 0 {
         return at;
@@ -53,14 +55,14 @@ pub fn put_digits(digits: u8, n: u64, out: &mut [u8], at: usize) -> usize
 
 // A number in decimal.
 pub fn put_decimal(n: u64, out: &mut [u8], at: usize) -> usize
-    ensures { PutIs (decimal n) (before out) at result (after out) }
+    ensures { PutIs (decimal n) out.old at result out.new }
 {
     put_digits(20, n, out, at)
 }
 
 // A name and a number.
 pub fn put_field(name: &[u8], n: u64, out: &mut [u8], at: usize) -> usize
-    ensures { PutIs (before name ++ decimal n) (before out) at result (after out) }
+    ensures { PutIs (name.now ++ decimal n) out.old at result out.new }
 {
     let place = put_bytes(name, out, at);
     put_decimal(n, out, place)
@@ -92,7 +94,7 @@ fn digit(capital: bool, n: u8) -> u8
 
 // A byte in hexadecimal, two digits.
 pub fn put_hexadecimal(capital: bool, byte: u8, out: &mut [u8], at: usize) -> usize
-    ensures { PutIs (hexadecimal capital byte) (before out) at result (after out) }
+    ensures { PutIs (hexadecimal capital byte) out.old at result out.new }
 {
     let high = digit(capital, byte / 16);
     let low = digit(capital, byte % 16);
@@ -102,7 +104,7 @@ pub fn put_hexadecimal(capital: bool, byte: u8, out: &mut [u8], at: usize) -> us
 
 // A byte in hexadecimal, with a space before it.
 pub fn put_spaced(byte: u8, out: &mut [u8], at: usize) -> usize
-    ensures { PutIs (spaced (byte ∷ [])) (before out) at result (after out) }
+    ensures { PutIs (spaced (byte ∷ [])) out.old at result out.new }
 {
     let place = put_byte(b' ', out, at);
     put_hexadecimal(false, byte, out, place)
@@ -110,7 +112,7 @@ pub fn put_spaced(byte: u8, out: &mut [u8], at: usize) -> usize
 
 // Bytes in hexadecimal, with a space before each, one after the other.
 pub fn put_all_spaced(bytes: &[u8], out: &mut [u8], at: usize) -> usize
-    ensures { PutIs (spaced (before bytes)) (before out) at result (after out) }
+    ensures { PutIs (spaced bytes.now) out.old at result out.new }
 {
     let mut place = at;
     let mut i = 0;
@@ -123,7 +125,7 @@ pub fn put_all_spaced(bytes: &[u8], out: &mut [u8], at: usize) -> usize
 
 // The first count bytes, or all if there are fewer.
 pub fn front(bytes: &[u8], count: usize) -> &[u8]
-    ensures { result.now ≡ take count (before bytes) }
+    ensures { result.now ≡ take count bytes.now }
 {
     if count <= bytes.len() {
         return &bytes[..count];

@@ -1,16 +1,18 @@
 // What master and device hold from tick to tick, and what they tell their hosts. The rules by which they change are the definitions in specs/. The fields' order is chosen for speed: docs/BENCHMARKS.md, "Master and device".
+#![tactic(auto)]
+
 use frame::Header;
 use line::{Event, Profile, Receiver, Whole};
 
 // What a party sends in a tick.
-#[derive(Drop)]
+#[derive(Clone, Copy)]
 pub enum Sent {
     Silent,
     Character(u8),
 }
 
 // A host's request, without its data. Item 2: "A master request now says the device's revision, 3 to 7."
-#[derive(Drop)]
+#[derive(Clone, Copy)]
 pub struct Request {
     pub preamble: usize,
     pub address: u64,
@@ -20,7 +22,7 @@ pub struct Request {
 }
 
 // What became of a host's call in a tick: there was none, it was taken, or it was refused with this number of document 01's table.
-#[derive(Drop)]
+#[derive(Clone, Copy)]
 pub enum CallResult {
     Nothing,
     Taken,
@@ -28,7 +30,7 @@ pub enum CallResult {
 }
 
 // A master's timers, in silent line ticks. 0 is a timer that does not run.
-#[derive(Drop)]
+#[derive(Clone, Copy)]
 pub struct Timer {
     // until the next window opens
     pub next: u32,
@@ -39,7 +41,7 @@ pub struct Timer {
 }
 
 // What a master does for its message.
-#[derive(Drop)]
+#[derive(Clone, Copy)]
 pub enum Stage {
     // no message in hand
     Free,
@@ -52,7 +54,7 @@ pub enum Stage {
 }
 
 // A master's message: its STX stands in the lent frame buffer.
-#[derive(Drop)]
+#[derive(Clone, Copy)]
 pub struct Message {
     pub header: Header,
     pub stage: Stage,
@@ -63,13 +65,13 @@ pub struct Message {
 }
 
 // The address that BURST was set by.
-#[derive(Drop)]
+#[derive(Clone, Copy)]
 pub struct Noted {
     pub address: u64,
     pub long: bool,
 }
 
-#[derive(Drop)]
+#[derive(Clone, Copy)]
 pub struct Master {
     pub profile: Profile,
     pub primary: bool,
@@ -86,7 +88,7 @@ pub struct Master {
 }
 
 // What a master tells its host of its message.
-#[derive(Drop)]
+#[derive(Clone, Copy)]
 pub enum MasterTold {
     Nothing,
     // answered with this ACK, whose data are in the lent data buffer
@@ -98,14 +100,14 @@ pub enum MasterTold {
 }
 
 // What became of a master's message, and what its host is told.
-#[derive(Drop)]
+#[derive(Clone, Copy)]
 pub struct Ending {
     pub message: Message,
     pub told: MasterTold,
 }
 
 // A master after what it heard, and what it tells.
-#[derive(Drop)]
+#[derive(Clone, Copy)]
 pub struct MasterTaken {
     pub master: Master,
     pub told: MasterTold,
@@ -113,14 +115,14 @@ pub struct MasterTaken {
 }
 
 // A master after a tick, and what it sends.
-#[derive(Drop)]
+#[derive(Clone, Copy)]
 pub struct MasterSent {
     pub master: Master,
     pub sent: Sent,
 }
 
 // A host's wish for burst mode, given with an answer.
-#[derive(Drop)]
+#[derive(Clone, Copy)]
 pub enum Wish {
     Same,
     On,
@@ -128,7 +130,7 @@ pub enum Wish {
 }
 
 // What a device does.
-#[derive(Drop)]
+#[derive(Clone, Copy)]
 pub enum Turn {
     Listens,
     // a request is in hand, for so many more ticks, this one included
@@ -146,14 +148,14 @@ pub enum Turn {
 }
 
 // What the host gave for BACKs; the data stand in the lent content buffer.
-#[derive(Drop)]
+#[derive(Clone, Copy)]
 pub struct Content {
     pub given: bool,
     pub command: u8,
     pub count: u8,
 }
 
-#[derive(Drop)]
+#[derive(Clone, Copy)]
 pub struct Device {
     pub unique: u64,
     pub receiver: Receiver,
@@ -178,7 +180,7 @@ pub struct Device {
 }
 
 // What a device tells its host.
-#[derive(Drop)]
+#[derive(Clone, Copy)]
 pub enum DeviceTold {
     Nothing,
     // a request, which it may answer
@@ -188,7 +190,7 @@ pub enum DeviceTold {
 }
 
 // What a character does to a device's turn, and what its host is told.
-#[derive(Drop)]
+#[derive(Clone, Copy)]
 pub struct Change {
     pub turn: Turn,
     pub request: Header,
@@ -196,14 +198,14 @@ pub struct Change {
     pub told: DeviceTold,
 }
 
-#[derive(Drop)]
+#[derive(Clone, Copy)]
 pub struct DeviceTaken {
     pub device: Device,
     pub told: DeviceTold,
     pub event: Event,
 }
 
-#[derive(Drop)]
+#[derive(Clone, Copy)]
 pub struct DeviceSent {
     pub device: Device,
     pub sent: Sent,

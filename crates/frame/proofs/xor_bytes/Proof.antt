@@ -6,10 +6,10 @@ use Rattle.frame.proofs.Checks.{Passed, passed_none, passed_more, passed_all}
 use Rattle.frame.proofs.xor_bytes.Statement.{statement}
 use Rattle.frame.proofs.xor_bytes.Tie as tie
 
-abbrev invariant-loop : tie.invariant-loop
+abbrev invariant-loop : tie.invariant-loop-i
 invariant-loop x bytes sum₀ i₀ sum i = Passed x bytes sum i
 
-abbrev decreases-loop : tie.decreases-loop
+abbrev decreases-loop : tie.decreases-loop-i
 decreases-loop x bytes sum₀ i₀ sum i = length bytes - i
 
 pub xor_bytes_spec : {M : Type 1} → statement M

@@ -4,10 +4,10 @@ use Rattle.frame_check.proofs.Words.{Blocked, blocked_none, blocked_more, blocke
 use Rattle.frame_check.proofs.xor_blocks.Statement.{statement}
 use Rattle.frame_check.proofs.xor_blocks.Tie as tie
 
-abbrev invariant-loop : tie.invariant-loop
+abbrev invariant-loop : tie.invariant-loop-i
 invariant-loop x bytes n a₀ b₀ i₀ a b i = Blocked x bytes n a b i
 
-abbrev decreases-loop : tie.decreases-loop
+abbrev decreases-loop : tie.decreases-loop-i
 decreases-loop x bytes n a₀ b₀ i₀ a b i = n - i
 
 pub xor_blocks_spec : {M : Type 1} → statement M

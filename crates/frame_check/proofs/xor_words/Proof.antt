@@ -4,10 +4,10 @@ use Rattle.frame_check.proofs.Words.{Worded, worded_none, worded_more, worded_al
 use Rattle.frame_check.proofs.xor_words.Statement.{statement}
 use Rattle.frame_check.proofs.xor_words.Tie as tie
 
-abbrev invariant-loop : tie.invariant-loop
+abbrev invariant-loop : tie.invariant-loop-i
 invariant-loop first bytes start count sum₀ i₀ sum i = Worded first bytes start count sum i
 
-abbrev decreases-loop : tie.decreases-loop
+abbrev decreases-loop : tie.decreases-loop-i
 decreases-loop first bytes start count sum₀ i₀ sum i = count - i
 
 pub xor_words_spec : {M : Type 1} → statement M

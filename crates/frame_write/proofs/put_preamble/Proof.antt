@@ -7,10 +7,10 @@ use Rattle.frame_write.proofs.Puts.{preambles}
 use Rattle.frame_write.proofs.put_preamble.Statement.{statement}
 use Rattle.frame_write.proofs.put_preamble.Tie as tie
 
-abbrev invariant-loop : tie.invariant-loop
+abbrev invariant-loop : tie.invariant-loop-i
 invariant-loop part₀ i₀ part i = Storing part₀ (preamble_bytes (length part₀)) (length part₀) part i
 
-abbrev decreases-loop : tie.decreases-loop
+abbrev decreases-loop : tie.decreases-loop-i
 decreases-loop part₀ i₀ part i = length part₀ - i
 
 pub put_preamble_spec : {M : Type 1} → statement M

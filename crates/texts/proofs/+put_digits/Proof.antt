@@ -22,8 +22,8 @@ abbrev put_digits_below : ℕ → In 1 put-digits-kinds.ps
 put_digits_below t =
     and 1 put-digits-kinds.ps (falls 1 put-digits-kinds.ps ◌<◌ μ-put-digits t) put-digits.Pre
 
-pub +put-digits-spec : {M : Type 1} → statement M
-+put-digits-spec = close μ-put-digits λ t. put-digits-lts.spec (
+pub +put_digits_spec : {M : Type 1} → statement M
++put_digits_spec = close μ-put-digits λ t. put-digits-lts.spec (
   put-digit-reads.Asked,
   put-digit-reads.Learnt,
   put_digits_below t,

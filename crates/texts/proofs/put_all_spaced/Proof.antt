@@ -5,10 +5,10 @@ use Rattle.texts.proofs.Puts.{Spacing, spacing}
 use Rattle.texts.proofs.put_all_spaced.Statement.{statement}
 use Rattle.texts.proofs.put_all_spaced.Tie as tie
 
-abbrev invariant-loop : tie.invariant-loop
+abbrev invariant-loop : tie.invariant-loop-i
 invariant-loop bytes out₀ at place₀ i₀ out place i = Spacing bytes out₀ place₀ out place i
 
-abbrev decreases-loop : tie.decreases-loop
+abbrev decreases-loop : tie.decreases-loop-i
 decreases-loop bytes out₀ at place₀ i₀ out place i = length bytes - i
 
 pub put_all_spaced_spec : {M : Type 1} → statement M
