@@ -216,8 +216,10 @@ same_silent {r} {b} {d} {h} {cs} {hs} {t} w c same = record { put_in = λ e. bef
 
 same_inside : {r : Receiver} {b d : List ℕ} {cs hs : List H.Heard} {t : Taken} → GapsBefore cs hs → Within r → SameEnd r b cs hs t d
 same_inside no_more w = record { put_in = λ e. e; taken_out = λ e. e }
-same_inside (at_once c g) w = same_behind c g (λ v. same_inside g v)
-same_inside (behind_silence c g) w = same_silent w c (same_behind c g (λ v. same_inside g v))
+same_inside {r = r} {b = b} {d = d} {t = t} (at_once {h = h} {cs = cs} {hs = hs} c g) w =
+    same_behind c g (λ v. same_inside {r = (taken r h).receiver} {b = taken_data r h b} {d = d} {cs = cs} {hs = hs} {t = t} g v)
+same_inside {r = r} {b = b} {d = d} {t = t} (behind_silence {h = h} {cs = cs} {hs = hs} c g) w =
+    same_silent w c (same_behind c g (λ v. same_inside {r = (taken r h).receiver} {b = taken_data r h b} {d = d} {cs = cs} {hs = hs} {t = t} g v))
 
 pub gaps_passed_over : GapsPassedOver
 gaps_passed_over r b cs hs t d (from_first c g) = same_behind c g (λ v. same_inside g v)

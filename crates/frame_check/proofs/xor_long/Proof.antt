@@ -21,7 +21,7 @@ xor_half_block_requires : tie.Need-xor_half_block-halves-requires
 xor_half_block_requires c κs = search rules
 
 -- src/lib.rt:117:30
-mul_xor_words : tie.Need-overflow-mul-xor-words
+mul_xor_words : tie.Need-overflow_mul-n
 mul_xor_words c = search rules
 
 -- src/lib.rt:117:5
