@@ -354,6 +354,7 @@ no_quiet (Character c) i Silent q = refl
 no_quiet (Character c) i (Sent.Character e) q = refl
 no_quiet (Heard.Damaged c kind) i Silent q = refl
 no_quiet (Heard.Damaged c kind) i (Sent.Character e) q = refl
+no_quiet Silence i sent q = elim i [ ]
 
 pub stays_awake : StaysAwake
 stays_awake limit x i inputs hears c d short =
