@@ -82,6 +82,7 @@ master_as_if m (Character c) bytes hears is_sound =
 master_as_if m (Heard.Damaged c kind) bytes hears is_with_damage =
     if_is_false m.deaf _ _ hears ∙ ap (λ (t : Taken). M.on_character (master_gapped m) t.receiver t.event bytes) (gapped_takes m.receiver is_with_damage)
     ∙ character_still m (taken m.receiver (Heard.Damaged c kind)).receiver (taken m.receiver (Heard.Damaged c kind)).event bytes ∙ sym (if_is_false m.deaf _ _ hears)
+master_as_if m Silence bytes hears x'' = elim x'' [ ]
 
 pub device_as_if : (d : Device) (heard : Heard) → d.deaf ≡ false → IsCharacter heard → device_takes (device_gapped d) heard ≡ device_takes d heard
 unfolding device_takes
@@ -91,6 +92,7 @@ device_as_if d (Character c) hears is_sound =
 device_as_if d (Heard.Damaged c kind) hears is_with_damage =
     if_is_false d.deaf _ _ hears ∙ ap (λ (t : Taken). D.on_character (device_gapped d) t.receiver t.event) (gapped_takes d.receiver is_with_damage)
     ∙ device_character_still d (taken d.receiver (Heard.Damaged c kind)).receiver (taken d.receiver (Heard.Damaged c kind)).event ∙ sym (if_is_false d.deaf _ _ hears)
+device_as_if d Silence hears x'' = elim x'' [ ]
 
 -- ---- a master in silence, free or with a message that waits
 
@@ -179,6 +181,7 @@ none_awaited m v = by m.message.stage refl v
     by Waiting e is_waiting = inr e
     by (Awaiting n) e (is_awaiting k) =
         if_both P (is_broadcast m.message.header) _ _ (inl refl) (if_both P (m.message.attempts ≤? m.retries) _ _ (inr refl) (inl refl))
+    by (Rattle.turns.specs.declared.Stage.TheVariants.Sending _) e x3 = elim x3 [ ]
 
 retries_now : (m : Master) → ToSend m → stage_behind m ≡ Waiting
 retries_now m (message_waits e) = ap (λ (s : Stage). (if_awaiting s m.message (at_break m)).message.stage) e ∙ e

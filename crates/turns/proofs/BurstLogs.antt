@@ -298,7 +298,7 @@ agrees : (limit : ℕ) (p : Profile) → Valid p → (g : BurstLog) (x : DeviceS
 agrees limit p v g x [] s = no_tick
 agrees limit p v g x (i ∷ is) s =
     let t = tick_logged limit p v g x i.heard i.call s in
-    tick_and t.logged.on_is (agrees limit p v _ _ is t)
+    tick_and t.logged.on_is (agrees limit p v (log_after x i.heard i.call (device_tick limit x i.heard i.call) g) (device_tick limit x i.heard i.call).side is t)
 
 pub bursts_as_said : (limit : ℕ) → BurstsAsSaid limit
 unfolding Turned Rests

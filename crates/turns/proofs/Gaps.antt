@@ -102,6 +102,7 @@ sends_nothing m frame v w = by m.message.stage v
     by Free is_free = refl
     by Waiting is_waiting = if_is_false (0 <? m.timer.window) _ _ (ap (λ (n : ℕ). 0 <? n) w)
     by (Awaiting n) (is_awaiting k) = refl
+    by (Sending _) x'' = elim x'' [ ]
 
 -- a tick in which it sends nothing, after what it took
 record Rests (t : Master) (s : MasterStep) : Type 0 where
@@ -268,6 +269,7 @@ stops : (m : Master) (last : Heard) (bytes : List ℕ) → m.deaf ≡ false → 
 unfolding master_takes
 stops m (Character z) bytes hears is_sound inside = if_is_false m.deaf _ _ hears ∙ ap (λ (e : Event). M.on_character m (taken m.receiver (Character z)).receiver e bytes) inside
 stops m (Heard.Damaged z kind) bytes hears is_with_damage inside = if_is_false m.deaf _ _ hears ∙ ap (λ (e : Event). M.on_character m (taken m.receiver (Heard.Damaged z kind)).receiver e bytes) inside
+stops m Silence bytes hears x3 inside = elim x3 [ ]
 
 -- one that sends nothing then is not sending
 silent_still : (m : Master) (frame : List ℕ) → (master_sends m frame).sent ≡ Silent → Still m.message.stage
@@ -543,6 +545,7 @@ drops : (d : Device) (last : Heard) → d.deaf ≡ false → IsCharacter last �
 unfolding device_takes
 drops d (Character z) hears is_sound inside = if_is_false d.deaf _ _ hears ∙ ap (D.on_character d (taken d.receiver (Character z)).receiver) inside
 drops d (Heard.Damaged z kind) hears is_with_damage inside = if_is_false d.deaf _ _ hears ∙ ap (D.on_character d (taken d.receiver (Heard.Damaged z kind)).receiver) inside
+drops d Silence hears x3 inside = elim x3 [ ]
 
 pub device_counts_both : (limit : ℕ) → DeviceCountsBoth limit
 unfolding device_sents device_silence

@@ -124,6 +124,7 @@ some_kept : {xs : List DeviceSide} {ss : List DeviceStep} → AllKept xs ss → 
 unfolding sides
 some_kept (kept_and same e n qs) (this b) = this (e ∙ b)
 some_kept (kept_and same e n qs) (later b) = later (some_kept qs b)
+some_kept none_kept x4 = elim x4 [ ]
 
 pub agreed_kept : {burst : Bool} {noted : Noted} {next : Bool} {xs : List DeviceSide} {ss : List DeviceStep} → AllKept xs ss → Agreed burst noted next xs → Agreed burst noted next (sides ss)
 agreed_kept a g = record { each = each_kept a g.each; one_bursts = λ z. some_kept a (g.one_bursts z) }

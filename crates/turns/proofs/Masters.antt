@@ -193,6 +193,7 @@ module _ (m : Master) (frame bytes : List ℕ) (told : MasterTold) (result : Cal
       go Free e is_free = subst (λ (z : Stage). Goes m (Step z)) (sym e) (rests m.message refl refl (still_at e is_free) formed (λ z. absurd (free_waiting (sym e ∙ z))) (unmoved m))
       go Waiting e is_waiting = subst (λ (z : Stage). Goes m (Step z)) (sym e) (waiting_goes e)
       go (Awaiting n) e (is_awaiting k) = subst (λ (z : Stage). Goes m (Step z)) (sym e) (rests m.message refl refl (still_at e (is_awaiting n)) formed (λ z. absurd (awaiting_waiting n (sym e ∙ z))) (unmoved m))
+      go (Sending _) e x3 = elim x3 [ ]
 
 -- ---- the host's request
 

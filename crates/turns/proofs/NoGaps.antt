@@ -239,7 +239,7 @@ module _ (limit : ℕ) (small : limit ≤ 255) (p : Profile) (primary : Bool) wh
   master_run : {left : List ℕ} {x : MasterSide} → MasterState left x → (inputs : List MasterInput) → NoGap left (master_sents limit x inputs)
   unfolding master_sents
   master_run s [] = no_tick
-  master_run {left} {x} s (i ∷ is) = and_on (λ l t. master_run t is) (master_steps s i.heard i.call)
+  master_run {left} {x} s (i ∷ is) = and_on (λ l t. master_run {left = l} {x = (master_tick limit x i.heard i.call).side} t is) (master_steps s i.heard i.call)
 
 -- a master that started
 pub started_master : (limit : ℕ) (small : limit ≤ 255) (p : Profile) (primary : Bool) (retries : ℕ) (x : MasterSide) → MasterStarts p primary retries x → MasterState limit small p primary [] x
@@ -475,7 +475,7 @@ module _ (limit : ℕ) (low : 2 ≤ limit) (high : limit ≤ 255) (p : Profile) 
   device_run : {left : List ℕ} {x : DeviceSide} → DeviceState left x → (inputs : List DeviceInput) → NoGap left (device_sents limit x inputs)
   unfolding device_sents
   device_run s [] = no_tick
-  device_run {left} {x} s (i ∷ is) = and_on (λ l t. device_run t is) (device_steps s i.heard i.call)
+  device_run {left} {x} s (i ∷ is) = and_on (λ l t. device_run {left = l} {x = (device_tick limit x i.heard i.call).side} t is) (device_steps s i.heard i.call)
 
 fresh_sound : (p : Profile) (x : DeviceSide) → DeviceStarts p x → Sound x.device x.frame x.contents
 unfolding if◌then◌else◌

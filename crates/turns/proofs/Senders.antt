@@ -29,6 +29,8 @@ most (Damaged c k) = 1
 joins_count : (s : Sent) (h : Heard) (n : ℕ) → (Plain h → n ≤ most h) → Plain (joins s h) → count s + n ≤ most (joins s h)
 joins_count Silent h n f q = omega (arith, f q)
 joins_count (Sent.Character c) Silence n f (plain_character e) = omega (arith, f plain_silence)
+joins_count (Rattle.turns.specs.declared.Sent.TheVariants.Character c) (Character _) n f q = elim q [ ]
+joins_count (Rattle.turns.specs.declared.Sent.TheVariants.Character c) (Damaged _ _) n f q = elim q [ ]
 
 pub carried_count : (ss : List DeviceStep) → Plain (carried ss) → device_senders ss ≤ most (carried ss)
 unfolding carried device_senders

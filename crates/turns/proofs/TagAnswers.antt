@@ -348,7 +348,8 @@ tick_reached limit start g x heard call r =
 reaches : (limit : ℕ) (start : DeviceSide) (g : Ledger) (x : DeviceSide) (inputs : List DeviceInput) → Reached start g x → Reached start (device_ledger limit g x inputs) (device_after limit x inputs)
 unfolding device_ledger device_after
 reaches limit start g x [] r = r
-reaches limit start g x (i ∷ is) r = reaches limit start _ _ is (tick_reached limit start g x i.heard i.call r)
+reaches limit start g x (i ∷ is) r =
+    reaches limit start (ledger_after i.call (device_tick limit x i.heard i.call) g) (device_tick limit x i.heard i.call).side is (tick_reached limit start g x i.heard i.call r)
 
 -- ---- an ACK goes out, character by character
 
@@ -606,7 +607,7 @@ tag_answered limit small p start s before after heard wish put primary flag made
     let told_is : told_by (device_takes x.device heard).told (device_ledger limit blank start before) ≡ told (command11 stx primary flag 0) =
     ap (λ (z : DeviceTold). told_by z (device_ledger limit blank start before)) (sym (tells_told limit x heard (gives_answer wish put))) ∙ last.is_last in
     let request = request_is limit small x heard s.preamble s.unique p (device_ledger limit blank start before) a made primary flag 0 (omega arith) told_is k.n k.taking.in_hand in
-    let same : wish ≡ Same = tag_same _ wish (ap has_no_wish request ∙ tag_no_wish stx primary flag) k.taking.wish_taken in
+    let same : wish ≡ Same = tag_same (device_takes x.device heard).device wish (ap has_no_wish request ∙ tag_no_wish stx primary flag) k.taking.wish_taken in
     subst (λ (b : Bool). GoesOut limit x (record { heard = heard; call = gives_answer wish put }) (frame_bytes s.preamble (command11 ack primary b 0) put) after) (ap (wished x.device.burst) same)
     (eleven_out limit small x heard s.preamble s.unique p (device_ledger limit blank start before) a made primary flag 0 (omega arith) told_is wish put after k.n k.taking)
 
@@ -646,6 +647,7 @@ module _ (x : DeviceSide) (last : Heard) (v : Whole) (primary flag : Bool) (whol
           → on_heard x.device h ≡ changed x.device (taken x.device.receiver h).receiver (Frame v) (record { turn = Asked x.device.profile.sto; request = v.header; length = x.device.length; told = DeviceTold.Request v })
       by (Character c) is_sound e = ap (on_character x.device _) e ∙ ap (changed x.device _ (Frame v)) frame_is
       by (Heard.Damaged c kind) is_with_damage e = ap (on_character x.device _) e ∙ ap (changed x.device _ (Frame v)) frame_is
+      by Silence x3 e = elim x3 [ ]
 
 pub tag_is_told : (limit : ℕ) → TagTold limit
 tag_is_told limit x last v primary flag call whole is = tells_told limit x last call ∙ ap (λ (t : DeviceTaken). t.told) (heard_is x last v primary flag whole is)

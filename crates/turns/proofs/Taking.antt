@@ -92,6 +92,7 @@ if_awaiting_ended frame retries g e Waiting q is_waiting f k = record { still = 
 if_awaiting_ended frame retries g e (Awaiting n) q (is_awaiting j) f k =
     let d = k n refl in
     record { still = d.still; formed = d.formed; gone = d.gone; waits_on = λ z. absurd (awaiting_waiting n (sym q ∙ z)) }
+if_awaiting_ended {primary = primary} frame retries g e (Sending _) q x5 f k = elim x5 [ ]
 
 -- ---- what is common to every way of taking
 
@@ -196,6 +197,7 @@ module _ (frame bytes : List ℕ) (m : Master) (hears : m.deaf ≡ false) (still
       keep Free is_free = is_free
       keep Waiting is_waiting = is_waiting
       keep (Awaiting k) (is_awaiting j) = is_awaiting (k - 1)
+      keep (Sending _) x'' = elim x'' [ ]
 
       free_waited : (s : Stage) → s ≡ Free → waited s ≡ Free
       free_waited s q = ap waited q
@@ -204,6 +206,7 @@ module _ (frame bytes : List ℕ) (m : Master) (hears : m.deaf ≡ false) (still
       not_ending Free q is_free = absurd (true_false (sym q))
       not_ending Waiting q is_waiting = absurd (true_false (sym q))
       not_ending (Awaiting k) q (is_awaiting j) = (k, refl)
+      not_ending (Sending _) q x3 = elim x3 [ ]
 
       over_now : (s : Stage) → rt1_ends s ≡ true → 0 ≡ left s - 1
       over_now Free q = refl
