@@ -2,7 +2,6 @@
 #![tactic(auto)]
 
 ghost use Rattle.std.specs.Prelude.{◌<◌, ◌^◌, ◌≡◌};
-ghost use Rattle.base.specs.Lent.{before, after};
 ghost use Rattle.line.specs.Heard.{heard_of};
 ghost use Rattle.turns.specs.Told.{device_tells};
 ghost use Rattle.device_c.specs.Words.{turn_word, turn_by, turn_of, wish_word, wish_of, settings_words, settings_at};

@@ -2,7 +2,6 @@
 #![tactic(auto)]
 
 ghost use Rattle.std.specs.Prelude.{◌≡◌, ◌≤◌, length};
-ghost use Rattle.base.specs.Lent.{before};
 ghost use Rattle.load.specs.Arguments.{number_from};
 
 use libc::STDOUT_FILENO;

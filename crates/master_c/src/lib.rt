@@ -2,7 +2,6 @@
 #![tactic(auto)]
 
 ghost use Rattle.std.specs.Prelude.{◌<◌, ◌^◌, ◌≡◌};
-ghost use Rattle.base.specs.Lent.{before, after};
 ghost use Rattle.line.specs.Heard.{heard_of};
 ghost use Rattle.turns.specs.Told.{master_tells};
 ghost use Rattle.master_c.specs.Words.{stage_word, stage_by, stage_of, message_at, timer_at, noted_at, front_words, end_words, packed, unpacked, limit_at};

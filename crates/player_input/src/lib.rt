@@ -2,7 +2,6 @@
 #![tactic(auto)]
 
 ghost use Rattle.std.specs.Prelude.{◌≡◌, ◌<◌, length, take};
-ghost use Rattle.base.specs.Lent.{before, after};
 ghost use Rattle.player_script.specs.Script.{records_in};
 ghost use Rattle.player_script.specs.Pieces.{up_to, walked_by, walked_as};
 ghost use Rattle.player_input.specs.Input.{held_in, end_kept, EndStays, end_of};

@@ -2,7 +2,6 @@
 #![tactic(auto)]
 
 ghost use Rattle.std.specs.Prelude.{◌<◌, ◌^◌, ◌≡◌};
-ghost use Rattle.base.specs.Lent.{before};
 ghost use Rattle.base.specs.Refusal.{accepted};
 ghost use Rattle.line.specs.Heard.{heard_of};
 ghost use Rattle.master_c.specs.Tick.{request_of};
