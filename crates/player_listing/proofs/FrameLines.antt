@@ -20,7 +20,7 @@ use Rattle.line.specs.declared.Taken.{Taken}
 use Rattle.line.specs.declared.Whole.{Whole}
 use Rattle.line.proofs.Leads.{Leads, stays, hears}
 use Rattle.line.proofs.Hearing.{Heard, whole_message, before_check, frame_leads, frame_told}
-use Rattle.turns.specs.Gaps.{master_sents, device_sents, IsFrame, NoGap, no_tick, silent_tick, begins_frame, goes_on_later}
+use Rattle.turns.specs.Gaps.{master_sents, device_sents, IsFrame, NoGap, no_tick, silent_tick, begins_frame, goes_on as goes_on_later}
 use Rattle.turns.specs.declared.Sent.{Sent}
 use Rattle.turns.specs.declared.Sent.TheVariants.{Silent}
 use Rattle.turns.proofs.NoGaps.{master_leaves_no_gap, device_leaves_no_gap}
@@ -63,7 +63,7 @@ characters_end [] c us = refl
 characters_end (d ∷ cs) c us = ap (λ (l : List Sent). Sent.Character d ∷ l) (characters_end cs c us)
 
 -- a written frame: the characters of which the reader tells nothing, and the last
-record Whole-at-last (w : List ℕ) (h : Header) : Type 0 where
+record WholeAtLast (w : List ℕ) (h : Header) : Type 0 where
   front : List ℕ
   last : ℕ
   reader : Receiver
@@ -75,7 +75,7 @@ record Whole-at-last (w : List ℕ) (h : Header) : Type 0 where
   is : w ≡ front ++ (last ∷ [])
   short : length w ≤ 284
 
-whole_at_last : (w : List ℕ) (f : IsFrame w) → Whole-at-last w f.header
+whole_at_last : (w : List ℕ) (f : IsFrame w) → WholeAtLast w f.header
 unfolding frame_bytes body_bytes
 whole_at_last w f =
     let n = f.preamble in

@@ -188,12 +188,12 @@ apart_sums m n k l e = go (k =? l) refl
         apart_yes (m + k) (n + l) (λ z. other (omega arith)) ∙ sym (if_is_false (apart m n) true (apart k l) (apart_no m n e) ∙ apart_yes k l other)
 
 module _ (n : ℕ) (a b a2 b2 : List ℕ) where
-  abbrev Together-of : List ℕ → List ℕ → List Together
-  Together-of first second = all_together (ticks_of first) (ticks_of second)
+  abbrev together_of : List ℕ → List ℕ → List Together
+  together_of first second = all_together (ticks_of first) (ticks_of second)
 
   record Halves : Type 0 where
-    ticks : Together-of (a ++ a2) (b ++ b2) ≡ Together-of a b ++ Together-of a2 b2
-    long : length (Together-of a b) ≡ n
+    ticks : together_of (a ++ a2) (b ++ b2) ≡ together_of a b ++ together_of a2 b2
+    long : length (together_of a b) ≡ n
 
   halves : length a ≡ 2 * n → length b ≡ 2 * n → Halves
   halves e f =
@@ -204,15 +204,15 @@ module _ (n : ℕ) (a b a2 b2 : List ℕ) where
       }
 
   joined_halves : Halves → joined_of (a ++ a2) (b ++ b2) ≡ joined_of a b ++ joined_of a2 b2
-  joined_halves h = ap recorded h.ticks ∙ recorded_both (Together-of a b) (Together-of a2 b2)
+  joined_halves h = ap recorded h.ticks ∙ recorded_both (together_of a b) (together_of a2 b2)
 
   difference_halves : Halves → difference_of (a ++ a2) (b ++ b2) ≡ or_else (difference_of a b) (later n (difference_of a2 b2))
   difference_halves h =
       ap (difference_from 0) h.ticks
-      ∙ difference_both (Together-of a b) (Together-of a2 b2) 0
-      ∙ ap (or_else (difference_of a b)) (ap (λ (m : ℕ). difference_from m (Together-of a2 b2)) count ∙ counted_on n 0 (Together-of a2 b2))
+      ∙ difference_both (together_of a b) (together_of a2 b2) 0
+      ∙ ap (or_else (difference_of a b)) (ap (λ (m : ℕ). difference_from m (together_of a2 b2)) count ∙ counted_on n 0 (together_of a2 b2))
     where
-      count : 0 + length (Together-of a b) ≡ n + 0
+      count : 0 + length (together_of a b) ≡ n + 0
       count = omega (arith, h.long)
 
   bad_tap : (l ls : List ℕ) → IsRead n l ls → bad_recording (l ++ ls) ≡ either (bad_recording l) (bad_recording ls)

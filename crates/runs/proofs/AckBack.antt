@@ -308,6 +308,7 @@ some_turned : {xs : List DeviceSide} {ss : List DeviceStep} → AllTurned xs ss 
 unfolding sides
 some_turned (turned_and same e n qs) (this b) = this (e ∙ b)
 some_turned (turned_and same e n qs) (later b) = later (some_turned qs b)
+some_turned none_turned x4 = elim x4 [ ]
 
 agreed_turned : {burst : Bool} {noted : Noted} {next : Bool} {xs : List DeviceSide} {ss : List DeviceStep} → AllTurned xs ss → Agreed burst noted next xs → Agreed burst noted (if next then false else true) (sides ss)
 agreed_turned a g = record { each = each_turned a g.each; one_bursts = λ z. some_turned a (g.one_bursts z) }

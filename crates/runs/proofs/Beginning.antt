@@ -243,11 +243,13 @@ no_two_answers p g h n x s k (and {x = y} d ds) (begins_here {s = u} b a) (and t
     go true q i j = t (to_tag p h x s q k) (to_tag p h y u q b)
     go false q i j = own_once x y h d i j
 no_two_answers p g h n x s k (and d ds) (begins_further q r) (and t ts) = no_two_answers p g h n x s k ds r ts
+no_two_answers p g h n x s {ss = ss} k All.none x8 _ = elim x8 [ ]
 
 no_two_bursts : (p : Profile) (g : ℕ) (h : Header) (n : ℕ) (burst : Bool) (noted : Noted) (next : Bool) (x : DeviceSide) {xs : List DeviceSide} {ss : List DeviceStep} → noted.address ≡ x.device.unique → All (Differ x) xs → All (BurstIs burst noted next) xs
     → OneBegins p g h n (BeginsBack p) xs ss → ⊥
 no_two_bursts p g h n burst noted next x o (and d ds) (and i is) (begins_here b a) = d.unique_differs (sym o ∙ i.unique_noted b.bursts)
 no_two_bursts p g h n burst noted next x o (and d ds) (and i is) (begins_further q r) = no_two_bursts p g h n burst noted next x o ds is r
+no_two_bursts p g h n burst noted next x {ss = ss} o All.none _ x9 = elim x9 [ ]
 
 module _ (limit : ℕ) (low : 2 ≤ limit) (high : limit ≤ 255) (p : Profile) (some : 1 ≤ p.sto) (g : ℕ) (h : Header) (n : ℕ) (calm : 1 ≤ g → n ≡ 1 → ⊥) (burst : Bool) (noted : Noted) (next : Bool) where
   -- the head and the rest

@@ -44,12 +44,14 @@ module _ {p : Profile} {g : ℕ} {h : Header} {n : ℕ} where
   unfolding sides
   still_some (still_and q a) (this b) = this (q.quietly.same_burst ∙ b)
   still_some (still_and q a) (later m) = later (still_some a m)
+  still_some nothing_still x4 = elim x4 [ ]
 
   -- a device that rests and bursts is no second one
   still_alone : (u : DeviceSide) {xs : List DeviceSide} {ss : List DeviceStep} → AllStill p g h n xs ss → Some Bursting xs → All (λ (v : DeviceSide). u.device.burst ≡ true → v.device.burst ≡ true → ⊥) (sides ss) → u.device.burst ≡ true → ⊥
   unfolding sides
   still_alone u (still_and q a) (this b) (and c cs) on = c on (q.quietly.same_burst ∙ b)
   still_alone u (still_and q a) (later m) (and c cs) on = still_alone u a m cs on
+  still_alone u nothing_still x10 _ on = elim x10 [ ]
 
 module _ {p : Profile} {g : ℕ} {h : Header} {n : ℕ} {B : DeviceSide → DeviceStep → Type 0} where
   pub picked : {xs : List DeviceSide} {ss : List DeviceStep} → OneBegins p g h n B xs ss → Picked B

@@ -72,6 +72,7 @@ closed_ledgers (ledger_and a) = ledger_and (closed_ledgers a)
 none_closed : {h : Header} {put : List ℕ} {xs : List DeviceSide} (gs : List Ledger) → Gave h put xs (closed gs) → ⊥
 unfolding closed
 none_closed (g ∷ gs) (another q) = none_closed gs q
+none_closed {h = h} {put = put} {xs = xs} [] x' = elim x' [ ]
 
 -- behind a tick in which a master sends no answer stands in them, so that one that does was given behind the last STX
 pub none_stands : (c : ℕ) {h : Header} {put : List ℕ} {xs : List DeviceSide} (gs : List Ledger) → Gave h put xs (closed_after (Sent.Character c) gs) → ⊥

@@ -242,3 +242,4 @@ character_is_first primary n stx ss (F.waits e f) (D.begins m c z) = absurd (sil
 character_is_first primary n stx ss (F.waits e f) (D.waits z b) = character_is_first primary _ stx _ f b
 character_is_first primary n stx ss (F.begins e g) (D.begins m c z) = same_character (sym z ∙ e)
 character_is_first primary n stx ss (F.begins e g) (D.waits z b) = absurd (silent_character (sym z ∙ e))
+character_is_first primary n _ _ (Rattle.runs.specs.FirstStx.list_ends {stx = stx}) b = elim b [ ]

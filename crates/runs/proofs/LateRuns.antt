@@ -339,6 +339,7 @@ silent_late : (bit : Bool) (n : ℕ) (ss : List LinkStep) → silent_for bit (su
 unfolding silent_for is_silent if◌then◌else◌
 silent_late bit n (s ∷ ss) e (begins m c q) = true_false (sym e ∙ (λ i. if is_silent (q i) then silent_for bit n ss else false))
 silent_late bit (suc n) (s ∷ ss) e (waits q b) = silent_late bit n ss (sym (λ i. if is_silent (q i) then silent_for bit (suc n) ss else false) ∙ e) b
+silent_late bit n [] e x'' = elim x'' [ ]
 
 early_is : (taken_in false (late_run 2 0 37 link early) 37 ≡ true) × (silent_for false (suc (longest_wait 2 short 3)) (drop 37 (late_run 2 0 37 link early)) ≡ true)
 unfolding early taken_in is_taken silent_for is_silent short link request calls answers quiet late_run late_tick device_ticks sides carried master_tick device_tick requested requested_up_to master_takes master_sends device_takes device_sends answered content_given taken taken_data at_idle at_preamble at_first at_address at_expansion at_command at_count at_data at_check silent_inside write_buffer write_answer frame_bytes preamble_bytes body_bytes protected_bytes header_bytes xor_from delimiter_of stored if◌then◌else◌

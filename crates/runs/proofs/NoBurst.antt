@@ -68,6 +68,7 @@ no_burst_fair f = (none_sole f.0, f.1)
 pub none_some : {xs : List DeviceSide} → All (λ (x : DeviceSide). x.device.burst ≡ true → ⊥) xs → Some Bursting xs → ⊥
 none_some (and f fs) (this e) = f e
 none_some (and f fs) (later m) = none_some fs m
+none_some All.none x3 = elim x3 [ ]
 
 -- so the device that sends does not either
 sender_off : {p : Profile} {f : _} {k : ℕ} {w : List ℕ} {message : Whole} {u : ℕ} (on : Bool) {R : DeviceSide → Type 0} {xs : List DeviceSide} → All (λ (x : DeviceSide). x.device.burst ≡ true → ⊥) xs
@@ -75,6 +76,7 @@ sender_off : {p : Profile} {f : _} {k : ℕ} {w : List ℕ} {message : Whole} {u
 sender_off false n o = refl
 sender_off true (and f fs) (here s a) = absurd (f s.burst_is)
 sender_off true (and f fs) (further s a) = sender_off true fs a
+sender_off {p = p} {f = f} {k = k} {w = w} {message = message} {u = u} true {R = R} All.none o = elim o [ ]
 
 -- an ACK that leaves BURST clear notes nobody
 same_noted : (noted : Noted) (h : Header) → burst_after false noted h ≡ false → noted_after noted h ≡ noted

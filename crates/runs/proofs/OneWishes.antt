@@ -66,6 +66,7 @@ takes_stays d heard c = if_both (λ (t : DeviceTaken). StaysOff t.device) d.deaf
 wished_off : (b : Bool) (w : Wish) → b ≡ false → NotOn w → wished b w ≡ false
 wished_off b Same h same = h
 wished_off b Off h off = refl
+wished_off b Rattle.turns.specs.declared.Wish.TheVariants.On h x'' = elim x'' [ ]
 
 module _ (d : Device) (c : StaysOff d) (frame : List ℕ) where
   abbrev SentStaysOff : DeviceSent → Type 0

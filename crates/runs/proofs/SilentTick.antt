@@ -115,7 +115,7 @@ master_tick_lem limit small p primary burst noted C x call q bc f = go m.1
     m = master_silence limit small p primary x call q.listens q.ready
 
     c : C t.timer
-    c = f t.timer m.0.next_is m.0.Quiet-is m.0.window_is
+    c = f t.timer m.0.next_is m.0.quiet_is m.0.window_is
 
     again : (r : L.Starts p primary t step) → 1 ≤ left x.master.message.stage → (t.message.stage ≡ Waiting) ⊎ (t.message.stage ≡ Free)
         → (step.side.master.message.attempts ≡ x.master.message.attempts + 1) × (x.master.message.attempts ≤ x.master.retries)
@@ -268,6 +268,7 @@ module _ (p : Profile) (g : ℕ) (h : Header) (n : ℕ) (burst : Bool) (noted : 
       not_one : n ≡ 1 → {ys : List DeviceSide} {ts : List DeviceStep} → AllStill p g h n ys ts → Some Bursting ys → ⊥
       not_one e (still_and q d) (this k) = q.not_due k e
       not_one e (still_and q d) (later m) = not_one e d m
+      not_one e nothing_still x10 = elim x10 [ ]
   silent_tick asked two na nb ta tb stay (rests ca ea qa ra ma) (rests cb eb qb rb mb) (one_answers z o) = answer_begins ea eb (λ w. rest_hears w qa ra) (λ w. rest_hears w qb rb) z asked ma mb o
   silent_tick asked two na nb ta tb stay (rests ca ea qa ra ma) (rests cb eb qb rb mb) (one_bursts z o) = burst_begins ea eb (λ w. rest_hears w qa ra) (λ w. rest_hears w qb rb) z ma mb o
   silent_tick asked two na nb ta tb stay (begins x ca wa w message ea sa ma) (rests cb eb qb rb mb) (all_still d) =

@@ -259,7 +259,7 @@ unfolding run link_tick
 one_tag limit gs l [] o G.no_tick = R.no_tick
 one_tag limit gs l (c ∷ cs) o (G.tick_and q qs) =
     let next = all_tick limit l.line c.for_devices o in
-    R.tick_and (sole next q) (one_tag limit _ (link_after (link_tick limit l c)) cs next qs)
+    R.tick_and (sole next q) (one_tag limit (ledgers_after c.for_devices (device_ticks limit l.line l.devices c.for_devices) gs) (link_after (link_tick limit l c)) cs next qs)
 
 -- ---- from the start
 

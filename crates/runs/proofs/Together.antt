@@ -120,10 +120,10 @@ module _ (d : Device) where
 
   -- every device may answer a command 11
   stx_told : (w : Whole) → w.header.kind ≡ stx → w.expansion ≡ 0 → seeks_tag w.header ≡ true → (after_frame d w).told ≡ Request w
-  stx_told w type None-more tag =
+  stx_told w type none_more tag =
       ap (λ (c : Change). c.told)
       (if_is_true (w.header.kind =? stx) _ _ (eq-eqb w.header.kind stx type)
-      ∙ (if_is_true (w.expansion =? 0) _ _ (eq-eqb w.expansion 0 None-more) ∙ if_is_true (may_answer d w.header) _ _ (if_is_true (seeks_tag w.header) true _ tag)))
+      ∙ (if_is_true (w.expansion =? 0) _ _ (eq-eqb w.expansion 0 none_more) ∙ if_is_true (may_answer d w.header) _ _ (if_is_true (seeks_tag w.header) true _ tag)))
 
   other_told : (w : Whole) → seeks_tag w.header ≡ false → NoTag (after_frame d w).told
   other_told w other =
@@ -179,11 +179,11 @@ module _ (limit : ℕ) (p : Profile) (w : List ℕ) (message : Whole) (k : ℕ) 
 
   pub stx_together : (suc k < length w) ⊎ (suc k ≡ length w) → message.header.kind ≡ stx → message.expansion ≡ 0 → {xs : List DeviceSide} → All (DeviceHears p (reader_after idle (take k w)) u) xs → ToldTogether (device_ticks limit (Character (get_or w k 0)) xs cs)
   unfolding Hears
-  stx_together (inl below) type None-more hs = none_told (each_told limit (Character (get_or w k 0)) cs (mid_told below) hs)
-  stx_together (inr last) type None-more {xs} hs = go (seeks_tag message.header) refl
+  stx_together (inl below) type none_more hs = none_told (each_told limit (Character (get_or w k 0)) cs (mid_told below) hs)
+  stx_together (inr last) type none_more {xs} hs = go (seeks_tag message.header) refl
     where
       go : (tag : Bool) → seeks_tag message.header ≡ tag → ToldTogether (device_ticks limit (Character (get_or w k 0)) xs cs)
-      go true tag = all_told message tag (each_told limit (Character (get_or w k 0)) cs (λ x h. end_told last x h ∙ stx_told x.device message type None-more tag) hs)
+      go true tag = all_told message tag (each_told limit (Character (get_or w k 0)) cs (λ x h. end_told last x h ∙ stx_told x.device message type none_more tag) hs)
       go false tag = none_told (stx_untold (inr last) tag hs)
 
   -- an ACK or a BACK

@@ -136,6 +136,7 @@ module _ (p : Profile) (v : Valid p) (bit : Bool) (d : ℕ) (l : Link) where
 none_some : {xs : List DeviceSide} → All (λ (x : DeviceSide). x.device.burst ≡ true → ⊥) xs → Some Bursting xs → ⊥
 none_some (and f fs) (this e) = f e
 none_some (and f fs) (later m) = none_some fs m
+none_some All.none x3 = elim x3 [ ]
 
 -- ---- a list of ticks
 
