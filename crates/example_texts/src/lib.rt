@@ -1,14 +1,15 @@
-// What the example programs print: a frame's header as text, and a line.
+// What the example programs print, a frame's header as text and a line, and the input that they read.
 #![tactic(auto)]
 
-ghost use Rattle.std.specs.Prelude.{◌++◌};
+ghost use Rattle.std.specs.Prelude.{◌++◌, ◌≤◌, length, IfOk};
 ghost use Rattle.base.specs.Lent.{before, after};
 ghost use Rattle.texts.specs.Digits.{decimal, bit_of};
 ghost use Rattle.texts.specs.Put.{PutIs};
 ghost use Rattle.example_texts.specs.Header.{header_text};
 
 use frame::Header;
-use libc::STDOUT_FILENO;
+use std::io;
+use std::io::Read;
 use texts::{bit, put_field};
 
 // A name and a flag.
@@ -30,7 +31,22 @@ pub fn put_header(h: Header, out: &mut [u8], at: usize) -> usize
 }
 
 // Prints the first count bytes as a line.
-pub fn print_line(bytes: &[u8], count: usize) {
-    io::write_all(STDOUT_FILENO, texts::front(bytes, count));
-    io::write_all(STDOUT_FILENO, b"\n");
+pub fn print_line(rt: &impl Print, bytes: &[u8], count: usize) -> io::Result<()> {
+    rt.write_all(texts::front(bytes, count))?;
+    rt.write_all(b"\n")
+}
+
+// Reads until the buffer is full or the input ends. Returns how many bytes were read.
+pub fn read_full(input: &mut impl Read, buffer: &mut [u8]) -> io::Result<usize>
+    ensures { IfOk result (λ n. n ≤ length buffer.new) }
+{
+    let mut done = 0;
+    while done < buffer.len() {
+        let count = input.read(&mut buffer[done..])?;
+        if count == 0 {
+            break;
+        }
+        done += count;
+    }
+    Ok(done)
 }

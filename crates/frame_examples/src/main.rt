@@ -4,6 +4,7 @@
 use base::Refusal;
 use example_texts::{print_line, put_header};
 use frame::{ACK, BACK, Delimiter, Found, Header, Read, STX, Written};
+use std::io;
 use texts::{bit, put_all_spaced, put_bytes, put_field, put_spaced};
 
 fn put_refused(why: Refusal, out: &mut [u8], at: usize) -> usize {
@@ -38,32 +39,32 @@ fn put_delimiter(delimiter: Delimiter, out: &mut [u8], at: usize) -> usize {
     }
 }
 
-fn print_delimiter(byte: u8, out: &mut [u8]) {
+fn print_delimiter(rt: &impl Print, byte: u8, out: &mut [u8]) -> io::Result<()> {
     let mut place = put_bytes(b"delimiter", out, 0);
     place = put_spaced(byte, out, place);
     let delimiter = frame::delimiter_of(byte);
     place = put_delimiter(delimiter, out, place);
-    print_line(out, place);
+    print_line(rt, out, place)
 }
 
 // What a byte means in the delimiter's place.
-fn show_delimiter(byte: u8) {
-    let mut out = io::buffer();
-    print_delimiter(byte, &mut out);
+fn show_delimiter(rt: &impl Print, byte: u8) -> io::Result<()> {
+    let mut out = [0u8; 4096];
+    print_delimiter(rt, byte, &mut out)
 }
 
-fn print_check(bytes: &[u8], out: &mut [u8]) {
+fn print_check(rt: &impl Print, bytes: &[u8], out: &mut [u8]) -> io::Result<()> {
     let mut place = put_bytes(b"check", out, 0);
     place = put_all_spaced(bytes, out, place);
     place = put_bytes(b":", out, place);
     place = put_spaced(frame_check::xor_from(0, bytes), out, place);
-    print_line(out, place);
+    print_line(rt, out, place)
 }
 
 // The check byte of some bytes from the delimiter on.
-fn show_check(bytes: &[u8]) {
-    let mut out = io::buffer();
-    print_check(bytes, &mut out);
+fn show_check(rt: &impl Print, bytes: &[u8]) -> io::Result<()> {
+    let mut out = [0u8; 4096];
+    print_check(rt, bytes, &mut out)
 }
 
 fn put_read(bytes: &[u8], read: Read, out: &mut [u8], at: usize) -> usize {
@@ -77,18 +78,18 @@ fn put_read(bytes: &[u8], read: Read, out: &mut [u8], at: usize) -> usize {
     }
 }
 
-fn print_read(bytes: &[u8], out: &mut [u8]) {
+fn print_read(rt: &impl Print, bytes: &[u8], out: &mut [u8]) -> io::Result<()> {
     let mut place = put_bytes(b"read", out, 0);
     place = put_all_spaced(bytes, out, place);
     let read = frame_read::read(bytes);
     place = put_read(bytes, read, out, place);
-    print_line(out, place);
+    print_line(rt, out, place)
 }
 
 // What is read from some bytes, and the data.
-fn show_read(bytes: &[u8]) {
-    let mut out = io::buffer();
-    print_read(bytes, &mut out);
+fn show_read(rt: &impl Print, bytes: &[u8]) -> io::Result<()> {
+    let mut out = [0u8; 4096];
+    print_read(rt, bytes, &mut out)
 }
 
 fn put_written(buffer: &[u8], written: Written, out: &mut [u8], at: usize) -> usize {
@@ -98,18 +99,25 @@ fn put_written(buffer: &[u8], written: Written, out: &mut [u8], at: usize) -> us
     }
 }
 
-fn print_write(buffer: &mut [u8], preamble: usize, h: Header, bytes: &[u8], out: &mut [u8]) {
+fn print_write(
+    rt: &impl Print,
+    buffer: &mut [u8],
+    preamble: usize,
+    h: Header,
+    bytes: &[u8],
+    out: &mut [u8],
+) -> io::Result<()> {
     let mut place = put_bytes(b"write", out, 0);
     let written = frame_write::write(preamble, h, bytes, buffer, 0);
     place = put_written(buffer, written, out, place);
-    print_line(out, place);
+    print_line(rt, out, place)
 }
 
 // What is written into a buffer from its front.
-fn show_write(preamble: usize, h: Header, bytes: &[u8]) {
+fn show_write(rt: &impl Print, preamble: usize, h: Header, bytes: &[u8]) -> io::Result<()> {
     let mut buffer = [0u8; 300];
-    let mut out = io::buffer();
-    print_write(&mut buffer, preamble, h, bytes, &mut out);
+    let mut out = [0u8; 4096];
+    print_write(rt, &mut buffer, preamble, h, bytes, &mut out)
 }
 
 fn put_end(written: Written, out: &mut [u8], at: usize) -> usize {
@@ -120,25 +128,32 @@ fn put_end(written: Written, out: &mut [u8], at: usize) -> usize {
 }
 
 fn print_length(
+    rt: &impl Print,
     buffer: &mut [u8],
     start: usize,
     preamble: usize,
     h: Header,
     bytes: &[u8],
     out: &mut [u8],
-) {
+) -> io::Result<()> {
     let mut place = put_field(b"data bytes ", bytes.len() as u64, out, 0);
     place = put_field(b" at ", start as u64, out, place);
     let written = frame_write::write(preamble, h, bytes, buffer, start);
     place = put_end(written, out, place);
-    print_line(out, place);
+    print_line(rt, out, place)
 }
 
 // How long a frame is that is written into a buffer from a place on.
-fn show_length(start: usize, preamble: usize, h: Header, bytes: &[u8]) {
+fn show_length(
+    rt: &impl Print,
+    start: usize,
+    preamble: usize,
+    h: Header,
+    bytes: &[u8],
+) -> io::Result<()> {
     let mut buffer = [0u8; 300];
-    let mut out = io::buffer();
-    print_length(&mut buffer, start, preamble, h, bytes, &mut out);
+    let mut out = [0u8; 4096];
+    print_length(rt, &mut buffer, start, preamble, h, bytes, &mut out)
 }
 
 // A header by its fields.
@@ -154,81 +169,85 @@ fn header(frame: u8, long: bool, primary: bool, burst: bool, address: u64, comma
 }
 
 // The standard's three frame types with each address, expansion bytes, and what is no delimiter.
-fn delimiters() {
-    show_delimiter(0x02);
-    show_delimiter(0x82);
-    show_delimiter(0x06);
-    show_delimiter(0x86);
-    show_delimiter(0x01);
-    show_delimiter(0x81);
-    show_delimiter(0xE2);
-    show_delimiter(0x0A);
-    show_delimiter(0x03);
-    show_delimiter(0xFF);
+fn delimiters(rt: &impl Print) -> io::Result<()> {
+    show_delimiter(rt, 0x02)?;
+    show_delimiter(rt, 0x82)?;
+    show_delimiter(rt, 0x06)?;
+    show_delimiter(rt, 0x86)?;
+    show_delimiter(rt, 0x01)?;
+    show_delimiter(rt, 0x81)?;
+    show_delimiter(rt, 0xE2)?;
+    show_delimiter(rt, 0x0A)?;
+    show_delimiter(rt, 0x03)?;
+    show_delimiter(rt, 0xFF)
 }
 
 // Document 01's worked check bytes.
-fn checks() {
-    show_check(b"\x02\x80\x00\x00");
-    show_check(b"\x82\x80\x00\x00\x00\x02\x03\x00");
-    show_check(b"\x06\x80\x00\x02\x00\x00");
+fn checks(rt: &impl Print) -> io::Result<()> {
+    show_check(rt, b"\x02\x80\x00\x00")?;
+    show_check(rt, b"\x82\x80\x00\x00\x00\x02\x03\x00")?;
+    show_check(rt, b"\x06\x80\x00\x02\x00\x00")
 }
 
 // The same three as frames, a BACK, and the largest polling address.
-fn writes() {
-    show_write(5, header(STX, false, true, false, 0, 0), b"");
-    show_write(5, header(STX, true, true, false, 2, 3), b"");
-    show_write(5, header(ACK, false, true, false, 0, 0), b"\x00\x00");
+fn writes(rt: &impl Print) -> io::Result<()> {
+    show_write(rt, 5, header(STX, false, true, false, 0, 0), b"")?;
+    show_write(rt, 5, header(STX, true, true, false, 2, 3), b"")?;
+    show_write(rt, 5, header(ACK, false, true, false, 0, 0), b"\x00\x00")?;
     show_write(
+        rt,
         5,
         header(BACK, true, false, true, 274877906943, 3),
         b"\x00\x40\x07",
-    );
-    show_write(5, header(STX, false, true, false, 63, 0), b"");
+    )?;
+    show_write(rt, 5, header(STX, false, true, false, 63, 0), b"")
 }
 
 // Each refusal of the fields.
-fn refusals() {
-    show_write(4, header(STX, false, true, false, 63, 0), b"");
-    show_write(5, header(STX, false, true, false, 64, 0), b"");
-    show_write(5, header(STX, true, true, false, 274877906944, 0), b"");
-    show_write(5, header(ACK, false, true, false, 0, 0), b"\x00");
-    show_write(5, header(3, false, true, false, 0, 0), b"");
+fn refusals(rt: &impl Print) -> io::Result<()> {
+    show_write(rt, 4, header(STX, false, true, false, 63, 0), b"")?;
+    show_write(rt, 5, header(STX, false, true, false, 64, 0), b"")?;
+    show_write(rt, 5, header(STX, true, true, false, 274877906944, 0), b"")?;
+    show_write(rt, 5, header(ACK, false, true, false, 0, 0), b"\x00")?;
+    show_write(rt, 5, header(3, false, true, false, 0, 0), b"")
 }
 
 // 255 data bytes and 256; the longest frame, and a buffer that is one byte too short for it.
-fn lengths(zeros: &[u8]) {
+fn lengths(rt: &impl Print, zeros: &[u8]) -> io::Result<()> {
     let h = header(STX, true, true, false, 2, 3);
-    show_length(0, 20, h, frame_read::part(zeros, 0, 255));
-    show_length(16, 20, h, frame_read::part(zeros, 0, 255));
-    show_length(17, 20, h, frame_read::part(zeros, 0, 255));
-    show_length(0, 20, h, zeros);
-    show_length(301, 20, h, b"");
+    show_length(rt, 0, 20, h, frame_read::part(zeros, 0, 255))?;
+    show_length(rt, 16, 20, h, frame_read::part(zeros, 0, 255))?;
+    show_length(rt, 17, 20, h, frame_read::part(zeros, 0, 255))?;
+    show_length(rt, 0, 20, h, zeros)?;
+    show_length(rt, 301, 20, h, b"")
 }
 
 // Frames that are read, and each refusal.
-fn reads() {
-    show_read(b"\xFF\xFF\x02\x80\x00\x00\x82");
-    show_read(b"\xFF\xFF\xFF\xFF\xFF\x06\x80\x00\x02\x00\x00\x84\x55");
-    show_read(b"\xFF\xFF\x86\x40\x00\x00\x01\x00\x03\x03\x00\x01\x02\xC4");
-    show_read(b"\xFF\xFF\x42\x85\xAA\xBB\x00\x00\xD6");
-    show_read(b"");
-    show_read(b"\xFF");
-    show_read(b"\xFF\x02\x80\x00\x00\x82");
-    show_read(b"\xFF\xFF");
-    show_read(b"\xFF\xFF\x03\x80\x00\x00\x83");
-    show_read(b"\xFF\xFF\x02\x80\x00\x00");
-    show_read(b"\xFF\xFF\x06\x80\x00\x01\x00\x87");
-    show_read(b"\xFF\xFF\x06\x80\x00\x01\x00");
-    show_read(b"\xFF\xFF\x02\x80\x00\x00\x83");
+fn reads(rt: &impl Print) -> io::Result<()> {
+    show_read(rt, b"\xFF\xFF\x02\x80\x00\x00\x82")?;
+    show_read(rt, b"\xFF\xFF\xFF\xFF\xFF\x06\x80\x00\x02\x00\x00\x84\x55")?;
+    show_read(
+        rt,
+        b"\xFF\xFF\x86\x40\x00\x00\x01\x00\x03\x03\x00\x01\x02\xC4",
+    )?;
+    show_read(rt, b"\xFF\xFF\x42\x85\xAA\xBB\x00\x00\xD6")?;
+    show_read(rt, b"")?;
+    show_read(rt, b"\xFF")?;
+    show_read(rt, b"\xFF\x02\x80\x00\x00\x82")?;
+    show_read(rt, b"\xFF\xFF")?;
+    show_read(rt, b"\xFF\xFF\x03\x80\x00\x00\x83")?;
+    show_read(rt, b"\xFF\xFF\x02\x80\x00\x00")?;
+    show_read(rt, b"\xFF\xFF\x06\x80\x00\x01\x00\x87")?;
+    show_read(rt, b"\xFF\xFF\x06\x80\x00\x01\x00")?;
+    show_read(rt, b"\xFF\xFF\x02\x80\x00\x00\x83")
 }
 
-fn main() {
+fn main(rt: HostRuntime) -> io::Result<()> {
     let zeros = [0u8; 256];
-    delimiters();
-    checks();
-    writes();
-    refusals();
-    lengths(&zeros);
-    reads();
+    delimiters(&rt)?;
+    checks(&rt)?;
+    writes(&rt)?;
+    refusals(&rt)?;
+    lengths(&rt, &zeros)?;
+    reads(&rt)
 }

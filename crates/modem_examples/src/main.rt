@@ -6,11 +6,11 @@
 
 use device::DeviceStarted;
 use device_tick::DeviceCall;
-use libc::STDOUT_FILENO;
 use line::Profile;
 use master::{MasterCall, MasterStarted};
 use modem::{Carried, Chip, Mark};
 use modem_party::Arrival;
+use std::io;
 use texts::{put_bytes, put_decimal, put_field, put_hexadecimal};
 use turns::{CallResult, Device, DeviceTold, Master, MasterTold, Request, Wish};
 
@@ -237,7 +237,15 @@ fn put_status(x: Chip, sent: Carried, out: &mut [u8], at: usize) -> usize {
     put_register(b"   ", written(chip, sent), 0, out, place)
 }
 
-fn print_tick(tick: u8, x: Chip, sent: Carried, told: Told, res: CallResult, out: &mut [u8]) {
+fn print_tick(
+    rt: &impl Print,
+    tick: u8,
+    x: Chip,
+    sent: Carried,
+    told: Told,
+    res: CallResult,
+    out: &mut [u8],
+) -> io::Result<()> {
     let mut place = put_tick(tick, out);
     place = put_first(x, out, place);
     place = put_count(x, out, place);
@@ -245,14 +253,31 @@ fn print_tick(tick: u8, x: Chip, sent: Carried, told: Told, res: CallResult, out
     place = put_sent(sent, out, place);
     place = put_told(told, out, place);
     place = put_answer(res, out, place);
-    io::write_all(STDOUT_FILENO, texts::front(out, place));
+    rt.write_all(texts::front(out, place))
 }
 
-fn show(tick: u8, x: Chip, carried: Carried, sent: Carried, told: Told, res: CallResult) {
+fn show(
+    rt: &impl Print,
+    tick: u8,
+    x: Chip,
+    carried: Carried,
+    sent: Carried,
+    told: Told,
+    res: CallResult,
+) -> io::Result<()> {
     if is_shown(carried, sent, res) {
-        let mut out = io::buffer();
-        print_tick(tick, modem::arrive(x, carried), sent, told, res, &mut out);
+        let mut out = [0u8; 4096];
+        print_tick(
+            rt,
+            tick,
+            modem::arrive(x, carried),
+            sent,
+            told,
+            res,
+            &mut out,
+        )?;
     }
+    Ok(())
 }
 
 // What the line carries: what the chip sends, or else the other party's character.
@@ -263,7 +288,12 @@ fn joined(sent: Carried, others: Carried) -> Carried {
     }
 }
 
-fn run_master(start: Master, frame: &mut [u8; 284], bytes: &mut [u8; 255]) {
+fn run_master(
+    rt: &impl Print,
+    start: Master,
+    frame: &mut [u8; 284],
+    bytes: &mut [u8; 255],
+) -> io::Result<()> {
     let mut x = modem::put(modem::fresh(), 1, 64);
     let mut m = start;
     let mut carried = Carried::Silence;
@@ -282,19 +312,21 @@ fn run_master(start: Master, frame: &mut [u8; 284], bytes: &mut [u8; 255]) {
         let sent = ended.carried;
         let told = ticked.told;
         let result = ticked.result;
-        show(tick, x, carried, sent, told_by_master(told), result);
+        show(rt, tick, x, carried, sent, told_by_master(told), result)?;
         carried = joined(sent, answer_at(tick));
         x = ended.chip;
         m = ticked.master;
     }
+    Ok(())
 }
 
 fn run_device(
+    rt: &impl Print,
     start: Device,
     contents: &mut [u8; 255],
     frame: &mut [u8; 284],
     bytes: &mut [u8; 255],
-) {
+) -> io::Result<()> {
     let mut x = modem::put(modem::fresh(), 1, 64);
     let mut d = start;
     let mut carried = Carried::Silence;
@@ -313,43 +345,41 @@ fn run_device(
         let sent = ended.carried;
         let told = ticked.told;
         let result = ticked.result;
-        show(tick, x, carried, sent, told_by_device(told), result);
+        show(rt, tick, x, carried, sent, told_by_device(told), result)?;
         carried = joined(sent, request_at(tick));
         x = ended.chip;
         d = ticked.device;
     }
+    Ok(())
 }
 
-fn print_head(party: &[u8]) {
-    io::write_all(STDOUT_FILENO, party);
-    io::write_all(
-        STDOUT_FILENO,
-        b"tick   status control data kind count        read written sent\n",
-    );
+fn print_head(rt: &impl Print, party: &[u8]) -> io::Result<()> {
+    rt.write_all(party)?;
+    rt.write_all(b"tick   status control data kind count        read written sent\n")
 }
 
-fn show_primary() {
+fn show_primary(rt: &impl Print) -> io::Result<()> {
     let mut frame = [0u8; 284];
     let mut bytes = [0u8; 255];
     let MasterStarted::Started(m) = master::start(Profile::fsk(), true, 3) else {
-        return;
+        return Ok(());
     };
-    print_head(b"primary\n");
-    run_master(m, &mut frame, &mut bytes);
+    print_head(rt, b"primary\n")?;
+    run_master(rt, m, &mut frame, &mut bytes)
 }
 
-fn show_device() {
+fn show_device(rt: &impl Print) -> io::Result<()> {
     let mut contents = [0u8; 255];
     let mut frame = [0u8; 284];
     let mut bytes = [0u8; 255];
     let DeviceStarted::Started(d) = device::start(Profile::fsk(), 5, 0, 2) else {
-        return;
+        return Ok(());
     };
-    print_head(b"device\n");
-    run_device(d, &mut contents, &mut frame, &mut bytes);
+    print_head(rt, b"device\n")?;
+    run_device(rt, d, &mut contents, &mut frame, &mut bytes)
 }
 
-fn main() {
-    show_primary();
-    show_device();
+fn main(rt: HostRuntime) -> io::Result<()> {
+    show_primary(&rt)?;
+    show_device(&rt)
 }

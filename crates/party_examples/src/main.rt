@@ -13,10 +13,11 @@ mod show;
 
 use device::DeviceStarted;
 use device_tick::DeviceTicked;
-use libc::{STDIN_FILENO, STDOUT_FILENO};
+use example_texts::read_full;
 use line::{Damage, Event, Heard, Profile};
 use master::{MasterStarted, MasterTicked};
 use show::Reception;
+use std::io;
 use turns::{CallResult, Device, DeviceTold, Master, MasterTold, Request, Sent, Wish};
 
 // An order of a script: a letter for what is done, 0 for none, and its number.
@@ -257,7 +258,13 @@ fn behind(m: MasterSide, d: DeviceSide, log: [u16; 3000], script: &[u8], tick: u
     }
 }
 
-fn show_both(tick: u16, to_m: Reception, to_d: Reception, b: Both) {
+fn show_both(
+    rt: &impl Print,
+    tick: u16,
+    to_m: Reception,
+    to_d: Reception,
+    b: Both,
+) -> io::Result<()> {
     let m = b.m;
     let d = b.d;
     let log = b.log;
@@ -265,29 +272,32 @@ fn show_both(tick: u16, to_m: Reception, to_d: Reception, b: Both) {
     let d_ticked = d.ticked;
     let of_ack = m.bytes;
     let of_stx = d.bytes;
-    show::show_tick(tick, to_m, to_d, m_ticked, d_ticked, log, of_ack, of_stx);
+    show::show_tick(
+        rt, tick, to_m, to_d, m_ticked, d_ticked, log, of_ack, of_stx,
+    )
 }
 
-fn tick_both(b: Both, tick: u16, script: &[u8]) -> Both {
+fn tick_both(rt: &impl Print, b: Both, tick: u16, script: &[u8]) -> io::Result<Both> {
     let to_m = b.to_m;
     let to_d = b.to_d;
     let log = b.log;
     let m = master_ticks(b.m, to_m, script, tick);
     let d = device_ticks(b.d, to_d, script, tick);
     let next = behind(m, d, log, script, tick);
-    show_both(tick, to_m, to_d, next);
-    next
+    show_both(rt, tick, to_m, to_d, next)?;
+    Ok(next)
 }
 
 // Runs both for so many ticks.
-fn run(start: Both, ticks: u16, script: &[u8]) {
+fn run(rt: &impl Print, start: Both, ticks: u16, script: &[u8]) -> io::Result<()> {
     let mut b = start;
     let mut next = 0;
     while next < ticks {
         let tick = next;
         next += 1;
-        b = tick_both(b, tick, script);
+        b = tick_both(rt, b, tick, script)?;
     }
+    Ok(())
 }
 
 fn master_side(m: Master) -> MasterSide {
@@ -334,42 +344,42 @@ fn both_of(m: Master, d: Device) -> Both {
 }
 
 // A primary, and a device with polling address 0 and unique address 2.
-fn scene(ticks: u16, script: &[u8]) {
+fn scene(rt: &impl Print, ticks: u16, script: &[u8]) -> io::Result<()> {
     let profile = Profile::fsk();
     let MasterStarted::Started(m) = master::start(profile, true, 3) else {
-        return;
+        return Ok(());
     };
     let DeviceStarted::Started(d) = device::start(profile, 5, 0, 2) else {
-        return;
+        return Ok(());
     };
-    run(both_of(m, d), ticks, script);
+    run(rt, both_of(m, d), ticks, script)
 }
 
-fn line(words: &[u8]) {
+fn line(rt: &impl Print, words: &[u8]) -> io::Result<()> {
     if 4 <= words.len() {
         if words[3] == b':' {
-            scene(three_digits(words[0], words[1], words[2]), &words[4..]);
-            return;
+            return scene(rt, three_digits(words[0], words[1], words[2]), &words[4..]);
         }
     }
-    io::write_all(STDOUT_FILENO, words);
+    rt.write_all(words)
 }
 
-fn lines(words: &[u8]) {
+fn lines(rt: &impl Print, words: &[u8]) -> io::Result<()> {
     let mut start = 0;
     let mut i = 0;
     while i < words.len() {
         let at = i;
         i += 1;
         if words[at] == b'\n' {
-            line(&words[start..i]);
+            line(rt, &words[start..i])?;
             start = i;
         }
     }
+    Ok(())
 }
 
-fn main() {
-    let mut input = io::large_buffer();
-    let count = io::read_full(STDIN_FILENO, &mut input);
-    lines(&input[..count]);
+fn main(rt: HostRuntime) -> io::Result<()> {
+    let mut input = [0u8; 65536];
+    let count = read_full(&mut rt.reader(), &mut input)?;
+    lines(&rt, &input[..count])
 }

@@ -6,6 +6,7 @@ use device_tick::DeviceTicked;
 use example_texts::print_line;
 use line::{Damage, Event, Heard, Whole};
 use master::MasterTicked;
+use std::io;
 use texts::{put_all_spaced, put_bytes, put_field, put_spaced};
 use turns::{CallResult, DeviceTold, MasterTold};
 
@@ -50,32 +51,41 @@ fn began(row: &[u16], tick: usize) -> usize {
     0
 }
 
-fn print_speech(name: &[u8], row: &[u16], from: usize, to: usize, out: &mut [u8])
+fn print_speech(
+    rt: &impl Print,
+    name: &[u8],
+    row: &[u16],
+    from: usize,
+    to: usize,
+    out: &mut [u8],
+) -> io::Result<()>
     requires { from < to }
 {
     let mut place = put_field(b"  ", from as u64, out, 0);
     place = put_field(b"-", (to - 1) as u64, out, place);
     place = put_bytes(name, out, place);
     place = put_characters(row, from, to, out, place);
-    print_line(out, place);
+    print_line(rt, out, place)
 }
 
 // A line for what a party sent without a pause until the tick before this.
-fn show_speech(name: &[u8], row: &[u16], tick: u16) {
+fn show_speech(rt: &impl Print, name: &[u8], row: &[u16], tick: u16) -> io::Result<()> {
     let to = tick as usize;
     let from = began(row, to);
     if from < to {
-        let mut out = io::buffer();
-        print_speech(name, row, from, to, &mut out);
+        let mut out = [0u8; 4096];
+        print_speech(rt, name, row, from, to, &mut out)?;
     }
+    Ok(())
 }
 
-fn show_speeches(tick: u16, log: &[u16]) {
+fn show_speeches(rt: &impl Print, tick: u16, log: &[u16]) -> io::Result<()> {
     if 3000 <= log.len() {
-        show_speech(b" master sends", &log[0..1000], tick);
-        show_speech(b" device sends", &log[1000..2000], tick);
-        show_speech(b" other sends", &log[2000..], tick);
+        show_speech(rt, b" master sends", &log[0..1000], tick)?;
+        show_speech(rt, b" device sends", &log[1000..2000], tick)?;
+        show_speech(rt, b" other sends", &log[2000..], tick)?;
     }
+    Ok(())
 }
 
 fn put_damage(kind: Damage, out: &mut [u8], at: usize) -> usize {
@@ -197,6 +207,7 @@ fn put_begin(tick: u16, name: &[u8], input: Reception, event: Event, out: &mut [
 }
 
 fn print_master(
+    rt: &impl Print,
     tick: u16,
     input: Reception,
     event: Event,
@@ -204,11 +215,11 @@ fn print_master(
     refused: u32,
     bytes: &[u8; 255],
     out: &mut [u8],
-) {
+) -> io::Result<()> {
     let begun = put_begin(tick, b" master", input, event, out);
     let behind = put_master_told(told, bytes, out, begun);
     let place = put_refused(refused, out, behind);
-    print_line(out, place);
+    print_line(rt, out, place)
 }
 
 fn master_has_line(input: Reception, event: Event, refused: u32, told: MasterTold) -> bool {
@@ -218,18 +229,26 @@ fn master_has_line(input: Reception, event: Event, refused: u32, told: MasterTol
     tells(told)
 }
 
-fn show_master(tick: u16, input: Reception, t: MasterTicked, bytes: &[u8; 255]) {
+fn show_master(
+    rt: &impl Print,
+    tick: u16,
+    input: Reception,
+    t: MasterTicked,
+    bytes: &[u8; 255],
+) -> io::Result<()> {
     let told = t.told;
     let event = t.event;
     let result = t.result;
     let refused = party::call_number(result);
     if master_has_line(input, event, refused, told) {
-        let mut out = io::buffer();
-        print_master(tick, input, event, told, refused, bytes, &mut out);
+        let mut out = [0u8; 4096];
+        print_master(rt, tick, input, event, told, refused, bytes, &mut out)?;
     }
+    Ok(())
 }
 
 fn print_device(
+    rt: &impl Print,
     tick: u16,
     input: Reception,
     event: Event,
@@ -237,26 +256,34 @@ fn print_device(
     refused: u32,
     bytes: &[u8; 255],
     out: &mut [u8],
-) {
+) -> io::Result<()> {
     let begun = put_begin(tick, b" device", input, event, out);
     let behind = put_device_told(told, bytes, out, begun);
     let place = put_refused(refused, out, behind);
-    print_line(out, place);
+    print_line(rt, out, place)
 }
 
-fn show_device(tick: u16, input: Reception, t: DeviceTicked, bytes: &[u8; 255]) {
+fn show_device(
+    rt: &impl Print,
+    tick: u16,
+    input: Reception,
+    t: DeviceTicked,
+    bytes: &[u8; 255],
+) -> io::Result<()> {
     let told = t.told;
     let event = t.event;
     let result = t.result;
     let refused = party::call_number(result);
     if has_line(input, event, refused) {
-        let mut out = io::buffer();
-        print_device(tick, input, event, told, refused, bytes, &mut out);
+        let mut out = [0u8; 4096];
+        print_device(rt, tick, input, event, told, refused, bytes, &mut out)?;
     }
+    Ok(())
 }
 
 // The lines of a tick. The log has a row of 1000 ticks for each of master, device and a third party: 0 where it is silent, and 256 more than the character that it sends.
 pub fn show_tick(
+    rt: &impl Print,
     tick: u16,
     to_m: Reception,
     to_d: Reception,
@@ -265,8 +292,8 @@ pub fn show_tick(
     log: [u16; 3000],
     of_ack: [u8; 255],
     of_stx: [u8; 255],
-) {
-    show_speeches(tick, &log);
-    show_master(tick, to_m, m, &of_ack);
-    show_device(tick, to_d, d, &of_stx);
+) -> io::Result<()> {
+    show_speeches(rt, tick, &log)?;
+    show_master(rt, tick, to_m, m, &of_ack)?;
+    show_device(rt, tick, to_d, d, &of_stx)
 }

@@ -291,7 +291,7 @@ pub fn list_ticks(
     out: &mut [u8],
     at: usize,
 ) -> Listened
-    ensures { RowsAre monitors tick count sent out at result }
+    ensures { RowsAre monitors tick count sent.now out at result }
 {
     all_rows(sent);
     let most = rows_listed(tick, count);

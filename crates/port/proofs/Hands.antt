@@ -156,6 +156,7 @@ no_quiet : (n : ℕ) (c : Heard) → IsCharacter c → (quiet_after n c ≡ 0) �
 unfolding if◌then◌else◌
 no_quiet n (Character c) i = (refl, refl)
 no_quiet n (Heard.Damaged c kind) i = (refl, refl)
+no_quiet n Silence i = elim i [ ]
 
 module _ (y : PortDevice) (p : Plain y.device) (h : y.device.deaf ≡ false) (c : Heard) (i : IsCharacter c) where
   changed_hand : (r : Receiver) (e : Event) (k : Change) → inside_frame r.place ≡ false → Turned k → InHand (listens_on y c Awake (reads (D.changed y.device r e k))).device
@@ -175,6 +176,7 @@ heard_is : (d : Device) → d.deaf ≡ false → (c : Heard) → IsCharacter c �
 unfolding device_takes
 heard_is d h (Character c) i = if_is_false d.deaf _ _ h
 heard_is d h (Heard.Damaged c kind) i = if_is_false d.deaf _ _ h
+heard_is d h Silence i = elim i [ ]
 
 character_awake : (y : PortDevice) → Plain y.device → y.device.deaf ≡ false → (c : Heard) → IsCharacter c → InHand (awake y c).device
 character_awake y p h c i =

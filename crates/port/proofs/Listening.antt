@@ -243,7 +243,7 @@ module _ (limit q : ℕ) (past : List Heard) (x : PortDeviceSide) (i : DeviceInp
 as_said : (limit q : ℕ) (past : List Heard) (x : PortDeviceSide) (inputs : List DeviceInput) → Counted q x.device.quiet → EarIs past x.device.ear → ListensAsSaid limit q past x inputs
 as_said limit q past x [] c r = L.ListensAsSaid.no_tick
 as_said limit q past x (i ∷ is) c r =
-    by x.device.device.deaf refl (λ e. as_said limit _ past _ is (deaf_counted limit q past x i c r e) (deaf_ear limit q past x i c r e)) (λ e. as_said limit _ _ _ is (heard_quiet limit q past x i c r e) (heard_ear limit q past x i c r e))
+    by x.device.device.deaf refl (λ e. as_said limit (quiet_sent (port_device_tick limit x i.heard i.call).sent q) past (port_device_tick limit x i.heard i.call).side is (deaf_counted limit q past x i c r e) (deaf_ear limit q past x i c r e)) (λ e. as_said limit _ _ _ is (heard_quiet limit q past x i c r e) (heard_ear limit q past x i c r e))
   where
     s : PortDeviceStep
     s = port_device_tick limit x i.heard i.call
@@ -323,7 +323,7 @@ stays_by : (limit q : ℕ) (past : List Heard) (x : PortDeviceSide) (inputs : Li
 unfolding after_ticks
 stays_by limit q past x [] c r d short = d
 stays_by limit q past x (i ∷ is) c r d short =
-    by x.device.device.deaf refl (λ e n low. stays_by limit _ past _ is (deaf_counted limit q past x i c r e) (deaf_ear limit q past x i c r e) n low)
+    by x.device.device.deaf refl (λ e n low. stays_by limit (quiet_sent (port_device_tick limit x i.heard i.call).sent q) past (port_device_tick limit x i.heard i.call).side is (deaf_counted limit q past x i c r e) (deaf_ear limit q past x i c r e) n low)
     (λ e n low. stays_by limit _ _ _ is (heard_quiet limit q past x i c r e) (heard_ear limit q past x i c r e) n low)
   where
     s : PortDeviceStep
@@ -354,6 +354,7 @@ no_quiet (Character c) i Silent q = refl
 no_quiet (Character c) i (Sent.Character e) q = refl
 no_quiet (Heard.Damaged c kind) i Silent q = refl
 no_quiet (Heard.Damaged c kind) i (Sent.Character e) q = refl
+no_quiet Silence i sent q = elim i [ ]
 
 pub stays_awake : StaysAwake
 stays_awake limit x i inputs hears c d short =

@@ -315,7 +315,7 @@ never_on : (limit : ℕ) (x : PortDeviceSide) (inputs : List DeviceInput) → Pl
 never_on limit x [] p = Said.NeverOn.no_tick
 never_on limit x (i ∷ is) p =
     let q = tick_plain limit x i.heard i.call p in
-    Said.NeverOn.off_and q.off (subst NoBack (sym (event_is limit x i.heard i.call)) (takes_no_back x.device i.heard)) (λ put. on_refused_in limit x i.heard put p) (never_on limit _ is q)
+    Said.NeverOn.off_and q.off (subst NoBack (sym (event_is limit x i.heard i.call)) (takes_no_back x.device i.heard)) (λ put. on_refused_in limit x i.heard put p) (never_on limit (port_device_tick limit x i.heard i.call).side is q)
 
 -- "burst starts off", without burst content
 pub started_plain : (preamble polling unique : ℕ) (y : PortDevice) → port_device_starts preamble polling unique ≡ accepted y → Plain y.device

@@ -153,6 +153,7 @@ module _ (x : PortMaster) (frame : List ℕ) (c : Calm x.master) where
       go Free e is_free = plainly (ap (begins x.master) e) (plain_rests Free e refl (λ z. absurd (free_waiting (sym e ∙ z))))
       go Waiting e is_waiting = open_or_shut e (0 <? x.master.timer.window) refl
       go (Awaiting n) e (is_awaiting k) = plainly (ap (begins x.master) e) (plain_rests (Awaiting n) e refl (λ z. absurd (awaiting_waiting n (sym e ∙ z))))
+      go (Sending _) e x4 = elim x4 [ ]
 
   -- its STX is being sent
   speaking_sends : (n : ℕ) → x.wake ≡ Off → x.master.message.stage ≡ Sending n → Spoke (port_master_sends x frame)

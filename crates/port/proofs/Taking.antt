@@ -87,6 +87,7 @@ awaited_over : (g : Message) (e : Ending) (s : Stage) → g.stage ≡ s → Stil
 awaited_over g e Free q is_free o = over_free q
 awaited_over g e Waiting q is_waiting o = over_waiting q
 awaited_over g e (Awaiting n) q (is_awaiting k) o = o
+awaited_over g e (Sending _) q x4 o = elim x4 [ ]
 
 awaited_waits : (g : Message) (e : Ending) (s : Stage) → g.stage ≡ s → g.stage ≡ Waiting → (if_awaiting s g e).message.stage ≡ Waiting
 awaited_waits g e Free q w = w
@@ -98,6 +99,7 @@ waited_still : (s : Stage) → Still s → Still (waited s)
 waited_still Free is_free = is_free
 waited_still Waiting is_waiting = is_waiting
 waited_still (Awaiting n) (is_awaiting k) = is_awaiting (n - 1)
+waited_still (Sending _) x'' = elim x'' [ ]
 
 -- ---- timers
 
@@ -348,6 +350,7 @@ module _ (m : Master) (bytes : List ℕ) (hears : m.deaf ≡ false) (c : Calm m)
   heard_stays (Character k) i = by_heard (Stays m) (Character k) _ refl (character_stays (taken m.receiver (Character k)).receiver (taken m.receiver (Character k)).event)
   heard_stays (Heard.Damaged k kind) i =
       by_heard (Stays m) (Heard.Damaged k kind) _ refl (character_stays (taken m.receiver (Heard.Damaged k kind)).receiver (taken m.receiver (Heard.Damaged k kind)).event)
+  heard_stays Silence i = elim i [ ]
 
   pub heard_ends : (h : Heard) → IsCharacter h → Ends infrared_profile.rt1p (took m h bytes).master
   heard_ends (Character k) i =
@@ -355,3 +358,4 @@ module _ (m : Master) (bytes : List ℕ) (hears : m.deaf ≡ false) (c : Calm m)
   heard_ends (Heard.Damaged k kind) i =
       by_heard (Ends infrared_profile.rt1p) (Heard.Damaged k kind) _ refl
       (character_ends (taken m.receiver (Heard.Damaged k kind)).receiver (taken m.receiver (Heard.Damaged k kind)).event (reads (Heard.Damaged k kind) i))
+  heard_ends Silence i = elim i [ ]

@@ -10,13 +10,14 @@
 
 mod show;
 
-use libc::{STDIN_FILENO, STDOUT_FILENO};
+use example_texts::read_full;
 use line::{Damage, Event, Heard};
 use master::MasterCall;
 use port::{PortDevice, PortMaster};
 use port_device::{PortCall, PortDeviceStarted, PortDeviceTicked};
 use port_master::{PortMasterStarted, PortMasterTicked};
 use show::{Reception, Speech};
+use std::io;
 use turns::{CallResult, DeviceTold, MasterTold, Request, Sent, Wish};
 
 // An order of a script: a letter for what is done, 0 for none, and its number.
@@ -206,32 +207,38 @@ fn device_ticks(side: DeviceSide, input: Reception, script: &[u8], tick: u32) ->
 }
 
 // What the master is sending; a line for what ended in the tick before.
-fn speak_master(tick: u32, m: MasterSide, by: Speech) -> Speech {
+fn speak_master(rt: &impl Print, tick: u32, m: MasterSide, by: Speech) -> io::Result<Speech> {
     let ticked = m.ticked;
     let x = ticked.master;
     let wake = x.wake;
     let sent = ticked.sent;
     let frame = m.frame;
-    show::master_speech(tick, sent, wake, by, &frame)
+    show::master_speech(rt, tick, sent, wake, by, &frame)
 }
 
-fn speak_device(tick: u32, d: DeviceSide, by: Speech) -> Speech {
+fn speak_device(rt: &impl Print, tick: u32, d: DeviceSide, by: Speech) -> io::Result<Speech> {
     let ticked = d.ticked;
     let sent = ticked.sent;
     let frame = d.frame;
-    show::device_speech(tick, sent, by, &frame)
+    show::device_speech(rt, tick, sent, by, &frame)
 }
 
-fn show_master(tick: u32, input: Reception, m: MasterSide) {
+fn show_master(rt: &impl Print, tick: u32, input: Reception, m: MasterSide) -> io::Result<()> {
     let ticked = m.ticked;
     let told = ticked.told;
     let event = ticked.event;
     let result = ticked.result;
     let bytes = m.bytes;
-    show::show_master(tick, input, event, told, result, &bytes);
+    show::show_master(rt, tick, input, event, told, result, &bytes)
 }
 
-fn show_device(tick: u32, input: Reception, before: PortDevice, d: DeviceSide) {
+fn show_device(
+    rt: &impl Print,
+    tick: u32,
+    input: Reception,
+    before: PortDevice,
+    d: DeviceSide,
+) -> io::Result<()> {
     let ticked = d.ticked;
     let y = ticked.device;
     let old = before.ear;
@@ -240,8 +247,8 @@ fn show_device(tick: u32, input: Reception, before: PortDevice, d: DeviceSide) {
     let event = ticked.event;
     let result = ticked.result;
     let bytes = d.bytes;
-    show::show_device(tick, input, event, told, result, &bytes);
-    show::show_ear(tick, old, ear);
+    show::show_device(rt, tick, input, event, told, result, &bytes)?;
+    show::show_ear(rt, tick, old, ear)
 }
 
 // Both after a tick, by what each and a third party sends.
@@ -268,7 +275,7 @@ fn both_after(
     }
 }
 
-fn tick_both(b: Both, tick: u32, script: &[u8]) -> Both {
+fn tick_both(rt: &impl Print, b: Both, tick: u32, script: &[u8]) -> io::Result<Both> {
     let to_m = b.to_m;
     let to_d = b.to_d;
     let old_d = b.d;
@@ -276,22 +283,23 @@ fn tick_both(b: Both, tick: u32, script: &[u8]) -> Both {
     let before = d_ticked.device;
     let m = master_ticks(b.m, to_m, script, tick);
     let d = device_ticks(old_d, to_d, script, tick);
-    let by_m = speak_master(tick, m, b.by_m);
-    let by_d = speak_device(tick, d, b.by_d);
-    show_master(tick, to_m, m);
-    show_device(tick, to_d, before, d);
-    both_after(m, d, script, tick, by_m, by_d)
+    let by_m = speak_master(rt, tick, m, b.by_m)?;
+    let by_d = speak_device(rt, tick, d, b.by_d)?;
+    show_master(rt, tick, to_m, m)?;
+    show_device(rt, tick, to_d, before, d)?;
+    Ok(both_after(m, d, script, tick, by_m, by_d))
 }
 
 // Runs both for so many ticks.
-fn run(start: Both, ticks: u32, script: &[u8]) {
+fn run(rt: &impl Print, start: Both, ticks: u32, script: &[u8]) -> io::Result<()> {
     let mut b = start;
     let mut next = 0;
     while next < ticks {
         let tick = next;
         next += 1;
-        b = tick_both(b, tick, script);
+        b = tick_both(rt, b, tick, script)?;
     }
+    Ok(())
 }
 
 fn master_side(x: PortMaster) -> MasterSide {
@@ -339,42 +347,42 @@ fn both_of(x: PortMaster, y: PortDevice) -> Both {
 }
 
 // A master with R 3, and a device with polling address 0 and unique address 2.
-fn scene(ticks: u32, script: &[u8]) {
+fn scene(rt: &impl Print, ticks: u32, script: &[u8]) -> io::Result<()> {
     let PortMasterStarted::Started(x) = port_master::start(true, 3) else {
-        return;
+        return Ok(());
     };
     let PortDeviceStarted::Started(y) = port_device::start(5, 0, 2) else {
-        return;
+        return Ok(());
     };
-    run(both_of(x, y), ticks, script);
+    run(rt, both_of(x, y), ticks, script)
 }
 
-fn line(words: &[u8]) {
+fn line(rt: &impl Print, words: &[u8]) -> io::Result<()> {
     if 6 <= words.len() {
         if words[5] == b':' {
             let ticks = five_digits(words[0], words[1], words[2], words[3], words[4]);
-            scene(ticks, &words[6..]);
-            return;
+            return scene(rt, ticks, &words[6..]);
         }
     }
-    io::write_all(STDOUT_FILENO, words);
+    rt.write_all(words)
 }
 
-fn lines(words: &[u8]) {
+fn lines(rt: &impl Print, words: &[u8]) -> io::Result<()> {
     let mut start = 0;
     let mut i = 0;
     while i < words.len() {
         let at = i;
         i += 1;
         if words[at] == b'\n' {
-            line(&words[start..i]);
+            line(rt, &words[start..i])?;
             start = i;
         }
     }
+    Ok(())
 }
 
-fn main() {
-    let mut input = io::large_buffer();
-    let count = io::read_full(STDIN_FILENO, &mut input);
-    lines(&input[..count]);
+fn main(rt: HostRuntime) -> io::Result<()> {
+    let mut input = [0u8; 65536];
+    let count = read_full(&mut rt.reader(), &mut input)?;
+    lines(&rt, &input[..count])
 }

@@ -2,6 +2,7 @@
 use example_texts::print_line;
 use line::{Damage, Event, Heard, Whole};
 use port::{Ear, WakeUp};
+use std::io;
 use texts::{put_all_spaced, put_bytes, put_field, put_spaced};
 use turns::{CallResult, DeviceTold, MasterTold, Sent};
 
@@ -49,59 +50,95 @@ fn put_ticks(name: &[u8], from: u32, last: u32, out: &mut [u8]) -> usize {
     put_bytes(name, out, place)
 }
 
-fn print_wake_up(name: &[u8], from: u32, last: u32, count: u32, out: &mut [u8]) {
+fn print_wake_up(
+    rt: &impl Print,
+    name: &[u8],
+    from: u32,
+    last: u32,
+    count: u32,
+    out: &mut [u8],
+) -> io::Result<()> {
     let begun = put_ticks(name, from, last, out);
     let place = put_field(b" wake-up ", wide(count), out, begun);
-    print_line(out, place);
+    print_line(rt, out, place)
 }
 
-fn print_frame(name: &[u8], from: u32, last: u32, count: u32, frame: &[u8; 284], out: &mut [u8]) {
+fn print_frame(
+    rt: &impl Print,
+    name: &[u8],
+    from: u32,
+    last: u32,
+    count: u32,
+    frame: &[u8; 284],
+    out: &mut [u8],
+) -> io::Result<()> {
     let begun = put_ticks(name, from, last, out);
     let place = put_bytes(b" sends", out, begun);
     let end = put_all_spaced(texts::front(frame, size(count)), out, place);
-    print_line(out, end);
+    print_line(rt, out, end)
 }
 
 // A line for what ended in the tick before.
-fn print_speech(name: &[u8], kind: u8, from: u32, tick: u32, frame: &[u8; 284], out: &mut [u8]) {
+fn print_speech(
+    rt: &impl Print,
+    name: &[u8],
+    kind: u8,
+    from: u32,
+    tick: u32,
+    frame: &[u8; 284],
+    out: &mut [u8],
+) -> io::Result<()> {
     if tick <= from {
-        return;
+        return Ok(());
     }
     let last = tick - 1;
     let count = tick - from;
     if kind == 1 {
-        print_wake_up(name, from, last, count, out);
-        return;
+        return print_wake_up(rt, name, from, last, count, out);
     }
-    print_frame(name, from, last, count, frame, out);
+    print_frame(rt, name, from, last, count, frame, out)
 }
 
-fn speaks(name: &[u8], tick: u32, kind: u8, old: Speech, frame: &[u8; 284]) -> Speech {
+fn speaks(
+    rt: &impl Print,
+    name: &[u8],
+    tick: u32,
+    kind: u8,
+    old: Speech,
+    frame: &[u8; 284],
+) -> io::Result<Speech> {
     if old.kind == kind {
-        return old;
+        return Ok(old);
     }
     if 0 < old.kind {
-        let mut out = io::buffer();
-        print_speech(name, old.kind, old.from, tick, frame, &mut out);
+        let mut out = [0u8; 4096];
+        print_speech(rt, name, old.kind, old.from, tick, frame, &mut out)?;
     }
-    Speech {
+    Ok(Speech {
         kind: kind,
         from: tick,
-    }
+    })
 }
 
 pub fn master_speech(
+    rt: &impl Print,
     tick: u32,
     sent: Sent,
     wake: WakeUp,
     old: Speech,
     frame: &[u8; 284],
-) -> Speech {
-    speaks(b" master", tick, master_kind(sent, wake), old, frame)
+) -> io::Result<Speech> {
+    speaks(rt, b" master", tick, master_kind(sent, wake), old, frame)
 }
 
-pub fn device_speech(tick: u32, sent: Sent, old: Speech, frame: &[u8; 284]) -> Speech {
-    speaks(b" device", tick, frame_kind(sent), old, frame)
+pub fn device_speech(
+    rt: &impl Print,
+    tick: u32,
+    sent: Sent,
+    old: Speech,
+    frame: &[u8; 284],
+) -> io::Result<Speech> {
+    speaks(rt, b" device", tick, frame_kind(sent), old, frame)
 }
 
 fn ear_number(ear: Ear) -> u8 {
@@ -125,22 +162,22 @@ fn put_ear(old: u8, now: u8, out: &mut [u8], at: usize) -> usize {
     put_bytes(b" passes over", out, at)
 }
 
-fn print_ear(tick: u32, old: u8, now: u8, out: &mut [u8]) {
+fn print_ear(rt: &impl Print, tick: u32, old: u8, now: u8, out: &mut [u8]) -> io::Result<()> {
     let mut place = put_field(b"  ", tick as u64, out, 0);
     place = put_bytes(b" device", out, place);
     place = put_ear(old, now, out, place);
-    print_line(out, place);
+    print_line(rt, out, place)
 }
 
 // A line for a change of how the device listens.
-pub fn show_ear(tick: u32, before: Ear, after: Ear) {
+pub fn show_ear(rt: &impl Print, tick: u32, before: Ear, after: Ear) -> io::Result<()> {
     let old = ear_number(before);
     let now = ear_number(after);
     if old == now {
-        return;
+        return Ok(());
     }
-    let mut out = io::buffer();
-    print_ear(tick, old, now, &mut out);
+    let mut out = [0u8; 4096];
+    print_ear(rt, tick, old, now, &mut out)
 }
 
 fn put_damage(kind: Damage, out: &mut [u8], at: usize) -> usize {
@@ -224,13 +261,15 @@ fn put_begin(tick: u32, name: &[u8], out: &mut [u8]) -> usize {
     put_bytes(name, out, place)
 }
 
-fn print_more(out: &[u8], begun: usize, place: usize) {
+fn print_more(rt: &impl Print, out: &[u8], begun: usize, place: usize) -> io::Result<()> {
     if begun < place {
-        print_line(out, place);
+        print_line(rt, out, place)?;
     }
+    Ok(())
 }
 
 fn print_master(
+    rt: &impl Print,
     tick: u32,
     input: Reception,
     event: Event,
@@ -238,28 +277,30 @@ fn print_master(
     res: CallResult,
     bytes: &[u8; 255],
     out: &mut [u8],
-) {
+) -> io::Result<()> {
     let begun = put_begin(tick, b" master", out);
     let heard = put_input(input, out, begun);
     let found = put_event(event, out, heard);
     let said = put_master_told(told, bytes, out, found);
     let place = put_result(res, out, said);
-    print_more(out, begun, place);
+    print_more(rt, out, begun, place)
 }
 
 pub fn show_master(
+    rt: &impl Print,
     tick: u32,
     input: Reception,
     event: Event,
     told: MasterTold,
     res: CallResult,
     bytes: &[u8; 255],
-) {
-    let mut out = io::buffer();
-    print_master(tick, input, event, told, res, bytes, &mut out);
+) -> io::Result<()> {
+    let mut out = [0u8; 4096];
+    print_master(rt, tick, input, event, told, res, bytes, &mut out)
 }
 
 fn print_device(
+    rt: &impl Print,
     tick: u32,
     input: Reception,
     event: Event,
@@ -267,23 +308,24 @@ fn print_device(
     res: CallResult,
     bytes: &[u8; 255],
     out: &mut [u8],
-) {
+) -> io::Result<()> {
     let begun = put_begin(tick, b" device", out);
     let heard = put_input(input, out, begun);
     let found = put_event(event, out, heard);
     let said = put_device_told(told, bytes, out, found);
     let place = put_result(res, out, said);
-    print_more(out, begun, place);
+    print_more(rt, out, begun, place)
 }
 
 pub fn show_device(
+    rt: &impl Print,
     tick: u32,
     input: Reception,
     event: Event,
     told: DeviceTold,
     res: CallResult,
     bytes: &[u8; 255],
-) {
-    let mut out = io::buffer();
-    print_device(tick, input, event, told, res, bytes, &mut out);
+) -> io::Result<()> {
+    let mut out = [0u8; 4096];
+    print_device(rt, tick, input, event, told, res, bytes, &mut out)
 }

@@ -1,4 +1,4 @@
-// The latest readings table for programs in C: a lent slice of rows. Each function over it is proved by hand, step by step over its MIR.
+// The latest readings table for programs in C: a lent slice of rows.
 #![tactic(auto)]
 
 ghost use Rattle.std.specs.Prelude.{◌≡◌};

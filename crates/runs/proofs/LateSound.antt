@@ -12,8 +12,8 @@ use Rattle.turns.specs.Master.{master_takes}
 use Rattle.turns.specs.Link.{MasterCall, MasterSide, master_data, DeviceCall, no_call, DeviceSide, DeviceStep, device_tick, device_ticks, sides, carried, Link, LinkStep, Calls, link_after}
 use Rattle.turns.specs.Run.{All, none, and, MasterStarts, DeviceStarts}
 use Rattle.runs.specs.Late.{late_master, late_tick, late_run, Started, starts_now, started_before}
-use Rattle.runs.specs.SoundPair.{master_takes01, link_tick01, run01, SoundPair}
-use Rattle.runs.specs.LateSoundPair.{late_master01, late_tick01, late_run01, LateSoundPair}
+use Rattle.runs.specs.SoundPair.{master_takes01, link_tick01, run01, SoundPair, SoundFromStarts}
+use Rattle.runs.specs.LateSoundPair.{late_master01, late_tick01, late_run01, LateSoundPair, LateSoundFromStarts}
 use Rattle.turns.specs.declared.Master.{Master}
 use Rattle.turns.specs.declared.Device.{Device}
 use Rattle.turns.proofs.Windows.{Valid}
@@ -172,8 +172,11 @@ module _ (limit : ℕ) (low : 2 ≤ limit) (high : limit ≤ 255) (p : Profile) 
         phase = phase_first l.line (P.and (master_fresh l.line true retries l.primary x) (P.and (master_fresh l.line false retries l.secondary y) n.fresh));
       }
 
+pub late_sound_from_starts : (limit : ℕ) → 2 ≤ limit → limit ≤ 255 → LateSoundFromStarts limit
+late_sound_from_starts limit low high p retries a b l ticks made x y ds = let v = valid p made in runs_late limit low high p v a b l ticks (seen_first limit low high p v retries a b l x y ds)
+
 pub late_sound_pair : (limit : ℕ) → 2 ≤ limit → limit ≤ 255 → LateSoundPair limit
-late_sound_pair limit low high p retries a b l ticks made x y ds = let v = valid p made in runs_late limit low high p v a b l ticks (seen_first limit low high p v retries a b l x y ds)
+late_sound_pair limit low high p retries a b l ticks q = late_sound_from_starts limit low high p retries a b l ticks q.made q.primary q.secondary q.devices
 
 -- ---- the common start
 
@@ -186,5 +189,8 @@ pub all_now : {limit : ℕ} {p : Profile} {line : Heard} {xs : List DeviceSide} 
 all_now none = none
 all_now (and s ss) = and (starts_now s) (all_now ss)
 
+pub sound_from_starts : (limit : ℕ) → 2 ≤ limit → limit ≤ 255 → SoundFromStarts limit
+sound_from_starts limit low high p retries l ticks made x y ds = sym (common_start limit l ticks) ∙ late_sound_from_starts limit low high p retries 0 0 l ticks made x y (all_now ds) ∙ common_start_01 limit l ticks
+
 pub sound_pair : (limit : ℕ) → 2 ≤ limit → limit ≤ 255 → SoundPair limit
-sound_pair limit low high p retries l ticks made x y ds = sym (common_start limit l ticks) ∙ late_sound_pair limit low high p retries 0 0 l ticks made x y (all_now ds) ∙ common_start_01 limit l ticks
+sound_pair limit low high p retries l ticks q = sound_from_starts limit low high p retries l ticks q.made q.starts.primary q.starts.secondary q.starts.devices

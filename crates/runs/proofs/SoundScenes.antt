@@ -1,4 +1,4 @@
--- Runs that demand 3's premises exclude, computed, of which `sound_pair` speaks: two devices with one polling address answer one STX, and two devices burst; and of which `late_sound_pair` speaks: the secondary starts in the middle of an STX, and two devices burst. In each two parties send in one tick.
+-- Runs that demand 3's premises exclude, computed, of which `sound_from_starts` speaks: two devices with one polling address answer one STX, and two devices burst; and of which `late_sound_from_starts` speaks: the secondary starts in the middle of an STX, and two devices burst. In each two parties send in one tick.
 use native.Mathlib.Omega.{arith}
 use mathlib.Core.Path.{◌≡◌, refl}
 use mathlib.Core.List.{List, [], ◌∷◌, ◌++◌}
@@ -22,7 +22,7 @@ use Rattle.runs.specs.SoundPair.{run01}
 use Rattle.runs.specs.LateSoundPair.{late_run01}
 use Rattle.runs.proofs.Premises.{short, short_taken, ask, turn_on, content, alike, both_reply, counts, two_devices, both_burst}
 use Rattle.runs.proofs.TagRuns.{starts_at, two_starts}
-use Rattle.runs.proofs.LateSound.{late_sound_pair, all_now, sound_pair}
+use Rattle.runs.proofs.LateSound.{late_sound_from_starts, all_now, sound_from_starts}
 
 -- ---- two devices with one polling address
 
@@ -37,13 +37,13 @@ shared_address_two = refl
 pub shared_address_sound : run 255 alike both_answer ≡ run01 255 alike both_answer
 unfolding alike if◌then◌else◌
 shared_address_sound =
-    sound_pair 255 (omega arith) (omega arith) fsk_profile 3 alike both_answer fsk_taken (record { starts = refl; room = omega arith }) (record { starts = refl; room = omega arith })
+    sound_from_starts 255 (omega arith) (omega arith) fsk_profile 3 alike both_answer fsk_taken (record { starts = refl; room = omega arith }) (record { starts = refl; room = omega arith })
     (and (starts_at fsk_profile 0 2 refl) (and (starts_at fsk_profile 0 3 refl) none))
 
 -- ---- two devices burst: `two_burst` in Premises says that two send in tick 154
 
 pub two_bursting_sound : run 255 two_devices both_burst ≡ run01 255 two_devices both_burst
-two_bursting_sound = sound_pair 255 (omega arith) (omega arith) short 3 two_devices both_burst short_taken two_starts.primary two_starts.secondary two_starts.devices
+two_bursting_sound = sound_from_starts 255 (omega arith) (omega arith) short 3 two_devices both_burst short_taken two_starts.primary two_starts.secondary two_starts.devices
 
 -- ---- the same where the secondary starts in tick 7, in the middle of the STX of ticks 4 to 17
 
@@ -52,4 +52,4 @@ unfolding counts device_senders short two_devices ask turn_on content both_burst
 late_bursting_two = refl
 
 pub late_bursting_sound : late_run 255 0 7 two_devices both_burst ≡ late_run01 255 0 7 two_devices both_burst
-late_bursting_sound = late_sound_pair 255 (omega arith) (omega arith) short 3 0 7 two_devices both_burst short_taken two_starts.primary two_starts.secondary (all_now two_starts.devices)
+late_bursting_sound = late_sound_from_starts 255 (omega arith) (omega arith) short 3 0 7 two_devices both_burst short_taken two_starts.primary two_starts.secondary (all_now two_starts.devices)

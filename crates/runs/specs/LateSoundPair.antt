@@ -8,7 +8,7 @@ use Rattle.line.specs.declared.Profile.{Profile}
 use Rattle.turns.specs.Link.{MasterCall, MasterSide, MasterStep, Link, LinkStep, Calls, link_after}
 use Rattle.turns.specs.Run.{All, MasterStarts}
 use Rattle.runs.specs.SoundPair.{master_tick01, device_ticks01}
-use Rattle.runs.specs.Late.{late_master, late_run, Started}
+use Rattle.runs.specs.Late.{late_master, late_run, LatePremises, Started}
 
 -- a master that starts in n ticks
 abbrev pub late_master01 : ℕ → ℕ → MasterSide → Heard → MasterCall → MasterStep
@@ -26,8 +26,14 @@ unfoldable pub late_run01 : ℕ → ℕ → ℕ → Link → List Calls → List
 late_run01 limit a b l [] = []
 late_run01 limit a b l (c ∷ cs) = late_tick01 limit a b l c ∷ late_run01 limit (a - 1) (b - 1) (link_after (late_tick01 limit a b l c)) cs
 
--- the primary starts in tick a, the secondary in tick b, and the devices in the run's first tick or before it
+-- under item 14's premises
 abbrev pub LateSoundPair : ℕ → Type 0
 LateSoundPair limit =
+    (p : Profile) (retries a b : ℕ) (l : Link) (ticks : List Calls) → LatePremises limit p retries a b l ticks
+    → late_run limit a b l ticks ≡ late_run01 limit a b l ticks
+
+-- the primary starts in tick a, the secondary in tick b, and the devices in the run's first tick or before it
+abbrev pub LateSoundFromStarts : ℕ → Type 0
+LateSoundFromStarts limit =
     (p : Profile) (retries a b : ℕ) (l : Link) (ticks : List Calls) → profile_made p ≡ accepted p → MasterStarts p true retries l.primary
     → MasterStarts p false retries l.secondary → All (Started limit p l.line) l.devices → late_run limit a b l ticks ≡ late_run01 limit a b l ticks

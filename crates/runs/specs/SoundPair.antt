@@ -16,6 +16,7 @@ use Rattle.turns.specs.Master.{after_break}
 use Rattle.turns.specs.Device as D
 use Rattle.turns.specs.Device.{error_frame}
 use Rattle.turns.specs.Link.{MasterCall, DeviceCall, no_call, MasterSide, MasterStep, master_data, master_calls, DeviceSide, DeviceStep, device_data, device_calls, Link, LinkStep, Calls, link_after, run}
+use Rattle.turns.specs.Demand3.{Premises}
 use Rattle.turns.specs.Run.{All, MasterStarts, DeviceStarts}
 use Rattle.turns.specs.declared.Master.{Master}
 use Rattle.turns.specs.declared.MasterTaken.{MasterTaken}
@@ -88,8 +89,12 @@ run01 limit l (c ∷ cs) = link_tick01 limit l c ∷ run01 limit (link_after (li
 
 -- ---- "turns on a sound pair are those of document 01": what every party sends, tells its host and answers its host's call, and its state and buffers, in every tick
 
--- That the pair is sound is how the line is defined in Link: a lone sender's character is neither damaged nor lost. Of demand 3's premises only the starts are needed: devices may share addresses, and several may burst or answer, so that two send in one tick (`shared_address_sound` in proofs/SoundScenes).
+-- under demand 3's premises
 abbrev pub SoundPair : ℕ → Type 0
-SoundPair limit =
+SoundPair limit = (p : Profile) (retries : ℕ) (l : Link) (ticks : List Calls) → Premises limit p retries l ticks → run limit l ticks ≡ run01 limit l ticks
+
+-- That the pair is sound is how the line is defined in Link: a lone sender's character is neither damaged nor lost. Of demand 3's premises only the starts are needed: devices may share addresses, and several may burst or answer, so that two send in one tick (`shared_address_sound` in proofs/SoundScenes).
+abbrev pub SoundFromStarts : ℕ → Type 0
+SoundFromStarts limit =
     (p : Profile) (retries : ℕ) (l : Link) (ticks : List Calls) → profile_made p ≡ accepted p → MasterStarts p true retries l.primary
     → MasterStarts p false retries l.secondary → All (DeviceStarts p) l.devices → run limit l ticks ≡ run01 limit l ticks

@@ -29,7 +29,7 @@ use Rattle.turns.specs.Master.{requested, requested_up_to, polling_up_to, reques
 use Rattle.turns.specs.Device as D
 use Rattle.turns.specs.Device.{error_frame, back_due, back_length, begun_frame, device_with_content, content_given, answered, answered_by, answer_frame, device_takes, device_sends}
 use Rattle.turns.specs.Link.{MasterCall, no_request, requests, DeviceCall, no_call, gives_answer, gives_content, MasterSide, MasterStep, DeviceSide, DeviceStep, master_sent, master_called, master_calls, master_tick, master_data, device_sent, answer_called, content_called, device_calls, device_tick, device_data, heard_frame}
-use Rattle.turns.specs.Gaps.{InsideFrame, master_sents, device_sents, master_results, master_silence, device_silence, BeginsAfter, begins, waits, TakenWithin, now, later, ToSend, message_waits, retry_left, behind_break, cut_off, ToBegin, in_hand, request_taken, MasterCountsBoth, DeviceCountsBoth, MasterGapPassed, DeviceGapPassed}
+use Rattle.turns.specs.Gaps.{InsideFrame, master_sents, device_sents, master_results, master_silence, device_silence, BeginsAfter, begins, waits, TakenWithin, now, later, ToSend, message_waits, retry_left, behind_break, cut_off, ToBegin, in_hand, request_taken, MasterBeginsBehindBreak, MasterCountsBoth, DeviceCountsBoth, MasterGapPassed, DeviceGapPassed}
 use Rattle.turns.specs.declared.CallResult.{CallResult}
 use Rattle.turns.specs.declared.Request.{Request}
 use Rattle.turns.specs.declared.Sent.{Sent}
@@ -317,9 +317,9 @@ to_still : {m : Master} → ToSend m → Still m.message.stage
 to_still (message_waits e) = subst Still (sym e) is_waiting
 to_still (retry_left n e b r) = subst Still (sym e) (is_awaiting n)
 
-pub master_counts_both : (limit : ℕ) → MasterCountsBoth limit
+pub master_begins_behind_break : (limit : ℕ) → MasterBeginsBehindBreak limit
 unfolding master_sents master_results master_silence
-master_counts_both limit x last call calls made cut due long =
+master_begins_behind_break limit x last call calls made cut due long =
     let v : Valid x.master.profile = valid x.master.profile made in
     let n = from_three (behind_break x.master) (at_least_three x.master v) in
     subst (λ (z : ℕ). BeginsAfter z (master_sents limit x (cut_off last call calls))) (sym n.1) (go n.0 n.1 calls (omega (arith, n.1, long)) (subst (λ (z : ℕ). Coming z m (master_results limit x (cut_off last call calls))) n.1 (coming due)))
@@ -391,6 +391,10 @@ master_counts_both limit x last call calls made cut due long =
         waits_on : Waits (suc k) (master_tick limit w Silence f).side.master
         waits_on = subst (Waits (suc k)) (sym s.after_is)
             (record { hears = refl; idle_is = after.waits.idle_is; awaits_none = none_awaited_on s after.waits.awaits_none; some_hold = after.waits.some_hold; left = same_left refl refl after.waits.left })
+
+-- a message in hand, or its retry
+pub master_counts_both : (limit : ℕ) → MasterCountsBoth limit
+master_counts_both limit x last call calls made cut due long = master_begins_behind_break limit x last call calls made cut (in_hand due) long
 
 -- ---- the silent tick that is passed over, of a master
 

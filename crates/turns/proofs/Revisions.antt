@@ -2,7 +2,7 @@
 use Prim.Native.Nat.{ℕ, ◌≤◌}
 use native.Mathlib.Omega.{arith}
 use mathlib.Core.Path.{◌≡◌, refl, sym, ap, subst, ◌∙◌}
-use mathlib.Core.Bool.{true, false}
+use mathlib.Core.Bool.{Bool, true, false}
 use mathlib.Core.List.{List}
 use mathlib.Core.Logic.{◌⊎◌, inl, inr}
 use lib.ListN.{length}
@@ -11,7 +11,7 @@ use Rattle.base.specs.Choice.{if◌then◌else◌, ◌<?◌, ◌≤?◌, ◌=?�
 use Rattle.base.specs.Refusal.{Called, refused}
 use Rattle.base.proofs.Choices.{if_is_true, if_is_false, inside_is}
 use Rattle.frame.specs.Limits.{fewest_preambles, most_preambles, largest_polling, reserved_command}
-use Rattle.frame.specs.Address.{address_above}
+use Rattle.frame.specs.Address.{largest_with, address_above}
 use Rattle.frame.specs.Frame.{frame_bytes}
 use Rattle.line.specs.declared.Heard.{Heard}
 use Rattle.turns.specs.Master.{request_header, has_message, command_refused, polling_up_to, requested, requested_up_to, master_takes}
@@ -21,6 +21,8 @@ use Rattle.turns.specs.declared.CallResult.{CallResult}
 use Rattle.turns.specs.declared.CallResult.TheVariants.{Taken, Refused}
 use Rattle.turns.specs.declared.Master.{Master}
 use Rattle.turns.specs.declared.Request.{Request}
+use Rattle.turns.specs.declared.Stage.TheVariants.{Free}
+use Rattle.turns.specs.Settled.{Outcome, taken, refuses, outcome}
 use Rattle.turns.proofs.Bursting.{if_both}
 
 -- "refuses a revision outside 3 to 7 with 17, checked after 3", whatever else the request says
@@ -84,9 +86,9 @@ module _ (limit largest : ℕ) (x : MasterSide) (heard : Heard) (q : Request) (p
       Asked c = (result_of c ≡ Taken) ⊎ (result_of c ≡ Refused 7)
 
 -- one proof for both rules, with the largest polling address as its parameter
-pub polling_rule : (limit largest : ℕ) → PollingRule limit (λ (r : ℕ). (3 ≤ r) × (r ≤ 7) × (polling_up_to r ≡ largest)) largest
+pub polling_rule_told : (limit largest : ℕ) → PollingRule limit (λ (r : ℕ). (3 ≤ r) × (r ≤ 7) × (polling_up_to r ≡ largest)) largest
 unfolding master_tick
-polling_rule limit largest x heard q put low high of short =
+polling_rule_told limit largest x heard q put low high of short =
     let m = master_then limit largest x heard q put in
     subst (λ (c : Called Master). KnownUpTo largest limit q put (result_of limit largest x heard q put c))
     (sym
@@ -96,10 +98,29 @@ polling_rule limit largest x heard q put low high of short =
 
 -- "HART revisions 3 to 5 know polling addresses 0 to 15, later ones 0 to 63"
 pub old_rule : (limit : ℕ) → OldRule limit
-old_rule limit x heard q put low high of = polling_rule limit 15 x heard q put low high (of.0, omega (arith, of.1), if_is_true (q.revision ≤? 5) 15 largest_polling (le-leb q.revision 5 of.1))
+old_rule limit x heard q put low high of = polling_rule_told limit 15 x heard q put low high (of.0, omega (arith, of.1), if_is_true (q.revision ≤? 5) 15 largest_polling (le-leb q.revision 5 of.1))
 
 pub later_rule : (limit : ℕ) → LaterRule limit
-later_rule limit x heard q put low high of = polling_rule limit 63 x heard q put low high (omega (arith, of.0), of.1, if_is_false (q.revision ≤? 5) 15 largest_polling (lt-leb q.revision 5 (omega (arith, of.0))))
+later_rule limit x heard q put low high of = polling_rule_told limit 63 x heard q put low high (omega (arith, of.0), of.1, if_is_false (q.revision ≤? 5) 15 largest_polling (lt-leb q.revision 5 (omega (arith, of.0))))
+
+-- For every largest polling address: a request of command 0 that nothing else speaks against is refused with 4 just where its address is above it.
+pub polling_rule : (polling limit : ℕ) (m : Master) (q : Request) (count : ℕ) → q.long ≡ false → q.command ≡ 0 → count ≤ limit → m.message.stage ≡ Free
+    → outcome (requested_up_to polling limit m q count) ≡ (if polling <? q.address then refuses 4 else taken)
+unfolding requested_up_to if◌then◌else◌
+polling_rule polling limit m q count short zero few none_in_hand =
+    by (address_above polling (request_header m q)) refl ∙ ap (λ (long : Bool). if largest_with polling long <? q.address then refuses 4 else taken) short
+  where
+    command_taken : command_refused q ≡ false
+    command_taken =
+        ap (λ (c : ℕ). if c =? reserved_command then true else if q.long then false else (if c =? 0 then false else true)) zero
+        ∙ ap (λ (long : Bool). if long then false else false) short
+
+    by : (above : Bool) → address_above polling (request_header m q) ≡ above → outcome (requested_up_to polling limit m q count) ≡ (if above then refuses 4 else taken)
+    by true e = ap outcome (if_is_true (address_above polling (request_header m q)) _ _ e)
+    by false e =
+        ap outcome
+        (if_is_false (address_above polling (request_header m q)) _ _ e ∙ if_is_false (command_refused q) _ _ command_taken ∙ if_is_false (limit <? count) _ _ (le-ltb limit count few)
+        ∙ if_is_false (has_message m.message.stage) _ _ (ap has_message none_in_hand))
 
 -- a long address is refused or taken alike for every revision of 3 to 7
 module _ (limit : ℕ) (m : Master) (preamble address command count : ℕ) where

@@ -121,11 +121,18 @@ pub data ToBegin (limit : ℕ) (x : MasterSide) (last : Heard) (call : MasterCal
       → ToBegin limit x last call calls
 
 -- in any state: the message, its retry or the request begins where the timer ends that counts from the last character
-abbrev pub MasterCountsBoth : ℕ → Type 0
-MasterCountsBoth limit =
+abbrev pub MasterBeginsBehindBreak : ℕ → Type 0
+MasterBeginsBehindBreak limit =
     (x : MasterSide) (last : Heard) (call : MasterCall) (calls : List MasterCall) → profile_made x.master.profile ≡ accepted x.master.profile
     → InsideFrame last x.master.deaf x.master.receiver → ToBegin limit x last call calls → behind_break x.master ≤ length calls
     → BeginsAfter (behind_break x.master) (master_sents limit x (cut_off last call calls))
+
+-- in any state: the message, or its retry, begins where the timer ends that counts from the last character
+abbrev pub MasterCountsBoth : ℕ → Type 0
+MasterCountsBoth limit =
+    (x : MasterSide) (last : Heard) (call : MasterCall) (calls : List MasterCall) → profile_made x.master.profile ≡ accepted x.master.profile
+    → InsideFrame last x.master.deaf x.master.receiver → ToSend x.master → behind_break x.master ≤ length calls
+    → BeginsAfter (behind_break x.master) (master_sents limit x (record { heard = last; call = call } ∷ master_silence calls))
 
 -- and a bursting device's BACK: "after RT1 primary behind anything else"
 abbrev pub DeviceCountsBoth : ℕ → Type 0

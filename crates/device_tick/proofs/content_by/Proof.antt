@@ -5,15 +5,15 @@ use Rattle.device.proofs.Answers.{accepted_same, count_small}
 use Rattle.device_tick.proofs.content_by.Statement.{statement}
 use Rattle.device_tick.proofs.content_by.Tie as tie
 
-returns : tie.Need-returns
+returns : tie.Need-returns-then-command-eq254
 unfolding content_given
 returns c = search (choices, accepted_same)
 
-returns_2 : tie.Need-returns-2
+returns_2 : tie.Need-returns-then-outside
 unfolding content_given
 returns_2 c = search (choices, accepted_same)
 
-returns_3 : tie.Need-returns-3
+returns_3 : tie.Need-returns
 unfolding content_given
 returns_3 c = search (choices, accepted_same)
 

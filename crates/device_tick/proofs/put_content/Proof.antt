@@ -6,10 +6,10 @@ use Rattle.device_tick.proofs.Contents.{storing_begins}
 use Rattle.device_tick.proofs.put_content.Statement.{statement}
 use Rattle.device_tick.proofs.put_content.Tie as tie
 
-abbrev invariant-loop : tie.invariant-loop
+abbrev invariant-loop : tie.invariant-loop-i
 invariant-loop bytes contents₀ i₀ contents i = Storing contents₀ bytes (length bytes) contents i
 
-abbrev decreases-loop : tie.decreases-loop
+abbrev decreases-loop : tie.decreases-loop-i
 decreases-loop bytes contents₀ i₀ contents i = length bytes - i
 
 pub put_content_spec : {M : Type 1} → statement M

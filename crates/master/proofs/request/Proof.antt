@@ -16,5 +16,5 @@ request_spec =
     (λ c κs. search rules)
     (λ c. search (choices, fields) depth 9)
     (λ c κs. search rules)
-    (λ c κs. fitting _ _ _ c.before.polling-up-to.ensures.1 c.before.before.before.before.before.before.outside.ensures c.before.before.before.before.before.if1.false)
-    (λ c. search (choices, fields, c.before.before.polling-up-to.ensures.0) depth 9))
+    (λ c κs. fitting _ _ _ c.before.polling_up_to-polling.ensures.1 c.before.before.before.before.before.before.outside.ensures c.before.before.before.before.before.if-outside.false)
+    (λ c. search (choices, fields, c.before.before.polling_up_to-polling.ensures.0) depth 9))
