@@ -337,7 +337,7 @@ fn tick(
     put: &[u8],
     results: &mut [u64; 17],
 ) -> u32
-    ensures { DeviceTicks words frame bytes contents heard call put results result }
+    ensures { DeviceTicks words frame bytes contents heard call put.now results result }
 {
     let d = unpack(words);
     let limit = limit_at(words);
@@ -372,7 +372,7 @@ pub fn nengapiko_device_tick(
     put: &[u8],
     results: &mut [u64; 17],
 ) -> u32
-    ensures { DeviceTicks state frame bytes contents (heard_of kind character) (host_call_by call command) put results result }
+    ensures { DeviceTicks state frame bytes contents (heard_of kind character) (host_call_by call command) put.now results result }
 {
     let heard = line::heard_of(kind, character);
     let given = device_tick::host_call_by(call, command);

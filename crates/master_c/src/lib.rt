@@ -243,7 +243,7 @@ fn tick(
     put: &[u8],
     results: &mut [u64; 17],
 ) -> u32
-    ensures { MasterTicks words frame bytes heard call put results result }
+    ensures { MasterTicks words frame bytes heard call put.now results result }
 {
     let m = unpack(words);
     let limit = limit_at(words);
@@ -303,7 +303,7 @@ pub fn nengapiko_master_tick(
     put: &[u8],
     results: &mut [u64; 17],
 ) -> u32
-    ensures { MasterTicks state frame bytes (heard_of kind character) (request_of requests preamble revision long address command) put results result }
+    ensures { MasterTicks state frame bytes (heard_of kind character) (request_of requests preamble revision long address command) put.now results result }
 {
     let heard = line::heard_of(kind, character);
     let call = request_of(requests, preamble, revision, long, address, command);
