@@ -360,8 +360,7 @@ fn tick(
 }
 
 // A tick of a device; returns 0, or the number with which its host's answer or burst content is refused.
-#[unsafe(no_mangle)]
-pub extern "C" fn nengapiko_device_tick(
+pub fn nengapiko_device_tick(
     state: &mut [u64; 41],
     frame: &mut [u8; 284],
     bytes: &mut [u8; 255],

@@ -6,7 +6,7 @@ use recording_join::JoinAnswer;
 use std::env::Env;
 use std::fs::Files;
 use std::io;
-use std::io::{Read, Seek, SeekFrom};
+use std::io::{Read, Seek};
 
 // Bytes of a full piece.
 const PIECE: usize = 65_536;
@@ -98,11 +98,6 @@ fn write_joined<R: Read>(
     Ok(true)
 }
 
-// Back to a file's start, and whether it went there.
-fn goes_back(file: &mut impl Seek) -> bool {
-    matches!(file.seek(SeekFrom::Start(0)), Ok(0))
-}
-
 // The second pass.
 fn write_files<R: Read + Seek>(
     rt: &(impl Print + Eprint),
@@ -112,8 +107,8 @@ fn write_files<R: Read + Seek>(
     other: &mut [u8],
     out: &mut [u8],
 ) -> io::Result<()> {
-    if goes_back(first) {
-        if goes_back(second) {
+    if program_files::goes_back(first) {
+        if program_files::goes_back(second) {
             if write_joined(rt, first, second, one, other, out)? {
                 return Ok(());
             }

@@ -288,8 +288,7 @@ pub fn request_of(
 }
 
 // A tick of a master; returns 0, or the number of the request's refusal.
-#[unsafe(no_mangle)]
-pub extern "C" fn nengapiko_master_tick(
+pub fn nengapiko_master_tick(
     state: &mut [u64; 40],
     frame: &mut [u8; 284],
     bytes: &mut [u8; 255],

@@ -1,13 +1,13 @@
 // What the programs share that take arguments or read files: an argument as bytes, a file that an argument names, a piece of a file, and a failure that is said.
 #![tactic(auto)]
 
-ghost use Rattle.std.specs.Prelude.{◌≤◌, length, take, IsTrue};
-ghost use Rattle.std.specs.Io.KnownBytes.{Consumes, IsAtEnd};
+ghost use Rattle.std.specs.Prelude.{◌≡◌, ◌≤◌, length, take, Some, IfSome, IsTrue};
+ghost use Rattle.std.specs.Io.KnownBytes.{Consumes, IsAtEnd, Keeps};
 
 use std::env::{Env, FillError};
 use std::fmt::Write;
 use std::fs::Files;
-use std::io::{Error, ErrorKind, Read};
+use std::io::{Error, ErrorKind, Read, Seek, SeekFrom};
 use std::{fmt, fs, io};
 
 // Bytes of the longest argument that is read.
@@ -56,6 +56,14 @@ pub fn is_over<R: Read>(reader: &mut R) -> bool
 {
     let mut byte = [0u8; 1];
     matches!(reader.read(&mut byte), Ok(0))
+}
+
+// Back to a file's start, and whether it went there.
+pub fn goes_back<F: Seek>(file: &mut F) -> bool
+    ensures moves { IsTrue result → IfSome (F.stream_position file.old) (λ _. F.stream_position file.new ≡ Some 0) }
+    ensures bytes { Keeps (F.stream_bytes file.old) (F.stream_bytes file.new) }
+{
+    matches!(file.seek(SeekFrom::Start(0)), Ok(0))
 }
 
 // Text that is formatted into a buffer; what does not fit is left out.
