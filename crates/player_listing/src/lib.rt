@@ -2,7 +2,6 @@
 #![tactic(auto)]
 
 ghost use Rattle.std.specs.Prelude.{◌≡◌, [], ◌∷◌, length, replicate, ◌<◌, ◌+◌};
-ghost use Rattle.base.specs.Lent.{before, after};
 ghost use Rattle.texts.specs.Put.{PutIs};
 ghost use Rattle.player_listing.specs.Lines.{line_of, quiet_monitor, frame_ends, ends_with, one_more, listens};
 ghost use Rattle.player_listing.specs.Text.{decimal, head_line, type_name, master_digit, word, line_text};

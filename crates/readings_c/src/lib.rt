@@ -2,7 +2,6 @@
 #![tactic(auto)]
 
 ghost use Rattle.std.specs.Prelude.{◌≡◌};
-ghost use Rattle.base.specs.Lent.{before, after};
 ghost use Rattle.readings.specs.Table.{cleared, looked_up, shown_byte};
 ghost use Rattle.readings.specs.Stores.{EnterIs};
 ghost use Rattle.state_words.specs.Numbers.{event_at};

@@ -2,7 +2,6 @@
 #![tactic(auto)]
 
 ghost use Rattle.std.specs.Prelude.{◌≡◌, set};
-ghost use Rattle.base.specs.Lent.{before, after};
 ghost use Rattle.readings.specs.Table.{sought};
 
 use readings::{Key, Row, Sought};

@@ -2,7 +2,6 @@
 #![tactic(auto)]
 
 ghost use Rattle.std.specs.Prelude.{◌≡◌};
-ghost use Rattle.base.specs.Lent.{before, after};
 ghost use Rattle.base.specs.Events.{RunIs};
 ghost use Rattle.recording_c.specs.Ticks.{step, told};
 ghost use Rattle.recording_c.specs.Numbers.{ListCall, JoinCall};

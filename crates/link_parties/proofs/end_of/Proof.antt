@@ -4,7 +4,7 @@ use Rattle.link_parties.proofs.end_of.Statement.{statement}
 use Rattle.link_parties.proofs.end_of.Tie as tie
 
 -- src/lib.rt:46:8
-sub_if1 : tie.Need-overflow-sub-if1
+sub_if1 : tie.Need-overflow_sub-room
 sub_if1 c = search rules
 
 -- src/lib.rt:47:9
@@ -12,7 +12,7 @@ returns : tie.Need-returns-then-room-start
 returns c = search (rules, parts)
 
 -- src/lib.rt:54:14
-add_t4 : tie.Need-overflow-add-t4
+add_t4 : tie.Need-overflow_add-result
 add_t4 c = search rules
 
 -- src/lib.rt:42:1
