@@ -1,4 +1,4 @@
-//! Runs the programs play, convert and load, which rt builds in target/bin, with their arguments: the
+//! Runs the programs play, convert and load, which rt builds in their folders, with their arguments: the
 //! plays of tests/data/item-11, words that are no record size, conversions there and back, and scripts
 //! that are longer than the programs' room.
 
@@ -16,12 +16,12 @@ const HELD: u32 = 524_289;
 
 /// What a program writes for this input.
 fn run(program: &str, arguments: &[&str], input: Vec<u8>) -> Vec<u8> {
-    let mut child = Command::new(format!("target/bin/{program}"))
+    let mut child = Command::new(format!("crates/{program}/out/{program}"))
         .args(arguments)
         .stdin(Stdio::piped())
         .stdout(Stdio::piped())
         .spawn()
-        .expect("rt check has built the programs");
+        .expect("rt ci has built the programs");
     let mut stdin = child.stdin.take().unwrap();
     // a program that refuses may not read all
     let writer = thread::spawn(move || drop(stdin.write_all(&input)));

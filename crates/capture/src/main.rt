@@ -4,9 +4,12 @@
 
 ghost use Rattle.std.specs.Prelude.{◌≡◌, length};
 
-use libc::{SEEK_SET, STDERR_FILENO, STDOUT_FILENO};
 use recording_capture::{Clock, Progress};
 use recording_lines::FirstBad;
+use std::env::Env;
+use std::fs::Files;
+use std::io;
+use std::io::{Read, Seek};
 
 // Bytes of a full piece.
 const PIECE: usize = 4_096;
@@ -26,63 +29,54 @@ fn packets_room() -> [u8; ROOM]
     [0; ROOM]
 }
 
-fn say(words: &[u8]) {
-    io::write_all(STDERR_FILENO, words);
-}
-
-fn say_use() {
-    say(b"use: capture FILE [fsk | c8psk] > CAPTURE\n");
+fn say_use(rt: &impl Eprint) -> io::Result<()> {
+    eprintln!(rt; "use: capture FILE [fsk | c8psk] > CAPTURE")
 }
 
 // A recording that is refused.
-fn say_bad(tick: u64) {
-    let mut text = io::buffer();
-    let a = texts::put_bytes(b"capture: 21: no recording has tick ", &mut text, 0);
-    let b = texts::put_decimal(tick, &mut text, a);
-    let c = texts::put_byte(b'\n', &mut text, b);
-    say(texts::front(&text, c));
+fn say_bad(rt: &impl Eprint, tick: u64) -> io::Result<()> {
+    eprintln!(rt; "capture: 21: no recording has tick {tick}")
 }
 
 // Whether a piece is good; if not, its first bad tick is said, counted from the recording's start.
-fn is_good(before: usize, piece: &[u8]) -> bool {
+fn is_good(rt: &impl Eprint, before: usize, piece: &[u8]) -> io::Result<bool> {
     let bad = recording_lines::first_bad(piece);
     match bad {
         FirstBad::Tick(t) => {
-            say_bad(std::num::wrapping_add_u64(before as u64, t as u64));
-            false
+            say_bad(rt, (before as u64).wrapping_add(t as u64))?;
+            Ok(false)
         }
-        FirstBad::None => true,
+        FirstBad::None => Ok(true),
     }
 }
 
 // The first pass: whether the recording is good.
-fn look(fd: i32, piece: &mut [u8]) -> bool {
-    let mut done = 0;
-    while done < PIECES {
-        let n = io::read_full(fd, piece);
-        if is_good(TICKS * done, &piece[..n]) {
-            if n < PIECE {
-                return true;
-            }
-            done += 1;
-        } else {
-            return false;
+fn look<R: Read>(rt: &impl Eprint, file: &mut R, piece: &mut [u8]) -> io::Result<bool> {
+    for done in 0..PIECES {
+        let n = program_files::read_full(file, piece);
+        if !is_good(rt, TICKS * done, &piece[..n])? {
+            return Ok(false);
+        }
+        if n < PIECE {
+            return Ok(true);
         }
     }
-    true
+    Ok(true)
 }
 
-fn write_out(out: &[u8]) -> bool {
-    if io::write_all(STDOUT_FILENO, out) {
-        return true;
+fn write_out(rt: &(impl Print + Eprint), out: &[u8]) -> io::Result<bool> {
+    match rt.write_all(out) {
+        Ok(()) => Ok(true),
+        Err(error) => {
+            program_files::say_failure(rt, "capture: standard output", &error)?;
+            Ok(false)
+        }
     }
-    os::fail(b"capture: standard output");
-    false
 }
 
-fn write_header(out: &mut [u8]) -> bool {
+fn write_header(rt: &(impl Print + Eprint), out: &mut [u8]) -> io::Result<bool> {
     let n = recording_capture::put_file_header(out, 0);
-    write_out(texts::front(out, n))
+    write_out(rt, texts::front(out, n))
 }
 
 // What is kept after a piece, and whether its packets were written.
@@ -93,116 +87,119 @@ struct Went {
 }
 
 fn write_piece(
+    rt: &(impl Print + Eprint),
     before: usize,
     kept: Progress,
     piece: &[u8],
     bytes: &mut [u8; 255],
     frame: &mut [u8; 267],
     out: &mut [u8],
-) -> Went {
-    if is_good(before, piece) {
+) -> io::Result<Went> {
+    if is_good(rt, before, piece)? {
         let captured = recording_capture::packets(kept, piece, bytes, frame, out);
-        let on = write_out(texts::front(out, captured.at));
+        let on = write_out(rt, texts::front(out, captured.at))?;
         let progress = captured.progress;
-        return Went {
-            progress: progress,
-            on: on,
-        };
+        return Ok(Went { progress, on });
     }
-    Went {
+    Ok(Went {
         progress: kept,
         on: false,
-    }
+    })
 }
 
 // The second pass: the packets, with what is kept from piece to piece, up to a piece that is not full. It answers whether they were all written.
-fn write_packets(
+fn write_packets<R: Read>(
+    rt: &(impl Print + Eprint),
     clock: Clock,
-    fd: i32,
+    file: &mut R,
     piece: &mut [u8],
     bytes: &mut [u8; 255],
     frame: &mut [u8; 267],
     out: &mut [u8],
-) -> bool {
+) -> io::Result<bool> {
     let mut kept = recording_capture::start(clock);
-    let mut done = 0;
-    while done < PIECES {
-        let n = io::read_full(fd, piece);
-        let went = write_piece(TICKS * done, kept, &piece[..n], bytes, frame, out);
+    for done in 0..PIECES {
+        let n = program_files::read_full(file, piece);
+        let went = write_piece(rt, TICKS * done, kept, &piece[..n], bytes, frame, out)?;
         kept = went.progress;
-        if went.on {
-            if n < PIECE {
-                return true;
-            }
-            done += 1;
-        } else {
-            return false;
+        if !went.on {
+            return Ok(false);
+        }
+        if n < PIECE {
+            return Ok(true);
         }
     }
-    true
-}
-
-// Whether nothing follows in a file: a read that failed before looks like an end.
-fn is_over(fd: i32) -> bool {
-    let mut byte = [0u8; 1];
-    libc::read(fd, &mut byte) == 0
-}
-
-fn say_unread() {
-    say(b"capture: the recording cannot be read to its end\n");
+    Ok(true)
 }
 
 // The header and the packets; it answers whether all was written.
-fn write_all(clock: Clock, fd: i32, piece: &mut [u8], out: &mut [u8]) -> bool {
+fn write_all<R: Read>(
+    rt: &(impl Print + Eprint),
+    clock: Clock,
+    file: &mut R,
+    piece: &mut [u8],
+    out: &mut [u8],
+) -> io::Result<bool> {
     let mut bytes = [0u8; 255];
     let mut frame = [0u8; 267];
-    if write_header(out) {
-        if write_packets(clock, fd, piece, &mut bytes, &mut frame, out) {
-            return is_over(fd);
+    if write_header(rt, out)? {
+        if write_packets(rt, clock, file, piece, &mut bytes, &mut frame, out)? {
+            return Ok(program_files::is_over(file));
         }
     }
-    false
+    Ok(false)
 }
 
 // The second pass, from the file's start.
-fn write_file(clock: Clock, fd: i32, piece: &mut [u8], out: &mut [u8]) {
-    if libc::lseek(fd, 0, SEEK_SET) == 0 {
-        if write_all(clock, fd, piece, out) {
-            return;
+fn write_file<R: Read + Seek>(
+    rt: &(impl Print + Eprint),
+    clock: Clock,
+    file: &mut R,
+    piece: &mut [u8],
+    out: &mut [u8],
+) -> io::Result<()> {
+    if program_files::goes_back(file) {
+        if write_all(rt, clock, file, piece, out)? {
+            return Ok(());
         }
-        say(b"capture: what was written is not the whole capture\n");
-        return;
+        return eprintln!(rt; "capture: what was written is not the whole capture");
     }
-    say(b"capture: the recording is no file that can be read twice\n");
+    eprintln!(rt; "capture: the recording is no file that can be read twice")
 }
 
 // Both passes.
-fn capture_file(clock: Clock, fd: i32, piece: &mut [u8], out: &mut [u8]) {
-    if look(fd, piece) {
-        if is_over(fd) {
-            write_file(clock, fd, piece, out);
-            return;
+fn capture_file<R: Read + Seek>(
+    rt: &(impl Print + Eprint),
+    clock: Clock,
+    file: &mut R,
+    piece: &mut [u8],
+    out: &mut [u8],
+) -> io::Result<()> {
+    if look(rt, file, piece)? {
+        if program_files::is_over(file) {
+            return write_file(rt, clock, file, piece, out);
         }
-        say_unread();
+        return eprintln!(rt; "capture: the recording cannot be read to its end");
     }
+    Ok(())
 }
 
-fn capture_open(clock: Clock, fd: i32) {
-    let mut piece = io::buffer();
+fn capture_open<R: Read + Seek>(
+    rt: &(impl Print + Eprint),
+    clock: Clock,
+    file: &mut R,
+) -> io::Result<()> {
+    let mut piece = [0u8; PIECE];
     let mut out = packets_room();
-    capture_file(clock, fd, &mut piece, &mut out);
+    capture_file(rt, clock, file, &mut piece, &mut out)
 }
 
 // The file that the first argument names.
-fn capture_named(clock: Clock) {
-    let mut name = io::buffer();
-    let n = os::arg(1, &mut name);
-    let fd = os::open_read(&name[..n]);
-    if fd < 0 {
-        os::fail(&name[..n]);
-        return;
+fn capture_named(rt: &(impl Env + Files + Print + Eprint), clock: Clock) -> io::Result<()> {
+    match program_files::open_argument(rt, 1)? {
+        Some(mut file) => capture_open(rt, clock, &mut file),
+        None => Ok(()),
     }
-    capture_open(clock, fd);
 }
 
 fn is_fsk(word: &[u8]) -> bool {
@@ -239,28 +236,25 @@ fn is_c8psk(word: &[u8]) -> bool {
 }
 
 // With the profile that the second argument names.
-fn capture_clocked() {
-    let mut word = io::buffer();
-    let n = os::arg(2, &mut word);
+fn capture_clocked(rt: &(impl Env + Files + Print + Eprint)) -> io::Result<()> {
+    let mut word = [0u8; program_files::ARGUMENT];
+    let n = program_files::argument(rt, 2, &mut word);
     if is_fsk(&word[..n]) {
-        capture_named(Clock::Fsk);
-        return;
+        return capture_named(rt, Clock::Fsk);
     }
     if is_c8psk(&word[..n]) {
-        capture_named(Clock::C8psk);
-        return;
+        return capture_named(rt, Clock::C8psk);
     }
-    say_use();
+    say_use(rt)
 }
 
-fn main() {
-    if os::arg_count() == 2 {
-        capture_named(Clock::Fsk);
-        return;
+fn main(rt: HostRuntime) -> io::Result<()> {
+    let count = program_files::argument_count(&rt);
+    if count == 2 {
+        return capture_named(&rt, Clock::Fsk);
     }
-    if os::arg_count() == 3 {
-        capture_clocked();
-        return;
+    if count == 3 {
+        return capture_clocked(&rt);
     }
-    say_use();
+    say_use(&rt)
 }

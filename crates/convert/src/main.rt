@@ -2,57 +2,65 @@
 #![tactic(auto)]
 
 use base::Refusal;
-use libc::STDOUT_FILENO;
 use player_convert::Converted;
 use player_input::{Input, ROOM};
 use player_script::{Form, SizedForm};
+use std::env::Env;
+use std::io;
+use std::io::Read;
 
 // The size that the argument says, and none without one or with more.
-fn record_size() -> usize {
-    let mut word = io::buffer();
-    let n = os::arg(1, &mut word);
-    if os::arg_count() == 2 {
+fn record_size(rt: &impl Env) -> usize {
+    let mut word = [0u8; program_files::ARGUMENT];
+    let n = program_files::argument(rt, 1, &mut word);
+    if program_files::argument_count(rt) == 2 {
         return player_script::size_in(&word[..n]);
     }
     0
 }
 
-fn print_converted(size: usize, script: &[u8], out: &mut [u8]) {
+fn print_converted(rt: &impl Print, size: usize, script: &[u8], out: &mut [u8]) -> io::Result<()> {
     let converted = player_convert::convert(size, script, out);
     match converted {
-        Converted::To(end) => {
-            io::write_all(STDOUT_FILENO, texts::front(out, end));
-        }
-        Converted::Refused(why) => player_input::print_refusal(why),
+        Converted::To(end) => rt.write_all(texts::front(out, end)),
+        Converted::Refused(why) => player_input::print_refusal(rt, why),
     }
 }
 
 // A good script that is longer than the room: its stop's tick is too large to turn back, or the result has no room.
-fn print_long(stop: u32) {
+fn print_long(rt: &impl Print, stop: u32) -> io::Result<()> {
     if 65535 < stop {
-        player_input::print_refusal(Refusal::TickTooLarge);
-        return;
+        return player_input::print_refusal(rt, Refusal::TickTooLarge);
     }
-    player_input::print_refusal(Refusal::BufferShort);
+    player_input::print_refusal(rt, Refusal::BufferShort)
 }
 
 // The script on standard input.
-fn convert_input(size: usize, form: Form, script: &mut [u8; ROOM], out: &mut [u8; ROOM]) {
-    let input = player_input::read(form, script);
+fn convert_input<R: Read>(
+    rt: &impl Print,
+    size: usize,
+    form: Form,
+    reader: &mut R,
+    script: &mut [u8; ROOM],
+    out: &mut [u8; ROOM],
+) -> io::Result<()> {
+    let input = player_input::read(form, reader, script);
     match input {
-        Input::Whole(n) => print_converted(size, texts::front(script, n), out),
-        Input::LongGood(stop) => print_long(stop),
-        Input::LongBad => player_input::print_refusal(Refusal::BadScript),
+        Input::Whole(n) => print_converted(rt, size, texts::front(script, n), out),
+        Input::LongGood(stop) => print_long(rt, stop),
+        Input::LongBad => player_input::print_refusal(rt, Refusal::BadScript),
     }
 }
 
-fn main() {
+fn main(rt: HostRuntime) -> io::Result<()> {
     let mut script = [0u8; ROOM];
     let mut out = [0u8; ROOM];
-    let size = record_size();
+    let size = record_size(&rt);
     let sized = player_script::form_of(size);
     match sized {
-        SizedForm::Is(form) => convert_input(size, form, &mut script, &mut out),
-        SizedForm::Refused(why) => player_input::print_refusal(why),
+        SizedForm::Is(form) => {
+            convert_input(&rt, size, form, &mut rt.stdin(), &mut script, &mut out)
+        }
+        SizedForm::Refused(why) => player_input::print_refusal(&rt, why),
     }
 }

@@ -4,7 +4,6 @@
 mod sends;
 
 ghost use Rattle.std.specs.Prelude.{◌≡◌, ◌≤◌, length, take};
-ghost use Rattle.base.specs.Lent.{before, after};
 ghost use Rattle.frame.specs.Limits.{most_data};
 ghost use Rattle.frame.specs.Write.{write_buffer};
 ghost use Rattle.turns.specs.Device.{device_with, error_status, error_data, answer_header, error_frame, has_no_wish, wish_refused, answers_at, answered_by, answered, answer_frame, back_header, begun_frame, fresh_device, device_starts};

@@ -1,6 +1,5 @@
 // What a device sends from its lent frame buffer, in which a BACK that begins already stands. The functions follow the definitions of crates/turns/specs/Device.antt, in their order.
 ghost use Rattle.std.specs.Prelude.{◌≡◌, true, false};
-ghost use Rattle.base.specs.Lent.{before};
 ghost use Rattle.base.specs.Choice.{if◌then◌else◌};
 ghost use Rattle.line.specs.Reader.{passing};
 ghost use Rattle.turns.specs.Device.{wished, sends, first_for, behind_ack, answers_from, bursts_from, back_length, sends_by, device_sends};

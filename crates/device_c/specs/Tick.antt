@@ -29,11 +29,11 @@ pub record StepIs (limit : ℕ) (s : DeviceStep) (event : Event) (words frame by
 
 -- the step of the device that the words stood for before the call, and what its reader found; the data of the host's call are `put`
 abbrev pub DeviceTicks : Lent (List ℕ) → Lent (List ℕ) → Lent (List ℕ) → Lent (List ℕ)
-    → Heard → DeviceCall → Lent (List ℕ) → Lent (List ℕ) → ℕ → Type 0
+    → Heard → DeviceCall → List ℕ → Lent (List ℕ) → ℕ → Type 0
 DeviceTicks words frame bytes contents heard call put results r =
     StepIs
     (limit_at (before words))
-    (device_tick (limit_at (before words)) (side_of (unpacked (before words)) (before frame) (before bytes) (before contents)) heard (call_of call (before put)))
+    (device_tick (limit_at (before words)) (side_of (unpacked (before words)) (before frame) (before bytes) (before contents)) heard (call_of call put))
     (device_takes (unpacked (before words)) heard).event
     (after words) (after frame) (after bytes) (after contents) (after results) r
 

@@ -2,7 +2,6 @@
 #![tactic(auto)]
 
 ghost use Rattle.std.specs.Prelude.{◌<◌, ◌^◌, ◌≡◌};
-ghost use Rattle.base.specs.Lent.{before, after};
 ghost use Rattle.line.specs.Heard.{heard_of};
 ghost use Rattle.turns.specs.Told.{device_tells};
 ghost use Rattle.device_c.specs.Words.{turn_word, turn_by, turn_of, wish_word, wish_of, settings_words, settings_at};
@@ -338,7 +337,7 @@ fn tick(
     put: &[u8],
     results: &mut [u64; 17],
 ) -> u32
-    ensures { DeviceTicks words frame bytes contents heard call put results result }
+    ensures { DeviceTicks words frame bytes contents heard call put.now results result }
 {
     let d = unpack(words);
     let limit = limit_at(words);
@@ -361,8 +360,7 @@ fn tick(
 }
 
 // A tick of a device; returns 0, or the number with which its host's answer or burst content is refused.
-#[unsafe(no_mangle)]
-pub extern "C" fn nengapiko_device_tick(
+pub fn nengapiko_device_tick(
     state: &mut [u64; 41],
     frame: &mut [u8; 284],
     bytes: &mut [u8; 255],
@@ -374,7 +372,7 @@ pub extern "C" fn nengapiko_device_tick(
     put: &[u8],
     results: &mut [u64; 17],
 ) -> u32
-    ensures { DeviceTicks state frame bytes contents (heard_of kind character) (host_call_by call command) put results result }
+    ensures { DeviceTicks state frame bytes contents (heard_of kind character) (host_call_by call command) put.now results result }
 {
     let heard = line::heard_of(kind, character);
     let given = device_tick::host_call_by(call, command);

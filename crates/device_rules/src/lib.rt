@@ -2,7 +2,6 @@
 #![tactic(auto)]
 
 ghost use Rattle.std.specs.Prelude.{◌≡◌, false};
-ghost use Rattle.base.specs.Lent.{before, after};
 ghost use Rattle.base.specs.Choice.{if◌then◌else◌};
 ghost use Rattle.line.specs.Reader.{gapped, taken};
 ghost use Rattle.line.specs.declared.Heard.TheVariants.{Silence};

@@ -2,7 +2,6 @@
 #![tactic(auto)]
 
 ghost use Rattle.std.specs.Prelude.{◌≡◌, true, ◌≤◌, length};
-ghost use Rattle.base.specs.Lent.{before, after};
 ghost use Rattle.base.specs.Store.{stored};
 ghost use Rattle.frame.specs.Limits.{most_data};
 ghost use Rattle.turns.specs.Device.{device_with_content, content_given};

@@ -2,7 +2,6 @@
 #![tactic(auto)]
 
 ghost use Rattle.std.specs.Prelude.{◌++◌, ◌≤◌, length, IfOk};
-ghost use Rattle.base.specs.Lent.{before, after};
 ghost use Rattle.texts.specs.Digits.{decimal, bit_of};
 ghost use Rattle.texts.specs.Put.{PutIs};
 ghost use Rattle.example_texts.specs.Header.{header_text};

@@ -24,10 +24,10 @@ abbrev pub end_after : Called ℕ → ℕ → ℕ
 end_after (accepted end) was = end
 end_after (refused why) was = was
 
-pub record WriteCall (preamble : ℕ) (h : Header) (bytes buffer : Lent (List ℕ)) (place : ℕ) (end : Lent ℕ) (r : ℕ) : Type 0 where
-  pub returns : r ≡ returned (write_answer preamble h (length (before bytes)) (length (before buffer)) place)
-  pub buffer_is : after buffer ≡ write_buffer preamble h (before bytes) (before buffer) place
-  pub end_is : after end ≡ end_after (write_answer preamble h (length (before bytes)) (length (before buffer)) place) (before end)
+pub record WriteCall (preamble : ℕ) (h : Header) (bytes : List ℕ) (buffer : Lent (List ℕ)) (place : ℕ) (end : Lent ℕ) (r : ℕ) : Type 0 where
+  pub returns : r ≡ returned (write_answer preamble h (length bytes) (length (before buffer)) place)
+  pub buffer_is : after buffer ≡ write_buffer preamble h bytes (before buffer) place
+  pub end_is : after end ≡ end_after (write_answer preamble h (length bytes) (length (before buffer)) place) (before end)
 
 -- the numbers of a frame, in the order of the C header's `enum nengapiko_field`
 abbrev pub found_numbers : Found → List ℕ
@@ -50,6 +50,6 @@ abbrev pub fields_after : Called Found → List ℕ → List ℕ
 fields_after (accepted f) were = found_numbers f
 fields_after (refused why) were = were
 
-pub record ReadCall (bytes fields : Lent (List ℕ)) (r : ℕ) : Type 0 where
-  pub returns : r ≡ returned (read_frame (before bytes))
-  pub fields_are : after fields ≡ fields_after (read_frame (before bytes)) (before fields)
+pub record ReadCall (bytes : List ℕ) (fields : Lent (List ℕ)) (r : ℕ) : Type 0 where
+  pub returns : r ≡ returned (read_frame bytes)
+  pub fields_are : after fields ≡ fields_after (read_frame bytes) (before fields)

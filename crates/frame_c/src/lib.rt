@@ -22,7 +22,7 @@ pub extern "C" fn nengapiko_write(
     place: usize,
     end: &mut usize,
 ) -> u32
-    ensures { WriteCall preamble (header frame long primary burst address command) bytes buffer place end result }
+    ensures { WriteCall preamble (header frame long primary burst address command) bytes.now buffer place end result }
 {
     let h = Header {
         kind: frame,
@@ -75,7 +75,7 @@ fn numbers_of(found: Found) -> [u64; 11]
 // Reads the frame at the front of some bytes into its numbers; or returns the refusal's number and changes nothing.
 #[unsafe(no_mangle)]
 pub extern "C" fn nengapiko_read(bytes: &[u8], fields: &mut [u64; 11]) -> u32
-    ensures { ReadCall bytes fields result }
+    ensures { ReadCall bytes.now fields result }
 {
     let read = frame_read::read(bytes);
     match read {

@@ -2,7 +2,6 @@
 #![tactic(auto)]
 
 ghost use Rattle.std.specs.Prelude.{◌≡◌, ◌+◌, ◌*◌, ◌/◌, ◌%◌, ◌≤◌, ◌<◌, length, take, drop};
-ghost use Rattle.base.specs.Lent.{before};
 ghost use Rattle.frame.specs.Check.{xor_from, exclusive_or};
 ghost use Rattle.frame_check.specs.Words.{NumberIs, folded, every_other, every_other_of16, xor_onto, in_blocks, in_words};
 

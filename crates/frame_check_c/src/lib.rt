@@ -2,7 +2,6 @@
 #![tactic(auto)]
 
 ghost use Rattle.std.specs.Prelude.{◌≡◌};
-ghost use Rattle.base.specs.Lent.{before};
 ghost use Rattle.frame.specs.Check.{xor_from};
 ghost use Rattle.frame.specs.Read.{part_of};
 

@@ -2,7 +2,6 @@
 #![tactic(auto)]
 
 ghost use Rattle.std.specs.Prelude.{◌≡◌, ◌+◌, ◌^◌, ◌≤◌, ◌<◌, length};
-ghost use Rattle.base.specs.Lent.{before};
 ghost use Rattle.frame.specs.Limits.{most_data};
 ghost use Rattle.frame.specs.Address.{address_of, unique_address};
 ghost use Rattle.frame.specs.Read.{preambles, command_place, header_of, with_count, with_command, read_body, read_frame, read_as, part_of};

@@ -4,8 +4,11 @@
 
 ghost use Rattle.std.specs.Prelude.{◌≡◌, length};
 
-use libc::{SEEK_SET, STDERR_FILENO, STDOUT_FILENO};
 use recording_lines::{FirstBad, Progress};
+use std::env::Env;
+use std::fs::Files;
+use std::io;
+use std::io::{Read, Seek};
 
 // Bytes of a full piece.
 const PIECE: usize = 4_096;
@@ -25,54 +28,45 @@ fn lines_room() -> [u8; ROOM]
     [0; ROOM]
 }
 
-fn say(words: &[u8]) {
-    io::write_all(STDERR_FILENO, words);
-}
-
 // The only line of a recording that is refused.
-fn print_bad(tick: u64) {
-    let mut text = io::buffer();
-    let a = texts::put_bytes(b"21 ", &mut text, 0);
-    let b = texts::put_decimal(tick, &mut text, a);
-    let c = texts::put_byte(b'\n', &mut text, b);
-    io::write_all(STDOUT_FILENO, texts::front(&text, c));
+fn print_bad(rt: &impl Print, tick: u64) -> io::Result<()> {
+    println!(rt; "21 {tick}")
 }
 
 // Whether a piece is good; if not, its first bad tick is printed, counted from the recording's start.
-fn is_good(before: usize, piece: &[u8]) -> bool {
+fn is_good(rt: &impl Print, before: usize, piece: &[u8]) -> io::Result<bool> {
     let bad = recording_lines::first_bad(piece);
     match bad {
         FirstBad::Tick(t) => {
-            print_bad(std::num::wrapping_add_u64(before as u64, t as u64));
-            false
+            print_bad(rt, (before as u64).wrapping_add(t as u64))?;
+            Ok(false)
         }
-        FirstBad::None => true,
+        FirstBad::None => Ok(true),
     }
 }
 
 // The first pass: whether the recording is good.
-fn look(fd: i32, piece: &mut [u8]) -> bool {
-    let mut done = 0;
-    while done < PIECES {
-        let n = io::read_full(fd, piece);
-        if is_good(TICKS * done, &piece[..n]) {
-            if n < PIECE {
-                return true;
-            }
-            done += 1;
-        } else {
-            return false;
+fn look<R: Read>(rt: &impl Print, file: &mut R, piece: &mut [u8]) -> io::Result<bool> {
+    for done in 0..PIECES {
+        let n = program_files::read_full(file, piece);
+        if !is_good(rt, TICKS * done, &piece[..n])? {
+            return Ok(false);
+        }
+        if n < PIECE {
+            return Ok(true);
         }
     }
-    true
+    Ok(true)
 }
 
-fn write_lines(out: &[u8]) -> bool {
-    if io::write_all(STDOUT_FILENO, out) {
-        return true;
+fn write_lines(rt: &(impl Print + Eprint), out: &[u8]) -> io::Result<bool> {
+    match rt.write_all(out) {
+        Ok(()) => Ok(true),
+        Err(error) => {
+            program_files::say_failure(rt, "frames: standard output", &error)?;
+            Ok(false)
+        }
     }
-    os::fail(b"frames: standard output");
-    false
 }
 
 // What is kept after a piece, and whether its lines were written.
@@ -83,100 +77,107 @@ struct Went {
 }
 
 fn print_piece(
+    rt: &(impl Print + Eprint),
     before: usize,
     kept: Progress,
     piece: &[u8],
     bytes: &mut [u8; 255],
     out: &mut [u8],
-) -> Went {
-    if is_good(before, piece) {
+) -> io::Result<Went> {
+    if is_good(rt, before, piece)? {
         let printed = recording_lines::lines(kept, piece, bytes, out);
-        let on = write_lines(texts::front(out, printed.at));
+        let on = write_lines(rt, texts::front(out, printed.at))?;
         let progress = printed.progress;
-        return Went {
-            progress: progress,
-            on: on,
-        };
+        return Ok(Went { progress, on });
     }
-    Went {
+    Ok(Went {
         progress: kept,
         on: false,
-    }
+    })
 }
 
 // The second pass: the lines, with what is kept from piece to piece, up to a piece that is not full. Returns whether they were all written.
-fn print(fd: i32, piece: &mut [u8], bytes: &mut [u8; 255], out: &mut [u8]) -> bool {
+fn print<R: Read>(
+    rt: &(impl Print + Eprint),
+    file: &mut R,
+    piece: &mut [u8],
+    bytes: &mut [u8; 255],
+    out: &mut [u8],
+) -> io::Result<bool> {
     let mut kept = recording_lines::start();
-    let mut done = 0;
-    while done < PIECES {
-        let n = io::read_full(fd, piece);
-        let went = print_piece(TICKS * done, kept, &piece[..n], bytes, out);
+    for done in 0..PIECES {
+        let n = program_files::read_full(file, piece);
+        let went = print_piece(rt, TICKS * done, kept, &piece[..n], bytes, out)?;
         kept = went.progress;
-        if went.on {
-            if n < PIECE {
-                return true;
-            }
-            done += 1;
-        } else {
-            return false;
+        if !went.on {
+            return Ok(false);
+        }
+        if n < PIECE {
+            return Ok(true);
         }
     }
-    true
+    Ok(true)
 }
 
-// Whether nothing follows in a file: a read that failed before looks like an end.
-fn is_over(fd: i32) -> bool {
-    let mut byte = [0u8; 1];
-    libc::read(fd, &mut byte) == 0
-}
-
-fn say_unread() {
-    say(b"frames: the recording cannot be read to its end\n");
+fn say_unread(rt: &impl Eprint) -> io::Result<()> {
+    eprintln!(rt; "frames: the recording cannot be read to its end")
 }
 
 // The second pass, from the file's start.
-fn print_file(fd: i32, piece: &mut [u8], bytes: &mut [u8; 255], out: &mut [u8]) {
-    if libc::lseek(fd, 0, SEEK_SET) == 0 {
-        if print(fd, piece, bytes, out) {
-            if is_over(fd) {
-                return;
+fn print_file<R: Read + Seek>(
+    rt: &(impl Print + Eprint),
+    file: &mut R,
+    piece: &mut [u8],
+    bytes: &mut [u8; 255],
+    out: &mut [u8],
+) -> io::Result<()> {
+    if program_files::goes_back(file) {
+        if print(rt, file, piece, bytes, out)? {
+            if program_files::is_over(file) {
+                return Ok(());
             }
-            say_unread();
+            return say_unread(rt);
         }
-        return;
+        return Ok(());
     }
-    say(b"frames: the recording is no file that can be read twice\n");
+    eprintln!(rt; "frames: the recording is no file that can be read twice")
 }
 
 // Both passes.
-fn list_file(fd: i32, piece: &mut [u8], bytes: &mut [u8; 255], out: &mut [u8]) {
-    if look(fd, piece) {
-        if is_over(fd) {
-            print_file(fd, piece, bytes, out);
-            return;
+fn list_file<R: Read + Seek>(
+    rt: &(impl Print + Eprint),
+    file: &mut R,
+    piece: &mut [u8],
+    bytes: &mut [u8; 255],
+    out: &mut [u8],
+) -> io::Result<()> {
+    if look(rt, file, piece)? {
+        if program_files::is_over(file) {
+            return print_file(rt, file, piece, bytes, out);
         }
-        say_unread();
+        return say_unread(rt);
     }
+    Ok(())
 }
 
-fn list_open(fd: i32) {
-    let mut piece = io::buffer();
+fn list_open<R: Read + Seek>(rt: &(impl Print + Eprint), file: &mut R) -> io::Result<()> {
+    let mut piece = [0u8; PIECE];
     let mut bytes = [0u8; 255];
     let mut out = lines_room();
-    list_file(fd, &mut piece, &mut bytes, &mut out);
+    list_file(rt, file, &mut piece, &mut bytes, &mut out)
 }
 
-fn main() {
-    if os::arg_count() == 2 {
-        let mut name = io::buffer();
-        let n = os::arg(1, &mut name);
-        let fd = os::open_read(&name[..n]);
-        if fd < 0 {
-            os::fail(&name[..n]);
-            return;
-        }
-        list_open(fd);
-        return;
+// The file that the argument names.
+fn list_named(rt: &(impl Env + Files + Print + Eprint)) -> io::Result<()> {
+    match program_files::open_argument(rt, 1)? {
+        Some(mut file) => list_open(rt, &mut file),
+        None => Ok(()),
     }
-    say(b"use: frames FILE\n");
+}
+
+fn main(rt: HostRuntime) -> io::Result<()> {
+    if program_files::argument_count(&rt) == 2 {
+        return list_named(&rt);
+    }
+    eprintln!(rt; "use: frames FILE")
 }

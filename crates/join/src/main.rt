@@ -2,8 +2,11 @@
 #![tactic(auto)]
 
 use base::Refusal;
-use libc::{SEEK_SET, STDERR_FILENO, STDOUT_FILENO};
 use recording_join::JoinAnswer;
+use std::env::Env;
+use std::fs::Files;
+use std::io;
+use std::io::{Read, Seek};
 
 // Bytes of a full piece.
 const PIECE: usize = 65_536;
@@ -14,60 +17,38 @@ const TICKS: usize = 32_768;
 // More pieces than any file has; a loop has to end.
 const PIECES: usize = 281_474_976_710_655;
 
-fn say(words: &[u8]) {
-    io::write_all(STDERR_FILENO, words);
-}
-
-// A number and the end of its line.
-fn say_number(n: usize) {
-    let mut text = io::buffer();
-    let a = texts::put_decimal(n as u64, &mut text, 0);
-    let b = texts::put_byte(b'\n', &mut text, a);
-    say(texts::front(&text, b));
-}
-
-fn say_refusal(why: Refusal) {
+fn say_refusal(rt: &impl Eprint, why: Refusal) -> io::Result<()> {
     let number = why.number();
     if number == 21 {
-        say(
-            b"join: 21: a recording has an odd length, or in a tick a value that no recording has\n",
+        return eprintln!(rt;
+            "join: 21: a recording has an odd length, or in a tick a value that no recording has"
         );
-        return;
     }
     if number == 22 {
-        say(b"join: 22: the recordings have unequal lengths\n");
-        return;
+        return eprintln!(rt; "join: 22: the recordings have unequal lengths");
     }
-    say(b"join: refused with ");
-    say_number(number as usize);
+    eprintln!(rt; "join: refused with {number}")
 }
 
-// Whether nothing follows in a file: a read that failed before looks like an end.
-fn is_over(fd: i32) -> bool {
-    let mut byte = [0u8; 1];
-    libc::read(fd, &mut byte) == 0
-}
-
-fn both_over(first: i32, second: i32) -> bool {
-    if is_over(first) {
-        return is_over(second);
+fn both_over<R: Read>(first: &mut R, second: &mut R) -> bool {
+    if program_files::is_over(first) {
+        return program_files::is_over(second);
     }
     false
 }
 
 // The answer for both files, made from the answers for their pieces.
-fn answer_of(
-    first: i32,
-    second: i32,
+fn answer_of<R: Read>(
+    first: &mut R,
+    second: &mut R,
     one: &mut [u8],
     other: &mut [u8],
     out: &mut [u8],
 ) -> JoinAnswer {
     let mut answer = JoinAnswer::Joined;
-    let mut done = 0;
-    while done < PIECES {
-        let n = io::read_full(first, one);
-        let m = io::read_full(second, other);
+    for done in 0..PIECES {
+        let n = program_files::read_full(first, one);
+        let m = program_files::read_full(second, other);
         let piece = recording_join::join(&one[..n], &other[..m], out);
         answer = recording_join::pieced(TICKS * done, answer, piece);
         if n < PIECE {
@@ -75,106 +56,113 @@ fn answer_of(
                 return answer;
             }
         }
-        done += 1;
     }
     answer
 }
 
-// Writes a joined piece, where there is one.
-fn write_piece(piece: JoinAnswer, out: &[u8]) -> bool {
+// Writes a joined piece, where there is one, and answers whether it did.
+fn write_piece(rt: &(impl Print + Eprint), piece: JoinAnswer, out: &[u8]) -> io::Result<bool> {
     match piece {
-        JoinAnswer::Joined => {
-            if io::write_all(STDOUT_FILENO, out) {
-                return true;
+        JoinAnswer::Joined => match rt.write_all(out) {
+            Ok(()) => Ok(true),
+            Err(error) => {
+                program_files::say_failure(rt, "join: standard output", &error)?;
+                Ok(false)
             }
-            os::fail(b"join: standard output");
-            false
-        }
-        JoinAnswer::Refused(why) => false,
-        JoinAnswer::Differ(t) => false,
+        },
+        JoinAnswer::Refused(_) => Ok(false),
+        JoinAnswer::Differ(_) => Ok(false),
     }
 }
 
 // Writes both files joined, piece by piece, and answers whether all of it was written.
-fn write_joined(first: i32, second: i32, one: &mut [u8], other: &mut [u8], out: &mut [u8]) -> bool {
-    let mut done = 0;
-    while done < PIECES {
-        let n = io::read_full(first, one);
-        let m = io::read_full(second, other);
+fn write_joined<R: Read>(
+    rt: &(impl Print + Eprint),
+    first: &mut R,
+    second: &mut R,
+    one: &mut [u8],
+    other: &mut [u8],
+    out: &mut [u8],
+) -> io::Result<bool> {
+    for _ in 0..PIECES {
+        let n = program_files::read_full(first, one);
+        let m = program_files::read_full(second, other);
         let piece = recording_join::join(&one[..n], &other[..m], out);
-        if write_piece(piece, texts::front(out, n)) {
-            if n < PIECE {
-                return both_over(first, second);
-            }
-            done += 1;
-        } else {
-            return false;
+        if !write_piece(rt, piece, texts::front(out, n))? {
+            return Ok(false);
+        }
+        if n < PIECE {
+            return Ok(both_over(first, second));
         }
     }
-    true
+    Ok(true)
 }
 
 // The second pass.
-fn write_files(first: i32, second: i32, one: &mut [u8], other: &mut [u8], out: &mut [u8]) {
-    if libc::lseek(first, 0, SEEK_SET) == 0 {
-        if libc::lseek(second, 0, SEEK_SET) == 0 {
-            if write_joined(first, second, one, other, out) {
-                return;
+fn write_files<R: Read + Seek>(
+    rt: &(impl Print + Eprint),
+    first: &mut R,
+    second: &mut R,
+    one: &mut [u8],
+    other: &mut [u8],
+    out: &mut [u8],
+) -> io::Result<()> {
+    if program_files::goes_back(first) {
+        if program_files::goes_back(second) {
+            if write_joined(rt, first, second, one, other, out)? {
+                return Ok(());
             }
-            say(b"join: what was written is not the whole joined recording\n");
-            return;
+            return eprintln!(rt; "join: what was written is not the whole joined recording");
         }
     }
-    say(b"join: a recording is no file that can be read twice\n");
+    eprintln!(rt; "join: a recording is no file that can be read twice")
 }
 
 // Both passes.
-fn join_files(first: i32, second: i32, one: &mut [u8], other: &mut [u8], out: &mut [u8]) {
+fn join_files<R: Read + Seek>(
+    rt: &(impl Print + Eprint),
+    first: &mut R,
+    second: &mut R,
+    one: &mut [u8],
+    other: &mut [u8],
+    out: &mut [u8],
+) -> io::Result<()> {
     let answer = answer_of(first, second, one, other, out);
-    if both_over(first, second) {
-        match answer {
-            JoinAnswer::Joined => write_files(first, second, one, other, out),
-            JoinAnswer::Refused(why) => say_refusal(why),
-            JoinAnswer::Differ(t) => {
-                say(b"join: 23: two different characters in tick ");
-                say_number(t);
-            }
-        }
-        return;
+    if !both_over(first, second) {
+        return eprintln!(rt; "join: a recording cannot be read to its end");
     }
-    say(b"join: a recording cannot be read to its end\n");
+    match answer {
+        JoinAnswer::Joined => write_files(rt, first, second, one, other, out),
+        JoinAnswer::Refused(why) => say_refusal(rt, why),
+        JoinAnswer::Differ(t) => eprintln!(rt; "join: 23: two different characters in tick {t}"),
+    }
 }
 
-fn join_open(first: i32, second: i32) {
-    let mut one = io::large_buffer();
-    let mut other = io::large_buffer();
-    let mut out = io::large_buffer();
-    join_files(first, second, &mut one, &mut other, &mut out);
+fn join_open<R: Read + Seek>(
+    rt: &(impl Print + Eprint),
+    first: &mut R,
+    second: &mut R,
+) -> io::Result<()> {
+    let mut one = [0u8; PIECE];
+    let mut other = [0u8; PIECE];
+    let mut out = [0u8; PIECE];
+    join_files(rt, first, second, &mut one, &mut other, &mut out)
 }
 
-// Opens the file that an argument names.
-fn open_argument(i: usize) -> i32 {
-    let mut name = io::buffer();
-    let n = os::arg(i, &mut name);
-    let fd = os::open_read(&name[..n]);
-    if fd < 0 {
-        os::fail(&name[..n]);
-    }
-    fd
+// The files that both arguments name.
+fn join_named(rt: &(impl Env + Files + Print + Eprint)) -> io::Result<()> {
+    let Some(mut first) = program_files::open_argument(rt, 1)? else {
+        return Ok(());
+    };
+    let Some(mut second) = program_files::open_argument(rt, 2)? else {
+        return Ok(());
+    };
+    join_open(rt, &mut first, &mut second)
 }
 
-fn main() {
-    if os::arg_count() == 3 {
-        let first = open_argument(1);
-        if first < 0 {
-            return;
-        }
-        let second = open_argument(2);
-        if second < 0 {
-            return;
-        }
-        join_open(first, second);
-        return;
+fn main(rt: HostRuntime) -> io::Result<()> {
+    if program_files::argument_count(&rt) == 3 {
+        return join_named(&rt);
     }
-    say(b"use: join FIRST SECOND > JOINED\n");
+    eprintln!(rt; "use: join FIRST SECOND > JOINED")
 }

@@ -2,7 +2,6 @@
 #![tactic(auto)]
 
 ghost use Rattle.std.specs.Prelude.{◌≡◌, true, false};
-ghost use Rattle.base.specs.Lent.{before, after};
 ghost use Rattle.base.specs.Choice.{if◌then◌else◌, ◌=?◌};
 ghost use Rattle.line.specs.Reader.{no_damage, blank, idle, passing, breaks, gapped, silent_inside, inside_frame, silence, tells, next, at_idle, begins, at_preamble, behind_address, first_header, at_first, address_header, at_address, at_expansion, command_header, at_command, counted, at_count, at_data, is_damaged, ended, at_check, character, address_damaged, kind_damaged, marked, damaged, kept_byte, kept, ReaderTakeIs};
 

@@ -2,7 +2,6 @@
 #![tactic(auto)]
 
 ghost use Rattle.std.specs.Prelude.{◌≡◌, ◌+◌, ◌*◌, ◌%◌, ◌^◌, ◌≤◌, ◌<◌, length, drop};
-ghost use Rattle.base.specs.Lent.{before};
 ghost use Rattle.frame.specs.Address.{byte_at};
 ghost use Rattle.link_list.specs.Ticks.{length_in, address_in, request_of, request_by, request_in, answer_in};
 ghost use Rattle.link_list.specs.Read.{part_in, forward, next_in, master_call_at, device_call_at, CallsRead, tick_from, tick_at};

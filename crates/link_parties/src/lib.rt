@@ -2,7 +2,6 @@
 #![tactic(auto)]
 
 ghost use Rattle.std.specs.Prelude.{◌≡◌, ◌<◌};
-ghost use Rattle.base.specs.Lent.{before, after};
 ghost use Rattle.line.specs.Reader.{taken, taken_data};
 ghost use Rattle.turns.specs.Link.{joins};
 ghost use Rattle.turns.specs.Master.{same_bit};

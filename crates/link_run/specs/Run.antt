@@ -118,7 +118,8 @@ CreditOf limit p retries s ticks =
 -- and every BACK that a master finds whole is as its device's host gave it
 abbrev pub BacksOf : ℕ → Profile → ℕ → List Setting → List ℕ → Type 0
 BacksOf limit p retries s ticks =
-    (l : Link) → limited_starts limit p retries s ≡ accepted l → EachBack limit (no_contents (devices_by (accepted l))) (lent_fresh l) (calls_by (accepted l) ticks)
+    (l : Link) → limited_starts limit p retries s ≡ accepted l
+    → EachBack limit (no_contents (devices_by (accepted l))) (lent_fresh l) (calls_by (accepted l) ticks)
 
 -- ---- what a run promises
 

@@ -3,7 +3,6 @@
 
 ghost use Rattle.std.specs.Prelude.{◌≡◌, ◌+◌, ◌-◌, ◌*◌, ◌≤◌, length};
 ghost use Rattle.base.specs.Events.{RunIs};
-ghost use Rattle.base.specs.Lent.{before, after};
 ghost use Rattle.link_start.specs.Fresh.{rows_fresh};
 ghost use Rattle.link_run.specs.Run.{RunKeeps};
 ghost use Rattle.link_run.specs.Late.{LateKeeps};

@@ -2,7 +2,6 @@
 #![tactic(auto)]
 
 ghost use Rattle.std.specs.Prelude.{◌≡◌, length};
-ghost use Rattle.base.specs.Lent.{before};
 ghost use Rattle.link_run_c.specs.Settings.{profile_of, setting_of, settings_in, EndsAs, RunsAs};
 
 use line::Profile;

@@ -2,7 +2,6 @@
 #![tactic(auto)]
 
 ghost use Rattle.std.specs.Prelude.{◌≡◌, length};
-ghost use Rattle.base.specs.Lent.{before};
 ghost use Rattle.link_parties.specs.Ways.{in_slot};
 ghost use Rattle.link_ticks.specs.Ticks.{master_host_told, device_host_told, master_call_in, device_call_in, goes_on, link_with, calls_with, CodeIs, TicksAre};
 ghost use Rattle.link_ticks.specs.Ticks.{answer_kept, master_told_kept, device_told_kept, master_did_by, device_did_by, master_nothing, device_nothing};

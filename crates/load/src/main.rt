@@ -2,11 +2,11 @@
 #![tactic(auto)]
 
 ghost use Rattle.std.specs.Prelude.{◌≡◌, ◌≤◌, length};
-ghost use Rattle.base.specs.Lent.{before};
 ghost use Rattle.load.specs.Arguments.{number_from};
 
-use libc::STDOUT_FILENO;
 use load_writer::Loaded;
+use std::env::Env;
+use std::io;
 
 // Room for the longest script.
 const ROOM: usize = 262_144;
@@ -45,36 +45,27 @@ fn number_of(text: &[u8]) -> u32
 }
 
 // An argument as a number; 0 where there are more or fewer than two.
-fn argument(i: usize) -> u32 {
-    let mut text = io::buffer();
-    let n = os::arg(i, &mut text);
-    if os::arg_count() == 3 {
+fn argument(rt: &impl Env, i: usize) -> u32 {
+    let mut text = [0u8; program_files::ARGUMENT];
+    let n = program_files::argument(rt, i, &mut text);
+    if program_files::argument_count(rt) == 3 {
         return number_of(&text[..n]);
     }
     0
 }
 
-// Prints a refusal's number as a line of its own, which is put into this text first.
-fn print_number(n: u32, text: &mut [u8]) {
-    let a = texts::put_decimal(n as u64, text, 0);
-    let b = texts::put_byte(b'\n', text, a);
-    io::write_all(STDOUT_FILENO, texts::front(text, b));
-}
-
-// Prints the script, which is written into this buffer first.
-fn print_load(seed: u32, count: u32, script: &mut [u8]) {
+// Prints the script, which is written into this buffer first, or a refusal's number as a line of its own.
+fn print_load(rt: &impl Print, seed: u32, count: u32, script: &mut [u8]) -> io::Result<()> {
     let loaded = load_writer::write(seed, count, script);
     match loaded {
-        Loaded::To(end) => {
-            io::write_all(STDOUT_FILENO, texts::front(script, end));
-        }
-        Loaded::Refused(why) => print_number(why.number(), script),
+        Loaded::To(end) => rt.write_all(texts::front(script, end)),
+        Loaded::Refused(why) => println!(rt; "{}", why.number()),
     }
 }
 
-fn main() {
+fn main(rt: HostRuntime) -> io::Result<()> {
     let mut script = script_room();
-    let seed = argument(1);
-    let count = argument(2);
-    print_load(seed, count, &mut script);
+    let seed = argument(&rt, 1);
+    let count = argument(&rt, 2);
+    print_load(&rt, seed, count, &mut script)
 }

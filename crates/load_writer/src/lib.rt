@@ -2,7 +2,6 @@
 #![tactic(auto)]
 
 ghost use Rattle.std.specs.Prelude.{◌≡◌, [], ◌+◌, ◌*◌, ◌≤◌, ◌<◌, length, get_or, take};
-ghost use Rattle.base.specs.Lent.{before, after};
 ghost use Rattle.base.specs.Store.{stored};
 ghost use Rattle.load_writer.specs.Load.{draw, call, opening, mark, front, pair_tick, asked_of, asks, wish_of, length_of, lower, upper_party, upper};
 ghost use Rattle.load_writer.specs.Load.{stop_at, drawn_from, load, entry_bytes, script_bytes};

@@ -1,6 +1,5 @@
 // What a master does on what it hears in a tick.
 ghost use Rattle.std.specs.Prelude.{◌≡◌, ◌-◌};
-ghost use Rattle.base.specs.Lent.{before, after};
 ghost use Rattle.line.specs.Reader.{idle, gapped, taken};
 ghost use Rattle.line.specs.declared.Heard.TheVariants.{Silence};
 ghost use Rattle.turns.specs.Master.{tells, after_frame, after_break, frame_goes_on, on_character, waited, rt1_ends, unless_ended, counts, counts_twice, with_reader, on_silence};

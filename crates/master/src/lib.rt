@@ -4,7 +4,6 @@
 mod hears;
 
 ghost use Rattle.std.specs.Prelude.{◌≡◌, true, false, length, ◌≤◌};
-ghost use Rattle.base.specs.Lent.{before, after};
 ghost use Rattle.base.specs.Choice.{if◌then◌else◌, ◌=?◌};
 ghost use Rattle.frame.specs.Limits.{largest_polling, reserved_command};
 ghost use Rattle.frame.proofs.Taken.{Fits};

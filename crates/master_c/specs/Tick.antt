@@ -41,11 +41,11 @@ pub record StepIs (limit : ℕ) (s : MasterStep) (event : Event) (words frame by
   pub returned : r ≡ call_number s.result
 
 -- the step of the master that the words stood for before the call, and what its reader found; the data of the host's request are `put`
-abbrev pub MasterTicks : Lent (List ℕ) → Lent (List ℕ) → Lent (List ℕ) → Heard → MasterCall → Lent (List ℕ) → Lent (List ℕ) → ℕ → Type 0
+abbrev pub MasterTicks : Lent (List ℕ) → Lent (List ℕ) → Lent (List ℕ) → Heard → MasterCall → List ℕ → Lent (List ℕ) → ℕ → Type 0
 MasterTicks words frame bytes heard call put results r =
     StepIs
     (limit_at (before words))
-    (master_tick (limit_at (before words)) (side_of (unpacked (before words)) (before frame) (before bytes)) heard (call_of call (before put)))
+    (master_tick (limit_at (before words)) (side_of (unpacked (before words)) (before frame) (before bytes)) heard (call_of call put))
     (master_takes (unpacked (before words)) heard (after bytes)).event
     (after words) (after frame) (after bytes) (after results) r
 

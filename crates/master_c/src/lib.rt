@@ -2,7 +2,6 @@
 #![tactic(auto)]
 
 ghost use Rattle.std.specs.Prelude.{◌<◌, ◌^◌, ◌≡◌};
-ghost use Rattle.base.specs.Lent.{before, after};
 ghost use Rattle.line.specs.Heard.{heard_of};
 ghost use Rattle.turns.specs.Told.{master_tells};
 ghost use Rattle.master_c.specs.Words.{stage_word, stage_by, stage_of, message_at, timer_at, noted_at, front_words, end_words, packed, unpacked, limit_at};
@@ -244,7 +243,7 @@ fn tick(
     put: &[u8],
     results: &mut [u64; 17],
 ) -> u32
-    ensures { MasterTicks words frame bytes heard call put results result }
+    ensures { MasterTicks words frame bytes heard call put.now results result }
 {
     let m = unpack(words);
     let limit = limit_at(words);
@@ -289,8 +288,7 @@ pub fn request_of(
 }
 
 // A tick of a master; returns 0, or the number of the request's refusal.
-#[unsafe(no_mangle)]
-pub extern "C" fn nengapiko_master_tick(
+pub fn nengapiko_master_tick(
     state: &mut [u64; 40],
     frame: &mut [u8; 284],
     bytes: &mut [u8; 255],
@@ -305,7 +303,7 @@ pub extern "C" fn nengapiko_master_tick(
     put: &[u8],
     results: &mut [u64; 17],
 ) -> u32
-    ensures { MasterTicks state frame bytes (heard_of kind character) (request_of requests preamble revision long address command) put results result }
+    ensures { MasterTicks state frame bytes (heard_of kind character) (request_of requests preamble revision long address command) put.now results result }
 {
     let heard = line::heard_of(kind, character);
     let call = request_of(requests, preamble, revision, long, address, command);

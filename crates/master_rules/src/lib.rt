@@ -2,7 +2,6 @@
 #![tactic(auto)]
 
 ghost use Rattle.std.specs.Prelude.{◌≡◌};
-ghost use Rattle.base.specs.Lent.{before};
 ghost use Rattle.turns.specs.Master.{own_rt1, quiet_time, master_with, message_at, timer, burst_timer, opened, count_clear, count_burst, timer_counted, burst_counted, names_device, noted_from, is_noted, burst_after, noted_after, to_itself, broken, ended_by, timer_after, ends, fails, same_bit, is_answer, at_break, answers_message, at_frame, if_awaiting};
 ghost use Rattle.master_rules.specs.Parts.{same_request, unended};
 

@@ -2,7 +2,6 @@
 #![tactic(auto)]
 
 ghost use Rattle.std.specs.Prelude.{◌≡◌};
-ghost use Rattle.base.specs.Lent.{before, after};
 ghost use Rattle.recording.specs.Recording.{RunIs};
 ghost use Rattle.modem.specs.Chip.{goes_out, chip_after};
 ghost use Rattle.modem.specs.Accesses.{register_read, register_written};

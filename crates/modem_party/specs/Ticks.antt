@@ -53,8 +53,8 @@ pub record MasterBehindIs (limit : ℕ) (x : Chip) (w : Carried) (m : Master) (c
   pub behind : BehindIs (master_step limit) master_deaf x w (M.side_of m frame bytes) (M.call_of call put)
       (master_done (M.step_of r.ticked frame_after bytes_after)) r.ended
 
-abbrev pub MasterTicks : ℕ → Chip → Carried → Master → MC.MasterCall → Lent (List ℕ) → Lent (List ℕ) → Lent (List ℕ) → MasterBehind → Type 0
-MasterTicks limit x w m call put frame bytes r = MasterBehindIs limit x w m call (before put) (before frame) (before bytes) r (after frame) (after bytes)
+abbrev pub MasterTicks : ℕ → Chip → Carried → Master → MC.MasterCall → List ℕ → Lent (List ℕ) → Lent (List ℕ) → MasterBehind → Type 0
+MasterTicks limit x w m call put frame bytes r = MasterBehindIs limit x w m call put (before frame) (before bytes) r (after frame) (after bytes)
 
 pub record DeviceBehindIs (limit : ℕ) (x : Chip) (w : Carried) (d : Device) (call : DC.DeviceCall) (put frame bytes contents : List ℕ)
     (r : DeviceBehind) (frame_after bytes_after contents_after : List ℕ) : Type 0 where
@@ -62,6 +62,6 @@ pub record DeviceBehindIs (limit : ℕ) (x : Chip) (w : Carried) (d : Device) (c
   pub behind : BehindIs (device_step limit) device_deaf x w (D.side_of d frame bytes contents) (D.call_of call put)
       (device_done (D.step_of r.ticked frame_after bytes_after contents_after)) r.ended
 
-abbrev pub DeviceTicks : ℕ → Chip → Carried → Device → DC.DeviceCall → Lent (List ℕ) → Lent (List ℕ) → Lent (List ℕ) → Lent (List ℕ) → DeviceBehind → Type 0
+abbrev pub DeviceTicks : ℕ → Chip → Carried → Device → DC.DeviceCall → List ℕ → Lent (List ℕ) → Lent (List ℕ) → Lent (List ℕ) → DeviceBehind → Type 0
 DeviceTicks limit x w d call put frame bytes contents r =
-    DeviceBehindIs limit x w d call (before put) (before frame) (before bytes) (before contents) r (after frame) (after bytes) (after contents)
+    DeviceBehindIs limit x w d call put (before frame) (before bytes) (before contents) r (after frame) (after bytes) (after contents)

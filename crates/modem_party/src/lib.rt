@@ -51,7 +51,7 @@ pub fn master_tick(
     frame: &mut [u8; 284],
     bytes: &mut [u8; 255],
 ) -> MasterBehind
-    ensures { MasterTicks limit arrival.chip arrival.carried m call put frame bytes result }
+    ensures { MasterTicks limit arrival.chip arrival.carried m call put.now frame bytes result }
 {
     let x = arrival.chip;
     let carried = arrival.carried;
@@ -78,7 +78,7 @@ pub fn device_tick(
     frame: &mut [u8; 284],
     bytes: &mut [u8; 255],
 ) -> DeviceBehind
-    ensures { DeviceTicks limit arrival.chip arrival.carried d call put frame bytes contents result }
+    ensures { DeviceTicks limit arrival.chip arrival.carried d call put.now frame bytes contents result }
 {
     let x = arrival.chip;
     let carried = arrival.carried;

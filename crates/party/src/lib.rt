@@ -2,7 +2,6 @@
 #![tactic(auto)]
 
 ghost use Rattle.std.specs.Prelude.{◌≡◌, ◌-◌, ◌<◌};
-ghost use Rattle.base.specs.Lent.{before};
 ghost use Rattle.frame.specs.Address.{byte_at};
 ghost use Rattle.turns.specs.Party.{is_broadcast, seeks_tag};
 ghost use Rattle.party.specs.Hears.{is_silence};

@@ -2,32 +2,35 @@
 #![tactic(auto)]
 
 use base::Refusal;
-use libc::STDOUT_FILENO;
 use player::{Playing, Told};
 use player_input::{Input, ROOM};
 use player_script::{Form, SizedForm};
+use std::env::Env;
+use std::io;
+use std::io::Read;
 
 // The size that the argument says.
-fn argument() -> usize {
-    let mut word = io::buffer();
-    let n = os::arg(1, &mut word);
+fn argument(rt: &impl Env) -> usize {
+    let mut word = [0u8; program_files::ARGUMENT];
+    let n = program_files::argument(rt, 1, &mut word);
     player_script::size_in(&word[..n])
 }
 
 // The size of a record: 4 without an argument, and none with more than one.
-fn record_size() -> usize {
-    let n = os::arg_count();
+fn record_size(rt: &impl Env) -> usize {
+    let n = program_files::argument_count(rt);
     if n < 2 {
         return 4;
     }
     if n == 2 {
-        return argument();
+        return argument(rt);
     }
     0
 }
 
 // A piece of the play, written.
 fn print_piece(
+    rt: &impl Print,
     p: Playing,
     told: Told,
     script: &[u8],
@@ -35,22 +38,23 @@ fn print_piece(
     bytes: &mut [[u8; 255]; 8],
     contents: &mut [[u8; 255]; 6],
     out: &mut [u8; 65536],
-) -> Playing {
+) -> io::Result<Playing> {
     let next = player::play_on(p, told, script, frames, bytes, contents, out);
-    io::write_all(STDOUT_FILENO, texts::front(out, next.at));
-    next
+    rt.write_all(texts::front(out, next.at))?;
+    Ok(next)
 }
 
 // The header line, and all pieces of the play. Each piece goes on, since there is room for the lines of 64 ticks.
-fn print_play(told: Told, script: &[u8]) {
+fn print_play(rt: &impl Print, told: Told, script: &[u8]) -> io::Result<()> {
     let mut frames = [[0u8; 284]; 8];
     let mut bytes = [[0u8; 255]; 8];
     let mut contents = [[0u8; 255]; 6];
     let mut out = [0u8; 65536];
     let mut p = player::play_begin(&mut out);
-    io::write_all(STDOUT_FILENO, texts::front(&out, p.at));
+    rt.write_all(texts::front(&out, p.at))?;
     while p.tick < told.stop {
         let next = print_piece(
+            rt,
             p,
             told,
             script,
@@ -58,39 +62,44 @@ fn print_play(told: Told, script: &[u8]) {
             &mut bytes,
             &mut contents,
             &mut out,
-        );
+        )?;
         if next.tick <= p.tick {
-            return;
+            return Ok(());
         }
         p = next;
     }
+    Ok(())
 }
 
 // A script of this form.
-fn play_form(form: Form, script: &[u8]) {
+fn play_form(rt: &impl Print, form: Form, script: &[u8]) -> io::Result<()> {
     if player_script::is_good(form, script) {
         let told = player::told_of(form, script);
-        print_play(told, script);
-        return;
+        return print_play(rt, told, script);
     }
-    player_input::print_refusal(Refusal::BadScript);
+    player_input::print_refusal(rt, Refusal::BadScript)
 }
 
 // The script on standard input; one longer than the room is refused with 16 or 15.
-fn play_input(form: Form, script: &mut [u8; ROOM]) {
-    let input = player_input::read(form, script);
+fn play_input<R: Read>(
+    rt: &impl Print,
+    form: Form,
+    reader: &mut R,
+    script: &mut [u8; ROOM],
+) -> io::Result<()> {
+    let input = player_input::read(form, reader, script);
     match input {
-        Input::Whole(n) => play_form(form, texts::front(script, n)),
-        Input::LongGood(_) => player_input::print_refusal(Refusal::BufferShort),
-        Input::LongBad => player_input::print_refusal(Refusal::BadScript),
+        Input::Whole(n) => play_form(rt, form, texts::front(script, n)),
+        Input::LongGood(_) => player_input::print_refusal(rt, Refusal::BufferShort),
+        Input::LongBad => player_input::print_refusal(rt, Refusal::BadScript),
     }
 }
 
-fn main() {
+fn main(rt: HostRuntime) -> io::Result<()> {
     let mut script = [0u8; ROOM];
-    let sized = player_script::form_of(record_size());
+    let sized = player_script::form_of(record_size(&rt));
     match sized {
-        SizedForm::Is(form) => play_input(form, &mut script),
-        SizedForm::Refused(why) => player_input::print_refusal(why),
+        SizedForm::Is(form) => play_input(&rt, form, &mut rt.stdin(), &mut script),
+        SizedForm::Refused(why) => player_input::print_refusal(&rt, why),
     }
 }

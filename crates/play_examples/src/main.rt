@@ -1,39 +1,45 @@
 // Plays the scripts that its arguments name, and prints each name with its listing.
 #![tactic(auto)]
 
-use libc::STDOUT_FILENO;
+use std::env::Env;
+use std::fs::Files;
+use std::io;
+use std::io::Read;
 
-// What the player prints for a script of the old form. Every listing of the examples is shorter than the buffer.
-fn print_listing(script: &[u8]) {
-    let mut out = io::large_buffer();
+// Room for the longest script of the examples, and for its listing.
+const ROOM: usize = 65_536;
+
+// What the player prints for a script of the old form.
+fn print_listing(rt: &impl Print, script: &[u8]) -> io::Result<()> {
+    let mut out = [0u8; ROOM];
     let n = player::play_into(4, script, &mut out);
-    io::write_all(STDOUT_FILENO, texts::front(&out, n));
+    rt.write_all(texts::front(&out, n))
 }
 
-// Plays an open file. Every script of the examples is shorter than the buffer.
-fn print_file(fd: i32) {
-    let mut script = io::large_buffer();
-    let n = io::read_full(fd, &mut script);
-    print_listing(&script[..n]);
+// Plays an open file.
+fn print_file<R: Read>(rt: &impl Print, file: &mut R) -> io::Result<()> {
+    let mut script = [0u8; ROOM];
+    let n = program_files::read_full(file, &mut script);
+    print_listing(rt, &script[..n])
 }
 
 // Plays the script that an argument names.
-fn print_script(i: usize) {
-    let mut name = io::buffer();
-    let n = os::arg(i, &mut name);
-    let fd = os::open_read(&name[..n]);
-    if fd < 0 {
-        os::fail(&name[..n]);
-        return;
+fn print_script(rt: &(impl Env + Files + Print + Eprint), i: usize) -> io::Result<()> {
+    let mut name = [0u8; program_files::ARGUMENT];
+    let n = program_files::argument(rt, i, &mut name);
+    match program_files::open_argument(rt, i)? {
+        Some(mut file) => {
+            rt.write_all(&name[..n])?;
+            rt.write_all(b"\n")?;
+            print_file(rt, &mut file)
+        }
+        None => Ok(()),
     }
-    io::write_all(STDOUT_FILENO, &name[..n]);
-    io::write_all(STDOUT_FILENO, b"\n");
-    print_file(fd);
-    libc::close(fd);
 }
 
-fn main() {
-    for i in 1..os::arg_count() {
-        print_script(i);
+fn main(rt: HostRuntime) -> io::Result<()> {
+    for i in 1..program_files::argument_count(&rt) {
+        print_script(&rt, i)?;
     }
+    Ok(())
 }

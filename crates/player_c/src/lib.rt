@@ -1,7 +1,6 @@
 // What plays and what is played, for programs in C and Rust: the player, the conversion of scripts and the writer of loads.
 #![tactic(auto)]
 
-ghost use Rattle.base.specs.Lent.{before, after};
 ghost use Rattle.texts.specs.Put.{PutIs};
 ghost use Rattle.player.specs.Play.{play_sized};
 ghost use Rattle.player_c.specs.Call.{ConvertCall, LoadCall};

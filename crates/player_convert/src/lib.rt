@@ -2,7 +2,6 @@
 #![tactic(auto)]
 
 ghost use Rattle.std.specs.Prelude.{◌≡◌, true, ◌*◌, ◌%◌, ◌≤◌, length};
-ghost use Rattle.base.specs.Lent.{before, after};
 ghost use Rattle.player_script.specs.Script.{records_in, good_in};
 ghost use Rattle.player_script.specs.declared.Form.TheVariants.{Old, New};
 ghost use Rattle.player_convert.specs.Turn.{turned, by_room, by_ticks, converted, conversion, ConvertIs, Sayable, PutsRecords};

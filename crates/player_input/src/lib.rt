@@ -2,14 +2,14 @@
 #![tactic(auto)]
 
 ghost use Rattle.std.specs.Prelude.{◌≡◌, ◌<◌, length, take};
-ghost use Rattle.base.specs.Lent.{before, after};
 ghost use Rattle.player_script.specs.Script.{records_in};
 ghost use Rattle.player_script.specs.Pieces.{up_to, walked_by, walked_as};
 ghost use Rattle.player_input.specs.Input.{held_in, end_kept, EndStays, end_of};
 
 use base::Refusal;
-use libc::{STDIN_FILENO, STDOUT_FILENO};
 use player_script::{Form, Walked};
+use std::io;
+use std::io::Read;
 
 // Room for 524,290 records of the new form: one more than the longest good old script has.
 pub const ROOM: usize = 3_145_740;
@@ -26,11 +26,8 @@ pub enum Input {
 }
 
 // A refusal's number, a line of its own.
-pub fn print_refusal(why: Refusal) {
-    let mut text = io::buffer();
-    let a = texts::put_decimal(why.number() as u64, &mut text, 0);
-    let b = texts::put_byte(b'\n', &mut text, a);
-    io::write_all(STDOUT_FILENO, texts::front(&text, b));
+pub fn print_refusal(rt: &impl Print, why: Refusal) -> io::Result<()> {
+    println!(rt; "{}", why.number())
 }
 
 // The first bytes of a room, so many, are walked as calls.
@@ -53,12 +50,12 @@ fn keep_end(room: &mut [u8])
 }
 
 // More of the script, after them; how many bytes were read.
-fn read_more(room: &mut [u8]) -> usize
+fn read_more<R: Read>(reader: &mut R, room: &mut [u8]) -> usize
     requires { length room.old ≡ 3145740 }
     ensures { EndStays room.old room.new }
 {
     keep_end(room);
-    io::read_full(STDIN_FILENO, &mut room[12..])
+    program_files::read_full(reader, &mut room[12..])
 }
 
 // What the last bytes of a script tell of it, after the pieces that were walked.
@@ -72,7 +69,7 @@ fn end_of(form: Form, rest: &[u8], last: usize, marks: &mut [usize; 8]) -> Input
 }
 
 // A script that fills the room, read to its end or to a bad record. No tick is above 32 bits, so the loop is left by a return.
-fn read_long(form: Form, room: &mut [u8]) -> Input
+fn read_long<R: Read>(form: Form, reader: &mut R, room: &mut [u8]) -> Input
     requires { length room.old ≡ 3145740 }
     ensures { held_in result < 3145740 }
 {
@@ -84,7 +81,7 @@ fn read_long(form: Form, room: &mut [u8]) -> Input
             Walked::Bad => return Input::LongBad,
             Walked::UpTo(tick) => last = tick,
         }
-        let n = read_more(room);
+        let n = read_more(reader, room);
         if n < PIECE {
             return end_of(form, texts::front(room, 12 + n), last, &mut marks);
         }
@@ -92,13 +89,13 @@ fn read_long(form: Form, room: &mut [u8]) -> Input
     Input::LongBad
 }
 
-// The script on standard input.
-pub fn read(form: Form, script: &mut [u8; ROOM]) -> Input
+// The script that a reader has. A read that fails looks like the script's end.
+pub fn read<R: Read>(form: Form, reader: &mut R, script: &mut [u8; ROOM]) -> Input
     ensures { held_in result < 3145740 }
 {
-    let n = io::read_full(STDIN_FILENO, script);
+    let n = program_files::read_full(reader, script);
     if n < ROOM {
         return Input::Whole(n);
     }
-    read_long(form, script)
+    read_long(form, reader, script)
 }

@@ -20,7 +20,7 @@ use Rattle.line.specs.declared.Taken.{Taken}
 use Rattle.line.specs.declared.Whole.{Whole}
 use Rattle.line.proofs.Leads.{Leads, stays, hears}
 use Rattle.line.proofs.Hearing.{Heard, whole_message, before_check, frame_leads, frame_told}
-use Rattle.turns.specs.Gaps.{master_sents, device_sents, IsFrame, NoGap, no_tick, silent_tick, begins_frame, goes_on_later}
+use Rattle.turns.specs.Gaps.{master_sents, device_sents, IsFrame, NoGap, no_tick, silent_tick, begins_frame, goes_on as goes_on_later}
 use Rattle.turns.specs.declared.Sent.{Sent}
 use Rattle.turns.specs.declared.Sent.TheVariants.{Silent}
 use Rattle.turns.proofs.NoGaps.{master_leaves_no_gap, device_leaves_no_gap}

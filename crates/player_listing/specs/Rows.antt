@@ -47,6 +47,6 @@ pub record RowIs (row : List ℕ) (lone : Bool) : Type 0 where
   pub alone : lone ≡ is_lone (row_sent row)
   pub eight : length row ≡ 8
 
-abbrev pub RowsAre : List Monitor → ℕ → ℕ → Lent (List (List ℕ)) → Lent (List ℕ) → ℕ → Listened → Type 0
+abbrev pub RowsAre : List Monitor → ℕ → ℕ → List (List ℕ) → Lent (List ℕ) → ℕ → Listened → Type 0
 RowsAre ms tick count sent out at h =
-    TickLinesAre (rows_lines tick (all_heard ms) (take (rows_listed tick count) (before sent))) (before out) at (all_heard h.monitors) h.at (after out)
+    TickLinesAre (rows_lines tick (all_heard ms) (take (rows_listed tick count) sent)) (before out) at (all_heard h.monitors) h.at (after out)

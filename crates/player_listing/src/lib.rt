@@ -2,7 +2,6 @@
 #![tactic(auto)]
 
 ghost use Rattle.std.specs.Prelude.{◌≡◌, [], ◌∷◌, length, replicate, ◌<◌, ◌+◌};
-ghost use Rattle.base.specs.Lent.{before, after};
 ghost use Rattle.texts.specs.Put.{PutIs};
 ghost use Rattle.player_listing.specs.Lines.{line_of, quiet_monitor, frame_ends, ends_with, one_more, listens};
 ghost use Rattle.player_listing.specs.Text.{decimal, head_line, type_name, master_digit, word, line_text};
@@ -291,7 +290,7 @@ pub fn list_ticks(
     out: &mut [u8],
     at: usize,
 ) -> Listened
-    ensures { RowsAre monitors tick count sent out at result }
+    ensures { RowsAre monitors tick count sent.now out at result }
 {
     all_rows(sent);
     let most = rows_listed(tick, count);

@@ -187,4 +187,5 @@ place_behind w at (e ∷ es) = place_behind w (at + w) es
 
 -- from a place on, the records of this tick that stand first: what they want, and the place after them
 unfoldable pub tick_at : Form → List ℕ → ℕ → ℕ → ScriptTick
-tick_at f script at tick = tick_of tick (leading tick (records_in f (drop at script))) (place_behind (width f) at (leading tick (records_in f (drop at script))))
+tick_at f script at tick =
+    tick_of tick (leading tick (records_in f (drop at script))) (place_behind (width f) at (leading tick (records_in f (drop at script))))

@@ -16,7 +16,8 @@ entry_at script at = entry_of (get_or script at 0) (get_or script (at + 1) 0) (g
 
 abbrev pub long_entry_at : List ℕ → ℕ → Entry
 long_entry_at script at =
-    long_entry_of (get_or script at 0) (get_or script (at + 1) 0) (get_or script (at + 2) 0) (get_or script (at + 3) 0) (get_or script (at + 4) 0) (get_or script (at + 5) 0)
+    long_entry_of (get_or script at 0) (get_or script (at + 1) 0) (get_or script (at + 2) 0)
+    (get_or script (at + 3) 0) (get_or script (at + 4) 0) (get_or script (at + 5) 0)
 
 unfoldable pub entry_in : Form → List ℕ → ℕ → Entry
 entry_in Old script at = entry_at script at

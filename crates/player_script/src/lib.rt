@@ -2,7 +2,6 @@
 #![tactic(auto)]
 
 ghost use Rattle.std.specs.Prelude.{◌≡◌, ◌+◌, ◌-◌, ◌%◌, ◌<◌, ◌≤◌, length};
-ghost use Rattle.base.specs.Lent.{before, after};
 ghost use Rattle.base.specs.Choice.{if◌then◌else◌, ◌<?◌};
 ghost use Rattle.player_script.specs.Script.{entry_of, long_entry_of, width, records_in, is_stop, is_masters, is_devices, is_call, good_in, stop_of, tick_at, form_of, sized_as, digit_size, size_in};
 ghost use Rattle.player_script.specs.Pieces.{up_to, walked_by, walked_as, stops_after, rest_good, good_after};

@@ -193,4 +193,5 @@ device_started (accepted d) = accepted (record { device = d; ear = Awake; quiet 
 device_started (refused why) = refused why
 
 abbrev pub port_device_starts : ℕ → ℕ → ℕ → Called PortDevice
-port_device_starts preamble polling unique = if preamble =? port_preamble then device_started (device_starts infrared_profile preamble polling unique) else refused 3
+port_device_starts preamble polling unique =
+    if preamble =? port_preamble then device_started (device_starts infrared_profile preamble polling unique) else refused 3

@@ -82,5 +82,6 @@ StxTold =
     (limit : ℕ) (x : PortDeviceSide) (h : Header) (put : List ℕ) (front : List DeviceInput) (call : PortCall) → ReadsPreamble x → CanBeHeard h put
     → h.kind ≡ stx → may_answer x.device.device h ≡ true
     → Carries front (preamble_bytes 4 ++ protected_bytes h put)
-    → Quietly (port_device_run limit x front) × ((port_device_tick limit (after_ticks limit x front) (Character (exclusive_or (protected_bytes h put))) call).told
+    → Quietly (port_device_run limit x front)
+    × ((port_device_tick limit (after_ticks limit x front) (Character (exclusive_or (protected_bytes h put))) call).told
     ≡ Request (record { header = h; expansion = 0; count = length put }))

@@ -33,11 +33,11 @@ pub record MasterStepIs (limit : ℕ) (s : PortMasterStep) (words port frame byt
   pub returned : r ≡ call_number s.result
 
 -- the step of the master that the words stood for before the call; the data of the host's request are `put`
-abbrev pub PortMasterTicks : Lent (List ℕ) → Lent (List ℕ) → Lent (List ℕ) → Lent (List ℕ) → Heard → MasterCall → Lent (List ℕ) → Lent (List ℕ) → ℕ → Type 0
+abbrev pub PortMasterTicks : Lent (List ℕ) → Lent (List ℕ) → Lent (List ℕ) → Lent (List ℕ) → Heard → MasterCall → List ℕ → Lent (List ℕ) → ℕ → Type 0
 PortMasterTicks words port frame bytes heard call put results r =
     MasterStepIs (MasterWords.limit_at (before words))
     (port_master_tick (MasterWords.limit_at (before words)) (side_of (unpacked_master (before words) (before port)) (before frame) (before bytes)) heard
-    (call_of call (before put)))
+    (call_of call put))
     (after words) (after port) (after frame) (after bytes) (after results) r
 
 -- ---- a device
@@ -61,9 +61,9 @@ pub record DeviceStepIs (limit : ℕ) (s : PortDeviceStep) (words port frame byt
   pub returned : r ≡ call_number s.result
 
 -- the step of the device that the words stood for before the call; the data of the host's answer are `put`
-abbrev pub PortDeviceTicks : Lent (List ℕ) → Lent (List ℕ) → Lent (List ℕ) → Lent (List ℕ) → Heard → PortCall → Lent (List ℕ) → Lent (List ℕ) → ℕ → Type 0
+abbrev pub PortDeviceTicks : Lent (List ℕ) → Lent (List ℕ) → Lent (List ℕ) → Lent (List ℕ) → Heard → PortCall → List ℕ → Lent (List ℕ) → ℕ → Type 0
 PortDeviceTicks words port frame bytes heard call put results r =
     DeviceStepIs (DeviceWords.limit_at (before words))
     (port_device_tick (DeviceWords.limit_at (before words)) (D.side_of (unpacked_device (before words) (before port)) (before frame) (before bytes)) heard
-    (D.call_of call (before put)))
+    (D.call_of call put))
     (after words) (after port) (after frame) (after bytes) (after results) r

@@ -2,7 +2,6 @@
 #![tactic(auto)]
 
 ghost use Rattle.std.specs.Prelude.{◌<◌, ◌^◌, ◌≡◌};
-ghost use Rattle.base.specs.Lent.{before};
 ghost use Rattle.base.specs.Refusal.{accepted};
 ghost use Rattle.line.specs.Heard.{heard_of};
 ghost use Rattle.master_c.specs.Tick.{request_of};
@@ -139,7 +138,7 @@ fn tick_master(
     put: &[u8],
     results: &mut [u64; 17],
 ) -> u32
-    ensures { PortMasterTicks state port frame bytes heard call put results result }
+    ensures { PortMasterTicks state port frame bytes heard call put.now results result }
 {
     let x = unpack_master(state, port);
     let limit = master_c::limit_at(state);
@@ -182,7 +181,7 @@ pub extern "C" fn nengapiko_port_master_tick(
     results: &mut [u64; 17],
 ) -> u32
     ensures { PortMasterTicks state port frame bytes (heard_of kind character) (request_of requests preamble revision long address command)
-        put results result }
+        put.now results result }
 {
     let heard = line::heard_of(kind, character);
     let call = master_c::request_of(requests, preamble, revision, long, address, command);
@@ -378,7 +377,7 @@ fn tick_device(
     put: &[u8],
     results: &mut [u64; 17],
 ) -> u32
-    ensures { PortDeviceTicks state port frame bytes heard call put results result }
+    ensures { PortDeviceTicks state port frame bytes heard call put.now results result }
 {
     let y = unpack_device(state, port);
     let limit = device_c::limit_at(state);
@@ -415,7 +414,7 @@ pub extern "C" fn nengapiko_port_device_tick(
     put: &[u8],
     results: &mut [u64; 17],
 ) -> u32
-    ensures { PortDeviceTicks state port frame bytes (heard_of kind character) (call_by call) put results result }
+    ensures { PortDeviceTicks state port frame bytes (heard_of kind character) (call_by call) put.now results result }
 {
     let heard = line::heard_of(kind, character);
     let given = call_by(call);

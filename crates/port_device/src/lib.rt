@@ -2,7 +2,6 @@
 #![tactic(auto)]
 
 ghost use Rattle.std.specs.Prelude.{◌≡◌, true, false};
-ghost use Rattle.base.specs.Lent.{before, after};
 ghost use Rattle.line.specs.Reader.{no_damage, blank};
 ghost use Rattle.port.specs.Numbers.{sto_of};
 ghost use Rattle.port.specs.Device.{is_undamaged, is_other, both_undamaged, alternate, wakes, quiet_after, unless_quiet, device_took, listens_on, unread, passed_over, with_receiver, passes_on, dozes_on, is_idle, hears_wake_up, counted_as, reads, drops_request, past_sto, too_late, quiet_sending, port_device_sends, device_started, port_device_starts};

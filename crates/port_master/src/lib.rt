@@ -2,7 +2,6 @@
 #![tactic(auto)]
 
 ghost use Rattle.std.specs.Prelude.{◌≡◌, ◌-◌};
-ghost use Rattle.base.specs.Lent.{before, after};
 ghost use Rattle.line.specs.Reader.{no_damage};
 ghost use Rattle.port.specs.Master.{after_port_frame, by_found, ends_answer, since_after, begins, wakes_first, wake_up_character, deafened, sends_wake_up, sends_plain, port_master_sends, port_master_starts};
 ghost use Rattle.port.specs.Master as P;

@@ -20,9 +20,11 @@ NoRow test rows = (j : ℕ) → j < length rows → test (row_of rows j) ≡ fal
 
 -- "supersedes the first row of its address and command, else takes the first empty row (address 0)": which row is sought, said by facts on the rows
 pub data SoughtIs (rows : List Row) (key : Key) (s : Sought) : Type 0 where
-  is_match : (i : ℕ) → s ≡ Match i (row_of rows i) → i < length rows → has_key key (row_of rows i) ≡ true → ((j : ℕ) → j < i → has_key key (row_of rows j) ≡ false)
+  is_match : (i : ℕ) → s ≡ Match i (row_of rows i) → i < length rows → has_key key (row_of rows i) ≡ true
+      → ((j : ℕ) → j < i → has_key key (row_of rows j) ≡ false)
       → SoughtIs rows key s
-  is_first_empty : (i : ℕ) → s ≡ Empty i (row_of rows i) → i < length rows → is_empty (row_of rows i) ≡ true → ((j : ℕ) → j < i → is_empty (row_of rows j) ≡ false)
+  is_first_empty : (i : ℕ) → s ≡ Empty i (row_of rows i) → i < length rows → is_empty (row_of rows i) ≡ true
+      → ((j : ℕ) → j < i → is_empty (row_of rows j) ≡ false)
       → NoRow (has_key key) rows → SoughtIs rows key s
   is_full : s ≡ Full → NoRow (has_key key) rows → NoRow is_empty rows → SoughtIs rows key s
 

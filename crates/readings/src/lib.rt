@@ -4,7 +4,6 @@
 ghost use Rattle.std.specs.Prelude.{◌+◌, ◌*◌, ◌≤◌, ◌≡◌, length, take};
 ghost use Rattle.base.specs.Choice.{if◌then◌else◌};
 ghost use Rattle.base.specs.Store.{stored};
-ghost use Rattle.base.specs.Lent.{before, after};
 ghost use Rattle.readings.specs.Table.{row_bytes, empty_row, has_key, is_reading, row_for, sought, own_bits, common_byte, stored_bytes, kept_bits, shown_byte};
 ghost use Rattle.readings.specs.Search.{told_key, next, looked_up_by, row_at, rows_of, row_numbers};
 ghost use Rattle.readings.specs.Stores.{stored_byte, nothing_put, RowIs, PutIs, PutByIs, FrameIs, StoreIs};

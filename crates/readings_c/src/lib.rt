@@ -1,8 +1,7 @@
-// The latest readings table for programs in C: a lent slice of rows. Each function over it is proved by hand, step by step over its MIR.
+// The latest readings table for programs in C: a lent slice of rows.
 #![tactic(auto)]
 
 ghost use Rattle.std.specs.Prelude.{◌≡◌};
-ghost use Rattle.base.specs.Lent.{before, after};
 ghost use Rattle.readings.specs.Table.{cleared, looked_up, shown_byte};
 ghost use Rattle.readings.specs.Stores.{EnterIs};
 ghost use Rattle.state_words.specs.Numbers.{event_at};

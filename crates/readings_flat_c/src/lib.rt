@@ -2,7 +2,6 @@
 #![tactic(auto)]
 
 ghost use Rattle.std.specs.Prelude.{◌≡◌};
-ghost use Rattle.base.specs.Lent.{before, after};
 ghost use Rattle.readings.specs.Search.{row_numbers};
 ghost use Rattle.state_words.specs.Numbers.{event_at};
 ghost use Rattle.readings_flat_c.specs.Flat.{RowIsPut, FlatIs};

@@ -1,8 +1,7 @@
-// The latest readings table as a lent slice of rows, in few thin functions; each is proved by hand, step by step over its MIR.
+// The latest readings table as a lent slice of rows, in few thin functions.
 #![tactic(auto)]
 
 ghost use Rattle.std.specs.Prelude.{◌≡◌, set};
-ghost use Rattle.base.specs.Lent.{before, after};
 ghost use Rattle.readings.specs.Table.{sought};
 
 use readings::{Key, Row, Sought};

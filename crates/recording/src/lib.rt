@@ -2,7 +2,6 @@
 #![tactic(auto)]
 
 ghost use Rattle.std.specs.Prelude.{◌≡◌, ◌≤◌};
-ghost use Rattle.base.specs.Lent.{before};
 ghost use Rattle.base.specs.Choice.{if◌then◌else◌, ◌=?◌, ◌<?◌};
 ghost use Rattle.recording.specs.Form.{bad_recording};
 ghost use Rattle.recording.specs.Marks.{is_marked, or_marked, BadnessIs};

@@ -19,12 +19,12 @@ abbrev pub list_entries : Listed → ℕ → ℕ
 list_entries (Entries n) was = n
 list_entries (Refused why) was = was
 
-pub record ListCall (recording out : Lent (List ℕ)) (entries : Lent ℕ) (r : ℕ) : Type 0 where
-  pub returns : r ≡ list_number (list_answer (before recording) (length (before out)))
-  pub out_is : after out ≡ Listing.buffer_after (list_answer (before recording) (length (before out))) (before recording) (before out)
-  pub entries_are : after entries ≡ list_entries (list_answer (before recording) (length (before out))) (before entries)
+pub record ListCall (recording : List ℕ) (out : Lent (List ℕ)) (entries : Lent ℕ) (r : ℕ) : Type 0 where
+  pub returns : r ≡ list_number (list_answer recording (length (before out)))
+  pub out_is : after out ≡ Listing.buffer_after (list_answer recording (length (before out))) recording (before out)
+  pub entries_are : after entries ≡ list_entries (list_answer recording (length (before out))) (before entries)
 
-pub record JoinCall (first second out : Lent (List ℕ)) (tick : Lent ℕ) (r : ℕ) : Type 0 where
-  pub returns : r ≡ join_number (join_answer (before first) (before second) (length (before out)))
-  pub out_is : after out ≡ buffer_after (join_answer (before first) (before second) (length (before out))) (before first) (before second) (before out)
-  pub tick_is : after tick ≡ join_tick (join_answer (before first) (before second) (length (before out))) (before tick)
+pub record JoinCall (first second : List ℕ) (out : Lent (List ℕ)) (tick : Lent ℕ) (r : ℕ) : Type 0 where
+  pub returns : r ≡ join_number (join_answer first second (length (before out)))
+  pub out_is : after out ≡ buffer_after (join_answer first second (length (before out))) first second (before out)
+  pub tick_is : after tick ≡ join_tick (join_answer first second (length (before out))) (before tick)

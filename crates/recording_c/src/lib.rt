@@ -2,7 +2,6 @@
 #![tactic(auto)]
 
 ghost use Rattle.std.specs.Prelude.{◌≡◌};
-ghost use Rattle.base.specs.Lent.{before, after};
 ghost use Rattle.base.specs.Events.{RunIs};
 ghost use Rattle.recording_c.specs.Ticks.{step, told};
 ghost use Rattle.recording_c.specs.Numbers.{ListCall, JoinCall};
@@ -52,7 +51,7 @@ pub extern "C" fn nengapiko_ticks(recording: &[u8], events: &mut [u8]) -> usize
 // Lists the frames and breaks of a recording at the front of out, and sets entries to their number; or returns the refusal's number and changes nothing.
 #[unsafe(no_mangle)]
 pub extern "C" fn nengapiko_list(recording: &[u8], out: &mut [u8], entries: &mut usize) -> u32
-    ensures { ListCall recording out entries result }
+    ensures { ListCall recording.now out entries result }
 {
     let listed = recording_list::list(recording, out);
     match listed {
@@ -72,7 +71,7 @@ pub extern "C" fn nengapiko_join(
     out: &mut [u8],
     tick: &mut usize,
 ) -> u32
-    ensures { JoinCall first second out tick result }
+    ensures { JoinCall first.now second.now out tick result }
 {
     let answer = recording_join::join(first, second, out);
     match answer {

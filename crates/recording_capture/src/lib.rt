@@ -2,7 +2,6 @@
 #![tactic(auto)]
 
 ghost use Rattle.std.specs.Prelude.{◌≡◌, ◌+◌, ◌-◌, ◌*◌, ◌/◌, ◌%◌, ◌≤◌, length};
-ghost use Rattle.base.specs.Lent.{before, after};
 ghost use Rattle.texts.specs.Put.{PutIs};
 ghost use Rattle.recording.specs.Form.{ticks_of};
 ghost use Rattle.recording_capture.specs.Packet.{big16, big32, file_header, seconds_of, microseconds_of, record_header, master_address, device_address, source_of, target_of, ip_front, sum_of, folded, checksum_of, ip_ends, udp_header, message_type, hart_header, packet, next_number};

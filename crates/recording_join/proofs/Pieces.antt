@@ -263,7 +263,7 @@ module _ (n : ℕ) (a b a2 b2 : List ℕ) where
   answer_halves r s =
       let v : Parts = parts r s in
       answer_by_lem (a ++ a2) (b ++ b2)
-      ∙ v.by_difference (bad (a ++ a2) (b ++ b2))
+      ∙ v.by_difference_lem (bad (a ++ a2) (b ++ b2))
       ∙ ap₂ (λ (x y : Bool). answer_by x y (or_else (difference_of a b) (later n (difference_of a2 b2)))) (bad_halves r s) v.lengths
       ∙ sym (by_parts n (bad a b) (unequal a b) (difference_of a b) (bad a2 b2) (unequal a2 b2) (difference_of a2 b2))
       ∙ ap₂ (pieced n) (sym (answer_by_lem a b)) (sym (answer_by_lem a2 b2))

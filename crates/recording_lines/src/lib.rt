@@ -2,7 +2,6 @@
 #![tactic(auto)]
 
 ghost use Rattle.std.specs.Prelude.{◌≡◌, ◌/◌};
-ghost use Rattle.base.specs.Lent.{before, after};
 ghost use Rattle.line.specs.Reader.{ReaderTakeIs};
 ghost use Rattle.texts.specs.Digits.{decimal};
 ghost use Rattle.texts.specs.Put.{PutIs};

@@ -31,7 +31,8 @@ behind r (h ∷ hs) = behind (taken r h).receiver hs
 
 -- What is found in two pieces, one after the other, is what is found in the first, and then what the reader that it left finds in the second, its ticks counted on.
 pub record TwoPieces (t : ℕ) (r : Receiver) (first second : List ℕ) : Type 0 where
-  pub found_both : found t r (ticks_of (first ++ second)) ≡ found t r (ticks_of first) ++ found (t + length first / 2) (behind r (ticks_of first)) (ticks_of second)
+  pub found_both : found t r (ticks_of (first ++ second)) ≡
+      found t r (ticks_of first) ++ found (t + length first / 2) (behind r (ticks_of first)) (ticks_of second)
   pub behind_both : behind r (ticks_of (first ++ second)) ≡ behind (behind r (ticks_of first)) (ticks_of second)
 
 -- for any two pieces of which the first has whole ticks

@@ -85,7 +85,8 @@ pub record Credited (primary : Bool) (asked : Header) (gs : List Ledger) (l : Li
 pub data EachCredited (limit : ℕ) : (Bool → Header) → List Ledger → Link → List Calls → Type 0 where
   no_tick : {asked : Bool → Header} {gs : List Ledger} {l : Link} → EachCredited limit asked gs l []
   tick_and : {asked : Bool → Header} {gs : List Ledger} {l : Link} {c : Calls} {cs : List Calls}
-      → ((primary : Bool) (w : Whole) → (master_in primary (link_tick limit l c)).told ≡ Answered w → Credited primary (asked primary) gs l (link_tick limit l c) w)
+      → ((primary : Bool) (w : Whole) → (master_in primary (link_tick limit l c)).told ≡ Answered w
+      → Credited primary (asked primary) gs l (link_tick limit l c) w)
       → EachCredited limit (asked_after c (link_tick limit l c) asked) (booked_by c (link_tick limit l c) gs) (link_after (link_tick limit l c)) cs
       → EachCredited limit asked gs l (c ∷ cs)
 

@@ -149,7 +149,8 @@ pub data Shared (by_primary by_secondary : ℕ) (to-primary to-secondary : Event
 
 -- such a frame ends in tick t
 abbrev pub SharedFrame : ℕ → ℕ → List LinkStep → ℕ → Type 0
-SharedFrame a b steps t = Shared (master_sent_in true steps t) (master_sent_in false steps t) (heard_in true a passing steps t) (heard_in false b passing steps t)
+SharedFrame a b steps t =
+    Shared (master_sent_in true steps t) (master_sent_in false steps t) (heard_in true a passing steps t) (heard_in false b passing steps t)
 
 -- how it is seen on the line: both masters have started, tick u is silent, one party sends in each tick after it up to t, and the next tick is silent
 pub record FrameSeen (a b : ℕ) (steps : List LinkStep) (u t : ℕ) : Type 0 where

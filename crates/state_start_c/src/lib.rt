@@ -15,8 +15,7 @@ use master::MasterStarted;
 use turns::{Device, Master};
 
 // A reader at its start.
-#[unsafe(no_mangle)]
-pub extern "C" fn nengapiko_reader_start(state: &mut [u64; 16])
+pub fn nengapiko_reader_start(state: &mut [u64; 16])
     ensures { ReaderStarts state }
 {
     let r = line_reader::passing_reader();
@@ -61,8 +60,7 @@ fn master_started(limit: usize, res: MasterStarted, words: &mut [u64; 40]) -> u3
 }
 
 // A fresh master with a data limit; or refusal 1, 2 or 9, and the words as they were.
-#[unsafe(no_mangle)]
-pub extern "C" fn nengapiko_master_start(
+pub fn nengapiko_master_start(
     sto: u16,
     hold: u16,
     rt2: u16,
@@ -105,8 +103,7 @@ fn device_started(limit: usize, res: DeviceStarted, words: &mut [u64; 41]) -> u3
 }
 
 // A fresh device with a data limit; or refusal 1, 3, 4 or 9, and the words as they were.
-#[unsafe(no_mangle)]
-pub extern "C" fn nengapiko_device_start(
+pub fn nengapiko_device_start(
     sto: u16,
     hold: u16,
     rt2: u16,

@@ -2,7 +2,6 @@
 #![tactic(auto)]
 
 ghost use Rattle.std.specs.Prelude.{◌<◌, ◌^◌, ◌≡◌, ◌∷◌};
-ghost use Rattle.base.specs.Lent.{before, after};
 ghost use Rattle.base.specs.Store.{stored};
 ghost use Rattle.state_words.specs.Fields.{word_at, number_at, flag_at};
 ghost use Rattle.state_words.specs.Reader.{header_at, profile_at, place_word, place_by, place_of, damage_at, receiver_words, receiver_at};

@@ -2,7 +2,6 @@
 #![tactic(auto)]
 
 ghost use Rattle.std.specs.Prelude.{◌≡◌, [], ◌∷◌, ◌++◌, false, take, ◌<◌, ◌+◌};
-ghost use Rattle.base.specs.Lent.{before, after};
 ghost use Rattle.texts.specs.Decimal.{decimal_of};
 ghost use Rattle.texts.specs.Digits.{decimal, bit_of, digit_of, hexadecimal, spaced, value_of, byte_of};
 ghost use Rattle.texts.specs.Put.{PutIs};

@@ -104,7 +104,8 @@ TagAnswered limit =
     (p : Profile) (start : DeviceSide) (s : DeviceStarts p start) (before after : List DeviceInput)
     (heard : Heard) (wish : Wish) (put : List ℕ) (primary flag : Bool)
     → let x : DeviceSide = device_after limit start before in let i : DeviceInput = record { heard = heard; call = gives_answer wish put } in
-    profile_made p ≡ accepted p → ToldLast limit start before i (command11 stx primary flag 0) → (device_tick limit x heard (gives_answer wish put)).result ≡ Taken
+    profile_made p ≡ accepted p → ToldLast limit start before i (command11 stx primary flag 0)
+    → (device_tick limit x heard (gives_answer wish put)).result ≡ Taken
     → GoesOut limit x i (frame_bytes s.preamble (command11 ack primary x.device.burst 0) put) after
 
 -- ---- command 11 to a device's own unique address is no search for a tag: its wish is taken

@@ -3,7 +3,7 @@ use Rattle.device_c.proofs.device_fits.Statement.{statement}
 use Rattle.device_c.proofs.device_fits.Tie as tie
 
 returns : tie.Need-returns
-returns c = search (c.numbers_fit.ensures, c.before.content-fits.ensures, c.before.before.header-fits.ensures, c.before.before.before.turn-fits.ensures, c.before.before.before.before.receiver-fits.ensures, c.before.before.before.before.before.profile-fits.ensures)
+returns c = search (c.numbers_fit.ensures, c.before.content_fits.ensures, c.before.before.header_fits.ensures, c.before.before.before.turn_fits.ensures, c.before.before.before.before.receiver_fits.ensures, c.before.before.before.before.before.profile_fits.ensures)
 
 pub device_fits_spec : {M : Type 1} → statement M
 device_fits_spec =

@@ -6,14 +6,14 @@ use Rattle.device_c.proofs.pack.Tie as tie
 returns : tie.Need-returns
 returns c =
     packed_is _ c.before.before.before.before.before.before.before.before.before.before.before.before.before.before.before.before.before.before.args.d _ _ _ _ _ _ _ _ _
-    c.before.before.before.before.before.before.before.before.before.before.before.before.before.before.before.settings-words.ensures
-    c.before.before.before.before.before.before.before.before.before.before.before.before.before.before.receiver-words.ensures
-    c.before.before.before.before.before.before.before.before.before.before.before.before.before.answering-words.ensures
-    c.before.before.before.before.before.before.before.before.before.before.before.before.bursting-words.ensures
+    c.before.before.before.before.before.before.before.before.before.before.before.before.before.before.before.settings_words-settings.ensures
+    c.before.before.before.before.before.before.before.before.before.before.before.before.before.before.receiver_words-reader.ensures
+    c.before.before.before.before.before.before.before.before.before.before.before.before.before.answering_words-answering.ensures
+    c.before.before.before.before.before.before.before.before.before.before.before.before.bursting_words-bursting.ensures
     c.before.before.before.before.before.before.before.before.before.put.ensures
-    c.before.before.before.before.before.before.put2.ensures
-    c.before.before.before.put3.ensures
-    c.put4.ensures
+    c.before.before.before.before.before.before.put-2.ensures
+    c.before.before.before.put-3.ensures
+    c.put-4.ensures
     (search rules)
 
 pub pack_spec : {M : Type 1} → statement M

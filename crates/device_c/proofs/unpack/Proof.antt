@@ -4,7 +4,7 @@ use Rattle.device_c.proofs.unpack.Statement.{statement}
 use Rattle.device_c.proofs.unpack.Tie as tie
 
 returns : tie.Need-returns
-returns c = search (unpacked_is, c.join.ensures, c.before.bursting-at.ensures, c.before.before.answering-at.ensures, c.before.before.before.receiver-at.ensures, c.before.before.before.before.before.settings-at.ensures)
+returns c = search (unpacked_is, c.join.ensures, c.before.bursting_at-bursting.ensures, c.before.before.answering_at-answering.ensures, c.before.before.before.receiver_at-receiver.ensures, c.before.before.before.before.before.settings_at-settings.ensures)
 
 pub unpack_spec : {M : Type 1} → statement M
 unpack_spec =

@@ -4,15 +4,15 @@ use Rattle.link_parties.proofs.counted_device.Statement.{statement}
 use Rattle.link_parties.proofs.counted_device.Tie as tie
 
 -- src/lib.rt:299:9
-idle_reader_requires : tie.Need-idle-reader-requires
+idle_reader_requires : tie.Need-idle_reader-idle-requires
 idle_reader_requires c κs = search rules
 
 -- src/lib.rt:302:9
-one_less_requires : tie.Need-one-less-requires
+one_less_requires : tie.Need-one_less-due-requires
 one_less_requires c κs = search rules
 
 -- src/lib.rt:303:9
-with_parts_requires : tie.Need-with-parts-requires
+with_parts_requires : tie.Need-with_parts-device-requires
 with_parts_requires c κs = search rules
 
 -- src/lib.rt:296:1

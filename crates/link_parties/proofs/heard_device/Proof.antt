@@ -4,7 +4,7 @@ use Rattle.link_parties.proofs.heard_device.Statement.{statement}
 use Rattle.link_parties.proofs.heard_device.Tie as tie
 
 -- src/lib.rt:315:9
-with_parts_requires : tie.Need-with-parts-requires
+with_parts_requires : tie.Need-with_parts-device-requires
 with_parts_requires c κs = search rules
 
 -- src/lib.rt:311:1

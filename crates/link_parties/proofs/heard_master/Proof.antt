@@ -4,11 +4,11 @@ use Rattle.link_parties.proofs.heard_master.Statement.{statement}
 use Rattle.link_parties.proofs.heard_master.Tie as tie
 
 -- src/lib.rt:408:9
-timer_of_requires : tie.Need-timer-of-requires
+timer_of_requires : tie.Need-timer_of-timer-requires
 timer_of_requires c κs = search rules
 
 -- src/lib.rt:409:5
-with_parts_requires : tie.Need-with-parts-requires
+with_parts_requires : tie.Need-with_parts-requires
 with_parts_requires c κs = search rules
 
 -- src/lib.rt:403:1

@@ -4,23 +4,23 @@ use Rattle.link_parties.proofs.join.Statement.{statement}
 use Rattle.link_parties.proofs.join.Tie as tie
 
 -- src/lib.rt:139:25
-enum_told : tie.Need-enum-told
+enum_told : tie.Need-enum_told-1
 enum_told c = search rules
 
 -- src/lib.rt:140:25
-enum_known_sent : tie.Need-enum-known-sent
+enum_known_sent : tie.Need-enum_known-sent
 enum_known_sent c = search rules
 
 -- src/lib.rt:140:31
-join_character_requires : tie.Need-join-character-requires
+join_character_requires : tie.Need-join_character-requires
 join_character_requires c κs = search rules
 
 -- src/lib.rt:135:1
-returns : tie.Need-returns
+returns : tie.Need-returns-in-Silent
 returns c = search rules
 
 -- src/lib.rt:135:1
-returns_2 : tie.Need-returns-2
+returns_2 : tie.Need-returns-in-Character
 returns_2 c = search (rules, cases)
 
 pub join_spec : {M : Type 1} → statement M

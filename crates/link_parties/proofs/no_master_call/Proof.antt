@@ -4,7 +4,7 @@ use Rattle.link_parties.proofs.no_master_call.Statement.{statement}
 use Rattle.link_parties.proofs.no_master_call.Tie as tie
 
 -- src/lib.rt:166:9
-no_part_requires : tie.Need-no-part-requires
+no_part_requires : tie.Need-no_part-part-requires
 no_part_requires c κs = search rules
 
 -- src/lib.rt:163:1

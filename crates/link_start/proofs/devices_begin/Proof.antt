@@ -4,10 +4,10 @@ use Rattle.link_start.proofs.Starts.{Begun}
 use Rattle.link_start.proofs.devices_begin.Statement.{statement}
 use Rattle.link_start.proofs.devices_begin.Tie as tie
 
-abbrev invariant-loop : tie.invariant-loop
+abbrev invariant-loop : tie.invariant-loop-n
 invariant-loop profile settings slots₀ answer₀ n₀ slots answer n = Begun profile settings slots answer n
 
-abbrev decreases-loop : tie.decreases-loop
+abbrev decreases-loop : tie.decreases-loop-n
 decreases-loop profile settings slots₀ answer₀ n₀ slots answer n = n
 
 pub devices_begin_spec : {M : Type 1} → statement M

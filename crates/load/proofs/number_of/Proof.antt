@@ -6,10 +6,10 @@ use Rattle.load.proofs.Numbers.{Reading, reads}
 use Rattle.load.proofs.number_of.Statement.{statement}
 use Rattle.load.proofs.number_of.Tie as tie
 
-abbrev invariant-loop : tie.invariant-loop
+abbrev invariant-loop : tie.invariant-loop-i
 invariant-loop text n₀ i₀ n i = Reading text n i
 
-abbrev decreases-loop : tie.decreases-loop
+abbrev decreases-loop : tie.decreases-loop-i
 decreases-loop text n₀ i₀ n i = length text - i
 
 pub number_of_spec : {M : Type 1} → statement M

@@ -5,15 +5,15 @@ use Rattle.load_writer.proofs.Places.{calls}
 use Rattle.load_writer.proofs.lower.Statement.{statement}
 use Rattle.load_writer.proofs.lower.Tie as tie
 
-returns : tie.Need-returns
+returns : tie.Need-returns-then-x-lt4
 unfolding lower
 returns c = search (rules, choices, calls)
 
-returns_2 : tie.Need-returns-2
+returns_2 : tie.Need-returns-then-x-lt14
 unfolding lower
 returns_2 c = search (rules, choices, calls)
 
-returns_3 : tie.Need-returns-3
+returns_3 : tie.Need-returns
 unfolding lower
 returns_3 c = search (rules, choices, calls)
 

@@ -4,10 +4,10 @@ use Rattle.load_writer.proofs.Places.{fitting}
 use Rattle.load_writer.proofs.put_drawn.Statement.{statement}
 use Rattle.load_writer.proofs.put_drawn.Tie as tie
 
-abbrev invariant-loop : tie.invariant-loop
+abbrev invariant-loop : tie.invariant-loop-n
 invariant-loop out₀ first count k₀ x₀ n₀ at₀ out k x n at = Drawing out₀ first count out k x n at
 
-abbrev decreases-loop : tie.decreases-loop
+abbrev decreases-loop : tie.decreases-loop-n
 decreases-loop out₀ first count k₀ x₀ n₀ at₀ out k x n at = n
 
 pub put_drawn_spec : {M : Type 1} → statement M

@@ -4,11 +4,9 @@ use Rattle.player_convert.proofs.Converts.{converts, into_new_is}
 use Rattle.player_convert.proofs.convert_good.Statement.{statement}
 use Rattle.player_convert.proofs.convert_good.Tie as tie
 
-returns : tie.Need-returns
+returns : tie.Need-returns-in-Old
 returns c =
-    let known = c.before.before.before.before.before.before.before in
-    let start = known.before in
-    into_new_is start.args.form _ _ _ _ (search rules) (λ i. omega (arith, known.shared-slice-known.given i)) c.before.before.into_new.ensures
+    into_new_is c.args.form _ _ _ _ (search rules) (λ i. omega (arith, c.shared_slice_known-1.given i)) c.into_new.ensures
 
 pub convert_good_spec : {M : Type 1} → statement M
 convert_good_spec =

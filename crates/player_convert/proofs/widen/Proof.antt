@@ -6,17 +6,17 @@ use Rattle.player_convert.proofs.Widening.{Widening, widenings, room_last, widen
 use Rattle.player_convert.proofs.widen.Statement.{statement}
 use Rattle.player_convert.proofs.widen.Tie as tie
 
-abbrev invariant-loop : tie.invariant-loop
+abbrev invariant-loop : tie.invariant-loop-at
 invariant-loop script out₀ at₀ to₀ out at to = Widening script out₀ out at to
 
-abbrev decreases-loop : tie.decreases-loop
+abbrev decreases-loop : tie.decreases-loop-at
 decreases-loop script out₀ at₀ to₀ out at to = length script - at
 
-loop_again : tie.Need-loop-preserved invariant-loop decreases-loop
-loop_again c = widen_more _ _ _ _ _ c.before.before.before.before.before.loop.invariant c.before.before.before.before.loop-test.true (λ i. omega (arith, c.shared-slice-known4.given i))
+loop_again : tie.Need-loop-at-preserved invariant-loop decreases-loop
+loop_again c = widen_more _ _ _ _ _ c.loop-at.invariant c.loop-at-test.true (λ i. omega (arith, c.shared_slice_known-in-loop-at-3-1.given i))
 
 returns : tie.Need-returns invariant-loop decreases-loop
-returns c = let ended = widen_ended _ _ _ _ _ c.before.loop.invariant c.loop-test.false in record { count = ended.0; bytes = ended.1 }
+returns c = let ended = widen_ended _ _ _ _ _ c.loop-at.invariant c.loop-at-test.false in record { count = ended.0; bytes = ended.1 }
 
 pub widen_spec : {M : Type 1} → statement M
 widen_spec =
@@ -42,7 +42,7 @@ widen_spec =
     (λ c. search (rules, widenings))
     (λ c. search (rules, widenings))
     (λ c. search (rules, widenings))
-    (λ c. search (rules, room_last _ _ _ _ _ c.before.before.before.before.before.loop.invariant c.before.before.before.before.loop-test.true))
+    (λ c. search (rules, room_last _ _ _ _ _ c.loop-at.invariant c.loop-at-test.true))
     (λ c. search (rules, widenings))
     (λ c. search (rules, widenings))
     (λ c. search (rules, widenings))

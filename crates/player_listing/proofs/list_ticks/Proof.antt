@@ -7,35 +7,35 @@ use Rattle.player_listing.proofs.Rows.{RowHeard, parties_none, party_sends, part
 use Rattle.player_listing.proofs.list_ticks.Statement.{statement}
 use Rattle.player_listing.proofs.list_ticks.Tie as tie
 
-abbrev invariant-loop2 : tie.invariant-loop2
+abbrev invariant-loop2 : tie.invariant-loop-next
 invariant-loop2 tick count sent out₀ at most list₀ place₀ k lone next₀ out list place next = RowHeard (tick + k) lone (get_or sent k []) list₀ out₀ place₀ list out place next
 
-abbrev decreases-loop2 : tie.decreases-loop2
+abbrev decreases-loop2 : tie.decreases-loop-next
 decreases-loop2 tick count sent out₀ at most list₀ place₀ k lone next₀ out list place next = 8 - next
 
-abbrev invariant-loop : tie.invariant-loop
+abbrev invariant-loop : tie.invariant-loop-k
 invariant-loop tick count sent out₀ at most list₀ place₀ k₀ out list place k = RowsListed tick most sent list₀ out₀ place₀ list out place k
 
-abbrev decreases-loop : tie.decreases-loop
+abbrev decreases-loop : tie.decreases-loop-k
 decreases-loop tick count sent out₀ at most list₀ place₀ k₀ out list place k = most - k
 
-loop_holds : tie.Need-loop-init invariant-loop2 decreases-loop2 invariant-loop decreases-loop
+loop_holds : tie.Need-loop-k-init invariant-loop2 decreases-loop2 invariant-loop decreases-loop
 loop_holds c = search (rules, rows_none)
 
-loop2_holds : tie.Need-loop2-init invariant-loop2 decreases-loop2 invariant-loop decreases-loop
-loop2_holds c = parties_none _ _ _ _ _ _ (search rules) c.row-is-lone.ensures
+loop2_holds : tie.Need-loop-next-init invariant-loop2 decreases-loop2 invariant-loop decreases-loop
+loop2_holds c = parties_none _ _ _ _ _ _ (search rules) c.row_is_lone-lone.ensures
 
-loop2_again : tie.Need-loop2-preserved invariant-loop2 decreases-loop2 invariant-loop decreases-loop
-loop2_again c = party_sends _ _ c.before.before.before.before.before.before.before.before.before.before.loop2.invariant (search rules) (search rules) c.before.before.before.before.before.heard-so-far.ensures c.before.before.before.hear.ensures
+loop2_again : tie.Need-loop-next-preserved-then-c-ge256 invariant-loop2 decreases-loop2 invariant-loop decreases-loop
+loop2_again c = party_sends _ _ c.loop-next.invariant (search rules) (search rules) c.heard_so_far-begun.ensures c.hear-h.ensures
 
-loop2_again_2 : tie.Need-loop2-preserved-2 invariant-loop2 decreases-loop2 invariant-loop decreases-loop
-loop2_again_2 c = party_falls_silent quiet_monitor 0 c.before.before.before.before.before.loop2.invariant (search rules) (search rules) c.quiet-monitor.ensures
+loop2_again_2 : tie.Need-loop-next-preserved-then-list-i-gt0 invariant-loop2 decreases-loop2 invariant-loop decreases-loop
+loop2_again_2 c = party_falls_silent quiet_monitor 0 c.loop-next.invariant (search rules) (search rules) c.quiet_monitor.ensures
 
-loop2_again_3 : tie.Need-loop2-preserved-3 invariant-loop2 decreases-loop2 invariant-loop decreases-loop
+loop2_again_3 : tie.Need-loop-next-preserved invariant-loop2 decreases-loop2 invariant-loop decreases-loop
 loop2_again_3 c = search (rules, party_stays_silent)
 
-loop_again : tie.Need-loop-preserved invariant-loop2 decreases-loop2 invariant-loop decreases-loop
-loop_again c = rows_more _ c.before.before.before.before.before.loop.invariant (search rules) c.before.before.row-is-lone.ensures c.before.loop2.invariant (search rules)
+loop_again : tie.Need-loop-k-preserved invariant-loop2 decreases-loop2 invariant-loop decreases-loop
+loop_again c = rows_more _ c.loop-k.invariant (search rules) c.row_is_lone-lone.ensures c.loop-next.invariant (search rules)
 
 returns : tie.Need-returns invariant-loop2 decreases-loop2 invariant-loop decreases-loop
 returns c = search (rules, rows_all)

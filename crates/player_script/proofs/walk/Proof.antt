@@ -5,10 +5,10 @@ use Rattle.player_script.proofs.Walks.{Passing, passes}
 use Rattle.player_script.proofs.walk.Statement.{statement}
 use Rattle.player_script.proofs.walk.Tie as tie
 
-abbrev invariant-loop : tie.invariant-loop
+abbrev invariant-loop : tie.invariant-loop-at
 invariant-loop form piece since marks₀ w last₀ at₀ marks last at = Passing form piece since marks₀ marks last at
 
-abbrev decreases-loop : tie.decreases-loop
+abbrev decreases-loop : tie.decreases-loop-at
 decreases-loop form piece since marks₀ w last₀ at₀ marks last at = length piece - at
 
 pub walk_spec : {M : Type 1} → statement M

@@ -4,10 +4,10 @@ use Rattle.readings.proofs.Puts.{Copying, copying}
 use Rattle.readings.proofs.copy.Statement.{statement}
 use Rattle.readings.proofs.copy.Tie as tie
 
-abbrev invariant-loop : tie.invariant-loop
+abbrev invariant-loop : tie.invariant-loop-i
 invariant-loop to₀ bytes count n i₀ to i = Copying to₀ bytes count n to i
 
-abbrev decreases-loop : tie.decreases-loop
+abbrev decreases-loop : tie.decreases-loop-i
 decreases-loop to₀ bytes count n i₀ to i = n - i
 
 pub copy_spec : {M : Type 1} → statement M

@@ -4,10 +4,10 @@ use Rattle.readings.proofs.Searches.{Flat, flats}
 use Rattle.readings.proofs.search.Statement.{statement}
 use Rattle.readings.proofs.search.Tie as tie
 
-abbrev invariant-loop : tie.invariant-loop
+abbrev invariant-loop : tie.invariant-loop-i
 invariant-loop numbers k rows s₀ i₀ s i = Flat numbers k rows i s
 
-abbrev decreases-loop : tie.decreases-loop
+abbrev decreases-loop : tie.decreases-loop-i
 decreases-loop numbers k rows s₀ i₀ s i = rows - i
 
 pub search_spec : {M : Type 1} → statement M

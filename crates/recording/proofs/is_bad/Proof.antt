@@ -5,10 +5,10 @@ use Prim.Native.Nat.{◌-◌}
 use Rattle.recording.proofs.is_bad.Statement.{statement}
 use Rattle.recording.proofs.is_bad.Tie as tie
 
-abbrev invariant-loop : tie.invariant-loop
+abbrev invariant-loop : tie.invariant-loop-t
 invariant-loop recording ticks bad₀ t₀ bad t = Looking recording ticks bad t
 
-abbrev decreases-loop : tie.decreases-loop
+abbrev decreases-loop : tie.decreases-loop-t
 decreases-loop recording ticks bad₀ t₀ bad t = ticks - t
 
 pub is_bad_spec : {M : Type 1} → statement M

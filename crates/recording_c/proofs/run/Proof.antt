@@ -7,10 +7,10 @@ use Rattle.recording_c.proofs.Reader.{runs}
 use Rattle.recording_c.proofs.run.Statement.{statement}
 use Rattle.recording_c.proofs.run.Tie as tie
 
-abbrev invariant-loop : tie.invariant-loop
+abbrev invariant-loop : tie.invariant-loop-i
 invariant-loop recording events₀ bytes₀ r₀ at₀ i₀ events bytes r at i = Running ticked (told recording) recording events₀ r events at i
 
-abbrev decreases-loop : tie.decreases-loop
+abbrev decreases-loop : tie.decreases-loop-i
 decreases-loop recording events₀ bytes₀ r₀ at₀ i₀ events bytes r at i = length events₀ - i
 
 pub run_spec : {M : Type 1} → statement M

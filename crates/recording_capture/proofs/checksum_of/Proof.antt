@@ -3,13 +3,13 @@ use Rattle.std.proofs.Common.{rules}
 use Rattle.recording_capture.proofs.checksum_of.Statement.{statement}
 use Rattle.recording_capture.proofs.checksum_of.Tie as tie
 
-sum_of_requires : tie.Need-sum-of-requires
+sum_of_requires : tie.Need-sum_of-sum-requires
 sum_of_requires c κs = search rules
 
-fold_requires : tie.Need-fold-requires
+fold_requires : tie.Need-fold-once-requires
 fold_requires c κs = search rules
 
-fold_requires_2 : tie.Need-fold-requires-2
+fold_requires_2 : tie.Need-fold-twice-requires
 fold_requires_2 c κs = search rules
 
 complement_requires : tie.Need-complement-requires

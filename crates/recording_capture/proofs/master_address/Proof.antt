@@ -3,10 +3,10 @@ use Rattle.base.proofs.Choices.{choices}
 use Rattle.recording_capture.proofs.master_address.Statement.{statement}
 use Rattle.recording_capture.proofs.master_address.Tie as tie
 
-returns : tie.Need-returns
+returns : tie.Need-returns-then-primary
 returns c = search (rules, choices)
 
-returns_2 : tie.Need-returns-2
+returns_2 : tie.Need-returns
 returns_2 c = search (rules, choices)
 
 pub master_address_spec : {M : Type 1} → statement M

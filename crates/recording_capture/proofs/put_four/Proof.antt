@@ -3,13 +3,13 @@ use Rattle.std.proofs.Common.{rules}
 use Rattle.recording_capture.proofs.put_four.Statement.{statement}
 use Rattle.recording_capture.proofs.put_four.Tie as tie
 
-put_two_requires : tie.Need-put-two-requires
+put_two_requires : tie.Need-put_two-place-requires
 put_two_requires c κs = search rules
 
-put_two_requires_2 : tie.Need-put-two-requires-2
+put_two_requires_2 : tie.Need-put_two-requires
 put_two_requires_2 c κs = search rules
 
-same_length : tie.Need-same-length
+same_length : tie.Need-shape_of-out
 same_length c = search rules
 
 returns : tie.Need-returns

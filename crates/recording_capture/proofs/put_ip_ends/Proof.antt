@@ -3,25 +3,25 @@ use Rattle.std.proofs.Common.{rules}
 use Rattle.recording_capture.proofs.put_ip_ends.Statement.{statement}
 use Rattle.recording_capture.proofs.put_ip_ends.Tie as tie
 
-source_of_requires : tie.Need-source-of-requires
+source_of_requires : tie.Need-source_of-source-requires
 source_of_requires c κs = search rules
 
-target_of_requires : tie.Need-target-of-requires
+target_of_requires : tie.Need-target_of-target-requires
 target_of_requires c κs = search rules
 
-checksum_of_requires : tie.Need-checksum-of-requires
+checksum_of_requires : tie.Need-checksum_of-checksum-requires
 checksum_of_requires c κs = search rules
 
-put_two_requires : tie.Need-put-two-requires
+put_two_requires : tie.Need-put_two-a-requires
 put_two_requires c κs = search rules
 
-put_four_requires : tie.Need-put-four-requires
+put_four_requires : tie.Need-put_four-b-requires
 put_four_requires c κs = search rules
 
-put_four_requires_2 : tie.Need-put-four-requires-2
+put_four_requires_2 : tie.Need-put_four-requires
 put_four_requires_2 c κs = search rules
 
-same_length : tie.Need-same-length
+same_length : tie.Need-shape_of-out
 same_length c = search rules
 
 returns : tie.Need-returns

@@ -3,7 +3,7 @@ use Rattle.std.proofs.Common.{rules}
 use Rattle.recording_capture.proofs.start.Statement.{statement}
 use Rattle.recording_capture.proofs.start.Tie as tie
 
-passing_reader_requires : tie.Need-passing-reader-requires
+passing_reader_requires : tie.Need-passing_reader-r-requires
 passing_reader_requires c κs = search rules
 
 returns : tie.Need-returns

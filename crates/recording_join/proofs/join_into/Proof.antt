@@ -6,10 +6,10 @@ use Prim.Native.Nat.{◌-◌}
 use Rattle.recording_join.proofs.join_into.Statement.{statement}
 use Rattle.recording_join.proofs.join_into.Tie as tie
 
-abbrev invariant-loop : tie.invariant-loop
+abbrev invariant-loop : tie.invariant-loop-t
 invariant-loop first second out₀ ticks t₀ out t = Joining first second out₀ ticks out t
 
-abbrev decreases-loop : tie.decreases-loop
+abbrev decreases-loop : tie.decreases-loop-t
 decreases-loop first second out₀ ticks t₀ out t = ticks - t
 
 pub join_into_spec : {M : Type 1} → statement M

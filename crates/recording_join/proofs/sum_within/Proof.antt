@@ -15,4 +15,4 @@ sum_within_spec =
     (λ c. search rules)
     (λ c. search (rules, sums))
     (λ c. search rules)
-    (λ c. if_not_below largest_tick (c.before.args.a + c.before.args.b) _ largest_tick _ (omega (arith, c.if1.false)) refl))
+    (λ c. if_not_below largest_tick (c.before.args.a + c.before.args.b) _ largest_tick _ (omega (arith, c.if-a-b.false)) refl))

@@ -4,7 +4,7 @@ use Rattle.recording_lines.proofs.hear.Statement.{statement}
 use Rattle.recording_lines.proofs.hear.Tie as tie
 
 -- src/lib.rt:164:9
-heard_of_requires : tie.Need-heard-of-requires
+heard_of_requires : tie.Need-heard_of-heard-requires
 heard_of_requires c κs = search rules
 
 -- src/lib.rt:165:5

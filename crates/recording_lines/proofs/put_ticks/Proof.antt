@@ -4,15 +4,15 @@ use Rattle.recording_lines.proofs.put_ticks.Statement.{statement}
 use Rattle.recording_lines.proofs.put_ticks.Tie as tie
 
 -- src/lib.rt:60:9
-put_word_requires : tie.Need-put-word-requires
+put_word_requires : tie.Need-put_word-place-requires
 put_word_requires c κs = search rules
 
 -- src/lib.rt:61:5
-put_word_requires_2 : tie.Need-put-word-requires-2
+put_word_requires_2 : tie.Need-put_word-requires
 put_word_requires_2 c κs = search rules
 
 -- src/lib.rt:57:1
-same_length : tie.Need-same-length
+same_length : tie.Need-shape_of-out
 same_length c = search rules
 
 -- src/lib.rt:57:1

@@ -4,15 +4,15 @@ use Rattle.recording_lines.proofs.put_word.Statement.{statement}
 use Rattle.recording_lines.proofs.put_word.Tie as tie
 
 -- src/lib.rt:52:9
-put_decimal_requires : tie.Need-put-decimal-requires
+put_decimal_requires : tie.Need-put_decimal-place-requires
 put_decimal_requires c κs = search rules
 
 -- src/lib.rt:53:5
-put_byte_requires : tie.Need-put-byte-requires
+put_byte_requires : tie.Need-put_byte-requires
 put_byte_requires c κs = search rules
 
 -- src/lib.rt:49:1
-same_length : tie.Need-same-length
+same_length : tie.Need-shape_of-out
 same_length c = search rules
 
 -- src/lib.rt:49:1

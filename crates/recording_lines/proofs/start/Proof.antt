@@ -4,7 +4,7 @@ use Rattle.recording_lines.proofs.start.Statement.{statement}
 use Rattle.recording_lines.proofs.start.Tie as tie
 
 -- src/lib.rt:40:9
-passing_reader_requires : tie.Need-passing-reader-requires
+passing_reader_requires : tie.Need-passing_reader-r-requires
 passing_reader_requires c κs = search rules
 
 -- src/lib.rt:37:1

@@ -4,10 +4,10 @@ use Rattle.recording_list.proofs.Lists.{Going, goings}
 use Rattle.recording_list.proofs.entries_from.Statement.{statement}
 use Rattle.recording_list.proofs.entries_from.Tie as tie
 
-abbrev invariant-loop : tie.invariant-loop
+abbrev invariant-loop : tie.invariant-loop-t
 invariant-loop recording from before put out₀ ticks t₀ n₀ out t n = Going recording from before put out₀ ticks out t n
 
-abbrev decreases-loop : tie.decreases-loop
+abbrev decreases-loop : tie.decreases-loop-t
 decreases-loop recording from before put out₀ ticks t₀ n₀ out t n = ticks - t
 
 pub entries_from_spec : {M : Type 1} → statement M

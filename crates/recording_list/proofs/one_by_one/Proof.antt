@@ -4,10 +4,10 @@ use Rattle.recording_list.proofs.Walks.{Walking, walks}
 use Rattle.recording_list.proofs.one_by_one.Statement.{statement}
 use Rattle.recording_list.proofs.one_by_one.Tie as tie
 
-abbrev invariant-loop : tie.invariant-loop
+abbrev invariant-loop : tie.invariant-loop-count
 invariant-loop recording from need before hurt t₀ count₀ sum₀ harm₀ t count sum harm = Walking recording from need before hurt t count sum harm
 
-abbrev decreases-loop : tie.decreases-loop
+abbrev decreases-loop : tie.decreases-loop-count
 decreases-loop recording from need before hurt t₀ count₀ sum₀ harm₀ t count sum harm = need - count
 
 pub one_by_one_spec : {M : Type 1} → statement M

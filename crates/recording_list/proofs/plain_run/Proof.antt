@@ -4,10 +4,10 @@ use Prim.Native.Nat.{◌-◌}
 use Rattle.recording_list.proofs.plain_run.Statement.{statement}
 use Rattle.recording_list.proofs.plain_run.Tie as tie
 
-abbrev invariant-loop : tie.invariant-loop
+abbrev invariant-loop : tie.invariant-loop-i
 invariant-loop recording t need before other₀ sum₀ i₀ other sum i = Running recording t need before other sum i
 
-abbrev decreases-loop : tie.decreases-loop
+abbrev decreases-loop : tie.decreases-loop-i
 decreases-loop recording t need before other₀ sum₀ i₀ other sum i = need - i
 
 pub plain_run_spec : {M : Type 1} → statement M

@@ -5,10 +5,10 @@ use Prim.Native.Nat.{◌-◌}
 use Rattle.recording_list.proofs.preamble_with_gaps.Statement.{statement}
 use Rattle.recording_list.proofs.preamble_with_gaps.Tie as tie
 
-abbrev invariant-loop : tie.invariant-loop
+abbrev invariant-loop : tie.invariant-loop-t
 invariant-loop recording from before ticks t₀ two₀ t two = Preambling recording from (in_preamble before) ticks t two
 
-abbrev decreases-loop : tie.decreases-loop
+abbrev decreases-loop : tie.decreases-loop-t
 decreases-loop recording from before ticks t₀ two₀ t two = ticks - t
 
 pub preamble_with_gaps_spec : {M : Type 1} → statement M

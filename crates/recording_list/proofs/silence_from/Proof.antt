@@ -5,10 +5,10 @@ use Prim.Native.Nat.{◌-◌}
 use Rattle.recording_list.proofs.silence_from.Statement.{statement}
 use Rattle.recording_list.proofs.silence_from.Tie as tie
 
-abbrev invariant-loop : tie.invariant-loop
+abbrev invariant-loop : tie.invariant-loop-t
 invariant-loop recording from ticks t₀ t = Skipping recording from passing ticks t
 
-abbrev decreases-loop : tie.decreases-loop
+abbrev decreases-loop : tie.decreases-loop-t
 decreases-loop recording from ticks t₀ t = ticks - t
 
 pub silence_from_spec : {M : Type 1} → statement M
