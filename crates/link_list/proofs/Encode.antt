@@ -111,6 +111,8 @@ slots_back (true ∷ slots) (c ∷ cs) rest (present_and d s) =
     ap (λ (l : List ℕ). slots_in (true ∷ slots) l) (append_assoc (device_bytes c) (slots_bytes slots cs) rest)
     ∙ (λ i. device_back c (slots_bytes slots cs ++ rest) d i ∷ slots_in slots (device_behind c (slots_bytes slots cs ++ rest) d i))
     ∙ ap (λ (l : List DeviceCall). c ∷ l) (slots_back slots cs rest s)
+slots_back [] (c ∷ cs) rest x'' = elim x'' [ ]
+slots_back (true ∷ slots) [] rest x5 = elim x5 [ ]
 
 slots_behind : (slots : List Bool) (calls : List DeviceCall) (rest : List ℕ) → SlotsCodable slots calls → behind (length slots) (slots_bytes slots calls ++ rest) ≡ rest
 unfolding behind
@@ -120,6 +122,8 @@ slots_behind (true ∷ slots) (c ∷ cs) rest (present_and d s) =
     ap (λ (l : List ℕ). behind (suc (length slots)) l) (append_assoc (device_bytes c) (slots_bytes slots cs) rest)
     ∙ ap (behind (length slots)) (device_behind c (slots_bytes slots cs ++ rest) d)
     ∙ slots_behind slots cs rest s
+slots_behind [] (c ∷ cs) rest x'' = elim x'' [ ]
+slots_behind (true ∷ slots) [] rest x5 = elim x5 [ ]
 
 -- ---- a tick
 
@@ -217,6 +221,8 @@ slots_bytes_lem : (slots : List Bool) (calls : List DeviceCall) → SlotsCodable
 slots_bytes_lem [] [] no_slot = no_byte
 slots_bytes_lem (false ∷ slots) calls (absent_and s) = none_bytes (slots_bytes slots calls) (slots_bytes_lem slots calls s)
 slots_bytes_lem (true ∷ slots) (c ∷ cs) (present_and d s) = bytes_append (device_bytes c) (slots_bytes slots cs) (device_bytes_lem c d) (slots_bytes_lem slots cs s)
+slots_bytes_lem [] (c ∷ cs) x'' = elim x'' [ ]
+slots_bytes_lem (true ∷ slots) [] x5 = elim x5 [ ]
 
 ticks_bytes_lem : (here : Here) (ticks : List Calls) → TicksCodable here ticks → Bytes (ticks_bytes here ticks)
 unfolding ticks_bytes
