@@ -237,7 +237,7 @@ count_refused limit count = count outside fewest_answered to limit
 abbrev pub answered_by : ℕ → Device → Wish → ℕ → Turn → Called Device
 answered_by limit d wish count Listens = refused 8
 answered_by limit d wish count (Asked left) =
-    when count_refused limit count then refused 9 else
+    when count outside fewest_answered to limit then refused 9 else
     when wish_refused d wish then refused 10 else
     accepted (device_with d d.receiver (answers_at d left) d.request wish
     (frame_length d.preamble (answer_header d.request (wished d.burst wish)) count) d.due)
@@ -277,7 +277,7 @@ device_with_content d c = record {
 unfoldable pub content_given : ℕ → Device → ℕ → ℕ → Called Device
 content_given limit d command count =
     when command =? reserved_command then refused 5 else
-    when count_refused limit count then refused 9 else
+    when count outside fewest_answered to limit then refused 9 else
     accepted (device_with_content d (record { given = true; command = command; count = count }))
 
 -- ---- send
