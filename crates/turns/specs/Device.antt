@@ -98,7 +98,8 @@ due_after p inside = 0
 
 -- "0x80 plus each that occurred of 0x40 parity, 0x20 overrun, 0x10 framing, 0x08 check"
 abbrev pub error_status : FrameDamage → ℕ
-error_status m = 0x80 + (when m.parity then 0x40 else 0) + (when m.overrun then 0x20 else 0) + (when m.framing then 0x10 else 0) + (when m.check then 0x08 else 0)
+error_status m =
+    0x80 + (when m.parity then 0x40 else 0) + (when m.overrun then 0x20 else 0) + (when m.framing then 0x10 else 0) + (when m.check then 0x08 else 0)
 
 -- "two data bytes, .. then 0"
 abbrev pub error_data : FrameDamage → List ℕ
