@@ -22,7 +22,7 @@ use Rattle.runs.specs.SoundPair.{run01}
 use Rattle.runs.specs.LateSoundPair.{late_run01}
 use Rattle.runs.proofs.Premises.{short, short_taken, ask, turn_on, content, alike, both_reply, counts, two_devices, both_burst}
 use Rattle.runs.proofs.TagRuns.{starts_at, two_starts}
-use Rattle.runs.proofs.LateSound.{late_sound_from_starts, all_now, sound_from_starts}
+use Rattle.runs.proofs.SoundStarts.{late_sound_from_starts, all_now, sound_from_starts}
 
 -- ---- two devices with one polling address
 

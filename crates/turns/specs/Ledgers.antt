@@ -63,7 +63,7 @@ found blank = false
 found (told h) = false
 found (given h put) = seeks_tag h
 
--- how many hosts' answers to it were taken. It is one command 11: all devices are told it in the same tick, and what their ledgers held before ends there (`told_together` and `none_outlives` in crates/runs/proofs/Together.antt; `late_told_together` in crates/runs/proofs/Item14.antt where each master starts at a tick of its own).
+-- how many hosts' answers to it were taken. It is one command 11: all devices are told it in the same tick, and what their ledgers held before ends there (`told_together` and `none_outlives` in crates/runs/proofs/Together.antt).
 unfoldable pub finders : List Ledger → ℕ
 finders [] = 0
 finders (g ∷ gs) = (when found g then 1 else 0) + finders gs
