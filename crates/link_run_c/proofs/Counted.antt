@@ -28,10 +28,10 @@ pub ruleset ends = (refl, ended_refused)
 
 -- ---- the run, with the settings as the code has them
 
-module _ (limit : ℕ) (p : Profile) (retries : ℕ) (s : List Setting) (a b : ℕ) (ticks events : Lent (List ℕ)) where
+module _ (limit : ℕ) (p : Profile) (retries : ℕ) (s : List Setting) (a b : ℕ) (ticks : List ℕ) (events : Lent (List ℕ)) where
   -- how many numbers were given
   abbrev counted : Called Link → ℕ
-  counted c = length (take (length (before events)) (numbers_of (late_steps_by limit a b c (before ticks))))
+  counted c = length (take (length (before events)) (numbers_of (late_steps_by limit a b c ticks)))
 
   count_is : (c : Called Link) → count_of (ran_by c (counted c)) ≡ counted c
   unfolding numbers_of
@@ -42,7 +42,7 @@ module _ (limit : ℕ) (p : Profile) (retries : ℕ) (s : List Setting) (a b : �
   refusal_by (accepted l) n = refl
   refusal_by (refused why) n = refl
 
-  runs_as : (ended : RunEnded) (refusal : Lent ℕ) (r : ℕ) → LateKeeps limit p retries s a b (before ticks) (before events) ended (after events) → EndsAs ended refusal r
+  runs_as : (ended : RunEnded) (refusal : Lent ℕ) (r : ℕ) → LateKeeps limit p retries s a b ticks (before events) ended (after events) → EndsAs ended refusal r
       → RunsAs p retries limit s a b ticks events refusal r
   unfolding late_steps
   runs_as ended refusal r k e = record {
@@ -50,8 +50,8 @@ module _ (limit : ℕ) (p : Profile) (retries : ℕ) (s : List Setting) (a b : �
     refusal_is = e.refusal_is ∙ ap refusal_of k.answered ∙ refusal_by (limited_starts limit p retries s) _;
   }
 
-  pub run_ends : (made : List Setting) (ended : RunEnded) (refusal : Lent ℕ) (r : ℕ) → made ≡ s → LateKeeps limit p retries made a b (before ticks) (before events) ended (after events)
+  pub run_ends : (made : List Setting) (ended : RunEnded) (refusal : Lent ℕ) (r : ℕ) → made ≡ s → LateKeeps limit p retries made a b ticks (before events) ended (after events)
       → EndsAs ended refusal r → RunsAs p retries limit s a b ticks events refusal r
-  run_ends made ended refusal r e k = runs_as ended refusal r (subst (λ (x : List Setting). LateKeeps limit p retries x a b (before ticks) (before events) ended (after events)) e k)
+  run_ends made ended refusal r e k = runs_as ended refusal r (subst (λ (x : List Setting). LateKeeps limit p retries x a b ticks (before events) ended (after events)) e k)
 
 pub ruleset counts = (refl, run_ends)

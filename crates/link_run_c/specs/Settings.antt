@@ -26,8 +26,8 @@ settings_of (p ∷ ps) [] uniques = []
 settings_of (p ∷ ps) (q ∷ qs) [] = []
 settings_of (p ∷ ps) (q ∷ qs) (u ∷ us) = setting_of p q u ∷ settings_of ps qs us
 
-abbrev pub settings_in : Lent (List ℕ) → Lent (List ℕ) → Lent (List ℕ) → List Setting
-settings_in preambles pollings uniques = settings_of (before preambles) (before pollings) (before uniques)
+abbrev pub settings_in : List ℕ → List ℕ → List ℕ → List Setting
+settings_in preambles pollings uniques = settings_of preambles pollings uniques
 
 -- the number of a refused start; 0 where none was refused
 abbrev pub refusal_of : {A : Type 0} → Called A → ℕ
@@ -45,6 +45,6 @@ pub record EndsAs (ended : RunEnded) (refusal : Lent ℕ) (r : ℕ) : Type 0 whe
   pub refusal_is : after refusal ≡ refusal_of (ran_as ended)
 
 -- the numbers of the run with these settings, in which the primary starts in tick a and the secondary in tick b, and why a start was refused
-pub record RunsAs (p : Profile) (retries limit : ℕ) (s : List Setting) (a b : ℕ) (ticks events : Lent (List ℕ)) (refusal : Lent ℕ) (r : ℕ) : Type 0 where
-  pub numbers : RunIs (numbers_of (late_steps limit p retries s a b (before ticks))) (before events) r (after events)
+pub record RunsAs (p : Profile) (retries limit : ℕ) (s : List Setting) (a b : ℕ) (ticks : List ℕ) (events : Lent (List ℕ)) (refusal : Lent ℕ) (r : ℕ) : Type 0 where
+  pub numbers : RunIs (numbers_of (late_steps limit p retries s a b ticks)) (before events) r (after events)
   pub refusal_is : after refusal ≡ refusal_of (limited_starts limit p retries s)

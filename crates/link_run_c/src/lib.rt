@@ -27,7 +27,7 @@ fn six_each(preambles: &[u8], pollings: &[u8], uniques: &[u64])
 {}
 
 fn settings_of(preambles: &[u8; 6], pollings: &[u8; 6], uniques: &[u64; 6]) -> [Setting; 6]
-    ensures { result ≡ settings_in preambles pollings uniques }
+    ensures { result ≡ settings_in preambles.now pollings.now uniques.now }
 {
     six_each(preambles, pollings, uniques);
     let none = setting_of(0, 0, 0);
@@ -77,7 +77,7 @@ pub extern "C" fn nengapiko_run(
     refusal: &mut u32,
 ) -> usize
     ensures { RunsAs (profile_of sto hold rt2 rt1p rt1s) retries limit
-        (settings_in preambles pollings uniques) primary secondary ticks events refusal result }
+        (settings_in preambles.now pollings.now uniques.now) primary secondary ticks.now events refusal result }
 {
     let profile = Profile {
         sto: sto,
