@@ -19,7 +19,7 @@ pub extern "C" fn nengapiko_device_tick(
     put: &[u8],
     results: &mut [u64; 17],
 ) -> u32
-    ensures { DeviceTicks state frame bytes contents (heard_of kind character) (host_call_by call command) put results result }
+    ensures { DeviceTicks state frame bytes contents (heard_of kind character) (host_call_by call command) put.now results result }
 {
     device_c::nengapiko_device_tick(
         state, frame, bytes, contents, kind, character, call, command, put, results,

@@ -21,7 +21,7 @@ pub extern "C" fn nengapiko_master_tick(
     put: &[u8],
     results: &mut [u64; 17],
 ) -> u32
-    ensures { MasterTicks state frame bytes (heard_of kind character) (request_of requests preamble revision long address command) put results result }
+    ensures { MasterTicks state frame bytes (heard_of kind character) (request_of requests preamble revision long address command) put.now results result }
 {
     master_c::nengapiko_master_tick(
         state, frame, bytes, kind, character, requests, preamble, revision, long, address, command,

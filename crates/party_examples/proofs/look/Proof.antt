@@ -4,10 +4,10 @@ use borrow.Author.Rules.{rules}
 use Rattle.party_examples.proofs.look.Statement.{statement}
 use Rattle.party_examples.proofs.look.Tie as tie
 
-abbrev invariant-loop : tie.invariant-loop
+abbrev invariant-loop : tie.invariant-loop-at
 invariant-loop script tick whom at₀ at = at ≤ length script
 
-abbrev decreases-loop : tie.decreases-loop
+abbrev decreases-loop : tie.decreases-loop-at
 decreases-loop script tick whom at₀ at = length script - at
 
 pub look_spec : {M : Type 1} → statement M

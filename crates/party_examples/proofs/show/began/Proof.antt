@@ -3,10 +3,10 @@ use borrow.Author.Rules.{rules}
 use Rattle.party_examples.proofs.show.began.Statement.{statement}
 use Rattle.party_examples.proofs.show.began.Tie as tie
 
-abbrev invariant-loop : tie.invariant-loop
+abbrev invariant-loop : tie.invariant-loop-i
 invariant-loop row tick i₀ i = i ≤ tick
 
-abbrev decreases-loop : tie.decreases-loop
+abbrev decreases-loop : tie.decreases-loop-i
 decreases-loop row tick i₀ i = i
 
 pub began_spec : {M : Type 1} → statement M

@@ -5,10 +5,10 @@ use borrow.Author.Rules.{rules}
 use Rattle.party_examples.proofs.show.put_characters.Statement.{statement}
 use Rattle.party_examples.proofs.show.put_characters.Tie as tie
 
-abbrev invariant-loop : tie.invariant-loop
+abbrev invariant-loop : tie.invariant-loop-i
 invariant-loop row from to out₀ at place₀ i₀ out place i = length out ≡ length out₀
 
-abbrev decreases-loop : tie.decreases-loop
+abbrev decreases-loop : tie.decreases-loop-i
 decreases-loop row from to out₀ at place₀ i₀ out place i = length row - i
 
 pub put_characters_spec : {M : Type 1} → statement M
