@@ -5,7 +5,7 @@ use mathlib.Core.Path.{◌≡◌, refl, sym, ap, subst}
 use mathlib.Core.Bool.{Bool, true, false}
 use mathlib.Core.List.{List, [], ◌∷◌}
 use lib.ListN.{length, drop, get_or}
-use Rattle.base.specs.Choice.{if◌then◌else◌}
+use Rattle.base.specs.Choice.{when◌then◌else◌}
 use Rattle.line.specs.declared.Damage.TheVariants.{Framing}
 use Rattle.line.specs.declared.Heard.TheVariants.{Silence, Character, Damaged}
 use Rattle.line.specs.declared.Profile.{Profile}
@@ -106,7 +106,7 @@ module _ (limit : ℕ) (low : 2 ≤ limit) (high : limit ≤ 255) (p : Profile) 
 
   tail_of : (bit : Bool) (l : Link) (c : Calls) (k : ℕ) (w : List ℕ) (message : Whole) → TailSends p (not bit) bit k w message (other bit l) (waiter bit l) l.devices → l.line ≡ Character (get_or w k 0)
       → TailTick p (not bit) bit k w message (other bit l) (waiter bit l) (other_step bit (link_tick limit l c)) (waiter_step bit (link_tick limit l c)) (link_tick limit l c).for_devices
-  unfolding heard_tick if◌then◌else◌
+  unfolding heard_tick when◌then◌else◌
   tail_of true l c k w message o q =
       subst (λ (s : LinkStep). TailTick p false true k w message l.secondary l.primary s.for_secondary s.for_primary s.for_devices) (sym (tick_is limit l (Character (get_or w k 0)) c q))
       (tail_tick limit low high p v false true k w message l.secondary l.primary l.devices c.for_secondary c.for_primary c.for_devices o)
@@ -116,7 +116,7 @@ module _ (limit : ℕ) (low : 2 ≤ limit) (high : limit ≤ 255) (p : Profile) 
 
   tail_on : (bit : Bool) (s : LinkStep) {k : ℕ} {w : List ℕ} {message : Whole} → TailSends p (not bit) bit k w message (other_step bit s).side (waiter_step bit s).side (Rattle.turns.specs.Link.sides s.for_devices)
       → TailSends p (not bit) bit k w message (other bit (link_after s)) (waiter bit (link_after s)) (link_after s).devices
-  unfolding if◌then◌else◌
+  unfolding when◌then◌else◌
   tail_on true s o = o
   tail_on false s o = o
 
@@ -131,7 +131,7 @@ module _ (limit : ℕ) (low : 2 ≤ limit) (high : limit ≤ 255) (p : Profile) 
   tail_run : (bit : Bool) (n d k : ℕ) (w : List ℕ) (message : Whole) (l : Link) (ticks : List Calls) → LinkKept limit retries l → EachTick NoBurstIn (run limit l ticks) → d ≤ length ticks → l.line ≡ Character (get_or w k 0)
       → TailSends p (not bit) bit k w message (other bit l) (waiter bit l) l.devices → Pending (waiter bit l) → retries + 1 ≤ (other bit l).master.message.attempts + n
       → length w + (n * (limit + 29 + p.rt1s) + p.rt1s + p.sto + (limit + 29) + 2) ≤ d + suc k → BeginsWithin bit (d - 1) (run limit l ticks)
-  unfolding run if◌then◌else◌
+  unfolding run when◌then◌else◌
   tail_run bit n d k w message l [] kept off long q o pend tries r = absurd (omega (arith, tail_place o))
   tail_run bit n d k w message l (c ∷ cs) kept (tick_and f fs) long q o pend tries r =
       go (tail_of bit l c k w message o q) (λ e o' pend' tries'. tail_run bit n (d - 1) (suc k) w message (link_after (link_tick limit l c)) cs (settled_kept (link_kept limit retries low high l c kept)) fs (omega arith) e o' pend' tries' (omega arith))
@@ -245,7 +245,7 @@ module _ (limit : ℕ) (low : 2 ≤ limit) (high : limit ≤ 255) (p : Profile) 
   pub overlap_run : (k : ℕ) (w : List ℕ) (message : Whole) (w' : List ℕ) (message' : Whole) (l : Link) (ticks : List Calls) → LinkKept limit retries l → l.line ≡ Damaged 0x00 Framing
       → BothSpeak p k w message w' message' l.primary l.secondary l.devices → EachTick NoBurstIn (run limit l ticks)
       → Overlapping limit p retries k (run limit l ticks)
-  unfolding run heard_tick if◌then◌else◌
+  unfolding run heard_tick when◌then◌else◌
   overlap_run k w message w' message' l [] kept q o off = has_ended behind_none
   overlap_run k w message w' message' l (c ∷ cs) kept q o (tick_and f fs) =
       go (subst (λ (s : LinkStep). BothTick p k w message w' message' l.primary l.secondary s.for_primary s.for_secondary s.for_devices) (sym (tick_is limit l (Damaged 0x00 Framing) c q))

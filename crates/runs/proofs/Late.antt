@@ -5,7 +5,7 @@ use mathlib.Core.Path.{◌≡◌, refl, sym, ap, subst, ◌∙◌}
 use mathlib.Core.Bool.{Bool, true, false}
 use mathlib.Core.List.{List, [], ◌∷◌}
 use lib.ListN.{get_or}
-use Rattle.base.specs.Choice.{if◌then◌else◌}
+use Rattle.base.specs.Choice.{when◌then◌else◌}
 use Rattle.base.proofs.Choices.{if_is_true, if_is_false}
 use Rattle.line.specs.Reader.{taken}
 use Rattle.line.specs.declared.Event.{Event}
@@ -121,7 +121,7 @@ module _ (limit : ℕ) (low : 2 ≤ limit) (high : limit ≤ 255) (p : Profile) 
   came bit s ss told one e x rec = yet s ss (one_sender s (one_plain one)) told (no_part bit s e (passes_unheard (one_plain one) x.passes)) (rec (both_on p v bit (link_after s) one (after_other bit s (CameIn p (not bit)) x)))
 
   other_passed : (bit : Bool) (l : Link) (c : Calls) {ch : ℕ} → l.line ≡ Character ch → MasterPasses p (not bit) nobody (other bit l) → PassesOn p (not bit) nobody (other bit l) (other_step bit (link_tick limit l c))
-  unfolding link_tick if◌then◌else◌
+  unfolding link_tick when◌then◌else◌
   other_passed true l c {ch} q x = subst (λ (z : Heard). PassesOn p false nobody l.secondary (master_tick limit l.secondary z c.for_secondary)) (sym q) (passes_on limit high p false nobody l.secondary ch c.for_secondary x)
   other_passed false l c {ch} q x = subst (λ (z : Heard). PassesOn p true nobody l.primary (master_tick limit l.primary z c.for_primary)) (sym q) (passes_on limit high p true nobody l.primary ch c.for_primary x)
 
@@ -203,7 +203,7 @@ module _ (limit : ℕ) (low : 2 ≤ limit) (high : limit ≤ 255) (p : Profile) 
 
   primary_on : (b : ℕ) (l : Link) (ticks : List Calls) {n : ℕ} → LinkKept limit retries l → OneOn p true l → MasterStarts p false retries l.secondary → EachTick NoBurstIn (late_run limit 0 b l ticks)
       → LateTicks limit p retries 0 b n (late_run limit 0 b l ticks)
-  unfolding late_run late_tick if◌then◌else◌
+  unfolding late_run late_tick when◌then◌else◌
   primary_on b l [] kept h m off = ended
   primary_on zero l (c ∷ cs) kept h m (tick_and f fs) =
       let s = late_tick limit 0 0 l c in
@@ -216,7 +216,7 @@ module _ (limit : ℕ) (low : 2 ≤ limit) (high : limit ≤ 255) (p : Profile) 
 
   secondary_on : (a : ℕ) (l : Link) (ticks : List Calls) {n : ℕ} → LinkKept limit retries l → OneOn p false l → MasterStarts p true retries l.primary → EachTick NoBurstIn (late_run limit a 0 l ticks)
       → LateTicks limit p retries a 0 n (late_run limit a 0 l ticks)
-  unfolding late_run late_tick if◌then◌else◌
+  unfolding late_run late_tick when◌then◌else◌
   secondary_on a l [] kept h m off = ended
   secondary_on zero l (c ∷ cs) kept h m (tick_and f fs) =
       let s = late_tick limit 0 0 l c in
@@ -235,7 +235,7 @@ module _ (limit : ℕ) (low : 2 ≤ limit) (high : limit ≤ 255) (p : Profile) 
   pub every_late_run : (a b : ℕ) (l : Link) (ticks : List Calls) {n : ℕ} → LinkKept limit retries l → MasterStarts p true retries l.primary → MasterStarts p false retries l.secondary → Distinct l.devices
       → NoneOn limit p l.line l.devices → ToldNext limit l → EachTick NoBurstIn (late_run limit a b l ticks)
       → LateTicks limit p retries a b n (late_run limit a b l ticks)
-  unfolding late_run late_tick if◌then◌else◌
+  unfolding late_run late_tick when◌then◌else◌
   every_late_run a b l [] kept sa sb d z t off = ended
   every_late_run (suc a) (suc b) l (c ∷ cs) kept sa sb d z t (tick_and f fs) =
       let s = late_tick limit (suc a) (suc b) l c in

@@ -3,7 +3,7 @@ use Prim.Native.Nat.{ℕ}
 use mathlib.Core.Path.{◌≡◌, refl, sym, ap, ◌∙◌}
 use mathlib.Core.Bool.{Bool, true, false}
 use mathlib.Core.List.{List, [], ◌∷◌}
-use Rattle.base.specs.Choice.{if◌then◌else◌}
+use Rattle.base.specs.Choice.{when◌then◌else◌}
 use Rattle.base.proofs.Choices.{if_is_false}
 use Rattle.line.specs.Reader.{idle, silent_inside, inside_frame, taken, at_idle}
 use Rattle.line.specs.Reader as R
@@ -45,7 +45,7 @@ module _ (m : Master) (bytes : List ℕ) where
 
   master_takes_lem : (heard : Heard) → OutsideIn heard m.receiver → master_takes m heard bytes ≡ master_takes01 m heard bytes
   unfolding master_takes master_takes01
-  master_takes_lem heard o = ap (λ (t : MasterTaken). if m.deaf then M.tells m MasterTold.Nothing Nothing else t) (hears_same heard o)
+  master_takes_lem heard o = ap (λ (t : MasterTaken). when m.deaf then M.tells m MasterTold.Nothing Nothing else t) (hears_same heard o)
 
 module _ (d : Device) where
   silent_device : Outside d.receiver → D.on_heard d Silence ≡ device_silence01 d
@@ -58,7 +58,7 @@ module _ (d : Device) where
 
   device_takes_lem : (heard : Heard) → OutsideIn heard d.receiver → device_takes d heard ≡ device_takes01 d heard
   unfolding device_takes device_takes01
-  device_takes_lem heard o = ap (λ (t : DeviceTaken). if d.deaf then D.tells d DeviceTold.Nothing Nothing else t) (device_hears_same heard o)
+  device_takes_lem heard o = ap (λ (t : DeviceTaken). when d.deaf then D.tells d DeviceTold.Nothing Nothing else t) (device_hears_same heard o)
 
 -- ---- ticks
 
@@ -105,13 +105,13 @@ abbrev MasterReads : Taken → MasterTaken → Type 0
 MasterReads r t = (t.master.receiver ≡ r.receiver) × (t.event ≡ r.event)
 
 pub master_reads_01 : (m : Master) → MasterReads (silence01 m.receiver) (master_silence01 m)
-unfolding if◌then◌else◌
+unfolding when◌then◌else◌
 master_reads_01 m = go (inside_frame m.receiver.place)
   where
     behind : Master
     behind = M.master_with m idle m.burst m.noted m.timer m.message
 
-    go : (inside : Bool) → MasterReads (if inside then R.tells idle Broken else R.tells idle Nothing) (if inside then M.counts (after_break m idle Broken).master (after_break m idle Broken).told Broken else M.counts behind MasterTold.Nothing Nothing)
+    go : (inside : Bool) → MasterReads (when inside then R.tells idle Broken else R.tells idle Nothing) (when inside then M.counts (after_break m idle Broken).master (after_break m idle Broken).told Broken else M.counts behind MasterTold.Nothing Nothing)
     go true = counts_reads (after_break m idle Broken).master (after_break m idle Broken).told Broken
     go false = counts_reads behind MasterTold.Nothing Nothing
 
@@ -119,10 +119,10 @@ abbrev DeviceReads : Taken → DeviceTaken → Type 0
 DeviceReads r t = (t.device.receiver ≡ r.receiver) × (t.event ≡ r.event)
 
 pub device_reads_01 : (d : Device) → DeviceReads (silence01 d.receiver) (device_silence01 d)
-unfolding if◌then◌else◌
+unfolding when◌then◌else◌
 device_reads_01 d = go (inside_frame d.receiver.place)
   where
-    go : (inside : Bool) → DeviceReads (if inside then R.tells idle Broken else R.tells idle Nothing) (if inside then D.counts d idle (D.due_after d.profile (D.ended_by Broken)) Broken else D.counts d idle d.due Nothing)
+    go : (inside : Bool) → DeviceReads (when inside then R.tells idle Broken else R.tells idle Nothing) (when inside then D.counts d idle (D.due_after d.profile (D.ended_by Broken)) Broken else D.counts d idle d.due Nothing)
     go true = (refl, refl)
     go false = (refl, refl)
 
@@ -132,12 +132,12 @@ pub in_preamble : Master
 in_preamble = (master_takes (master_takes (master_sends (fresh_master fsk_profile true 3) []).master Silence []).master (Character 0xFF) []).master
 
 pub rules_differ : ((master_takes01 in_preamble Silence []).event ≡ Broken) × ((master_takes in_preamble Silence []).event ≡ Nothing)
-unfolding in_preamble master_takes master_takes01 master_sends taken silent_inside at_idle if◌then◌else◌
+unfolding in_preamble master_takes master_takes01 master_sends taken silent_inside at_idle when◌then◌else◌
 rules_differ = (refl, refl)
 
 pub device_in_preamble : Device
 device_in_preamble = (device_takes (device_takes (device_sends (fresh_device fsk_profile 5 0 2) []).device Silence).device (Character 0xFF)).device
 
 pub device_rules_differ : ((device_takes01 device_in_preamble Silence).event ≡ Broken) × ((device_takes device_in_preamble Silence).event ≡ Nothing)
-unfolding device_in_preamble device_takes device_takes01 device_sends taken silent_inside at_idle if◌then◌else◌
+unfolding device_in_preamble device_takes device_takes01 device_sends taken silent_inside at_idle when◌then◌else◌
 device_rules_differ = (refl, refl)

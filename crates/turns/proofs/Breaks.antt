@@ -6,7 +6,7 @@ use mathlib.Core.Bool.{Bool, true, false}
 use mathlib.Core.List.{List}
 use mathlib.Core.Logic.{◌⊎◌, inl, inr}
 use borrow.Author.Tests.{le-leb, ne_eqb}
-use Rattle.base.specs.Choice.{if◌then◌else◌, ◌=?◌, ◌≤?◌}
+use Rattle.base.specs.Choice.{when◌then◌else◌, ◌=?◌, ◌≤?◌}
 use Rattle.base.proofs.Choices.{if_is_true, if_is_false}
 use Rattle.line.specs.Gaps.{IsCharacter, is_sound, is_with_damage}
 use Rattle.line.specs.Reader.{idle, gapped, taken}
@@ -190,10 +190,10 @@ retries_now m (retry_left n e b r) =
     ∙ ap (λ (z : Ending). z.message.stage) (if_is_false (is_broadcast m.message.header) _ _ b ∙ if_is_true (m.message.attempts ≤? m.retries) _ _ (le-leb m.message.attempts m.retries r))
 
 break_left : (m : Master) → Left (behind_break m) (after_break m idle Broken).master
-unfolding if◌then◌else◌
+unfolding when◌then◌else◌
 break_left m = go m.burst refl
   where
-    go : (b : Bool) → m.burst ≡ b → Left (if b then quiet_time m.profile m.primary else own_rt1 m.profile m.primary) (M.master_with m idle m.burst m.noted (M.timer_after m.profile m.primary M.broken b) (if_awaiting m.message.stage m.message (at_break m)).message)
+    go : (b : Bool) → m.burst ≡ b → Left (when b then quiet_time m.profile m.primary else own_rt1 m.profile m.primary) (M.master_with m idle m.burst m.noted (M.timer_after m.profile m.primary M.broken b) (if_awaiting m.message.stage m.message (at_break m)).message)
     go true e = set e refl refl refl
     go false e = clear e refl refl
 

@@ -8,7 +8,7 @@ use mathlib.Core.Logic.{◌⊎◌, inl, inr}
 use lib.ListN.{length}
 use borrow.Author.Tests.{lt-ltb}
 use Rattle.base.specs.Refusal.{Called, accepted, refused}
-use Rattle.base.specs.Choice.{if◌then◌else◌, ◌<?◌, ◌=?◌, ◌outside◌to◌}
+use Rattle.base.specs.Choice.{when◌then◌else◌, ◌<?◌, ◌=?◌, ◌outside◌to◌}
 use Rattle.base.specs.Store.{stored}
 use Rattle.base.proofs.Choices.{true_false, if_is_true, if_is_false}
 use Rattle.frame.specs.Address.{byte_at, address_above}
@@ -442,7 +442,7 @@ module _ (limit : ℕ) (y : MasterSide) (within : Within y.master.receiver) (l :
   as_if_no_gap : (next : Heard) (call : MasterCall) → IsCharacter next → master_tick limit gap_side next call ≡ master_tick limit y next call
   unfolding master_tick gap_side
   as_if_no_gap next call n =
-      let same : master_data gap_side next ≡ master_data y next = ap (λ (b : List ℕ). if y.master.deaf then y.bytes else b) (data_as_if y.master.receiver next y.bytes) in
+      let same : master_data gap_side next ≡ master_data y next = ap (λ (b : List ℕ). when y.master.deaf then y.bytes else b) (data_as_if y.master.receiver next y.bytes) in
       (λ i. master_calls limit (master_takes (master_gapped y.master) next (same i)) call y.frame (same i))
       ∙ ap (λ (u : MasterTaken). master_calls limit u call y.frame (master_data y next)) (master_as_if y.master next (master_data y next) l.hears n)
 
@@ -637,7 +637,7 @@ module _ (limit : ℕ) (y : DeviceSide) (within : Within y.device.receiver) (hea
   unfolding device_tick gap_device
   device_as_if_no_gap next call n =
       let d = y.device in
-      let same : device_data gap_device next ≡ device_data y next = ap (λ (b : List ℕ). if d.deaf then y.bytes else b) (data_as_if d.receiver next y.bytes) in
+      let same : device_data gap_device next ≡ device_data y next = ap (λ (b : List ℕ). when d.deaf then y.bytes else b) (data_as_if d.receiver next y.bytes) in
       let takes = device_as_if d next hears n in
       (λ i. device_calls limit (takes i) call (error_frame (device_gapped d) (takes i).event y.frame) (same i) y.contents)
       ∙ ap (λ (f : List ℕ). device_calls limit (device_takes d next) call f (device_data y next) y.contents) (error_as_if d (device_takes d next).event y.frame)

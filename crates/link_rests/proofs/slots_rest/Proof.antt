@@ -4,10 +4,10 @@ use borrow.Author.Rules.{rules}
 use Rattle.link_rests.proofs.slots_rest.Statement.{statement}
 use Rattle.link_rests.proofs.slots_rest.Tie as tie
 
-abbrev invariant-loop : tie.invariant-loop
+abbrev invariant-loop : tie.invariant-loop-i
 invariant-loop slots rest₀ i₀ rest i = Asked slots rest i
 
-abbrev decreases-loop : tie.decreases-loop
+abbrev decreases-loop : tie.decreases-loop-i
 decreases-loop slots rest₀ i₀ rest i = 6 - i
 
 pub slots_rest_spec : {M : Type 1} → statement M

@@ -5,10 +5,10 @@ use Rattle.link_rests.proofs.Parts.{Counting, counting}
 use Rattle.link_rests.proofs.timer_rested.Statement.{statement}
 use Rattle.link_rests.proofs.timer_rested.Tie as tie
 
-abbrev invariant-loop : tie.invariant-loop
+abbrev invariant-loop : tie.invariant-loop-i
 invariant-loop p ticks t₀ i₀ t i = Counting p ticks t₀ t i
 
-abbrev decreases-loop : tie.decreases-loop
+abbrev decreases-loop : tie.decreases-loop-i
 decreases-loop p ticks t₀ i₀ t i = ticks - i
 
 pub timer_rested_spec : {M : Type 1} → statement M

@@ -7,10 +7,10 @@ use Rattle.link_run.proofs.Going.{Going, goings}
 use Rattle.link_run.proofs.run_from.Statement.{statement}
 use Rattle.link_run.proofs.run_from.Tie as tie
 
-abbrev invariant-loop : tie.invariant-loop
+abbrev invariant-loop : tie.invariant-loop-i
 invariant-loop limit ticks events₀ frames₀ bytes₀ contents₀ sent₀ l₀ s₀ at₀ i₀ events frames bytes contents sent l s at i = Going limit (heres l₀.devices) (late_numbers limit l₀ s₀ (rows_of frames₀ bytes₀ contents₀) ticks) ticks events₀ l s (rows_of frames bytes contents) events at i
 
-abbrev decreases-loop : tie.decreases-loop
+abbrev decreases-loop : tie.decreases-loop-i
 decreases-loop limit ticks events₀ frames₀ bytes₀ contents₀ sent₀ l₀ s₀ at₀ i₀ events frames bytes contents sent l s at i = length events₀ - i
 
 pub run_from_spec : {M : Type 1} → statement M

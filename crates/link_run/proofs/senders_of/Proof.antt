@@ -4,10 +4,10 @@ use Rattle.link_run.proofs.Steps.{Counting, counting}
 use Rattle.link_run.proofs.senders_of.Statement.{statement}
 use Rattle.link_run.proofs.senders_of.Tie as tie
 
-abbrev invariant-loop : tie.invariant-loop
+abbrev invariant-loop : tie.invariant-loop-next
 invariant-loop row senders₀ next₀ senders next = Counting row senders next
 
-abbrev decreases-loop : tie.decreases-loop
+abbrev decreases-loop : tie.decreases-loop-next
 decreases-loop row senders₀ next₀ senders next = 8 - next
 
 pub senders_of_spec : {M : Type 1} → statement M

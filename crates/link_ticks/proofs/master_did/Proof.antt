@@ -4,11 +4,11 @@ use Rattle.link_ticks.proofs.master_did.Statement.{statement}
 use Rattle.link_ticks.proofs.master_did.Tie as tie
 
 -- src/lib.rt:114:15
-master_told_kept_requires : tie.Need-master-told-kept-requires
+master_told_kept_requires : tie.Need-master_told_kept-requires
 master_told_kept_requires c κs = search rules
 
 -- src/lib.rt:115:17
-answer_kept_requires : tie.Need-answer-kept-requires
+answer_kept_requires : tie.Need-answer_kept-requires
 answer_kept_requires c κs = search rules
 
 -- src/lib.rt:108:1
