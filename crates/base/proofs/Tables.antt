@@ -5,24 +5,24 @@ use native.Mathlib.Decide.{dec_lt}
 use mathlib.Core.Path.{◌≡◌, refl, sym, ap}
 use mathlib.Core.Bool.{Bool, true, false}
 use mathlib.Core.List.{List, [], ◌∷◌}
-use Rattle.base.specs.Choice.{if◌then◌else◌, ◌=?◌}
+use Rattle.base.specs.Choice.{when◌then◌else◌, ◌=?◌}
 use Rattle.base.proofs.Choices.{true_false, if_unequal}
 
 -- both tests of a chain hold where the chain does
-pub chain_first : (s t : Bool) → (if s then t else false) ≡ true → s ≡ true
-unfolding if◌then◌else◌
+pub chain_first : (s t : Bool) → (when s then t else false) ≡ true → s ≡ true
+unfolding when◌then◌else◌
 chain_first true t e = refl
 chain_first false t e = e
 
-pub chain_second : (s t : Bool) → (if s then t else false) ≡ true → t ≡ true
-unfolding if◌then◌else◌
+pub chain_second : (s t : Bool) → (when s then t else false) ≡ true → t ≡ true
+unfolding when◌then◌else◌
 chain_second true t e = e
 chain_second false t e = absurd (true_false (sym e))
 
 -- whether a test holds of every number below n
 unfoldable pub holds_below : ℕ → (ℕ → Bool) → Bool
 holds_below zero test = true
-holds_below (suc n) test = if test n then holds_below n test else false
+holds_below (suc n) test = when test n then holds_below n test else false
 
 pub holds_at : (n : ℕ) (test : ℕ → Bool) → holds_below n test ≡ true → (k : ℕ) → k < n → test k ≡ true
 unfolding holds_below
@@ -36,7 +36,7 @@ holds_at (suc n) test e k h = go (dec_lt k n) (λ l. holds_at n test (chain_seco
 -- whether a number is one of some keys
 abbrev pub among : List ℕ → ℕ → Bool
 among [] n = false
-among (k ∷ keys) n = if n =? k then true else among keys n
+among (k ∷ keys) n = when n =? k then true else among keys n
 
 -- n is none of the keys, as the last arm of a `match` is told it: a tuple nested to the left, with R innermost
 abbrev pub None : Type 0 → List ℕ → ℕ → Type 0

@@ -2,7 +2,7 @@
 #![tactic(auto)]
 
 ghost use Rattle.std.specs.Prelude.{◌≡◌, false};
-ghost use Rattle.base.specs.Choice.{if◌then◌else◌, ◌outside◌to◌};
+ghost use Rattle.base.specs.Choice.{when◌then◌else◌, ◌outside◌to◌};
 ghost use Rattle.base.specs.Refusal.{number};
 
 // Why a call is refused. Each has a number in document 01's table; the last ones are document 02's.
@@ -84,7 +84,7 @@ pub fn outside(x: usize, low: usize, high: usize) -> bool
 
 // Whether both hold.
 pub fn both(a: bool, b: bool) -> bool
-    ensures { result ≡ (if a then b else false) }
+    ensures { result ≡ (when a then b else false) }
 {
     if a {
         return b;

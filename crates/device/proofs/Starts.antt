@@ -4,7 +4,7 @@ use native.Mathlib.Omega.{arith}
 use mathlib.Core.Bool.{Bool, true, false}
 use mathlib.Core.Path.{◌≡◌, refl, sym, ap, ◌∙◌}
 use Rattle.base.specs.Refusal.{Called}
-use Rattle.base.specs.Choice.{if◌then◌else◌, ◌<?◌, ◌outside◌to◌}
+use Rattle.base.specs.Choice.{when◌then◌else◌, ◌<?◌, ◌outside◌to◌}
 use Rattle.base.proofs.Choices.{if_below, if_not_below, if_true, if_false, inside_high}
 use Rattle.frame.specs.Address.{largest_address}
 use Rattle.line.specs.Reader.{passing, no_header}
@@ -51,20 +51,20 @@ fresh_same p preamble polling unique r e = ap (λ (x : Receiver). record {
 
 -- the addresses of a start
 module _ (n : ℕ) (x a b : Called Device) where
-  pub polling_above : 63 < n → x ≡ a → x ≡ (if largest_address false <? n then a else b)
-  unfolding if◌then◌else◌
+  pub polling_above : 63 < n → x ≡ a → x ≡ (when largest_address false <? n then a else b)
+  unfolding when◌then◌else◌
   polling_above h p = if_below 63 n x a b h p
 
-  pub polling_within : n ≤ 63 → x ≡ b → x ≡ (if largest_address false <? n then a else b)
-  unfolding if◌then◌else◌
+  pub polling_within : n ≤ 63 → x ≡ b → x ≡ (when largest_address false <? n then a else b)
+  unfolding when◌then◌else◌
   polling_within h p = if_not_below 63 n x a b h p
 
-  pub unique_outside : (r : Bool) → r ≡ (n outside 1 to 274877906943) → r ≡ true → x ≡ a → x ≡ (if n outside 1 to largest_address true then a else b)
-  unfolding if◌then◌else◌
+  pub unique_outside : (r : Bool) → r ≡ (n outside 1 to 274877906943) → r ≡ true → x ≡ a → x ≡ (when n outside 1 to largest_address true then a else b)
+  unfolding when◌then◌else◌
   unique_outside r q e p = if_true (n outside 1 to 274877906943) x a b (sym q ∙ e) p
 
-  pub unique_within : (r : Bool) → r ≡ (n outside 1 to 274877906943) → r ≡ false → x ≡ b → x ≡ (if n outside 1 to largest_address true then a else b)
-  unfolding if◌then◌else◌
+  pub unique_within : (r : Bool) → r ≡ (n outside 1 to 274877906943) → r ≡ false → x ≡ b → x ≡ (when n outside 1 to largest_address true then a else b)
+  unfolding when◌then◌else◌
   unique_within r q e p = if_false (n outside 1 to 274877906943) x a b (sym q ∙ e) p
 
 pub preamble_small : (n : ℕ) (r : Bool) → r ≡ (n outside 5 to 20) → r ≡ false → n < 256

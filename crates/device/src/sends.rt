@@ -1,6 +1,6 @@
 // What a device sends from its lent frame buffer, in which a BACK that begins already stands. The functions follow the definitions of crates/turns/specs/Device.antt, in their order.
 ghost use Rattle.std.specs.Prelude.{◌≡◌, true, false};
-ghost use Rattle.base.specs.Choice.{if◌then◌else◌};
+ghost use Rattle.base.specs.Choice.{when◌then◌else◌};
 ghost use Rattle.line.specs.Reader.{passing};
 ghost use Rattle.turns.specs.Device.{wished, sends, first_for, behind_ack, answers_from, bursts_from, back_length, sends_by, device_sends};
 ghost use Rattle.device.specs.Promises.{device_behind};
@@ -150,7 +150,7 @@ fn back_length(d: Device) -> u16
 
 // The other master.
 fn other(primary: bool) -> bool
-    ensures { result ≡ (if primary then false else true) }
+    ensures { result ≡ (when primary then false else true) }
 {
     if primary {
         return false;

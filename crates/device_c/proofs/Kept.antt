@@ -2,7 +2,7 @@
 use Prim.Native.Nat.{ℕ, ◌<◌, ◌^◌}
 use mathlib.Core.Path.{◌≡◌, refl, sym, subst}
 use native.Mathlib.Omega.{arith}
-use Rattle.base.specs.Choice.{if◌then◌else◌}
+use Rattle.base.specs.Choice.{when◌then◌else◌}
 use Rattle.turns.specs.declared.Device.{Device}
 use Rattle.turns.specs.declared.Turn.{Turn}
 use Rattle.turns.specs.declared.Turn.TheVariants.{Listens, Asked, AnswerWaits, Begins, Answers, Follows, Bursts}
@@ -13,7 +13,7 @@ use Rattle.device_c.specs.Words.{turn_word, turn_by, turn_of, wish_word, wish_of
 use Rattle.device_c.specs.Fits.{TurnFits, DeviceFits}
 
 turn_kept : (t : Turn) → TurnFits t → turn_of (turn_word t) ≡ t
-unfolding if◌then◌else◌
+unfolding when◌then◌else◌
 turn_kept Listens f = refl
 turn_kept (Asked n) f = case_kept turn_by 16 1 n (omega arith) f
 turn_kept AnswerWaits f = refl
@@ -23,7 +23,7 @@ turn_kept Follows f = refl
 turn_kept (Bursts n) f = case_kept turn_by 16 6 n (omega arith) f
 
 wish_kept : (w : Wish) → wish_of (wish_word w) ≡ w
-unfolding if◌then◌else◌
+unfolding when◌then◌else◌
 wish_kept Same = refl
 wish_kept On = refl
 wish_kept Off = refl

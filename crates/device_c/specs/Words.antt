@@ -1,7 +1,7 @@
 -- How the code stands for what is to be believed.
 -- A device and its data limit as 41 words of 64 bits, one for each field, in four parts: what it was started with, its reader, its answer, and its burst mode with the data limit. Whatever words a program in C lends, they stand for some device; proofs/Kept.antt says that `unpacked (packed limit d)` is d, for every device whose numbers are within their types (`DeviceFits` in specs/Fits.antt). That is every device that the code holds: its fields have these types.
 use Rattle.std.specs.Prelude.{ℕ, ◌+◌, ◌*◌, ◌/◌, ◌%◌, ◌^◌, List, [], ◌∷◌, ◌++◌}
-use Rattle.base.specs.Choice.{if◌then◌else◌, ◌=?◌}
+use Rattle.base.specs.Choice.{when◌then◌else◌, ◌=?◌}
 use Rattle.line.specs.declared.Profile.{Profile}
 use Rattle.line.specs.declared.Receiver.{Receiver}
 use Rattle.turns.specs.declared.Content.{Content}
@@ -29,12 +29,12 @@ turn_word (Bursts n) = 6 + 16 * n
 
 abbrev pub turn_by : ℕ → ℕ → Turn
 turn_by number n =
-    if number =? 1 then Asked n else
-    if number =? 2 then AnswerWaits else
-    if number =? 3 then Begins else
-    if number =? 4 then Answers n else
-    if number =? 5 then Follows else
-    if number =? 6 then Bursts n else
+    when number =? 1 then Asked n else
+    when number =? 2 then AnswerWaits else
+    when number =? 3 then Begins else
+    when number =? 4 then Answers n else
+    when number =? 5 then Follows else
+    when number =? 6 then Bursts n else
     Listens
 
 abbrev pub turn_of : ℕ → Turn
@@ -49,8 +49,8 @@ wish_word Off = 2
 
 abbrev pub wish_of : ℕ → Wish
 wish_of word =
-    if word =? 1 then On else
-    if word =? 2 then Off else
+    when word =? 1 then On else
+    when word =? 2 then Off else
     Same
 
 -- ---- the four parts

@@ -2,7 +2,7 @@
 #![tactic(auto)]
 
 ghost use Rattle.std.specs.Prelude.{◌≡◌, false};
-ghost use Rattle.base.specs.Choice.{if◌then◌else◌};
+ghost use Rattle.base.specs.Choice.{when◌then◌else◌};
 ghost use Rattle.line.specs.Reader.{gapped, taken};
 ghost use Rattle.line.specs.declared.Heard.TheVariants.{Silence};
 ghost use Rattle.turns.specs.Device.{device_with, is_own, may_answer, ended_by, due_after, has_error, tells, listens_on, after_request, after_frame, after_damage, after_character, on_character, waited, back_due, next_turn, counts, broken_due, on_silence};
@@ -110,7 +110,7 @@ pub fn has_error(d: Device, w: Whole, m: FrameDamage) -> bool
 }
 
 fn has_own_address(d: Device, h: Header, m: FrameDamage) -> bool
-    ensures { result ≡ (if m.address then false else is_own d h) }
+    ensures { result ≡ (when m.address then false else is_own d h) }
 {
     if m.address {
         return false;

@@ -1,7 +1,7 @@
 -- How the code stands for what is to be believed.
 -- A tick of a device, by `device_tick` of crates/turns/specs/Link.antt.
 use Rattle.std.specs.Prelude.{ℕ, List, ◌≡◌}
-use Rattle.base.specs.Choice.{if◌then◌else◌, ◌=?◌}
+use Rattle.base.specs.Choice.{when◌then◌else◌, ◌=?◌}
 use Rattle.base.specs.Refusal.{number}
 use Rattle.line.specs.declared.Event.{Event}
 use Rattle.line.specs.declared.Heard.{Heard}
@@ -20,10 +20,10 @@ use Rattle.device_tick.specs.declared.DeviceTicked.{DeviceTicked}
 -- a host's call by its number, as programs in C, recordings and lists of ticks have it: 1 is an answer, 2 one that turns burst on, 3 one that turns it off, 4 burst content of this command, any other number nothing
 abbrev pub host_call_by : ℕ → ℕ → DeviceCall
 host_call_by number command =
-    if number =? 1 then DeviceCall.Answers Same else
-    if number =? 2 then DeviceCall.Answers On else
-    if number =? 3 then DeviceCall.Answers Off else
-    if number =? 4 then DeviceCall.Content command else
+    when number =? 1 then DeviceCall.Answers Same else
+    when number =? 2 then DeviceCall.Answers On else
+    when number =? 3 then DeviceCall.Answers Off else
+    when number =? 4 then DeviceCall.Content command else
     DeviceCall.Nothing
 
 -- the call, with the data that are lent beside it

@@ -4,7 +4,7 @@ use native.Mathlib.Omega.{arith}
 use mathlib.Core.Path.{◌≡◌, refl, sym, ap, ◌∙◌}
 use mathlib.Core.Bool.{Bool, true, false}
 use mathlib.Core.List.{List, [], ◌∷◌}
-use Rattle.base.specs.Choice.{if◌then◌else◌, ◌=?◌}
+use Rattle.base.specs.Choice.{when◌then◌else◌, ◌=?◌}
 use Rattle.base.proofs.Choices.{true_false}
 use Rattle.base.proofs.Tables.{holds_below, holds_at, among, None, not_among}
 use Rattle.frame.specs.Delimiter.{is_type, delimiter_of, delimiter_byte}
@@ -28,14 +28,14 @@ is_not_lem Not e = refl
 is_not_lem (Is frame long expansion) e = absurd (true_false (sym e))
 
 listed : ℕ → Bool
-listed n = if among delimiters n then true else is_not (delimiter_of n)
+listed n = when among delimiters n then true else is_not (delimiter_of n)
 
 all_listed : holds_below 256 listed ≡ true
-unfolding holds_below listed is_not delimiter_of if◌then◌else◌
+unfolding holds_below listed is_not delimiter_of when◌then◌else◌
 all_listed = refl
 
 -- a byte that is none of them is no delimiter
 pub other_byte : (n : ℕ) → n < 256 → None (Unit {0}) delimiters n → Not ≡ delimiter_of n
-unfolding listed if◌then◌else◌
+unfolding listed when◌then◌else◌
 other_byte n h unlisted =
     is_not_lem (delimiter_of n) (rw (sym (not_among delimiters n unlisted)) at (holds_at 256 listed all_listed n h))

@@ -8,7 +8,7 @@ use mathlib.Core.List.{List, [], ◌∷◌, ◌++◌, append_assoc}
 use lib.ListN.{length, replicate, take, drop, length-append, take-append-drop, get_or-append}
 use lib.Seq.{length-take-le, take_at, drop_at, get_or-drop}
 use borrow.Author.Tests.{leb-false, ltb-true, ltb-false, eq-eqb, eqb-false}
-use Rattle.base.specs.Choice.{if◌then◌else◌, ◌<?◌, ◌≤?◌, ◌=?◌}
+use Rattle.base.specs.Choice.{when◌then◌else◌, ◌<?◌, ◌≤?◌, ◌=?◌}
 use Rattle.base.specs.Refusal.{Called, accepted, refused}
 use Rattle.base.proofs.Choices.{true_false, if_true, if_false, if_above, if_below, if_not_below, if_unequal, if_is_true, if_is_false, went_then, went_else}
 use Rattle.frame.specs.Delimiter.{is_type, delimiter_of}
@@ -60,10 +60,10 @@ module _ (preamble : ℕ) (t rest : List ℕ) (why : ℕ) (settled : why ≡ 13 
       m = place + 3 + count
 
       ended : List ℕ → Called Found
-      ended l = if exclusive_or (take m l) =? 0 then accepted (found_at preamble l frame long expansion place count) else refused 14
+      ended l = when exclusive_or (take m l) =? 0 then accepted (found_at preamble l frame long expansion place count) else refused 14
 
       go : (few : Bool) → too_few frame count ≡ few → place + 2 + count < length t
-          → (if too_few frame count then refused 14 else ended t) ≡ refused why → refused why ≡ (if too_few frame count then refused 14 else ended (t ++ rest))
+          → (when too_few frame count then refused 14 else ended t) ≡ refused why → refused why ≡ (when too_few frame count then refused 14 else ended (t ++ rest))
       go true few inside q = if_true (too_few frame count) (refused why) _ _ few (sym q ∙ if_is_true (too_few frame count) _ _ few)
       go false few inside q =
           let r = went_else (exclusive_or (take m t) =? 0) _ _ (refused why) (sym (if_is_false (too_few frame count) _ _ few) ∙ q) (not_accepted (found_at preamble t frame long expansion place count)) in
@@ -99,14 +99,14 @@ module _ (preamble : ℕ) (t rest : List ℕ) (why : ℕ) (settled : why ≡ 13 
 
 -- preambles that another byte ends are as many whatever follows
 preambles_kept : (bytes rest : List ℕ) → (preambles bytes ≡ length bytes → ⊥) → preambles (bytes ++ rest) ≡ preambles bytes
-unfolding preambles if◌then◌else◌
+unfolding preambles when◌then◌else◌
 preambles_kept [] rest f = absurd (f refl)
 preambles_kept (b ∷ bytes) rest f = go (b =? 0xFF) refl (preambles_kept bytes rest)
   where
     go : (t : Bool) → (b =? 0xFF) ≡ t → ((preambles bytes ≡ length bytes → ⊥) → preambles (bytes ++ rest) ≡ preambles bytes)
-        → (if b =? 0xFF then preambles (bytes ++ rest) + 1 else 0) ≡ (if b =? 0xFF then preambles bytes + 1 else 0)
+        → (when b =? 0xFF then preambles (bytes ++ rest) + 1 else 0) ≡ (when b =? 0xFF then preambles bytes + 1 else 0)
     go true e kept =
-        ap (λ (n : ℕ). if b =? 0xFF then n + 1 else 0)
+        ap (λ (n : ℕ). when b =? 0xFF then n + 1 else 0)
         (kept (λ z. f (if_is_true (b =? 0xFF) (preambles bytes + 1) 0 e ∙ add-one (preambles bytes) ∙ ap suc z)))
     go false e kept = if_is_false (b =? 0xFF) _ _ e ∙ sym (if_is_false (b =? 0xFF) _ _ e)
 
@@ -127,7 +127,7 @@ module _ (bytes rest : List ℕ) where
       ∙ ap (drop p) (append_assoc (preamble_bytes p) t rest)
       ∙ drop_at (preamble_bytes p) (t ++ rest) p (sym (preamble_count p))
 
-  refused_kept : (why : ℕ) → (why ≡ 13 → ⊥) → (if why =? 11 then p =? length bytes else false) ≡ false → read_frame bytes ≡ refused why → read_frame (bytes ++ rest) ≡ refused why
+  refused_kept : (why : ℕ) → (why ≡ 13 → ⊥) → (when why =? 11 then p =? length bytes else false) ≡ false → read_frame bytes ≡ refused why → read_frame (bytes ++ rest) ≡ refused why
   unfolding read_frame
   refused_kept why settled other q = go (p <? 2) refl
     where
@@ -170,24 +170,24 @@ few_expansion b frame long expansion e =
     not_is q = let z : ◌≡◌ {A = ℕ} 0 1 = cc in omega arith
 
 address_short : (long : Bool) → address_length long < 6
-unfolding if◌then◌else◌
+unfolding when◌then◌else◌
 address_short true = omega arith
 address_short false = omega arith
 
 -- an answer behind enough bytes
 module _ (bytes : List ℕ) (preamble : ℕ) (t : List ℕ) (enough : most_behind_preamble ≤ length t) where
   counted_enough : (frame : ℕ) (long : Bool) (expansion place count : ℕ) → place < 10 → count < 256 → wants_more bytes (with_count preamble t frame long expansion place count) ≡ false
-  unfolding if◌then◌else◌
+  unfolding when◌then◌else◌
   counted_enough frame long expansion place count h k =
       ap (wants_more bytes) (sym (if_above (length t) (place + 2 + count) _ _ _ (omega arith) refl)) ∙ go (too_few frame count) (exclusive_or (take (place + 3 + count) t) =? 0)
     where
-      go : (few none : Bool) → wants_more bytes (if few then refused 14 else if none then accepted (found_at preamble t frame long expansion place count) else refused 14) ≡ false
+      go : (few none : Bool) → wants_more bytes (when few then refused 14 else when none then accepted (found_at preamble t frame long expansion place count) else refused 14) ≡ false
       go true none = refl
       go false true = refl
       go false false = refl
 
   delimited_enough : ((i : ℕ) → byte_at t i < 256) → (d : Delimiter) → delimiter_of (byte_at t 0) ≡ d → wants_more bytes (with_delimiter preamble t d) ≡ false
-  unfolding if◌then◌else◌
+  unfolding when◌then◌else◌
   delimited_enough small Not e = refl
   delimited_enough small (Is frame long expansion) e =
       let place : ℕ = command_place long expansion in
@@ -210,10 +210,10 @@ end_of (accepted f) = f.end
 end_of (refused why) = 0
 
 more_is_read : (read_frame (0xFF ∷ 0xFF ∷ []) ≡ refused 13) × (end_of (read_frame (0xFF ∷ 0xFF ∷ 0x02 ∷ 0x80 ∷ 0 ∷ 0 ∷ 0x82 ∷ [])) ≡ 7)
-unfolding end_of read_frame read_body preambles delimiter_of xor_from if◌then◌else◌
+unfolding end_of read_frame read_body preambles delimiter_of xor_from when◌then◌else◌
 more_is_read = (refl, refl)
 
 -- The longest frame behind its preamble has 267 bytes; without the last it is refused with 13.
 one_byte_fewer : read_frame (0xFF ∷ 0xFF ∷ 0xE2 ∷ replicate 9 0 ++ 255 ∷ replicate 255 0) ≡ refused 13
-unfolding read_frame read_body preambles delimiter_of if◌then◌else◌
+unfolding read_frame read_body preambles delimiter_of when◌then◌else◌
 one_byte_fewer = refl

@@ -5,13 +5,13 @@ use mathlib.Core.Path.{◌≡◌, refl, sym, ap, ◌∙◌}
 use mathlib.Core.Bool.{Bool, true, false}
 use mathlib.Core.List.{List, [], ◌∷◌, ◌++◌}
 use lib.ListN.{length, length-append, length-replicate}
-use Rattle.base.specs.Choice.{if◌then◌else◌}
+use Rattle.base.specs.Choice.{when◌then◌else◌}
 use Rattle.frame.specs.Address.{address_length, address_bytes, long_address, short_address}
 use Rattle.frame.specs.Frame.{header_bytes, protected_bytes, body_bytes, preamble_bytes, frame_bytes, header_length, frame_length}
 use Rattle.frame.specs.declared.Header.{Header}
 
-either : (t : Bool) (us vs : List ℕ) → length (if t then us else vs) ≡ (if t then length us else length vs)
-unfolding if◌then◌else◌
+either : (t : Bool) (us vs : List ℕ) → length (when t then us else vs) ≡ (when t then length us else length vs)
+unfolding when◌then◌else◌
 either true us vs = refl
 either false us vs = refl
 

@@ -5,7 +5,7 @@ use mathlib.Core.Path.{◌≡◌, refl, sym, ap, ◌∙◌}
 use mathlib.Core.Bool.{Bool, true, false}
 use mathlib.Core.List.{List}
 use lib.ListN.{length}
-use Rattle.base.specs.Choice.{if◌then◌else◌}
+use Rattle.base.specs.Choice.{when◌then◌else◌}
 use Rattle.base.specs.Refusal.{accepted}
 use Rattle.frame.specs.Limits.{most_preambles, most_data, longest_frame}
 use Rattle.frame.specs.Delimiter.{ack}
@@ -17,7 +17,7 @@ use Rattle.frame.proofs.Taken.{taken}
 use Rattle.frame.specs.declared.Header.{Header}
 
 pub address_at_most : (long : Bool) → address_length long ≤ 5
-unfolding if◌then◌else◌
+unfolding when◌then◌else◌
 address_at_most true = omega arith
 address_at_most false = omega arith
 
@@ -39,5 +39,5 @@ abbrev pub longest_header : Header
 longest_header = record { kind = ack; long = true; primary = true; burst = false; address = 1; command = 0 }
 
 pub longest_is_written : write_answer most_preambles longest_header most_data (longest_frame most_data) 0 ≡ accepted 284
-unfolding write_answer if◌then◌else◌
+unfolding write_answer when◌then◌else◌
 longest_is_written = refl

@@ -6,7 +6,7 @@ use mathlib.Core.Bool.{Bool, true, false}
 use mathlib.Core.List.{List, [], ◌∷◌, ◌++◌, append_assoc}
 use lib.ListN.{length, take, drop, get_or, length-append, get_or-append}
 use lib.Seq.{length-take-le, take_at, drop_at, get_or-take, take-append-add}
-use Rattle.base.specs.Choice.{if◌then◌else◌}
+use Rattle.base.specs.Choice.{when◌then◌else◌}
 use Rattle.base.proofs.Choices.{if_is_true, if_is_false}
 use Rattle.base.specs.Refusal.{accepted}
 use Rattle.frame.specs.Delimiter.{delimiter_of}
@@ -24,7 +24,7 @@ use Rattle.frame.specs.declared.Found.{Found}
 
 -- a delimiter is no preamble
 pub delimited_no_preamble : (b frame : ℕ) (long : Bool) (expansion : ℕ) → delimiter_of b ≡ Is frame long expansion → b ≡ 0xFF → ⊥
-unfolding delimiter_of if◌then◌else◌
+unfolding delimiter_of when◌then◌else◌
 delimited_no_preamble b frame long expansion d e =
     let none : delimiter_of 0xFF ≡ Is frame long expansion = ap delimiter_of (sym e) ∙ d in
     let z : ◌≡◌ {A = ℕ} 0 1 = cc none in omega arith

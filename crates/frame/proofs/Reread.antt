@@ -9,7 +9,7 @@ use mathlib.Core.List.{List, [], ◌∷◌, ◌++◌, append_assoc}
 use lib.ListN.{length, take, drop, length-append}
 use lib.Seq.{take_at, drop_at, length-take-le}
 use borrow.Author.Tests.{eq-eqb, ne_eqb}
-use Rattle.base.specs.Choice.{if◌then◌else◌, ◌=?◌}
+use Rattle.base.specs.Choice.{when◌then◌else◌, ◌=?◌}
 use Rattle.base.proofs.Stores.{stored_between}
 use Rattle.base.proofs.Choices.{if_is_true, if_is_false, if_unequal, if_at_most}
 use Rattle.base.specs.Refusal.{Called, accepted}
@@ -30,7 +30,7 @@ use Rattle.frame.specs.declared.Found.{Found}
 
 -- the delimiter that is written is read as the type and the address's form, with no expansion bytes
 pub delimiter_back : (frame : ℕ) (long : Bool) → is_type frame ≡ true → delimiter_of (delimiter_byte frame long) ≡ Is frame long 0
-unfolding delimiter_of if◌then◌else◌
+unfolding delimiter_of when◌then◌else◌
 delimiter_back frame long e = go long (typed_as frame e)
   where
     go : (l : Bool) → Typed frame → delimiter_of (delimiter_byte frame l) ≡ Is frame l 0
@@ -43,30 +43,30 @@ delimiter_back frame long e = go long (typed_as frame e)
 
 -- and it is no preamble
 pub delimiter_no_preamble : (frame : ℕ) (long : Bool) → is_type frame ≡ true → delimiter_byte frame long ≡ 0xFF → ⊥
-unfolding if◌then◌else◌
+unfolding when◌then◌else◌
 delimiter_no_preamble frame true e q = omega (arith, type_small frame e)
 delimiter_no_preamble frame false e q = omega (arith, type_small frame e)
 
 -- the first address byte gives back the master bit, the burst flag and the six bits
 abbrev pub first : Bool → Bool → ℕ → ℕ
-first primary burst bits = (if primary then 128 else 0) + (if burst then 64 else 0) + bits
+first primary burst bits = (when primary then 128 else 0) + (when burst then 64 else 0) + bits
 
 pub master_back : (primary burst : Bool) (bits : ℕ) → bits < 64 → (first primary burst bits / 128 =? 1) ≡ primary
-unfolding if◌then◌else◌
+unfolding when◌then◌else◌
 master_back true true bits h = eq-eqb (first true true bits / 128) 1 (omega arith)
 master_back true false bits h = eq-eqb (first true false bits / 128) 1 (omega arith)
 master_back false true bits h = ne_eqb (first false true bits / 128) 1 (omega arith)
 master_back false false bits h = ne_eqb (first false false bits / 128) 1 (omega arith)
 
 pub burst_back : (primary burst : Bool) (bits : ℕ) → bits < 64 → (first primary burst bits / 64 % 2 =? 1) ≡ burst
-unfolding if◌then◌else◌
+unfolding when◌then◌else◌
 burst_back true true bits h = eq-eqb (first true true bits / 64 % 2) 1 (omega arith)
 burst_back false true bits h = eq-eqb (first false true bits / 64 % 2) 1 (omega arith)
 burst_back true false bits h = ne_eqb (first true false bits / 64 % 2) 1 (omega arith)
 burst_back false false bits h = ne_eqb (first false false bits / 64 % 2) 1 (omega arith)
 
 pub bits_back : (primary burst : Bool) (bits : ℕ) → bits < 64 → first primary burst bits % 64 ≡ bits
-unfolding if◌then◌else◌
+unfolding when◌then◌else◌
 bits_back true true bits h = omega arith
 bits_back false true bits h = omega arith
 bits_back true false bits h = omega arith

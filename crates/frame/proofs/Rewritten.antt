@@ -7,7 +7,7 @@ use mathlib.Core.List.{List, [], ◌∷◌, ◌++◌}
 use lib.ListN.{length, take, drop, get_or, length-drop}
 use lib.Seq.{drop-cons, take-add, drop-drop, get_or-drop, length-take-le}
 use borrow.Author.Tests.{eqb-true}
-use Rattle.base.specs.Choice.{if◌then◌else◌, ◌≤?◌, ◌=?◌}
+use Rattle.base.specs.Choice.{when◌then◌else◌, ◌≤?◌, ◌=?◌}
 use Rattle.base.proofs.Choices.{true_false, if_is_true, if_is_false, if_at_most}
 use Rattle.base.proofs.Stores.{take_more}
 use Rattle.base.proofs.Tables.{holds_below, holds_at, chain_first, chain_second}
@@ -34,10 +34,10 @@ Bytes bytes = (i : ℕ) → byte_at bytes i < 256
 -- a delimiter with no expansion bytes is the one that is written; its type is a frame type
 right : ℕ → Delimiter → Bool
 right b Not = true
-right b (Is frame long expansion) = if is_type frame then (if expansion =? 0 then b =? delimiter_byte frame long else true) else false
+right b (Is frame long expansion) = when is_type frame then (when expansion =? 0 then b =? delimiter_byte frame long else true) else false
 
 all_right : holds_below 256 (λ (b : ℕ). right b (delimiter_of b)) ≡ true
-unfolding holds_below right delimiter_of if◌then◌else◌
+unfolding holds_below right delimiter_of when◌then◌else◌
 all_right = refl
 
 right_at : (b frame : ℕ) (long : Bool) (expansion : ℕ) → b < 256 → delimiter_of b ≡ Is frame long expansion → right b (Is frame long expansion) ≡ true
@@ -48,18 +48,18 @@ unfolding right
 delimiter_typed b frame long expansion h e = chain_first (is_type frame) _ (right_at b frame long expansion h e)
 
 delimiter_again : (b frame : ℕ) (long : Bool) → b < 256 → delimiter_of b ≡ Is frame long 0 → b ≡ delimiter_byte frame long
-unfolding right if◌then◌else◌
+unfolding right when◌then◌else◌
 delimiter_again b frame long h e = eqb-true b (delimiter_byte frame long) (chain_second (is_type frame) (b =? delimiter_byte frame long) (right_at b frame long 0 h e))
 
 -- the first address byte is made of its flags and its six bits
 flags : ℕ → Bool
-flags b = b =? (if b / 128 =? 1 then 128 else 0) + (if b / 64 % 2 =? 1 then 64 else 0) + b % 64
+flags b = b =? (when b / 128 =? 1 then 128 else 0) + (when b / 64 % 2 =? 1 then 64 else 0) + b % 64
 
 all_flags : holds_below 256 flags ≡ true
-unfolding holds_below flags if◌then◌else◌
+unfolding holds_below flags when◌then◌else◌
 all_flags = refl
 
-first_again : (b : ℕ) → b < 256 → b ≡ (if b / 128 =? 1 then 128 else 0) + (if b / 64 % 2 =? 1 then 64 else 0) + b % 64
+first_again : (b : ℕ) → b < 256 → b ≡ (when b / 128 =? 1 then 128 else 0) + (when b / 64 % 2 =? 1 then 64 else 0) + b % 64
 unfolding flags
 first_again b h = eqb-true b _ (holds_at 256 flags all_flags b h)
 

@@ -6,7 +6,7 @@ use mathlib.Core.Bool.{Bool, true, false}
 use mathlib.Core.List.{List}
 use lib.ListN.{length, take, drop}
 use borrow.Author.Tests.{leb-false, ltb-false, eqb-true}
-use Rattle.base.specs.Choice.{if◌then◌else◌, ◌<?◌, ◌≤?◌, ◌=?◌}
+use Rattle.base.specs.Choice.{when◌then◌else◌, ◌<?◌, ◌≤?◌, ◌=?◌}
 use Rattle.base.specs.Refusal.{accepted, refused}
 use Rattle.base.proofs.Choices.{went_then, went_else, if_false, if_above, if_equal, if_unequal, if_not_below}
 use Rattle.frame.specs.Delimiter.{delimiter_of}

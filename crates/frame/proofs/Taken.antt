@@ -4,7 +4,7 @@ use native.Mathlib.Omega.{arith}
 use mathlib.Core.Path.{◌≡◌, refl, sym, ap, ◌∙◌}
 use mathlib.Core.Bool.{Bool, true, false}
 use borrow.Author.Tests.{ltb-false, leb-true, eqb-true}
-use Rattle.base.specs.Choice.{if◌then◌else◌, ◌<?◌, ◌≤?◌, ◌=?◌, ◌outside◌to◌}
+use Rattle.base.specs.Choice.{when◌then◌else◌, ◌<?◌, ◌≤?◌, ◌=?◌, ◌outside◌to◌}
 use Rattle.base.specs.Refusal.{Called, accepted, refused}
 use Rattle.base.proofs.Choices.{went_then, went_else, inside_low, inside_high, inside_is, if_true, if_false, if_not_below, if_at_most}
 use Rattle.frame.specs.Limits.{fewest_preambles, most_preambles, most_data}
@@ -62,10 +62,10 @@ pub data Typed (n : ℕ) : Type 0 where
   is_back : n ≡ back → Typed n
 
 pub typed_as : (n : ℕ) → is_type n ≡ true → Typed n
-unfolding if◌then◌else◌
+unfolding when◌then◌else◌
 typed_as n e = first (n =? stx) refl
   where
-    second : (b : Bool) → (n =? ack) ≡ b → (if b then true else n =? back) ≡ true → Typed n
+    second : (b : Bool) → (n =? ack) ≡ b → (when b then true else n =? back) ≡ true → Typed n
     second true q f = is_ack (eqb-true n ack q)
     second false q f = is_back (eqb-true n back f)
 

@@ -1,17 +1,17 @@
 -- To be believed: what the engine must do, or what is claimed of it.
 -- Document 01, "Frames": the address, "most significant bit first: master bit (1 primary), burst flag, then a 6-bit polling address in one byte, or a 38-bit unique address in five".
 use Rattle.std.specs.Prelude.{ℕ, ◌+◌, ◌*◌, ◌/◌, ◌%◌, ◌^◌, ◌-◌, Bool, List, [], ◌∷◌, get_or}
-use Rattle.base.specs.Choice.{if◌then◌else◌, ◌<?◌, ◌=?◌}
+use Rattle.base.specs.Choice.{when◌then◌else◌, ◌<?◌, ◌=?◌}
 use Rattle.frame.specs.Limits.{largest_polling}
 use Rattle.frame.specs.declared.Header.{Header}
 
 -- how many bytes an address has
 abbrev pub address_length : Bool → ℕ
-address_length long = if long then 5 else 1
+address_length long = when long then 5 else 1
 
 -- the largest address, where polling addresses go up to `polling`; a unique address has 38 bits
 abbrev pub largest_with : ℕ → Bool → ℕ
-largest_with polling long = if long then 2 ^ 38 - 1 else polling
+largest_with polling long = when long then 2 ^ 38 - 1 else polling
 
 abbrev pub address_above : ℕ → Header → Bool
 address_above polling h = largest_with polling h.long <? h.address
@@ -26,7 +26,7 @@ address_too_large h = address_above largest_polling h
 
 -- an address's first byte: master bit, burst flag and the six bits that the address begins with
 abbrev pub first_byte : Header → ℕ → ℕ
-first_byte h bits = (if h.primary then 128 else 0) + (if h.burst then 64 else 0) + bits
+first_byte h bits = (when h.primary then 128 else 0) + (when h.burst then 64 else 0) + bits
 
 abbrev pub short_address : Header → List ℕ
 short_address h = first_byte h h.address ∷ []
@@ -42,7 +42,7 @@ long_address h =
 
 -- an address's bytes
 abbrev pub address_bytes : Header → List ℕ
-address_bytes h = if h.long then long_address h else short_address h
+address_bytes h = when h.long then long_address h else short_address h
 
 -- the byte at a place, or 0 past the last
 abbrev pub byte_at : List ℕ → ℕ → ℕ
@@ -63,4 +63,4 @@ unique_address frame =
     (byte_at frame 1 % 64) * 2 ^ 32 + byte_at frame 2 * 2 ^ 24 + byte_at frame 3 * 2 ^ 16 + byte_at frame 4 * 2 ^ 8 + byte_at frame 5
 
 abbrev pub address_of : Bool → List ℕ → ℕ
-address_of long frame = if long then unique_address frame else polling_address frame
+address_of long frame = when long then unique_address frame else polling_address frame

@@ -1,7 +1,7 @@
 -- To be believed: what the engine must do, or what is claimed of it.
 -- Document 01, "Frames": the delimiter.
 use Rattle.std.specs.Prelude.{ℕ, ◌+◌, ◌/◌, ◌%◌, Bool, true, false}
-use Rattle.base.specs.Choice.{if◌then◌else◌, ◌=?◌}
+use Rattle.base.specs.Choice.{when◌then◌else◌, ◌=?◌}
 use Rattle.frame.specs.declared.Delimiter.{Delimiter}
 use Rattle.frame.specs.declared.Delimiter.TheVariants.{Is, Not}
 
@@ -17,18 +17,18 @@ back = 1
 
 -- the two that a device sends
 abbrev pub from_device : ℕ → Bool
-from_device n = if n =? ack then true else n =? back
+from_device n = when n =? ack then true else n =? back
 
 abbrev pub is_type : ℕ → Bool
-is_type n = if n =? stx then true else from_device n
+is_type n = when n =? stx then true else from_device n
 
 -- "bit 7 long address; bits 6 and 5 the number of expansion bytes, 0 to 3; bits 4 and 3 zero; bits 2 to 0" the type. "Any other value is no delimiter."
 unfoldable pub delimiter_of : ℕ → Delimiter
 delimiter_of byte =
-    if byte / 8 % 4 =? 0 then
-    (if is_type (byte % 8) then Is (byte % 8) (byte / 128 =? 1) (byte / 32 % 4) else Not)
+    when byte / 8 % 4 =? 0 then
+    (when is_type (byte % 8) then Is (byte % 8) (byte / 128 =? 1) (byte / 32 % 4) else Not)
     else Not
 
 -- the delimiter that is written: "It writes no expansion bytes"
 abbrev pub delimiter_byte : ℕ → Bool → ℕ
-delimiter_byte frame long = (if long then 128 else 0) + frame
+delimiter_byte frame long = (when long then 128 else 0) + frame

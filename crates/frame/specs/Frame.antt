@@ -1,7 +1,7 @@
 -- To be believed: what the engine must do, or what is claimed of it.
 -- Document 01, "Frames": "Preamble of 0xFF, delimiter, address, expansion bytes, command, byte count, data, check byte."
 use Rattle.std.specs.Prelude.{ℕ, ◌+◌, Bool, false, List, [], ◌∷◌, ◌++◌, length, replicate}
-use Rattle.base.specs.Choice.{if◌then◌else◌, ◌<?◌}
+use Rattle.base.specs.Choice.{when◌then◌else◌, ◌<?◌}
 use Rattle.frame.specs.Limits.{fewest_answered}
 use Rattle.frame.specs.Delimiter.{from_device, delimiter_byte}
 use Rattle.frame.specs.Address.{address_length, address_bytes}
@@ -10,7 +10,7 @@ use Rattle.frame.specs.declared.Header.{Header}
 
 -- "ACK and BACK carry at least 2 data bytes"
 abbrev pub too_few : ℕ → ℕ → Bool
-too_few frame count = if from_device frame then count <? fewest_answered else false
+too_few frame count = when from_device frame then count <? fewest_answered else false
 
 -- delimiter, address, command and byte count
 unfoldable pub header_bytes : Header → ℕ → List ℕ

@@ -1,7 +1,7 @@
 -- To be believed: what the engine must do, or what is claimed of it.
 -- For a caller who reads from a buffer that grows (include/nengapiko.h): which of the reader's answers ask for more bytes, and that every other answer is final.
 use Rattle.std.specs.Prelude.{ℕ, ◌+◌, ◌≤◌, ◌<◌, ◌≡◌, Bool, true, false, List, ◌++◌, length}
-use Rattle.base.specs.Choice.{if◌then◌else◌, ◌=?◌}
+use Rattle.base.specs.Choice.{when◌then◌else◌, ◌=?◌}
 use Rattle.base.specs.Refusal.{Called, accepted, refused}
 use Rattle.frame.specs.Address.{byte_at}
 use Rattle.frame.specs.Read.{preambles, read_frame}
@@ -11,8 +11,8 @@ use Rattle.frame.specs.declared.Found.{Found}
 abbrev pub wants_more : List ℕ → Called Found → Bool
 wants_more bytes (accepted f) = false
 wants_more bytes (refused why) =
-    if why =? 13 then true else
-    if why =? 11 then preambles bytes =? length bytes else
+    when why =? 13 then true else
+    when why =? 11 then preambles bytes =? length bytes else
     false
 
 -- "Every other answer is final: it stays the same whatever follows."

@@ -1,7 +1,7 @@
 -- To be believed: what the engine must do, or what is claimed of it.
 -- The frame reader. Document 01, "Frames": "the reader needs two" preambles and "gives the fields, the end, and the data as that part of the caller's bytes"; "Refusals", the line of the frame reader.
 use Rattle.std.specs.Prelude.{ℕ, ◌+◌, Bool, List, [], ◌∷◌, length, take, drop}
-use Rattle.base.specs.Choice.{if◌then◌else◌, ◌<?◌, ◌≤?◌, ◌=?◌}
+use Rattle.base.specs.Choice.{when◌then◌else◌, ◌<?◌, ◌≤?◌, ◌=?◌}
 use Rattle.base.specs.Refusal.{number, Called, accepted, refused}
 use Rattle.frame.specs.Delimiter.{delimiter_of}
 use Rattle.frame.specs.Address.{address_length, byte_at, master_bit, burst_flag, address_of}
@@ -17,7 +17,7 @@ use Rattle.frame.specs.declared.Read.TheVariants.{Frame, Refused}
 -- how many 0xFF the bytes begin with
 unfoldable pub preambles : List ℕ → ℕ
 preambles [] = 0
-preambles (b ∷ bytes) = if b =? 0xFF then preambles bytes + 1 else 0
+preambles (b ∷ bytes) = when b =? 0xFF then preambles bytes + 1 else 0
 
 -- Below, `body` is what stands from the delimiter on, after so many preamble characters. The command follows address and expansion bytes, and the byte count follows the command.
 abbrev pub command_place : Bool → ℕ → ℕ
@@ -47,15 +47,15 @@ found_at preamble body frame long expansion place count = record {
 -- once the byte count is read: "13: bytes end early; 14: ACK or BACK with count below 2, else wrong check byte"
 abbrev pub with_count : ℕ → List ℕ → ℕ → Bool → ℕ → ℕ → ℕ → Called Found
 with_count preamble body frame long expansion place count =
-    if length body ≤? place + 2 + count then refused 13 else
-    if too_few frame count then refused 14 else
-    if exclusive_or (take (place + 3 + count) body) =? 0 then accepted (found_at preamble body frame long expansion place count) else
+    when length body ≤? place + 2 + count then refused 13 else
+    when too_few frame count then refused 14 else
+    when exclusive_or (take (place + 3 + count) body) =? 0 then accepted (found_at preamble body frame long expansion place count) else
     refused 14
 
 -- once the delimiter is read
 abbrev pub with_command : ℕ → List ℕ → ℕ → Bool → ℕ → ℕ → Called Found
 with_command preamble body frame long expansion place =
-    if length body ≤? place + 1 then refused 13 else
+    when length body ≤? place + 1 then refused 13 else
     with_count preamble body frame long expansion place (byte_at body (place + 1))
 
 -- "12: the byte behind them is no delimiter"
@@ -65,13 +65,13 @@ with_delimiter preamble body (Is frame long expansion) = with_command preamble b
 
 unfoldable pub read_body : ℕ → List ℕ → Called Found
 read_body preamble body =
-    if length body =? 0 then refused 13 else
+    when length body =? 0 then refused 13 else
     with_delimiter preamble body (delimiter_of (byte_at body 0))
 
 -- "11: fewer than two preambles"
 unfoldable pub read_frame : List ℕ → Called Found
 read_frame bytes =
-    if preambles bytes <? 2 then refused 11 else
+    when preambles bytes <? 2 then refused 11 else
     read_body (preambles bytes) (drop (preambles bytes) bytes)
 
 -- what the reader's answer says
@@ -81,4 +81,4 @@ read_as (Refused why) = refused (number why)
 
 -- the part of the caller's bytes that begins at a place and has so many bytes; none where it would run past the end
 abbrev pub part_of : List ℕ → ℕ → ℕ → List ℕ
-part_of bytes start count = if start + count ≤? length bytes then take count (drop start bytes) else []
+part_of bytes start count = when start + count ≤? length bytes then take count (drop start bytes) else []

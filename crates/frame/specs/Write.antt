@@ -1,7 +1,7 @@
 -- To be believed: what the engine must do, or what is claimed of it.
 -- The frame writer. Document 01, "Frames": it "starts at a place the caller names in its lent buffer and changes only the frame's bytes there"; "Refusals", the line of the frame writer.
 use Rattle.std.specs.Prelude.{ℕ, ◌+◌, ◌≡◌, List, length}
-use Rattle.base.specs.Choice.{if◌then◌else◌, ◌<?◌, ◌≤?◌, ◌outside◌to◌}
+use Rattle.base.specs.Choice.{when◌then◌else◌, ◌<?◌, ◌≤?◌, ◌outside◌to◌}
 use Rattle.base.specs.Store.{stored}
 use Rattle.base.specs.Refusal.{number, Called, accepted, refused}
 use Rattle.frame.specs.Limits.{fewest_preambles, most_preambles, most_data}
@@ -15,16 +15,16 @@ use Rattle.frame.specs.declared.Written.TheVariants.{To, Refused}
 -- the refusal for the fields alone, the lowest where several apply; else `fits`. ("6: data above 255" comes before "9: data outside 2 to 255", so 9 is left for fewer than 2.)
 abbrev pub by_fields : ℕ → Header → ℕ → Called ℕ → Called ℕ
 by_fields preamble h count fits =
-    if preamble outside fewest_preambles to most_preambles then refused 3 else
-    if address_too_large h then refused 4 else
-    if most_data <? count then refused 6 else
-    if too_few h.kind count then refused 9 else
-    if is_type h.kind then fits else
+    when preamble outside fewest_preambles to most_preambles then refused 3 else
+    when address_too_large h then refused 4 else
+    when most_data <? count then refused 6 else
+    when too_few h.kind count then refused 9 else
+    when is_type h.kind then fits else
     refused 12
 
 -- "15: buffer too short", also for a place beyond the buffer
 abbrev pub by_room : ℕ → ℕ → Called ℕ
-by_room end room = if end ≤? room then accepted end else refused 15
+by_room end room = when end ≤? room then accepted end else refused 15
 
 -- the answer, for so many data bytes and a buffer of so many bytes: where the frame ends, or the refusal
 unfoldable pub write_answer : ℕ → Header → ℕ → ℕ → ℕ → Called ℕ

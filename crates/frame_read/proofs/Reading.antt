@@ -7,7 +7,7 @@ use mathlib.Core.Bool.{Bool, true, false}
 use mathlib.Core.List.{List, [], ◌∷◌}
 use lib.ListN.{length, get_or, take, drop, drop_of_length-le, length-drop}
 use lib.Seq.{drop-cons, take_all}
-use Rattle.base.specs.Choice.{if◌then◌else◌, ◌≤?◌, ◌=?◌}
+use Rattle.base.specs.Choice.{when◌then◌else◌, ◌≤?◌, ◌=?◌}
 use Rattle.base.proofs.Choices.{choices, if_is_true, if_is_false, if_equal, if_unequal, if_above, if_at_most, if_below, if_not_below}
 use Rattle.base.specs.Refusal.{Called, accepted, refused}
 use Rattle.frame.specs.Address.{address_of, byte_at, master_bit, burst_flag}
@@ -28,7 +28,7 @@ pub record Counted (bytes : List ℕ) (i : ℕ) : Type 0 where
 pub counted_none : (bytes : List ℕ) → Counted bytes 0
 counted_none bytes = record { within = omega arith; rest = omega arith }
 
-next : (bytes : List ℕ) (i : ℕ) → i < length bytes → preambles (drop i bytes) ≡ (if get_or bytes i 0 =? 0xFF then preambles (drop (suc i) bytes) + 1 else 0)
+next : (bytes : List ℕ) (i : ℕ) → i < length bytes → preambles (drop i bytes) ≡ (when get_or bytes i 0 =? 0xFF then preambles (drop (suc i) bytes) + 1 else 0)
 unfolding preambles
 next bytes i h = ap preambles (drop-cons bytes i 0 h)
 
@@ -83,10 +83,10 @@ module _ (body : List ℕ) (place count sum : ℕ) (inside : place + 2 + count <
   one_more : place + 2 + count + 1 ≡ place + 3 + count
   one_more = omega arith
 
-  pub check_taken : sum ≡ get_or body (place + 2 + count) 0 → r ≡ a → r ≡ (if exclusive_or (take (place + 3 + count) body) =? 0 then a else b)
+  pub check_taken : sum ≡ get_or body (place + 2 + count) 0 → r ≡ a → r ≡ (when exclusive_or (take (place + 3 + count) body) =? 0 then a else b)
   check_taken q p = if_equal _ 0 r a b (ap (λ (n : ℕ). exclusive_or (take n body)) (sym one_more) ∙ check_right body (place + 2 + count) inside (sym e ∙ q)) p
 
-  pub check_left : (sum ≡ get_or body (place + 2 + count) 0 → ⊥) → r ≡ b → r ≡ (if exclusive_or (take (place + 3 + count) body) =? 0 then a else b)
+  pub check_left : (sum ≡ get_or body (place + 2 + count) 0 → ⊥) → r ≡ b → r ≡ (when exclusive_or (take (place + 3 + count) body) =? 0 then a else b)
   check_left f p = if_unequal _ 0 r a b (λ z. f (e ∙ check_from_zero body (place + 2 + count) inside (ap (λ (n : ℕ). exclusive_or (take n body)) one_more ∙ z))) p
 
 -- behind the count, the delimiter and the preamble

@@ -8,7 +8,7 @@ use lib.ListN.{length, take, drop, set, get_or, get_or-replicate, length-append,
 use lib.Bits.{bit_xor}
 use lib.Seq.{take_all, drop-drop, length-take-le}
 use borrow.Rule.Slice.PartMut.{put_mid}
-use Rattle.base.specs.Choice.{if◌then◌else◌}
+use Rattle.base.specs.Choice.{when◌then◌else◌}
 use Rattle.base.specs.Store.{stored}
 use Rattle.base.proofs.Stores.{stored_between, stored_front, stored_part, stored_parts, length_stored, Storing, storing_none, storing_more, storing_all}
 use Rattle.base.proofs.Choices.{if_is_true, if_is_false}

@@ -2,7 +2,7 @@
 #![tactic(auto)]
 
 ghost use Rattle.std.specs.Prelude.{◌≡◌, [], ◌∷◌, ◌+◌, ◌^◌, ◌≤◌, ◌<◌, length};
-ghost use Rattle.base.specs.Choice.{if◌then◌else◌};
+ghost use Rattle.base.specs.Choice.{when◌then◌else◌};
 ghost use Rattle.base.specs.Store.{stored};
 ghost use Rattle.frame.specs.Limits.{most_preambles, most_data, longest_frame};
 ghost use Rattle.frame.specs.Address.{address_length, long_address, address_bytes, address_above, largest_address, first_byte};
@@ -27,7 +27,7 @@ fn put_preamble(part: &mut [u8])
 
 // The bit if it is on, else 0.
 pub fn flag(on: bool, bit: u8) -> u8
-    ensures { (result ≡ (if on then bit else 0)) × (result ≤ bit) }
+    ensures { (result ≡ (when on then bit else 0)) × (result ≤ bit) }
 {
     if on {
         return bit;

@@ -10,7 +10,7 @@ use lib.ListN.{length, take, drop, get_or, set, length-append}
 use lib.Seq.{take_all, take_at, drop_at, drop-append-add, get_or-append-add}
 use lib.Bits.{bit_xor, xor_zero_l}
 use borrow.Author.Tests.{lt-ltb, ltb-true, ltb-false, eqb-true, eqb-false}
-use Rattle.base.specs.Choice.{if◌then◌else◌, ◌=?◌, ◌<?◌}
+use Rattle.base.specs.Choice.{when◌then◌else◌, ◌=?◌, ◌<?◌}
 use Rattle.base.specs.Refusal.{accepted}
 use Rattle.base.specs.Store.{stored}
 use Rattle.base.proofs.Choices.{if_is_true, if_is_false, if_at_most}
@@ -57,20 +57,20 @@ broken_frame w e = let z : ◌≡◌ {A = ℕ} 0 1 = cc in omega arith
 
 -- what the check byte tells of a frame without damage, by whether the exclusive-or is zero
 checked : Whole → Bool → Event
-checked w right = ended w (with_check no_damage (if right then false else true))
+checked w right = ended w (with_check no_damage (when right then false else true))
 
 checked_nothing : (w : Whole) (right : Bool) → checked w right ≡ Nothing → ⊥
-unfolding checked if◌then◌else◌
+unfolding checked when◌then◌else◌
 checked_nothing w true e = let z : ◌≡◌ {A = ℕ} 0 1 = cc in omega arith
 checked_nothing w false e = let z : ◌≡◌ {A = ℕ} 0 1 = cc in omega arith
 
 checked_right : (v w : Whole) (right : Bool) → checked v right ≡ Frame w → right ≡ true
-unfolding checked if◌then◌else◌
+unfolding checked when◌then◌else◌
 checked_right v w true e = refl
 checked_right v w false e = absurd (let z : ◌≡◌ {A = ℕ} 0 1 = cc in omega arith)
 
 checked_same : (v w : Whole) (right : Bool) → checked v right ≡ Frame w → v ≡ w
-unfolding checked if◌then◌else◌
+unfolding checked when◌then◌else◌
 checked_same v w true e = cc
 checked_same v w false e = absurd (let z : ◌≡◌ {A = ℕ} 0 1 = cc in omega arith)
 
@@ -154,7 +154,7 @@ next_expansion h expansion n sum x = go (1 <? n) refl
 
 -- the reader behind the address
 abbrev behind : Header → ℕ → ℕ → Receiver
-behind h expansion sum = at_place (if expansion =? 0 then Command else Expansion expansion) h expansion sum
+behind h expansion sum = at_place (when expansion =? 0 then Command else Expansion expansion) h expansion sum
 
 -- the reader behind a delimiter d
 abbrev bare_header : ℕ → Bool → Header
@@ -190,7 +190,7 @@ next_preamble : (x : ℕ) → NextPreamble x
 unfolding taken at_preamble
 next_preamble x = go (x =? 0xFF) refl (delimiter_of x) refl
   where
-    two : {A : Type 0} (a b : A) → (if 2 <? 2 then a else b) ≡ b
+    two : {A : Type 0} (a b : A) → (when 2 <? 2 then a else b) ≡ b
     two a b = if_is_false (2 <? 2) a b refl
 
     go : (t : Bool) → (x =? 0xFF) ≡ t → (d : Delimiter) → delimiter_of x ≡ d → NextPreamble x
@@ -434,11 +434,11 @@ module _ (c : ℕ) (w : Whole) where
   -- behind the address
   from_behind : (h : Header) (expansion sum : ℕ) (cs : List ℕ) → AllBytes cs → Quiet (behind h expansion sum) cs
       → (taken (reader_after (behind h expansion sum) cs) (Character c)).event ≡ Frame w → TailRead h expansion expansion sum (behind h expansion sum) cs
-  unfolding if◌then◌else◌
+  unfolding when◌then◌else◌
   from_behind h expansion sum cs small q e = go (expansion =? 0) refl q e
     where
       At : Bool → Receiver
-      At t = at_place (if t then Command else Expansion expansion) h expansion sum
+      At t = at_place (when t then Command else Expansion expansion) h expansion sum
 
       go : (t : Bool) → (expansion =? 0) ≡ t → Quiet (At t) cs → (taken (reader_after (At t) cs) (Character c)).event ≡ Frame w → TailRead h expansion expansion sum (At t) cs
       go true z q e = subst (λ (n : ℕ). TailRead h expansion n sum (At true) cs) (sym (eqb-true expansion 0 z)) (from_command h expansion sum cs small q e)
@@ -459,7 +459,7 @@ module _ (c : ℕ) (w : Whole) where
 
   from_short : (frame expansion d : ℕ) (cs : List ℕ) → AllBytes cs → Quiet (opened frame false expansion d) cs
       → (taken (reader_after (opened frame false expansion d) cs) (Character c)).event ≡ Frame w → AddressRead frame false expansion d cs
-  unfolding reader_after data_after xor_from taken_data taken at_first if◌then◌else◌
+  unfolding reader_after data_after xor_from taken_data taken at_first when◌then◌else◌
   from_short frame expansion d [] small q e = absurd (nothing_frame w e)
   from_short frame expansion d (x ∷ cs) small q e = record {
     address = x ∷ [];
@@ -475,7 +475,7 @@ module _ (c : ℕ) (w : Whole) where
 
   from_long : (frame expansion d : ℕ) (cs : List ℕ) → AllBytes cs → Quiet (opened frame true expansion d) cs
       → (taken (reader_after (opened frame true expansion d) cs) (Character c)).event ≡ Frame w → AddressRead frame true expansion d cs
-  unfolding reader_after data_after xor_from taken_data taken at_first at_address if◌then◌else◌
+  unfolding reader_after data_after xor_from taken_data taken at_first at_address when◌then◌else◌
   from_long frame expansion d [] small q e = absurd (nothing_frame w e)
   from_long frame expansion d (x ∷ []) small q e = absurd (nothing_frame w e)
   from_long frame expansion d (x ∷ b2 ∷ []) small q e = absurd (nothing_frame w e)

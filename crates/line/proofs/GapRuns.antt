@@ -2,7 +2,7 @@
 use mathlib.Core.Path.{refl}
 use mathlib.Core.Bool.{true, false}
 use mathlib.Core.List.{List, [], ◌∷◌}
-use Rattle.base.specs.Choice.{if◌then◌else◌}
+use Rattle.base.specs.Choice.{when◌then◌else◌}
 use Rattle.base.specs.Store.{stored}
 use Rattle.frame.specs.Delimiter.{delimiter_of}
 use Rattle.line.specs.Gaps.{is_sound, is_with_damage, no_more, at_once, behind_silence, Gapped, from_first, Ends, last, before}
@@ -32,14 +32,14 @@ damaged_frame =
     (record { parity = true; overrun = false; framing = false; check = false; address = false }))
 
 pub without_gaps : Ends idle (0 ∷ 0 ∷ 0 ∷ []) unbroken damaged_frame (0xAA ∷ 0x55 ∷ 0 ∷ [])
-unfolding taken taken_data silent_inside at_idle at_preamble at_first at_address at_expansion at_command at_count at_data at_check delimiter_of stored if◌then◌else◌
+unfolding taken taken_data silent_inside at_idle at_preamble at_first at_address at_expansion at_command at_count at_data at_check delimiter_of stored when◌then◌else◌
 without_gaps = before refl (before refl (before refl (before refl (before refl (before refl (before refl (before refl (before refl (before refl (last refl refl))))))))))
 
 pub with_gaps_lem : Ends idle (0 ∷ 0 ∷ 0 ∷ []) with_gaps damaged_frame (0xAA ∷ 0x55 ∷ 0 ∷ [])
-unfolding taken taken_data silent_inside at_idle at_preamble at_first at_address at_expansion at_command at_count at_data at_check delimiter_of stored if◌then◌else◌
+unfolding taken taken_data silent_inside at_idle at_preamble at_first at_address at_expansion at_command at_count at_data at_check delimiter_of stored when◌then◌else◌
 with_gaps_lem = before refl (before refl (before refl (before refl (before refl (before refl (before refl (before refl (before refl (before refl (before refl (before refl (before refl (before refl (before refl (before refl (before refl (last refl refl)))))))))))))))))
 
 -- one silent tick in the preamble, and two in a row behind the first address byte: the second is told as a break
 pub two_in_a_row : Ends idle [] (Character 0xFF ∷ Silence ∷ Character 0xFF ∷ Character 0x42 ∷ Character 0x80 ∷ Silence ∷ Silence ∷ []) (tells idle Broken) []
-unfolding taken taken_data silent_inside at_idle at_preamble at_first at_address at_expansion at_command at_count at_data at_check delimiter_of stored if◌then◌else◌
+unfolding taken taken_data silent_inside at_idle at_preamble at_first at_address at_expansion at_command at_count at_data at_check delimiter_of stored when◌then◌else◌
 two_in_a_row = before refl (before refl (before refl (before refl (before refl (before refl (last refl refl))))))

@@ -5,7 +5,7 @@ use mathlib.Core.Path.{◌≡◌, refl, sym, ap, subst, subst₂, ◌∙◌}
 use mathlib.Core.Bool.{Bool, true, false}
 use mathlib.Core.List.{List, [], ◌∷◌, ◌++◌, append_assoc}
 use lib.ListN.{length}
-use Rattle.base.specs.Choice.{if◌then◌else◌, ◌<?◌, ◌=?◌}
+use Rattle.base.specs.Choice.{when◌then◌else◌, ◌<?◌, ◌=?◌}
 use Rattle.base.specs.Store.{stored}
 use Rattle.frame.specs.Check.{exclusive_or}
 use Rattle.frame.specs.Delimiter.{delimiter_of}
@@ -44,8 +44,8 @@ data Behind (t : Taken) : Type 0 where
   within : t.event ≡ Nothing → Within t.receiver → Behind t
   without : (t.event ≡ Nothing → ⊥) → NothingBroken t.receiver → Behind t
 
-by_if : (t : Bool) (a b : Taken) → Behind a → Behind b → Behind (if t then a else b)
-unfolding if◌then◌else◌
+by_if : (t : Bool) (a b : Taken) → Behind a → Behind b → Behind (when t then a else b)
+unfolding when◌then◌else◌
 by_if true a b p q = p
 by_if false a b p q = q
 
@@ -68,13 +68,13 @@ behind_begins : (c : ℕ) (d : Delimiter) → Behind (begins c d)
 behind_begins c Not = behind_breaks
 behind_begins c (Is frame long expansion) = within refl (record { inside = refl; no_gap = refl })
 
-in_frame : (x : ℕ) (t : Bool) → Inside (if t then Command else Expansion x)
-unfolding if◌then◌else◌
+in_frame : (x : ℕ) (t : Bool) → Inside (when t then Command else Expansion x)
+unfolding when◌then◌else◌
 in_frame x true = refl
 in_frame x false = refl
 
-ended_told : (w : Whole) (m : FrameDamage) (t : Bool) → (if t then Event.Damaged w m else Frame w) ≡ Nothing → ⊥
-unfolding if◌then◌else◌
+ended_told : (w : Whole) (m : FrameDamage) (t : Bool) → (when t then Event.Damaged w m else Frame w) ≡ Nothing → ⊥
+unfolding when◌then◌else◌
 ended_told w m true e = let z : ◌≡◌ {A = ℕ} 0 1 = cc in omega arith
 ended_told w m false e = let z : ◌≡◌ {A = ℕ} 0 1 = cc in omega arith
 

@@ -8,7 +8,7 @@ use mathlib.Core.List.{List, [], ◌∷◌, ◌++◌, append_assoc}
 use lib.ListN.{length, take, get_or}
 use lib.Bits.{bit_xor, xor_self, xor_zero_l}
 use borrow.Author.Tests.{eq-eqb}
-use Rattle.base.specs.Choice.{if◌then◌else◌, ◌=?◌, ◌<?◌}
+use Rattle.base.specs.Choice.{when◌then◌else◌, ◌=?◌, ◌<?◌}
 use Rattle.base.specs.Store.{stored}
 use Rattle.base.proofs.Choices.{if_is_true, if_is_false, if_false, if_not_below, if_unequal, if_equal}
 use Rattle.frame.specs.Delimiter.{is_type, delimiter_of, delimiter_byte}
@@ -54,7 +54,7 @@ heard_short : ℕ → ℕ → ℕ → Header
 heard_short frame x command = record { kind = frame; long = false; primary = (x / 128 =? 1); burst = (x / 64 % 2 =? 1); address = x % 64; command = command }
 
 short_leads : (b : List ℕ) (frame sum x command : ℕ) → Leads (opened frame false sum) b (x ∷ command ∷ []) (at_count_with (heard_short frame x command) (xor_from sum (x ∷ command ∷ []))) b
-unfolding taken taken_data at_first at_command if◌then◌else◌ heard_short xor_from
+unfolding taken taken_data at_first at_command when◌then◌else◌ heard_short xor_from
 short_leads b frame sum x command = hears refl refl (hears refl refl stays)
 
 more : ℕ → ℕ → ℕ
@@ -66,7 +66,7 @@ heard_long frame x b2 b3 b4 b5 command =
 
 long_leads : (b : List ℕ) (frame sum x b2 b3 b4 b5 command : ℕ)
     → Leads (opened frame true sum) b (x ∷ b2 ∷ b3 ∷ b4 ∷ b5 ∷ command ∷ []) (at_count_with (heard_long frame x b2 b3 b4 b5 command) (xor_from sum (x ∷ b2 ∷ b3 ∷ b4 ∷ b5 ∷ command ∷ []))) b
-unfolding taken taken_data at_first at_address at_command if◌then◌else◌ heard_long more xor_from
+unfolding taken taken_data at_first at_address at_command when◌then◌else◌ heard_long more xor_from
 long_leads b frame sum x b2 b3 b4 b5 command = hears refl refl (hears refl refl (hears refl refl (hears refl refl (hears refl refl (hears refl refl stays)))))
 
 -- the address that its bytes give
@@ -95,7 +95,7 @@ module _ (b : List ℕ) (frame : ℕ) (primary burst : Bool) (address command : 
   header long = record { kind = frame; long = long; primary = primary; burst = burst; address = address; command = command }
 
   at_count_short : address ≤ 63 → AtCount (header false) b
-  unfolding AtCount heard_short header if◌then◌else◌
+  unfolding AtCount heard_short header when◌then◌else◌
   at_count_short small =
       let x : ℕ = first primary burst address in
       let below : address < 64 = omega arith in
@@ -107,7 +107,7 @@ module _ (b : List ℕ) (frame : ℕ) (primary burst : Bool) (address command : 
       subst (λ (h : Header). Leads (opened frame false d) b (x ∷ command ∷ []) (at_count_with h (xor_from d (x ∷ command ∷ []))) b) same (short_leads b frame d x command)
 
   at_count_long : address < 2 ^ 38 → AtCount (header true) b
-  unfolding AtCount heard_long header if◌then◌else◌
+  unfolding AtCount heard_long header when◌then◌else◌
   at_count_long small =
       let bits : ℕ = address / 2 ^ 32 in
       let x : ℕ = first primary burst bits in
@@ -201,8 +201,8 @@ frame_leads preamble h bytes b two ok = go preamble two
 
 -- the theorem: the last character
 pub frame_told : (h : Header) (bytes : List ℕ) → taken (before_check h bytes) (Character (exclusive_or (protected_bytes h bytes))) ≡ tells idle (Frame (whole_message h bytes))
-unfolding taken at_check if◌then◌else◌
+unfolding taken at_check when◌then◌else◌
 frame_told h bytes =
     let x : ℕ = exclusive_or (protected_bytes h bytes) in
     let right : (bit_xor x x =? 0) ≡ true = eq-eqb (bit_xor x x) 0 (xor_self x) in
-    ap (λ (t : Bool). tells idle (ended (whole_message h bytes) (with_check no_damage (if t then false else true)))) right
+    ap (λ (t : Bool). tells idle (ended (whole_message h bytes) (with_check no_damage (when t then false else true)))) right

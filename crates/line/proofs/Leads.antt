@@ -7,7 +7,7 @@ use mathlib.Core.Bool.{Bool, true, false}
 use mathlib.Core.List.{List, [], ◌∷◌, ◌++◌}
 use lib.ListN.{length, set, take, get_or}
 use lib.Bits.{bit_xor}
-use Rattle.base.specs.Choice.{if◌then◌else◌}
+use Rattle.base.specs.Choice.{when◌then◌else◌}
 use Rattle.base.specs.Store.{stored}
 use Rattle.base.proofs.Choices.{if_below, if_not_below}
 use Rattle.frame.specs.Check.{xor_from}
@@ -33,12 +33,12 @@ leads_on (hears p q l) m = hears p q (leads_on l m)
 
 -- two 0xFF and more lead from idle into the preamble
 more_preamble : (b : List ℕ) (n : ℕ) → Leads (blank (Preamble 2)) b (preamble_bytes n) (blank (Preamble 2)) b
-unfolding preamble_bytes taken taken_data at_preamble if◌then◌else◌
+unfolding preamble_bytes taken taken_data at_preamble when◌then◌else◌
 more_preamble b zero = stays
 more_preamble b (suc n) = hears refl refl (more_preamble b n)
 
 pub preamble_leads : (b : List ℕ) (n : ℕ) → Leads idle b (preamble_bytes (suc (suc n))) (blank (Preamble 2)) b
-unfolding preamble_bytes taken taken_data at_idle at_preamble if◌then◌else◌
+unfolding preamble_bytes taken taken_data at_idle at_preamble when◌then◌else◌
 preamble_leads b n = hears refl refl (hears refl refl (more_preamble b n))
 
 -- in the data, and at the check byte, of a frame without damage

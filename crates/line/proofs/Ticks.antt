@@ -2,7 +2,7 @@
 use Prim.Native.Nat.{ℕ, ◌+◌}
 use mathlib.Core.Path.{◌≡◌, refl, sym, ap, subst, ◌∙◌}
 use mathlib.Core.Bool.{Bool, true, false}
-use Rattle.base.specs.Choice.{if◌then◌else◌, ◌<?◌}
+use Rattle.base.specs.Choice.{when◌then◌else◌, ◌<?◌}
 use Rattle.base.proofs.Choices.{if_is_true, if_is_false}
 use Rattle.line.specs.Gaps.{IsCharacter, is_sound, is_with_damage}
 use Rattle.line.specs.Reader.{idle, passing, tells, gapped, silent_inside, inside_frame, next, character, damaged, at_first, at_address, at_expansion, at_command, at_count, at_data, at_check, taken}
@@ -87,10 +87,10 @@ pub data DataGoesOn (r : Receiver) (n : ℕ) (t : Taken) : Type 0 where
   to_check : t.receiver.place ≡ Check → t.receiver.header ≡ r.header → t.event ≡ Nothing → DataGoesOn r n t
 
 data_goes_on : (r : Receiver) (n c : ℕ) → DataGoesOn r n (at_data r n c)
-unfolding at_data if◌then◌else◌
+unfolding at_data when◌then◌else◌
 data_goes_on r n c = go (n + 1 <? r.count)
   where
-    go : (t : Bool) → DataGoesOn r n (if t then next r r.header (Data (n + 1)) c else next r r.header Check c)
+    go : (t : Bool) → DataGoesOn r n (when t then next r r.header (Data (n + 1)) c else next r r.header Check c)
     go true = to_data refl refl refl
     go false = to_check refl refl refl
 

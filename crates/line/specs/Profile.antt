@@ -1,7 +1,7 @@
 -- To be believed: what the engine must do, or what is claimed of it.
 -- Document 01, "Timers": "A profile has five numbers in ticks"; "Refusals", the line of the profile.
 use Rattle.std.specs.Prelude.{ℕ, ◌+◌, Bool, true, false}
-use Rattle.base.specs.Choice.{if◌then◌else◌, ◌<?◌, ◌≤?◌, ◌=?◌, ◌outside◌to◌}
+use Rattle.base.specs.Choice.{when◌then◌else◌, ◌<?◌, ◌≤?◌, ◌=?◌, ◌outside◌to◌}
 use Rattle.base.specs.Refusal.{number, Called, accepted, refused}
 use Rattle.line.specs.declared.Profile.{Profile}
 use Rattle.line.specs.declared.MadeProfile.{MadeProfile}
@@ -22,23 +22,23 @@ infrared_profile = record { sto = 87; hold = 5; rt2 = 13; rt1p = 456; rt1s = 456
 -- "a value is 0 or above 1,000"
 abbrev pub value_refused : Profile → Bool
 value_refused p =
-    if p.sto outside 1 to 1000 then true else
-    if p.hold outside 1 to 1000 then true else
-    if p.rt2 outside 1 to 1000 then true else
-    if p.rt1p outside 1 to 1000 then true else
+    when p.sto outside 1 to 1000 then true else
+    when p.hold outside 1 to 1000 then true else
+    when p.rt2 outside 1 to 1000 then true else
+    when p.rt1p outside 1 to 1000 then true else
     p.rt1s outside 1 to 1000
 
 -- "HOLD not below RT2, RT2 or STO not below RT1 primary, or RT1 secondary not RT1 primary + RT2"
 abbrev pub order_refused : Profile → Bool
 order_refused p =
-    if p.rt2 ≤? p.hold then true else
-    if p.rt1p ≤? p.rt2 then true else
-    if p.rt1p ≤? p.sto then true else
-    if p.rt1s =? p.rt1p + p.rt2 then false else true
+    when p.rt2 ≤? p.hold then true else
+    when p.rt1p ≤? p.rt2 then true else
+    when p.rt1p ≤? p.sto then true else
+    when p.rt1s =? p.rt1p + p.rt2 then false else true
 
 -- "1": a profile is made, or refused
 abbrev pub profile_made : Profile → Called Profile
-profile_made p = if value_refused p then refused 1 else if order_refused p then refused 1 else accepted p
+profile_made p = when value_refused p then refused 1 else when order_refused p then refused 1 else accepted p
 
 -- what the answer says
 abbrev pub made_as : MadeProfile → Called Profile

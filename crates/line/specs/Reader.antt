@@ -2,7 +2,7 @@
 -- The tick reader: document 01, "Frames", the paragraph on the line, with document 02, item 1, for a silent tick inside a frame. In each tick it takes what is heard and tells what became of a frame.
 use Rattle.std.specs.Prelude.{ℕ, ◌+◌, ◌-◌, ◌*◌, ◌/◌, ◌%◌, ◌^◌, Bool, true, false, ◌≡◌, List, [], ◌∷◌}
 use Rattle.std.specs.Int.Bits.{bit_xor}
-use Rattle.base.specs.Choice.{if◌then◌else◌, ◌<?◌, ◌=?◌}
+use Rattle.base.specs.Choice.{when◌then◌else◌, ◌<?◌, ◌=?◌}
 use Rattle.base.specs.Store.{stored}
 use Rattle.frame.specs.Limits.{most_data}
 use Rattle.frame.specs.Delimiter.{delimiter_of}
@@ -54,7 +54,7 @@ gapped r = record { place = r.place; header = r.header; expansion = r.expansion;
 
 -- a silent tick inside a frame: "One silent tick inside a frame is now passed over. The second in a row breaks the frame"; then, as in document 01, "the next character may start another"
 unfoldable pub silent_inside : Receiver → Taken
-silent_inside r = if r.gap then tells idle Broken else tells (gapped r) Nothing
+silent_inside r = when r.gap then tells idle Broken else tells (gapped r) Nothing
 
 -- inside a frame: from its first 0xFF on, up to its check byte
 abbrev pub inside_frame : Place → Bool
@@ -71,7 +71,7 @@ inside_frame Check = true
 
 -- a silent tick; after one outside a frame the reader is before a frame
 abbrev pub silence : Receiver → Taken
-silence r = if inside_frame r.place then silent_inside r else tells idle Nothing
+silence r = when inside_frame r.place then silent_inside r else tells idle Nothing
 
 -- the exclusive-or from the delimiter on, with one more character
 abbrev pub summed : Receiver → ℕ → ℕ
@@ -84,7 +84,7 @@ next r h place c =
 
 -- before a frame: 0xFF, or a character "that is neither 0xFF nor a delimiter"
 unfoldable pub at_idle : ℕ → Taken
-at_idle c = if c =? 0xFF then tells (blank (Preamble 1)) Nothing else breaks
+at_idle c = when c =? 0xFF then tells (blank (Preamble 1)) Nothing else breaks
 
 -- the delimiter
 abbrev pub begins : ℕ → Delimiter → Taken
@@ -102,18 +102,18 @@ begins c (Is frame long expansion) =
 
 -- in the preamble: another 0xFF, or "a delimiter behind two 0xFF"
 unfoldable pub at_preamble : ℕ → ℕ → Taken
-at_preamble n c = if c =? 0xFF then tells (blank (Preamble 2)) Nothing else if n <? 2 then breaks else begins c (delimiter_of c)
+at_preamble n c = when c =? 0xFF then tells (blank (Preamble 2)) Nothing else when n <? 2 then breaks else begins c (delimiter_of c)
 
 -- the place behind the address
 abbrev pub behind_address : Receiver → Place
-behind_address r = if r.expansion =? 0 then Command else Expansion r.expansion
+behind_address r = when r.expansion =? 0 then Command else Expansion r.expansion
 
 -- the first address byte: master bit, burst flag, six bits
 abbrev pub first_header : Header → ℕ → Header
 first_header h c = record { kind = h.kind; long = h.long; primary = (c / 128 =? 1); burst = (c / 64 % 2 =? 1); address = c % 64; command = h.command }
 
 unfoldable pub at_first : Receiver → ℕ → Taken
-at_first r c = if r.header.long then next r (first_header r.header c) (Address 4) c else next r (first_header r.header c) (behind_address r) c
+at_first r c = when r.header.long then next r (first_header r.header c) (Address 4) c else next r (first_header r.header c) (behind_address r) c
 
 -- another address byte: the address so far, and eight more bits
 abbrev pub address_header : Header → ℕ → Header
@@ -121,10 +121,10 @@ address_header h c =
     record { kind = h.kind; long = h.long; primary = h.primary; burst = h.burst; address = h.address % 2 ^ 32 * 256 + c; command = h.command }
 
 unfoldable pub at_address : Receiver → ℕ → ℕ → Taken
-at_address r n c = if 1 <? n then next r (address_header r.header c) (Address (n - 1)) c else next r (address_header r.header c) (behind_address r) c
+at_address r n c = when 1 <? n then next r (address_header r.header c) (Address (n - 1)) c else next r (address_header r.header c) (behind_address r) c
 
 unfoldable pub at_expansion : Receiver → ℕ → ℕ → Taken
-at_expansion r n c = if 1 <? n then next r r.header (Expansion (n - 1)) c else next r r.header Command c
+at_expansion r n c = when 1 <? n then next r r.header (Expansion (n - 1)) c else next r r.header Command c
 
 abbrev pub command_header : Header → ℕ → Header
 command_header h c = record { kind = h.kind; long = h.long; primary = h.primary; burst = h.burst; address = h.address; command = c }
@@ -138,27 +138,27 @@ counted r c place =
     tells (record { place = place; header = r.header; expansion = r.expansion; count = c; sum = summed r c; damage = r.damage; gap = false }) Nothing
 
 unfoldable pub at_count : Receiver → ℕ → Taken
-at_count r c = if too_few r.header.kind c then breaks else if c =? 0 then counted r c Check else counted r c (Data 0)
+at_count r c = when too_few r.header.kind c then breaks else when c =? 0 then counted r c Check else counted r c (Data 0)
 
 -- a data byte: whatever it is, it starts no other frame
 unfoldable pub at_data : Receiver → ℕ → ℕ → Taken
-at_data r n c = if n + 1 <? r.count then next r r.header (Data (n + 1)) c else next r r.header Check c
+at_data r n c = when n + 1 <? r.count then next r r.header (Data (n + 1)) c else next r r.header Check c
 
 -- the check byte: "A frame is damaged if it is whole but a character in it is damaged or its check byte is wrong."
 abbrev pub whole_of : Receiver → Whole
 whole_of r = record { header = r.header; expansion = r.expansion; count = r.count }
 
 abbrev pub is_damaged : FrameDamage → Bool
-is_damaged m = if m.parity then true else if m.overrun then true else if m.framing then true else if m.check then true else m.address
+is_damaged m = when m.parity then true else when m.overrun then true else when m.framing then true else when m.check then true else m.address
 
 abbrev pub with_check : FrameDamage → Bool → FrameDamage
 with_check m wrong = record { parity = m.parity; overrun = m.overrun; framing = m.framing; check = wrong; address = m.address }
 
 abbrev pub ended : Whole → FrameDamage → Event
-ended w m = if is_damaged m then Event.Damaged w m else Frame w
+ended w m = when is_damaged m then Event.Damaged w m else Frame w
 
 unfoldable pub at_check : Receiver → ℕ → Taken
-at_check r c = tells idle (ended (whole_of r) (with_check r.damage (if summed r c =? 0 then false else true)))
+at_check r c = tells idle (ended (whole_of r) (with_check r.damage (when summed r c =? 0 then false else true)))
 
 -- a character, by the reader's place
 abbrev pub character : Place → Receiver → ℕ → Taken
@@ -206,7 +206,7 @@ taken r (Damaged c kind) = damaged r.place r c kind
 
 -- a data byte is stored at the place of its number; the lent buffer has 255 bytes
 abbrev pub kept_byte : ℕ → ℕ → List ℕ → List ℕ
-kept_byte n c bytes = if n <? most_data then stored bytes n (c ∷ []) else bytes
+kept_byte n c bytes = when n <? most_data then stored bytes n (c ∷ []) else bytes
 
 abbrev pub kept : Place → ℕ → List ℕ → List ℕ
 kept Passing c bytes = bytes

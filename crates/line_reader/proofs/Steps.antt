@@ -4,7 +4,7 @@ use mathlib.Core.Bool.{Bool, true, false}
 use mathlib.Core.Path.{◌≡◌, refl, sym, ap, ◌∙◌}
 use mathlib.Core.List.{List, [], ◌∷◌}
 use lib.ListN.{set}
-use Rattle.base.specs.Choice.{if◌then◌else◌, ◌=?◌}
+use Rattle.base.specs.Choice.{when◌then◌else◌, ◌=?◌}
 use Rattle.base.specs.Store.{stored}
 use Rattle.base.proofs.Choices.{if_is_true, if_is_false}
 use Rattle.frame.specs.declared.Delimiter.{Delimiter}
@@ -32,7 +32,7 @@ next_same t r h g p q c a b e = e ∙ (λ i. next r (a i) (b i) c)
 pub begins_same : (t : Taken) (c : ℕ) (d g : Delimiter) → d ≡ g → t ≡ begins c d → t ≡ begins c g
 begins_same t c d g p e = e ∙ ap (begins c) p
 
-pub check_same : (r : Receiver) (c : ℕ) (s : Receiver) (wrong : Bool) (h : Header) (e : Event) → s ≡ idle → wrong ≡ (if summed r c =? 0 then false else true) → h ≡ r.header
+pub check_same : (r : Receiver) (c : ℕ) (s : Receiver) (wrong : Bool) (h : Header) (e : Event) → s ≡ idle → wrong ≡ (when summed r c =? 0 then false else true) → h ≡ r.header
     → e ≡ ended (record { header = h; expansion = r.expansion; count = r.count }) (with_check r.damage wrong) → ◌≡◌ {A = Taken} (record { receiver = s; event = e }) (at_check r c)
 unfolding at_check
 check_same r c s wrong h e p q g f =

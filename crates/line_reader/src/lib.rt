@@ -2,7 +2,7 @@
 #![tactic(auto)]
 
 ghost use Rattle.std.specs.Prelude.{◌≡◌, true, false};
-ghost use Rattle.base.specs.Choice.{if◌then◌else◌, ◌=?◌};
+ghost use Rattle.base.specs.Choice.{when◌then◌else◌, ◌=?◌};
 ghost use Rattle.line.specs.Reader.{no_damage, blank, idle, passing, breaks, gapped, silent_inside, inside_frame, silence, tells, next, at_idle, begins, at_preamble, behind_address, first_header, at_first, address_header, at_address, at_expansion, command_header, at_command, counted, at_count, at_data, is_damaged, ended, at_check, character, address_damaged, kind_damaged, marked, damaged, kept_byte, kept, ReaderTakeIs};
 
 use frame::{Delimiter, Header};
@@ -455,7 +455,7 @@ fn at_check(r: Receiver, c: u8) -> Taken
 
 // Whether an exclusive-or from delimiter to check byte shows a wrong check byte.
 fn wrong_check(sum: u8) -> bool
-    ensures { result ≡ (if sum =? 0 then false else true) }
+    ensures { result ≡ (when sum =? 0 then false else true) }
 {
     if sum == 0 {
         return false;

@@ -5,7 +5,7 @@ use mathlib.Core.Path.{◌≡◌, refl, sym}
 use mathlib.Core.Bool.{true, false}
 use mathlib.Core.List.{List, [], ◌∷◌, ◌++◌}
 use lib.ListN.{replicate}
-use Rattle.base.specs.Choice.{if◌then◌else◌}
+use Rattle.base.specs.Choice.{when◌then◌else◌}
 use Rattle.base.specs.Refusal.{Called, accepted, refused}
 use Rattle.base.specs.Store.{stored}
 use Rattle.base.proofs.Choices.{true_false}
@@ -39,11 +39,11 @@ lengths_for p (w ∷ ws) = data_length p 3 w ∷ lengths_for p ws
 -- each byte more costs 5 ticks
 pub fsk_lengths : lengths_for fsk_profile (0 ∷ 364 ∷ 365 ∷ 369 ∷ 370 ∷ 1629 ∷ 1630 ∷ 4294967295 ∷ [])
     ≡ refused 26 ∷ refused 26 ∷ accepted 2 ∷ accepted 2 ∷ accepted 3 ∷ accepted 254 ∷ accepted 255 ∷ accepted 255 ∷ []
-unfolding lengths_for largest_from if◌then◌else◌
+unfolding lengths_for largest_from when◌then◌else◌
 fsk_lengths = refl
 
 pub c8psk_lengths : lengths_for c8psk_profile (441 ∷ 442 ∷ 1706 ∷ 1707 ∷ []) ≡ refused 26 ∷ accepted 2 ∷ accepted 254 ∷ accepted 255 ∷ []
-unfolding lengths_for largest_from if◌then◌else◌
+unfolding lengths_for largest_from when◌then◌else◌
 c8psk_lengths = refl
 
 -- ---- the wait for each length, with R 3
@@ -55,11 +55,11 @@ waits_for p (n ∷ ns) = wait_for p 3 n false ∷ wait_for p 3 n true ∷ waits_
 -- without and with a bursting device
 pub fsk_waits : waits_for fsk_profile (1 ∷ 2 ∷ 255 ∷ 256 ∷ [])
     ≡ refused 9 ∷ refused 9 ∷ accepted 365 ∷ accepted 546 ∷ accepted 1630 ∷ accepted 2823 ∷ refused 9 ∷ refused 9 ∷ []
-unfolding waits_for if◌then◌else◌
+unfolding waits_for when◌then◌else◌
 fsk_waits = refl
 
 pub c8psk_waits : waits_for c8psk_profile (2 ∷ 255 ∷ []) ≡ accepted 442 ∷ accepted 650 ∷ accepted 1707 ∷ accepted 2927 ∷ []
-unfolding waits_for if◌then◌else◌
+unfolding waits_for when◌then◌else◌
 c8psk_waits = refl
 
 -- ---- the order of the refusals
@@ -69,25 +69,25 @@ unfoldable pub bad : Profile
 bad = record { sto = 28; hold = 2; rt2 = 8; rt1p = 33; rt1s = 40 }
 
 pub profile_first : data_length bad 2 0 ≡ refused 1
-unfolding bad if◌then◌else◌
+unfolding bad when◌then◌else◌
 profile_first = refl
 
 pub retries_next : data_length fsk_profile 2 0 ≡ refused 2
-unfolding if◌then◌else◌
+unfolding when◌then◌else◌
 retries_next = refl
 
 pub wait_profile_first : wait_for bad 16 0 false ≡ refused 1
-unfolding bad if◌then◌else◌
+unfolding bad when◌then◌else◌
 wait_profile_first = refl
 
 pub wait_retries_next : wait_for fsk_profile 16 0 false ≡ refused 2
-unfolding if◌then◌else◌
+unfolding when◌then◌else◌
 wait_retries_next = refl
 
 -- ---- the owner's wait, with short timers and R 3: for 187 ticks the length is 2
 
 pub short_length : data_length short 3 187 ≡ accepted 2
-unfolding short largest_from if◌then◌else◌
+unfolding short largest_from when◌then◌else◌
 short_length = refl
 
 -- in tick 0 the primary asks a device, which does not answer; the message begins in tick 4
@@ -98,7 +98,7 @@ unfoldable pub ticks : List Calls
 ticks = asked ∷ replicate 200 quiet
 
 none_bursts : NoneBursts true (run 2 one_device ticks)
-unfolding ticks asked quiet short one_device run link_tick device_ticks sides carried master_tick device_tick requested requested_up_to master_takes master_sends device_takes device_sends answered content_given taken taken_data at_idle at_preamble at_first at_address at_expansion at_command at_count at_data at_check write_buffer write_answer frame_bytes preamble_bytes body_bytes protected_bytes header_bytes xor_from delimiter_of stored if◌then◌else◌
+unfolding ticks asked quiet short one_device run link_tick device_ticks sides carried master_tick device_tick requested requested_up_to master_takes master_sends device_takes device_sends answered content_given taken taken_data at_idle at_preamble at_first at_address at_expansion at_command at_count at_data at_check write_buffer write_answer frame_bytes preamble_bytes body_bytes protected_bytes header_bytes xor_from delimiter_of stored when◌then◌else◌
 none_bursts =
     and_on (and (λ e. true_false (sym e)) none) (and_on (and (λ e. true_false (sym e)) none) (and_on (and (λ e. true_false (sym e)) none) (and_on (and (λ e. true_false (sym e)) none)
     (until_it_begins 0xFF (and (λ e. true_false (sym e)) none) refl))))
@@ -109,7 +109,7 @@ within_premises = record { made = short_taken; starts = one_device_starts; one_b
 
 -- so it is claimed that the message begins within 187 ticks of tick 6, RT1 secondary
 pub owner_begins : BeginsWithin true ((short.rt1s - 0) + 187) (run 2 one_device ticks)
-unfolding run ticks asked quiet short one_device link_tick master_tick requested requested_up_to master_takes master_sends if◌then◌else◌
+unfolding run ticks asked quiet short one_device link_tick master_tick requested requested_up_to master_takes master_sends when◌then◌else◌
 owner_begins =
     owner_waits short 3 187 2 short_length one_device ticks within_premises true 0 _ _ refl refl none_bursts
     (omega (arith, run_length 2 (link_after (link_tick 2 one_device asked)) (replicate 200 quiet)))
@@ -126,10 +126,10 @@ long_ask = record {
 
 -- on the link with the length for this wait that is 6
 pub long_refused : (link_tick 2 one_device long_ask).for_primary.result ≡ CallResult.Refused 6
-unfolding long_ask one_device short run link_tick device_ticks sides carried master_tick device_tick requested requested_up_to master_takes master_sends device_takes device_sends answered content_given taken taken_data at_idle at_preamble at_first at_address at_expansion at_command at_count at_data at_check write_buffer write_answer frame_bytes preamble_bytes body_bytes protected_bytes header_bytes xor_from delimiter_of stored if◌then◌else◌
+unfolding long_ask one_device short run link_tick device_ticks sides carried master_tick device_tick requested requested_up_to master_takes master_sends device_takes device_sends answered content_given taken taken_data at_idle at_preamble at_first at_address at_expansion at_command at_count at_data at_check write_buffer write_answer frame_bytes preamble_bytes body_bytes protected_bytes header_bytes xor_from delimiter_of stored when◌then◌else◌
 long_refused = refl
 
 -- on one without a limit the primary still sends in tick 193, in which the secondary's message was due
 pub long_sends : E.senders (run 255 one_device (long_ask ∷ replicate 193 quiet)) ≡ replicate 4 0 ++ replicate 190 1
-unfolding E.senders E.devices_sent E.one long_ask quiet one_device short run link_tick device_ticks sides carried master_tick device_tick requested requested_up_to master_takes master_sends device_takes device_sends answered content_given taken taken_data at_idle at_preamble at_first at_address at_expansion at_command at_count at_data at_check write_buffer write_answer frame_bytes preamble_bytes body_bytes protected_bytes header_bytes xor_from delimiter_of stored if◌then◌else◌
+unfolding E.senders E.devices_sent E.one long_ask quiet one_device short run link_tick device_ticks sides carried master_tick device_tick requested requested_up_to master_takes master_sends device_takes device_sends answered content_given taken taken_data at_idle at_preamble at_first at_address at_expansion at_command at_count at_data at_check write_buffer write_answer frame_bytes preamble_bytes body_bytes protected_bytes header_bytes xor_from delimiter_of stored when◌then◌else◌
 long_sends = refl

@@ -7,7 +7,7 @@ use mathlib.Core.Bool.{Bool, true, false}
 use mathlib.Core.List.{List}
 use mathlib.Core.Path.{◌≡◌, refl, sym, ap, subst, ◌∙◌}
 use borrow.Author.Tests.{lt-ltb, ltb-true, ltb-false, leb-true, leb-false}
-use Rattle.base.specs.Choice.{if◌then◌else◌, ◌<?◌, ◌outside◌to◌}
+use Rattle.base.specs.Choice.{when◌then◌else◌, ◌<?◌, ◌outside◌to◌}
 use Rattle.base.specs.Refusal.{Called, accepted, refused}
 use Rattle.base.proofs.Choices.{if_is_true, if_is_false}
 use Rattle.line.specs.Profile.{value_refused, order_refused, profile_made}
@@ -28,12 +28,12 @@ record LargestTo (p : Profile) (retries wait top n : ℕ) : Type 0 where
   most : (m : ℕ) → m ≤ top → longest_wait m p retries ≤ wait → m ≤ n
 
 largest_to : (top : ℕ) (p : Profile) (retries most : ℕ) → 2 ≤ top → longest_wait 2 p retries ≤ most → LargestTo p retries most top (largest_from top p retries most)
-unfolding largest_from if◌then◌else◌
+unfolding largest_from when◌then◌else◌
 largest_to zero p retries most e w = absurd (omega arith)
 largest_to (suc n) p retries most e w = go (is_within p retries most (suc n)) refl (λ k. largest_to n p retries most k w)
   where
     go : (b : Bool) → is_within p retries most (suc n) ≡ b → (2 ≤ n → LargestTo p retries most n (largest_from n p retries most))
-        → LargestTo p retries most (suc n) (if b then suc n else largest_from n p retries most)
+        → LargestTo p retries most (suc n) (when b then suc n else largest_from n p retries most)
     go true q rest = record { low = e; high = omega arith; within = leb-true (longest_wait (suc n) p retries) most q; most = λ m k z. k }
     go false q rest = by (dec_le 2 n)
       where

@@ -7,7 +7,7 @@ use mathlib.Core.Bool.{Bool, true, false}
 use mathlib.Core.List.{List, [], ◌∷◌, ◌++◌, append_assoc}
 use lib.ListN.{length, take, drop, length-append}
 use lib.Seq.{take_at, drop_at}
-use Rattle.base.specs.Choice.{if◌then◌else◌, ◌=?◌}
+use Rattle.base.specs.Choice.{when◌then◌else◌, ◌=?◌}
 use Rattle.base.proofs.Choices.{if_unequal}
 use Rattle.turns.proofs.Bursting.{if_both}
 use Rattle.turns.specs.Link.{MasterCall, no_request, requests, DeviceCall, no_call, gives_answer, gives_content, Calls}
@@ -41,7 +41,7 @@ call_behind kind preamble command address put rest some h =
     sym (if_unequal kind 0 rest _ _ (λ e. absurd (omega (arith, e))) (sym (drop_at (call_bytes kind preamble command address put) rest _ (call_long kind preamble command address put rest h))))
 
 none_behind : (rest : List ℕ) → behind_call (0 ∷ rest) ≡ rest
-unfolding behind_call if◌then◌else◌
+unfolding behind_call when◌then◌else◌
 none_behind rest = refl
 
 -- a master's: its kind is four times the revision, and the form
@@ -54,7 +54,7 @@ revision_back revision form h = omega arith
 request_back : (long : Bool) (preamble revision address command : ℕ) (put rest : List ℕ) → length put ≤ 256
     → (let q : Request = record { preamble = preamble; revision = revision; long = long; address = address; command = command } in
     M.call_of (request_in (master_bytes (requests q put) ++ rest)) (data_in (master_bytes (requests q put) ++ rest)) ≡ requests q put)
-unfolding if◌then◌else◌
+unfolding when◌then◌else◌
 request_back true preamble revision address command put rest h =
     let kind = revision * 4 + 2 in
     let whole = call_bytes kind preamble command address put ++ rest in
@@ -67,19 +67,19 @@ request_back false preamble revision address command put rest h =
     ∙ (λ i. requests (record { preamble = preamble; revision = revision_back revision 1 (omega arith) i; long = false; address = address_back address i; command = command }) (data_back kind preamble command address put rest h i))
 
 master_back : (c : MasterCall) (rest : List ℕ) → MasterCodable c → M.call_of (request_in (master_bytes c ++ rest)) (data_in (master_bytes c ++ rest)) ≡ c
-unfolding if◌then◌else◌
+unfolding when◌then◌else◌
 master_back no_request rest h = refl
 master_back (requests q put) rest (MasterCodable.codable_request r d) = request_back q.long q.preamble q.revision q.address q.command put rest d.at_most_lem
 
-form_some : (revision : ℕ) (long : Bool) → 0 < revision * 4 + (if long then 2 else 1)
-unfolding if◌then◌else◌
+form_some : (revision : ℕ) (long : Bool) → 0 < revision * 4 + (when long then 2 else 1)
+unfolding when◌then◌else◌
 form_some revision true = omega arith
 form_some revision false = omega arith
 
 master_behind : (c : MasterCall) (rest : List ℕ) → MasterCodable c → behind_call (master_bytes c ++ rest) ≡ rest
 master_behind no_request rest h = none_behind rest
 master_behind (requests q put) rest (MasterCodable.codable_request r d) =
-    call_behind (q.revision * 4 + (if q.long then 2 else 1)) q.preamble q.command q.address put rest (form_some q.revision q.long) d.at_most_lem
+    call_behind (q.revision * 4 + (when q.long then 2 else 1)) q.preamble q.command q.address put rest (form_some q.revision q.long) d.at_most_lem
 
 some_byte : (c : MasterCall) (rest : List ℕ) → 0 < length (master_bytes c ++ rest)
 some_byte no_request rest = omega arith
@@ -87,7 +87,7 @@ some_byte (requests q put) rest = omega arith
 
 -- a device's
 device_back : (c : DeviceCall) (rest : List ℕ) → DeviceCodable c → D.call_of (answer_in (device_bytes c ++ rest)) (data_in (device_bytes c ++ rest)) ≡ c
-unfolding if◌then◌else◌
+unfolding when◌then◌else◌
 device_back no_call rest h = refl
 device_back (gives_answer Same put) rest (DeviceCodable.codable_answer d) = ap (gives_answer Same) (data_back 1 0 0 0 put rest d.at_most_lem)
 device_back (gives_answer On put) rest (DeviceCodable.codable_answer d) = ap (gives_answer On) (data_back 2 0 0 0 put rest d.at_most_lem)
@@ -207,7 +207,7 @@ call_bytes_lem kind preamble command address put k p c a d =
 master_bytes_lem : (c : MasterCall) → MasterCodable c → Bytes (master_bytes c)
 master_bytes_lem no_request h = none_bytes [] no_byte
 master_bytes_lem (requests q put) (MasterCodable.codable_request r d) =
-    call_bytes_lem (q.revision * 4 + (if q.long then 2 else 1)) q.preamble q.command q.address put
+    call_bytes_lem (q.revision * 4 + (when q.long then 2 else 1)) q.preamble q.command q.address put
     (if_both (λ (k : ℕ). q.revision * 4 + k < 256) q.long 2 1 (omega (arith, r.revision_small)) (omega (arith, r.revision_small))) r.preamble_byte r.command_byte r.address_small d
 
 device_bytes_lem : (c : DeviceCall) → DeviceCodable c → Bytes (device_bytes c)

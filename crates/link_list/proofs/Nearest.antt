@@ -8,7 +8,7 @@ use lib.ListN.{length, take, length-take, length-map}
 use lib.Seq.{take_all}
 use borrow.Author.Tests.{ltb-true, ltb-false, le-ltb, ne_eqb}
 use Rattle.base.specs.Refusal.{Called, accepted, refused}
-use Rattle.base.specs.Choice.{if◌then◌else◌, ◌<?◌, ◌=?◌, ◌outside◌to◌}
+use Rattle.base.specs.Choice.{when◌then◌else◌, ◌<?◌, ◌=?◌, ◌outside◌to◌}
 use Rattle.base.proofs.Choices.{if_is_true, if_is_false, if_above, inside_high}
 use Rattle.frame.specs.Limits.{largest_polling}
 use Rattle.frame.specs.Address.{largest_with, address_above}
@@ -82,7 +82,7 @@ cut_equal b most n k h (kept p e) = ap (λ (m : ℕ). m =? b) e
 cut_equal b most n k h (cut p e) = ne_eqb k b (λ q. absurd (omega (arith, e, q))) ∙ sym (ne_eqb n b (λ q. absurd (omega (arith, q))))
 
 cut_outside : (low high most n k : ℕ) → low ≤ most → high < most → Cut most n k → (k outside low to high) ≡ (n outside low to high)
-cut_outside low high most n k h j c = λ i. if cut_below low most n k h c i then true else cut_above high most n k j c i
+cut_outside low high most n k h j c = λ i. when cut_below low most n k h c i then true else cut_above high most n k j c i
 
 -- ---- data
 
@@ -118,15 +118,15 @@ data_codable put = record { at_most_lem = go (nearest_length put); are_bytes = a
 
 tests : {A : Type 0} → Bool → Bool → Bool → Bool → Bool → Bool → Called A → Called A
 tests a r b c d e x =
-    if a then refused 3 else
-    if r then refused 17 else
-    if b then refused 4 else
-    if c then refused 5 else
-    if d then refused 6 else
-    if e then refused 7 else x
+    when a then refused 3 else
+    when r then refused 17 else
+    when b then refused 4 else
+    when c then refused 5 else
+    when d then refused 6 else
+    when e then refused 7 else x
 
 tests_outcome : {A : Type 0} (a r b c d e : Bool) (x y : Called A) → outcome x ≡ outcome y → outcome (tests a r b c d e x) ≡ outcome (tests a r b c d e y)
-unfolding tests if◌then◌else◌
+unfolding tests when◌then◌else◌
 tests_outcome true r b c d e x y h = refl
 tests_outcome false true b c d e x y h = refl
 tests_outcome false false true c d e x y h = refl
@@ -139,7 +139,7 @@ data Refused {A : Type 0} (x : Called A) : Type 0 where
   with_number : (why : ℕ) → x ≡ refused why → Refused x
 
 tests_refused : {A : Type 0} (a r b c d e : Bool) (x : Called A) → (a ≡ false → r ≡ false → b ≡ false → d ≡ false → ⊥) → Refused (tests a r b c d e x)
-unfolding tests if◌then◌else◌
+unfolding tests when◌then◌else◌
 tests_refused true r b c d e x h = with_number 3 refl
 tests_refused false true b c d e x h = with_number 17 refl
 tests_refused false false true c d e x h = with_number 4 refl
@@ -162,7 +162,7 @@ module _ (limit : ℕ) (small : limit < 256) (m : Master) (q : Request) (put : L
       go (cut h e) = sym (if_above (at_most 63 q.revision) 5 largest_polling 15 largest_polling (omega (arith, e)) refl) ∙ if_above q.revision 5 largest_polling 15 largest_polling (omega arith) refl
 
   largest_small : (long : Bool) → largest_with (polling_up_to q.revision) long < 2 ^ 40 - 1
-  unfolding if◌then◌else◌
+  unfolding when◌then◌else◌
   largest_small true = omega arith
   largest_small false = omega (arith, polling_fits q.revision)
 
@@ -174,7 +174,7 @@ module _ (limit : ℕ) (small : limit < 256) (m : Master) (q : Request) (put : L
   command_same : command_refused (nearest_request q) ≡ command_refused q
   command_same =
       let c = at_most_lem 255 q.command in
-      λ i. if cut_equal 254 255 q.command _ (omega arith) c i then true else if q.long then false else (if cut_equal 0 255 q.command _ (omega arith) c i then false else true)
+      λ i. when cut_equal 254 255 q.command _ (omega arith) c i then true else when q.long then false else (when cut_equal 0 255 q.command _ (omega arith) c i then false else true)
 
   data_same_test : (limit <? length (nearest_data put)) ≡ (limit <? length put)
   data_same_test = cut_above limit 256 (length put) _ small (nearest_length put)
@@ -205,16 +205,16 @@ module _ (limit : ℕ) (small : limit < 256) (m : Master) (q : Request) (put : L
 -- ---- a device's answer and its burst content
 
 two : {A : Type 0} → ℕ → ℕ → Bool → Bool → Called A → Called A
-two v w a b x = if a then refused v else if b then refused w else x
+two v w a b x = when a then refused v else when b then refused w else x
 
 two_outcome : {A : Type 0} (v w : ℕ) (a b : Bool) (x y : Called A) → outcome x ≡ outcome y → outcome (two v w a b x) ≡ outcome (two v w a b y)
-unfolding two if◌then◌else◌
+unfolding two when◌then◌else◌
 two_outcome v w true b x y h = refl
 two_outcome v w false true x y h = refl
 two_outcome v w false false x y h = h
 
 two_refused : {A : Type 0} (v w : ℕ) (a b : Bool) (x : Called A) → (a ≡ false → b ≡ false → ⊥) → Refused (two v w a b x)
-unfolding two if◌then◌else◌
+unfolding two when◌then◌else◌
 two_refused v w true b x h = with_number v refl
 two_refused v w false true x h = with_number w refl
 two_refused v w false false x h = absurd (h refl refl)

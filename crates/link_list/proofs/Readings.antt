@@ -7,7 +7,7 @@ use mathlib.Core.Path.{◌≡◌, refl, sym, ap, ◌∙◌}
 use lib.ListN.{length, take, drop, get_or, set, length-set, length-drop}
 use lib.Seq.{drop-drop, take_all, take-nil}
 use borrow.Author.Tests.{ltb-true, ltb-false}
-use Rattle.base.specs.Choice.{if◌then◌else◌, ◌<?◌, ◌=?◌}
+use Rattle.base.specs.Choice.{when◌then◌else◌, ◌<?◌, ◌=?◌}
 use Rattle.base.proofs.Choices.{if_is_true, if_is_false, if_below, if_not_below}
 use Rattle.base.proofs.Lists.{front_more}
 use Rattle.master.specs.Tick as M
@@ -181,10 +181,10 @@ module _ (ticks : List ℕ) where
   }
 
   -- the place that the code reads at, and the one that was asked for
-  read_from : (at : ℕ) → drop (if at <? length ticks then at else length ticks) ticks ≡ drop at ticks
+  read_from : (at : ℕ) → drop (when at <? length ticks then at else length ticks) ticks ≡ drop at ticks
   read_from at = by (at <? length ticks) refl
     where
-      by : (b : Bool) → (at <? length ticks) ≡ b → drop (if at <? length ticks then at else length ticks) ticks ≡ drop at ticks
+      by : (b : Bool) → (at <? length ticks) ≡ b → drop (when at <? length ticks then at else length ticks) ticks ≡ drop at ticks
       by true e = ap (λ (k : ℕ). drop k ticks) (if_is_true (at <? length ticks) _ _ e)
       by false e =
           ap (λ (k : ℕ). drop k ticks) (if_is_false (at <? length ticks) _ _ e)
@@ -193,7 +193,7 @@ module _ (ticks : List ℕ) where
 
   -- the calls of Ticks.antt, and the rest behind them
   pub calls_are : (here : Here) (at : ℕ) → length here ≤ 6 → calls_of ticks here (tick_at ticks at).calls ≡ calls_in here (drop at ticks)
-  calls_are here at h = from_is here (if at <? length ticks then at else length ticks) h ∙ ap (calls_in here) (read_from at)
+  calls_are here at h = from_is here (when at <? length ticks then at else length ticks) h ∙ ap (calls_in here) (read_from at)
 
   pub rest_is : (at : ℕ) → drop (tick_at ticks at).next ticks ≡ behind 8 (drop at ticks)
-  rest_is at = place_rest ticks 8 (if at <? length ticks then at else length ticks) ∙ ap (behind 8) (read_from at)
+  rest_is at = place_rest ticks 8 (when at <? length ticks then at else length ticks) ∙ ap (behind 8) (read_from at)

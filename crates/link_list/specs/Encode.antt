@@ -1,7 +1,7 @@
 -- How the code stands for what is to be believed.
 -- The bytes of a list of ticks: the encoder for the decoder of Ticks.antt, and which lists it encodes. That every such list is decoded from its bytes is proved in proofs/Encode.antt.
 use Rattle.std.specs.Prelude.{ℕ, ◌+◌, ◌*◌, ◌/◌, ◌%◌, ◌^◌, ◌≤◌, ◌<◌, Bool, true, false, ◌≡◌, List, [], ◌∷◌, ◌++◌, length}
-use Rattle.base.specs.Choice.{if◌then◌else◌}
+use Rattle.base.specs.Choice.{when◌then◌else◌}
 use Rattle.turns.specs.Link.{MasterCall, no_request, requests, DeviceCall, no_call, gives_answer, gives_content, Calls}
 use Rattle.turns.specs.declared.Request.{Request}
 use Rattle.turns.specs.declared.Wish.{Wish}
@@ -21,7 +21,7 @@ call_bytes kind preamble command address put =
 -- "one byte 0, no call"; the kind of a request is four times its revision, plus 1 with a short address or 2 with a long address
 abbrev pub master_bytes : MasterCall → List ℕ
 master_bytes no_request = 0 ∷ []
-master_bytes (requests q put) = call_bytes (q.revision * 4 + (if q.long then 2 else 1)) q.preamble q.command q.address put
+master_bytes (requests q put) = call_bytes (q.revision * 4 + (when q.long then 2 else 1)) q.preamble q.command q.address put
 
 -- kind 1 is an answer, 2 one that turns burst on, 3 one that turns it off, 4 is burst content
 abbrev pub wish_kind : Wish → ℕ

@@ -2,7 +2,7 @@
 -- For each call the nearest one that can be encoded, and the calls for which a run over the nearest ones is the same run. That each call is refused with the number with which its nearest is, and that a run over any list of ticks is one over some byte string, is proved in proofs/Nearest.antt.
 use Rattle.std.specs.Prelude.{ℕ, zero, suc, ◌-◌, ◌^◌, ◌<◌, Bool, true, false, List, [], ◌∷◌, map, take}
 use Rattle.base.specs.Refusal.{Called, accepted, refused}
-use Rattle.base.specs.Choice.{if◌then◌else◌, ◌<?◌}
+use Rattle.base.specs.Choice.{when◌then◌else◌, ◌<?◌}
 use Rattle.turns.specs.Link.{MasterCall, no_request, requests, DeviceCall, no_call, gives_answer, gives_content, Calls}
 use Rattle.turns.specs.declared.CallResult.{CallResult}
 use Rattle.turns.specs.declared.Request.{Request}
@@ -14,7 +14,7 @@ use Rattle.link_list.specs.Encode.{Bytes}
 
 -- n, or the most where n is above it
 abbrev pub at_most : ℕ → ℕ → ℕ
-at_most most n = if most <? n then most else n
+at_most most n = when most <? n then most else n
 
 -- at most 256 data bytes
 abbrev pub nearest_data : List ℕ → List ℕ

@@ -1,7 +1,7 @@
 -- How the code stands for what is to be believed.
 -- What is read of a list of ticks at a place of it: the calls of the tick that stands there, each with the part of the list that is its data, and the place after them. That these are the calls of Ticks.antt is proved in proofs/Readings.antt.
 use Rattle.std.specs.Prelude.{ℕ, zero, suc, ◌+◌, ◌-◌, ◌≤◌, List, [], ◌∷◌, ◌≡◌, length, drop}
-use Rattle.base.specs.Choice.{if◌then◌else◌, ◌<?◌, ◌=?◌}
+use Rattle.base.specs.Choice.{when◌then◌else◌, ◌<?◌, ◌=?◌}
 use Rattle.link_parties.specs.declared.DeviceCallWithPart.{DeviceCallWithPart}
 use Rattle.link_parties.specs.declared.MasterCallWithPart.{MasterCallWithPart}
 use Rattle.link_parties.specs.declared.Part.{Part}
@@ -12,7 +12,7 @@ use Rattle.link_list.specs.declared.TickRead.{TickRead}
 
 -- its data stand after its first ten bytes; where the list ends before that there are none
 abbrev pub part_in : List ℕ → ℕ → Part
-part_in ticks at = if length ticks - at <? 10 then record { from = at; count = 0 } else record { from = at + 10; count = length_in (drop at ticks) }
+part_in ticks at = when length ticks - at <? 10 then record { from = at; count = 0 } else record { from = at + 10; count = length_in (drop at ticks) }
 
 abbrev pub master_call_at : List ℕ → ℕ → MasterCallWithPart
 master_call_at ticks at = record { call = request_in (drop at ticks); part = part_in ticks at }
@@ -22,11 +22,11 @@ device_call_at ticks at = record { call = answer_in (drop at ticks); part = part
 
 -- so many places further, or the end
 abbrev pub forward : ℕ → ℕ → ℕ → ℕ
-forward at n end = if end - at <? n then end else at + n
+forward at n end = when end - at <? n then end else at + n
 
 -- the place after a call
 unfoldable pub next_in : List ℕ → ℕ → ℕ
-next_in ticks at = if kind_in (drop at ticks) =? 0 then forward at 1 (length ticks) else forward at (10 + length_in (drop at ticks)) (length ticks)
+next_in ticks at = when kind_in (drop at ticks) =? 0 then forward at 1 (length ticks) else forward at (10 + length_in (drop at ticks)) (length ticks)
 
 -- ---- so many calls, one after the other
 
@@ -55,4 +55,4 @@ tick_from ticks at = record {
 
 -- past the end of the list the same is read as at its end
 abbrev pub tick_at : List ℕ → ℕ → TickRead
-tick_at ticks at = tick_from ticks (if at <? length ticks then at else length ticks)
+tick_at ticks at = tick_from ticks (when at <? length ticks then at else length ticks)

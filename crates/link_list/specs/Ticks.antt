@@ -2,7 +2,7 @@
 -- A list of ticks as bytes, so that a run can be lent "a list of ticks from tick 0" (document 01, "Runs of the link"). Every byte string is some list of ticks. A tick of a link with six slots is eight calls, one after the other: to the primary, to the secondary, and to the devices of the slots.
 -- A call is one byte 0, no call; or a kind that is not 0, the preamble, the command, the address in five bytes, the length of the data in two, each most significant first, and the data. The length counts modulo 257, so that a call can have 0 to 256 data bytes. Past the list's end every byte counts as 0, and a call's data end where the list ends.
 use Rattle.std.specs.Prelude.{ℕ, zero, suc, ◌+◌, ◌*◌, ◌/◌, ◌%◌, ◌^◌, Bool, true, false, List, [], ◌∷◌, length, take, drop}
-use Rattle.base.specs.Choice.{if◌then◌else◌, ◌=?◌}
+use Rattle.base.specs.Choice.{when◌then◌else◌, ◌=?◌}
 use Rattle.frame.specs.Address.{byte_at}
 use Rattle.turns.specs.Link.{DeviceCall, Calls}
 use Rattle.master.specs.Tick as M
@@ -37,7 +37,7 @@ request_of long rest = MasterCall.Requests (record {
 })
 
 abbrev pub request_by : ℕ → List ℕ → MasterCall
-request_by form rest = if form =? 1 then request_of false rest else (if form =? 2 then request_of true rest else MasterCall.Nothing)
+request_by form rest = when form =? 1 then request_of false rest else (when form =? 2 then request_of true rest else MasterCall.Nothing)
 
 abbrev pub request_in : List ℕ → MasterCall
 request_in rest = request_by (kind_in rest % 4) rest
@@ -48,7 +48,7 @@ answer_in rest = host_call_by (kind_in rest) (byte_at rest 2)
 
 -- the rest of the list after a call
 unfoldable pub behind_call : List ℕ → List ℕ
-behind_call rest = if kind_in rest =? 0 then drop 1 rest else drop (10 + length_in rest) rest
+behind_call rest = when kind_in rest =? 0 then drop 1 rest else drop (10 + length_in rest) rest
 
 -- ---- a tick
 

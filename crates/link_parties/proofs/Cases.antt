@@ -4,7 +4,7 @@ use mathlib.Core.Bool.{Bool, true}
 use mathlib.Core.List.{List}
 use mathlib.Core.Path.{◌≡◌, refl, sym, ap, subst, ◌∙◌}
 use lib.ListN.{length, take, drop}
-use Rattle.base.specs.Choice.{if◌then◌else◌}
+use Rattle.base.specs.Choice.{when◌then◌else◌}
 use Rattle.line.specs.Reader.{idle, kept, taken_data}
 use Rattle.line.specs.declared.Damage.{Damage}
 use Rattle.line.specs.declared.Heard.{Heard}
@@ -66,7 +66,7 @@ pub ruleset cases = (refl, joins_sent, joins_heard)
 
 module _ (follows quiet : Bool) (reader : Receiver) (heard : Heard) (w : Way) where
   module _ (d : Device) where
-    pub device_way_is : (call : DeviceCall) → w ≡ (if d.deaf then Acts else if calls_device call then Acts else device_hears d heard follows quiet reader) → w ≡ device_way d heard call follows quiet reader
+    pub device_way_is : (call : DeviceCall) → w ≡ (when d.deaf then Acts else when calls_device call then Acts else device_hears d heard follows quiet reader) → w ≡ device_way d heard call follows quiet reader
     unfolding device_way
     device_way_is call e = e
 
@@ -80,7 +80,7 @@ module _ (follows quiet : Bool) (reader : Receiver) (heard : Heard) (w : Way) wh
     device_damage c kind e f = f ∙ ap (λ (h : Heard). device_hears d h follows quiet reader) (sym e)
 
   module _ (m : Master) where
-    pub master_way_is : (call : MasterCall) → w ≡ (if m.deaf then Acts else if calls_master call then Acts else master_hears m heard follows quiet reader) → w ≡ master_way m heard call follows quiet reader
+    pub master_way_is : (call : MasterCall) → w ≡ (when m.deaf then Acts else when calls_master call then Acts else master_hears m heard follows quiet reader) → w ≡ master_way m heard call follows quiet reader
     unfolding master_way
     master_way_is call e = e
 

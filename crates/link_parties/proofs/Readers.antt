@@ -4,7 +4,7 @@ use mathlib.Core.Bool.{Bool, true, false}
 use mathlib.Core.List.{List}
 use mathlib.Core.Path.{◌≡◌, refl, sym, ap, ◌∙◌}
 use borrow.Author.Tests.{eqb-true}
-use Rattle.base.specs.Choice.{if◌then◌else◌, ◌=?◌}
+use Rattle.base.specs.Choice.{when◌then◌else◌, ◌=?◌}
 use Rattle.base.proofs.Choices.{true_false, if_equal, if_unequal, if_is_false, went_then}
 use Rattle.frame.specs.declared.Header.{Header}
 use Rattle.line.specs.Reader.{idle, inside_frame, character, taken, ReaderTakeIs}
@@ -74,11 +74,11 @@ false_true : false ≡ true → ⊥
 false_true e = true_false (sym e)
 
 -- both parts of a test
-both : (s t : Bool) → (if s then t else false) ≡ true → (s ≡ true) × (t ≡ true)
+both : (s t : Bool) → (when s then t else false) ≡ true → (s ≡ true) × (t ≡ true)
 both s t e = went_then s t false true e false_true
 
 bits_equal : (a b : Bool) → same_bit a b ≡ true → a ≡ b
-unfolding if◌then◌else◌
+unfolding when◌then◌else◌
 bits_equal true b e = sym e
 bits_equal false true e = absurd (false_true e)
 bits_equal false false e = refl

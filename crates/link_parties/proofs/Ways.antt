@@ -4,7 +4,7 @@ use native.Mathlib.Omega.{arith}
 use mathlib.Core.Bool.{Bool, true, false}
 use mathlib.Core.List.{List}
 use mathlib.Core.Path.{◌≡◌, refl, sym, ap, ◌∙◌}
-use Rattle.base.specs.Choice.{if◌then◌else◌}
+use Rattle.base.specs.Choice.{when◌then◌else◌}
 use Rattle.base.proofs.Choices.{true_false, went_then, went_else}
 use Rattle.line.specs.Reader as R
 use Rattle.line.specs.Reader.{inside_frame, taken, taken_data}
@@ -61,26 +61,26 @@ unfolding number
 hears_counts e = let k : ◌≡◌ {A = ℕ} 1 0 = ap number e in omega arith
 
 character_counts : (follows quiet same : Bool) → hears_if follows quiet same ≡ Counts → ⊥
-unfolding if◌then◌else◌
+unfolding when◌then◌else◌
 character_counts true true same e = hears_counts e
 character_counts false true true e = hears_counts e
 character_counts false true false e = acts_counts e
 character_counts follows false same e = acts_counts e
 
 silence_hears : (b : Bool) → counts_if b ≡ Hears → ⊥
-unfolding if◌then◌else◌
+unfolding when◌then◌else◌
 silence_hears true e = hears_counts (sym e)
 silence_hears false e = acts_hears e
 
 -- where the way of a character is to hear: what the flag tells, or the readers compared
 character_hears : (follows quiet same : Bool) (P : Type 0) → (follows ≡ true → P) → (same ≡ true → P) → hears_if follows quiet same ≡ Hears → P × (quiet ≡ true)
-unfolding if◌then◌else◌
+unfolding when◌then◌else◌
 character_hears true true same P f g e = (f refl, refl)
 character_hears false true true P f g e = (g refl, refl)
 character_hears false true false P f g e = absurd (acts_hears e)
 character_hears follows false same P f g e = absurd (acts_hears e)
 
-not_first : (s t : Bool) → (if s then false else t) ≡ true → (s ≡ false) × (t ≡ true)
+not_first : (s t : Bool) → (when s then false else t) ≡ true → (s ≡ false) × (t ≡ true)
 not_first s t e = went_else s false t true e (λ q. true_false (sym q))
 
 listening_is : (t : Turn) → is_listening t ≡ true → t ≡ Listens
@@ -187,7 +187,7 @@ module _ (limit : ℕ) (x : DeviceSide) (deaf : x.device.deaf ≡ false) where
   -- a silent tick outside a frame
   counts_at : (p : Place) → inside_frame p ≡ false → x.device.receiver.place ≡ p → x.device.burst ≡ false → x.device.turn ≡ Listens
       → quiet_device (with_device x (counted_device x.device) x.bytes) ≡ device_tick limit x Silence no_call
-  unfolding device_tick device_takes device_sends taken taken_data if◌then◌else◌
+  unfolding device_tick device_takes device_sends taken taken_data when◌then◌else◌
   counts_at Passing o at calm turn_is =
       let e = listening_device_lem Passing at calm turn_is in
       let known : quiet_device (with_device x (counted_device (listening_device x.device Passing)) x.bytes) ≡ device_tick limit (with_device x (listening_device x.device Passing) x.bytes) Silence no_call = refl in
@@ -211,7 +211,7 @@ module _ (limit : ℕ) (x : DeviceSide) (deaf : x.device.deaf ≡ false) where
 
   hears_at : (c : ℕ) (r : Receiver) → taken x.device.receiver (Character c) ≡ R.tells r Nothing
       → quiet_device (with_device x (heard_device x.device r) (taken_data x.device.receiver (Character c) x.bytes)) ≡ device_tick limit x (Character c) no_call
-  unfolding device_tick device_takes device_sends if◌then◌else◌
+  unfolding device_tick device_takes device_sends when◌then◌else◌
   hears_at c r k =
       let d = x.device in
       let e = hearing_device_lem in
@@ -242,7 +242,7 @@ module _ (limit : ℕ) (x : DeviceSide) (heard : Heard) (call : DeviceCall) (put
           → quiet_device (with_device x (counted_device x.device) x.bytes) ≡ device_tick limit x h (DT.call_of c put)
       by DeviceCall.Nothing Silence k l =
           let o = open_way Counts e acts_counts in
-          let a = not_first x.device.burst (if inside_frame x.device.receiver.place then false else is_listening x.device.turn) (went_then (device_counts x.device) Counts Acts Counts l acts_counts).0 in
+          let a = not_first x.device.burst (when inside_frame x.device.receiver.place then false else is_listening x.device.turn) (went_then (device_counts x.device) Counts Acts Counts l acts_counts).0 in
           let b = not_first (inside_frame x.device.receiver.place) (is_listening x.device.turn) a.1 in
           counts_at limit x o.0 x.device.receiver.place b.0 refl a.0 (listening_is x.device.turn b.1)
       by DeviceCall.Nothing (Character c) k l = absurd (character_counts follows quiet (same_reader x.device.receiver reader) l)
@@ -332,7 +332,7 @@ module _ (limit : ℕ) (x : MasterSide) (deaf : x.master.deaf ≡ false) where
 
   clear_at : (p : Place) → inside_frame p ≡ false → x.master.receiver.place ≡ p → x.master.burst ≡ false → x.master.message.stage ≡ Free
       → quiet_master (with_master x (counted_master x.master) x.bytes) ≡ master_tick limit x Silence no_request
-  unfolding master_tick master_takes master_sends taken taken_data if◌then◌else◌
+  unfolding master_tick master_takes master_sends taken taken_data when◌then◌else◌
   clear_at Passing o at clear free =
       let e = free_master_lem Passing at clear free in
       let known : quiet_master (with_master x (counted_master (free_master x.master Passing)) x.bytes) ≡ master_tick limit (with_master x (free_master x.master Passing) x.bytes) Silence no_request = refl in
@@ -360,7 +360,7 @@ module _ (limit : ℕ) (x : MasterSide) (deaf : x.master.deaf ≡ false) where
       ≡ master_by (hearing_master x.master s) (R.tells r Nothing) (taken_data x.master.receiver (Character c) x.bytes)
 
   quiet_at : (c : ℕ) (r : Receiver) (s : Stage) → is_sending s ≡ false → Quiet c r s
-  unfolding master_sends if◌then◌else◌
+  unfolding master_sends when◌then◌else◌
   quiet_at c r Free k = refl
   quiet_at c r Waiting k = refl
   quiet_at c r (Sending n) k = absurd (true_false k)
@@ -368,7 +368,7 @@ module _ (limit : ℕ) (x : MasterSide) (deaf : x.master.deaf ≡ false) where
 
   heard_at : (c : ℕ) (r : Receiver) → is_sending x.master.message.stage ≡ false → taken x.master.receiver (Character c) ≡ R.tells r Nothing
       → quiet_master (with_master x (heard_master x.master r) (taken_data x.master.receiver (Character c) x.bytes)) ≡ master_tick limit x (Character c) no_request
-  unfolding master_tick master_takes if◌then◌else◌
+  unfolding master_tick master_takes when◌then◌else◌
   heard_at c r k l =
       let m = x.master in
       let s = m.message.stage in
@@ -398,7 +398,7 @@ module _ (limit : ℕ) (x : MasterSide) (heard : Heard) (call : MasterCall) (put
           → quiet_master (with_master x (counted_master x.master) x.bytes) ≡ master_tick limit x h (MT.call_of c put)
       by MasterCall.Nothing Silence k l =
           let o = opened_way Counts e acts_counts in
-          let a = not_first x.master.burst (if inside_frame x.master.receiver.place then false else is_free x.master.message.stage) (went_then (master_counts x.master) Counts Acts Counts l acts_counts).0 in
+          let a = not_first x.master.burst (when inside_frame x.master.receiver.place then false else is_free x.master.message.stage) (went_then (master_counts x.master) Counts Acts Counts l acts_counts).0 in
           let b = not_first (inside_frame x.master.receiver.place) (is_free x.master.message.stage) a.1 in
           clear_at limit x o.0 x.master.receiver.place b.0 refl a.0 (free_is x.master.message.stage b.1)
       by MasterCall.Nothing (Character c) k l =

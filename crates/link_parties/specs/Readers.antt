@@ -1,7 +1,7 @@
 -- Inner contracts: nothing that is to be believed rests on them.
 -- The line's reader, which hears all that the line carries, and whether a party's reader equals it. The law in proofs/Readers.antt says that two readers are equal where `same_reader` says so.
 use Rattle.std.specs.Prelude.{ℕ, Bool, true, false}
-use Rattle.base.specs.Choice.{if◌then◌else◌, ◌=?◌}
+use Rattle.base.specs.Choice.{when◌then◌else◌, ◌=?◌}
 use Rattle.frame.specs.declared.Header.{Header}
 use Rattle.line.specs.declared.Event.{Event}
 use Rattle.line.specs.declared.Event.TheVariants.{Nothing, PassedOver, Broken, Frame, Damaged}
@@ -51,31 +51,31 @@ place_holds (Data n) = n
 place_holds Check = 0
 
 abbrev pub same_place : Place → Place → Bool
-same_place a b = if place_number a =? place_number b then place_holds a =? place_holds b else false
+same_place a b = when place_number a =? place_number b then place_holds a =? place_holds b else false
 
 abbrev pub same_header_flags : Header → Header → Bool
-same_header_flags a b = if same_bit a.long b.long then (if same_bit a.primary b.primary then same_bit a.burst b.burst else false) else false
+same_header_flags a b = when same_bit a.long b.long then (when same_bit a.primary b.primary then same_bit a.burst b.burst else false) else false
 
 abbrev pub same_header : Header → Header → Bool
 same_header a b =
-    if a.address =? b.address then
-    (if a.kind =? b.kind then
-    (if a.command =? b.command then same_header_flags a b else false) else false) else false
+    when a.address =? b.address then
+    (when a.kind =? b.kind then
+    (when a.command =? b.command then same_header_flags a b else false) else false) else false
 
 abbrev pub same_check_damage : FrameDamage → FrameDamage → Bool
-same_check_damage a b = if same_bit a.check b.check then same_bit a.address b.address else false
+same_check_damage a b = when same_bit a.check b.check then same_bit a.address b.address else false
 
 abbrev pub same_damage : FrameDamage → FrameDamage → Bool
 same_damage a b =
-    if same_bit a.parity b.parity then
-    (if same_bit a.overrun b.overrun then
-    (if same_bit a.framing b.framing then same_check_damage a b else false) else false) else false
+    when same_bit a.parity b.parity then
+    (when same_bit a.overrun b.overrun then
+    (when same_bit a.framing b.framing then same_check_damage a b else false) else false) else false
 
 abbrev pub same_counts : Receiver → Receiver → Bool
-same_counts a b = if a.sum =? b.sum then (if a.count =? b.count then a.expansion =? b.expansion else false) else false
+same_counts a b = when a.sum =? b.sum then (when a.count =? b.count then a.expansion =? b.expansion else false) else false
 
 abbrev pub same_rest : Receiver → Receiver → Bool
-same_rest a b = if same_bit a.gap b.gap then (if same_header a.header b.header then same_damage a.damage b.damage else false) else false
+same_rest a b = when same_bit a.gap b.gap then (when same_header a.header b.header then same_damage a.damage b.damage else false) else false
 
 abbrev pub same_reader : Receiver → Receiver → Bool
-same_reader a b = if same_place a.place b.place then (if same_counts a b then same_rest a b else false) else false
+same_reader a b = when same_place a.place b.place then (when same_counts a b then same_rest a b else false) else false

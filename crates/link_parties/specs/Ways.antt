@@ -1,7 +1,7 @@
 -- Inner contracts: nothing that is to be believed rests on them.
 -- How a party's tick goes: it only counts a silent tick, it only hears a character, or it acts. The laws in proofs/Ways.antt say that the first two, which are shorter, do what its tick does.
 use Rattle.std.specs.Prelude.{ℕ, ◌-◌, Bool, true, false}
-use Rattle.base.specs.Choice.{if◌then◌else◌}
+use Rattle.base.specs.Choice.{when◌then◌else◌}
 use Rattle.line.specs.Reader.{idle, inside_frame}
 use Rattle.line.specs.declared.Heard.{Heard}
 use Rattle.line.specs.declared.Heard.TheVariants.{Silence, Character}
@@ -25,10 +25,10 @@ use Rattle.link_parties.specs.declared.Way.TheVariants.{Counts, Hears, Acts}
 
 -- a character: the party only hears it where the line's reader finds nothing and the party's reader equals that one, by its flag or by comparison
 abbrev pub hears_if : Bool → Bool → Bool → Way
-hears_if follows quiet same = if quiet then (if follows then Hears else if same then Hears else Acts) else Acts
+hears_if follows quiet same = when quiet then (when follows then Hears else when same then Hears else Acts) else Acts
 
 abbrev pub counts_if : Bool → Way
-counts_if counts = if counts then Counts else Acts
+counts_if counts = when counts then Counts else Acts
 
 -- ---- a device
 
@@ -48,7 +48,7 @@ is_listening (Bursts n) = false
 
 -- no BACK may begin, no frame is broken and no request is in hand
 abbrev pub device_counts : Device → Bool
-device_counts d = if d.burst then false else if inside_frame d.receiver.place then false else is_listening d.turn
+device_counts d = when d.burst then false else when inside_frame d.receiver.place then false else is_listening d.turn
 
 abbrev pub device_hears : Device → Heard → Bool → Bool → Receiver → Way
 device_hears d Silence follows quiet reader = counts_if (device_counts d)
@@ -56,7 +56,7 @@ device_hears d (Character c) follows quiet reader = hears_if follows quiet (same
 device_hears d (Heard.Damaged c kind) follows quiet reader = Acts
 
 unfoldable pub device_way : Device → Heard → DeviceCall → Bool → Bool → Receiver → Way
-device_way d heard call follows quiet reader = if d.deaf then Acts else if calls_device call then Acts else device_hears d heard follows quiet reader
+device_way d heard call follows quiet reader = when d.deaf then Acts else when calls_device call then Acts else device_hears d heard follows quiet reader
 
 abbrev pub counted_device : Device → Device
 counted_device d = D.device_with d idle Listens d.request d.wish d.length (d.due - 1)
@@ -87,10 +87,10 @@ is_sending (Awaiting n) = false
 
 -- BURST is clear, no frame is broken and no message is in hand
 abbrev pub master_counts : Master → Bool
-master_counts m = if m.burst then false else if inside_frame m.receiver.place then false else is_free m.message.stage
+master_counts m = when m.burst then false else when inside_frame m.receiver.place then false else is_free m.message.stage
 
 abbrev pub master_character : Master → Bool → Bool → Receiver → Way
-master_character m follows quiet reader = if is_sending m.message.stage then Acts else hears_if follows quiet (same_reader m.receiver reader)
+master_character m follows quiet reader = when is_sending m.message.stage then Acts else hears_if follows quiet (same_reader m.receiver reader)
 
 abbrev pub master_hears : Master → Heard → Bool → Bool → Receiver → Way
 master_hears m Silence follows quiet reader = counts_if (master_counts m)
@@ -98,7 +98,7 @@ master_hears m (Character c) follows quiet reader = master_character m follows q
 master_hears m (Heard.Damaged c kind) follows quiet reader = Acts
 
 unfoldable pub master_way : Master → Heard → MasterCall → Bool → Bool → Receiver → Way
-master_way m heard call follows quiet reader = if m.deaf then Acts else if calls_master call then Acts else master_hears m heard follows quiet reader
+master_way m heard call follows quiet reader = when m.deaf then Acts else when calls_master call then Acts else master_hears m heard follows quiet reader
 
 abbrev pub counted_master : Master → Master
 counted_master m = M.master_with m idle m.burst m.noted (count_clear m.profile m.timer) m.message

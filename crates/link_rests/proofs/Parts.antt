@@ -7,7 +7,7 @@ use mathlib.Core.List.{List, [], ◌∷◌, ◌++◌, map, append-nil, append_as
 use mathlib.Core.Path.{◌≡◌, refl, sym, ap, subst, ◌∙◌}
 use lib.ListN.{length, take, drop, get_or, set, length-set, drop_of_length-le}
 use lib.Seq.{drop-cons, drop-set-lt, take_all, take-suc-set}
-use Rattle.base.specs.Choice.{if◌then◌else◌}
+use Rattle.base.specs.Choice.{when◌then◌else◌}
 use Rattle.line.specs.Reader.{idle}
 use Rattle.line.specs.declared.Heard.{Heard}
 use Rattle.line.specs.declared.Heard.TheVariants.{Silence}
@@ -48,17 +48,17 @@ at_place (m ∷ ms) (suc i) d h = at_place ms i d (omega arith)
 
 module _ (ms : List Master) (d e : Master) (two : length ms ≡ 2) where
   pub masters_rest_both : (a b : Bool) → a ≡ master_rests (get_or ms 0 d) → a ≡ true → b ≡ master_rests (get_or ms 1 e) → b ≡ masters_rest ms
-  unfolding if◌then◌else◌
+  unfolding when◌then◌else◌
   masters_rest_both a b p q r =
       r ∙ ap master_rests (at_place ms 1 e (omega (arith, two)))
-      ∙ ap (λ (t : Bool). if t then master_rests (get_or ms 1 any_master) else false) (sym q ∙ p ∙ ap master_rests (at_place ms 0 d (omega (arith, two))))
+      ∙ ap (λ (t : Bool). when t then master_rests (get_or ms 1 any_master) else false) (sym q ∙ p ∙ ap master_rests (at_place ms 0 d (omega (arith, two))))
 
   pub masters_both : (n : ℕ) (a b : Master) → a ≡ master_rested n (get_or ms 0 d) → b ≡ master_rested n (get_or ms 1 e) → a ∷ b ∷ [] ≡ masters_rested n ms
   masters_both n a b p q = λ i. (p ∙ ap (master_rested n) (at_place ms 0 d (omega (arith, two)))) i ∷ (q ∙ ap (master_rested n) (at_place ms 1 e (omega (arith, two)))) i ∷ []
 
 pub masters_rest_none : (ms : List Master) (d : Master) (a : Bool) → length ms ≡ 2 → a ≡ master_rests (get_or ms 0 d) → a ≡ false → false ≡ masters_rest ms
-unfolding if◌then◌else◌
-masters_rest_none ms d a two p q = ap (λ (t : Bool). if t then master_rests (get_or ms 1 any_master) else false) (sym q ∙ p ∙ ap master_rests (at_place ms 0 d (omega (arith, two))))
+unfolding when◌then◌else◌
+masters_rest_none ms d a two p q = ap (λ (t : Bool). when t then master_rests (get_or ms 1 any_master) else false) (sym q ∙ p ∙ ap master_rests (at_place ms 0 d (omega (arith, two))))
 
 -- ---- a party with other parts
 
@@ -81,34 +81,34 @@ pub ruleset parts = (refl, counts_at, device_rests_by, master_rests_by, device_r
 pub record Asked (ss : List Slot) (rest : Bool) (i : ℕ) : Type 0 where
   pub six : length ss ≡ 6
   pub within : i ≤ 6
-  pub left : (if rest then slots_rest (drop i ss) else false) ≡ slots_rest ss
+  pub left : (when rest then slots_rest (drop i ss) else false) ≡ slots_rest ss
 
 pub asked_none : (ss : List Slot) → length ss ≡ 6 → Asked ss true 0
-unfolding if◌then◌else◌
+unfolding when◌then◌else◌
 asked_none ss e = record { six = e; within = omega arith; left = refl }
 
-pub asked_more : (ss : List Slot) (rest rests both : Bool) (i : ℕ) (d : Slot) → Asked ss rest i → i < 6 → rests ≡ slot_rests (get_or ss i d) → both ≡ (if rest then rests else false) → Asked ss both (i + 1)
-unfolding slots_rest if◌then◌else◌
+pub asked_more : (ss : List Slot) (rest rests both : Bool) (i : ℕ) (d : Slot) → Asked ss rest i → i < 6 → rests ≡ slot_rests (get_or ss i d) → both ≡ (when rest then rests else false) → Asked ss both (i + 1)
+unfolding slots_rest when◌then◌else◌
 asked_more ss rest rests both i d v h p q = record {
   six = v.six;
   within = omega arith;
   left =
-      ap (λ (b : Bool). if b then slots_rest (drop (i + 1) ss) else false) q
+      ap (λ (b : Bool). when b then slots_rest (drop (i + 1) ss) else false) q
       ∙ chained rest rests (slots_rest (drop (i + 1) ss))
-      ∙ (λ j. if rest then (if p j then slots_rest (drop (add-one i j) ss) else false) else false)
-      ∙ ap (λ (l : List Slot). if rest then slots_rest l else false) (sym (drop-cons ss i d (omega (arith, v.six))))
+      ∙ (λ j. when rest then (when p j then slots_rest (drop (add-one i j) ss) else false) else false)
+      ∙ ap (λ (l : List Slot). when rest then slots_rest l else false) (sym (drop-cons ss i d (omega (arith, v.six))))
       ∙ v.left;
 }
   where
-    chained : (a b c : Bool) → (if (if a then b else false) then c else false) ≡ (if a then (if b then c else false) else false)
+    chained : (a b c : Bool) → (when (when a then b else false) then c else false) ≡ (when a then (when b then c else false) else false)
     chained true b c = refl
     chained false b c = refl
 
 pub asked_all : (ss : List Slot) (rest : Bool) (i : ℕ) → Asked ss rest i → 6 ≤ i → rest ≡ slots_rest ss
-unfolding slots_rest if◌then◌else◌
-asked_all ss rest i v h = same rest ∙ ap (λ (l : List Slot). if rest then slots_rest l else false) (sym (drop_of_length-le ss {i = i} (omega (arith, v.six)))) ∙ v.left
+unfolding slots_rest when◌then◌else◌
+asked_all ss rest i v h = same rest ∙ ap (λ (l : List Slot). when rest then slots_rest l else false) (sym (drop_of_length-le ss {i = i} (omega (arith, v.six)))) ∙ v.left
   where
-    same : (b : Bool) → b ≡ (if b then true else false)
+    same : (b : Bool) → b ≡ (when b then true else false)
     same true = refl
     same false = refl
 

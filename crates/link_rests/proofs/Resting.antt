@@ -4,7 +4,7 @@ use native.Mathlib.Omega.{arith}
 use mathlib.Core.Bool.{Bool, true, false}
 use mathlib.Core.Path.{◌≡◌, refl, sym, ap, ◌∙◌}
 use mathlib.Core.List.{[]}
-use Rattle.base.specs.Choice.{if◌then◌else◌}
+use Rattle.base.specs.Choice.{when◌then◌else◌}
 use Rattle.base.proofs.Choices.{true_false}
 use Rattle.line.specs.Reader.{idle, inside_frame}
 use Rattle.line.specs.declared.Heard.TheVariants.{Silence}
@@ -40,10 +40,10 @@ device_tick_lem x r = sym (device_counts_lem 255 x Silence DeviceCall.Nothing []
 
 -- it rests on
 pub device_rests_on : (n : ℕ) (d : Device) → DeviceRests d → DeviceRests (device_rested n d)
-unfolding device_way if◌then◌else◌
-device_rests_on n d r = by d.deaf d.burst (if inside_frame d.receiver.place then false else is_listening d.turn) r
+unfolding device_way when◌then◌else◌
+device_rests_on n d r = by d.deaf d.burst (when inside_frame d.receiver.place then false else is_listening d.turn) r
   where
-    by : (deaf burst t : Bool) → (if deaf then Acts else counts_if (if burst then false else t)) ≡ Counts → (if deaf then Acts else counts_if (if burst then false else true)) ≡ Counts
+    by : (deaf burst t : Bool) → (when deaf then Acts else counts_if (when burst then false else t)) ≡ Counts → (when deaf then Acts else counts_if (when burst then false else true)) ≡ Counts
     by true burst t e = e
     by false true t e = e
     by false false t e = refl
@@ -64,11 +64,11 @@ unfolding timer_rested
 master_tick_lem x r = sym (master_counts_lem 255 x Silence MasterCall.Nothing [] false false x.master.receiver r)
 
 pub master_rests_on : (n : ℕ) (m : Master) → MasterRests m → MasterRests (master_rested n m)
-unfolding master_way if◌then◌else◌
+unfolding master_way when◌then◌else◌
 master_rests_on n m r = by m.deaf m.burst (inside_frame m.receiver.place) (is_free m.message.stage) r
   where
-    by : (deaf burst inside free : Bool) → (if deaf then Acts else counts_if (if burst then false else if inside then false else free)) ≡ Counts
-        → (if deaf then Acts else counts_if (if burst then false else free)) ≡ Counts
+    by : (deaf burst inside free : Bool) → (when deaf then Acts else counts_if (when burst then false else when inside then false else free)) ≡ Counts
+        → (when deaf then Acts else counts_if (when burst then false else free)) ≡ Counts
     by true burst inside free e = e
     by false true inside free e = e
     by false false true true e = refl

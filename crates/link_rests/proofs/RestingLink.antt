@@ -5,7 +5,7 @@ use mathlib.Core.Bool.{Bool, true, false}
 use mathlib.Core.Path.{◌≡◌, refl, sym, ap, subst, ◌∙◌}
 use mathlib.Core.List.{List, [], ◌∷◌, map}
 use lib.ListN.{get_or}
-use Rattle.base.specs.Choice.{if◌then◌else◌}
+use Rattle.base.specs.Choice.{when◌then◌else◌}
 use Rattle.base.proofs.Choices.{true_false, if_is_true}
 use Rattle.base.proofs.Tables.{chain_first, chain_second}
 use Rattle.line.specs.declared.Heard.{Heard}
@@ -143,7 +143,7 @@ module _ (l : Link) (x : Rows) where
 
   link_rests_lem : link_rests l ≡ true → LinkRests (link_of l x)
   link_rests_lem e =
-      let both = chain_second (is_silence l.line) (if masters_rest l.masters then slots_rest l.devices else false) e in
+      let both = chain_second (is_silence l.line) (when masters_rest l.masters then slots_rest l.devices else false) e in
       let ms = chain_first (masters_rest l.masters) (slots_rest l.devices) both in
       let first = master_rests (get_or l.masters 0 any_master) in
       let second = master_rests (get_or l.masters 1 any_master) in
@@ -151,7 +151,7 @@ module _ (l : Link) (x : Rows) where
         primary = counts_is _ (chain_first first second ms);
         secondary = counts_is _ (chain_second first second ms);
         devices = slots_rest_lem x 0 l.devices (chain_second (masters_rest l.masters) (slots_rest l.devices) both);
-        line_is = silent_is l.line (chain_first (is_silence l.line) (if masters_rest l.masters then slots_rest l.devices else false) e);
+        line_is = silent_is l.line (chain_first (is_silence l.line) (when masters_rest l.masters then slots_rest l.devices else false) e);
       }
 
   -- behind one tick or more

@@ -1,7 +1,7 @@
 -- Inner contracts: nothing that is to be believed rests on them.
 -- A link that rests: the line is silent, and every party only counts. Until a host calls, nothing but timers changes, and nobody sends.
 use Rattle.std.specs.Prelude.{ℕ, zero, suc, ◌-◌, Bool, true, false, List, [], ◌∷◌, map, get_or}
-use Rattle.base.specs.Choice.{if◌then◌else◌}
+use Rattle.base.specs.Choice.{when◌then◌else◌}
 use Rattle.line.specs.Reader.{idle}
 use Rattle.line.specs.declared.Heard.TheVariants.{Silence}
 use Rattle.line.specs.declared.Profile.{Profile}
@@ -37,17 +37,17 @@ master_rests m = only_counts (master_way m Silence MasterCall.Nothing false fals
 
 -- in a slot without a device nothing changes
 abbrev pub slot_rests : Slot → Bool
-slot_rests s = if s.here then device_rests s.device else true
+slot_rests s = when s.here then device_rests s.device else true
 
 unfoldable pub slots_rest : List Slot → Bool
 slots_rest [] = true
-slots_rest (s ∷ ss) = if slot_rests s then slots_rest ss else false
+slots_rest (s ∷ ss) = when slot_rests s then slots_rest ss else false
 
 abbrev pub masters_rest : List Master → Bool
-masters_rest ms = if master_rests (get_or ms 0 any_master) then master_rests (get_or ms 1 any_master) else false
+masters_rest ms = when master_rests (get_or ms 0 any_master) then master_rests (get_or ms 1 any_master) else false
 
 abbrev pub link_rests : Link → Bool
-link_rests l = if is_silence l.line then (if masters_rest l.masters then slots_rest l.devices else false) else false
+link_rests l = when is_silence l.line then (when masters_rest l.masters then slots_rest l.devices else false) else false
 
 -- ---- after so many silent ticks
 

@@ -6,7 +6,7 @@ use mathlib.Core.Bool.{false}
 use mathlib.Core.List.{List, []}
 use lib.ListN.{length, get_or}
 use borrow.Author.Tests.{ne_eqb}
-use Rattle.base.specs.Choice.{if◌then◌else◌, ◌=?◌}
+use Rattle.base.specs.Choice.{when◌then◌else◌, ◌=?◌}
 use Rattle.base.proofs.Choices.{if_is_true, if_is_false}
 use Rattle.line.specs.declared.Event.TheVariants.{Nothing}
 use Rattle.line.specs.declared.Heard.{Heard}
@@ -66,7 +66,7 @@ put_back n before ticked = if_is_false (suc n =? 0) _ _ (not_started n)
 
 as_late : (limit start : ℕ) (x : MasterSide) (heard : Heard) (c : MasterCallWithPart) (put : List ℕ) (t : MasterStep) → (0 < start → Fresh x.master)
     → t ≡ master_tick limit x heard (master_call_of put (call_taken start c)) → AsLate limit start x heard (master_call_of put c) t
-unfolding if◌then◌else◌
+unfolding when◌then◌else◌
 as_late limit zero x heard c put t f e = record {
   sent_is = ap (λ (u : MasterStep). u.sent) e;
   answer_is = ap (λ (u : MasterStep). u.result) e;

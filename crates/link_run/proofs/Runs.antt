@@ -6,7 +6,7 @@ use mathlib.Core.Bool.{true, false}
 use mathlib.Core.List.{List, [], ◌∷◌, ◌++◌}
 use lib.ListN.{length, take, get_or, replicate}
 use Rattle.base.specs.Refusal.{accepted}
-use Rattle.base.specs.Choice.{if◌then◌else◌}
+use Rattle.base.specs.Choice.{when◌then◌else◌}
 use Rattle.base.specs.Store.{stored}
 use Rattle.frame.specs.Check.{xor_from}
 use Rattle.frame.specs.Delimiter.{ack, back, delimiter_of}
@@ -62,11 +62,11 @@ bytes =
 
 -- 16: the primary's request is taken. It sends in ticks 4 to 17, 65; the device its ACK and a BACK from tick 19 to 50, 1.
 pub numbers_are : numbers_of (steps_of 255 short 3 one_slot bytes) ≡ 16 ∷ (replicate 3 0 ++ (replicate 14 65 ++ (0 ∷ (replicate 32 1 ++ (0 ∷ [])))))
-unfolding numbers_of steps_of limited_starts one_slot bytes short devices_start devices_from ticks_from calls_in slots_in behind behind_call run device_senders link_tick device_ticks sides carried master_tick device_tick requested requested_up_to master_takes master_sends device_takes device_sends answered content_given taken taken_data at_idle at_preamble at_first at_address at_expansion at_command at_count at_data at_check write_buffer write_answer frame_bytes preamble_bytes body_bytes protected_bytes header_bytes xor_from delimiter_of stored if◌then◌else◌
+unfolding numbers_of steps_of limited_starts one_slot bytes short devices_start devices_from ticks_from calls_in slots_in behind behind_call run device_senders link_tick device_ticks sides carried master_tick device_tick requested requested_up_to master_takes master_sends device_takes device_sends answered content_given taken taken_data at_idle at_preamble at_first at_address at_expansion at_command at_count at_data at_check write_buffer write_answer frame_bytes preamble_bytes body_bytes protected_bytes header_bytes xor_from delimiter_of stored when◌then◌else◌
 numbers_are = refl
 
 pub started : limited_starts 255 short 3 one_slot ≡ accepted link
-unfolding one_slot link short limited_starts devices_start if◌then◌else◌
+unfolding one_slot link short limited_starts devices_start when◌then◌else◌
 started = refl
 
 -- its calls, tick by tick
@@ -79,18 +79,18 @@ silent = record { for_primary = no_request; for_secondary = no_request; for_devi
 -- in tick 35 the primary reports its message as answered
 pub reported : (link_tick 255 (link_behind 255 (lent_fresh link) (take 35 calls)) (get_or calls 35 silent)).for_primary.told
     ≡ Answered (record { header = record { kind = ack; long = true; primary = true; burst = true; address = 2; command = 3 }; expansion = 0; count = 2 })
-unfolding link_behind link bytes short devices_from ticks_from calls_in slots_in behind behind_call link_tick device_ticks sides carried master_tick device_tick requested requested_up_to master_takes master_sends device_takes device_sends answered content_given taken taken_data at_idle at_preamble at_first at_address at_expansion at_command at_count at_data at_check write_buffer write_answer frame_bytes preamble_bytes body_bytes protected_bytes header_bytes xor_from delimiter_of stored if◌then◌else◌
+unfolding link_behind link bytes short devices_from ticks_from calls_in slots_in behind behind_call link_tick device_ticks sides carried master_tick device_tick requested requested_up_to master_takes master_sends device_takes device_sends answered content_given taken taken_data at_idle at_preamble at_first at_address at_expansion at_command at_count at_data at_check write_buffer write_answer frame_bytes preamble_bytes body_bytes protected_bytes header_bytes xor_from delimiter_of stored when◌then◌else◌
 reported = refl
 
 -- in tick 51 it finds the BACK whole
 pub back_found : found_by (link_behind 255 (lent_fresh link) (take 51 calls)).primary (link_behind 255 (lent_fresh link) (take 51 calls)).line
     ≡ Frame (record { header = record { kind = back; long = true; primary = true; burst = true; address = 2; command = 3 }; expansion = 0; count = 2 })
-unfolding link_behind link bytes short devices_from ticks_from calls_in slots_in behind behind_call link_tick device_ticks sides carried master_tick device_tick requested requested_up_to master_takes master_sends device_takes device_sends answered content_given taken taken_data at_idle at_preamble at_first at_address at_expansion at_command at_count at_data at_check write_buffer write_answer frame_bytes preamble_bytes body_bytes protected_bytes header_bytes xor_from delimiter_of stored if◌then◌else◌
+unfolding link_behind link bytes short devices_from ticks_from calls_in slots_in behind behind_call link_tick device_ticks sides carried master_tick device_tick requested requested_up_to master_takes master_sends device_takes device_sends answered content_given taken taken_data at_idle at_preamble at_first at_address at_expansion at_command at_count at_data at_check write_buffer write_answer frame_bytes preamble_bytes body_bytes protected_bytes header_bytes xor_from delimiter_of stored when◌then◌else◌
 back_found = refl
 
 -- it meets the premises
 pub met : RunPremises 255 short 3 one_slot bytes
-unfolding steps_of limited_starts one_slot link short devices_start devices_from blanks if◌then◌else◌
+unfolding steps_of limited_starts one_slot link short devices_start devices_from blanks when◌then◌else◌
 met = record {
   made = short_taken;
   distinct = Distinct.and none Distinct.none;
@@ -122,5 +122,5 @@ both_reply =
 
 -- the number of tick 15 tells of two senders
 pub two_told : numbers_of (steps_of 255 short 3 alike both_reply) ≡ 16 ∷ (replicate 3 0 ++ (replicate 10 65 ++ (0 ∷ 2 ∷ [])))
-unfolding numbers_of steps_of limited_starts alike both_reply short devices_start devices_from ticks_from calls_in slots_in behind behind_call run device_senders link_tick device_ticks sides carried master_tick device_tick requested requested_up_to master_takes master_sends device_takes device_sends answered content_given taken taken_data at_idle at_preamble at_first at_address at_expansion at_command at_count at_data at_check write_buffer write_answer frame_bytes preamble_bytes body_bytes protected_bytes header_bytes xor_from delimiter_of stored if◌then◌else◌
+unfolding numbers_of steps_of limited_starts alike both_reply short devices_start devices_from ticks_from calls_in slots_in behind behind_call run device_senders link_tick device_ticks sides carried master_tick device_tick requested requested_up_to master_takes master_sends device_takes device_sends answered content_given taken taken_data at_idle at_preamble at_first at_address at_expansion at_command at_count at_data at_check write_buffer write_answer frame_bytes preamble_bytes body_bytes protected_bytes header_bytes xor_from delimiter_of stored when◌then◌else◌
 two_told = refl

@@ -7,7 +7,7 @@ use mathlib.Core.Path.{◌≡◌, refl, sym, ap, subst, ◌∙◌}
 use mathlib.Core.List.{List, [], ◌∷◌}
 use lib.ListN.{length, drop, get_or, replicate, drop_of_length-le}
 use lib.Seq.{drop-cons}
-use Rattle.base.specs.Choice.{if◌then◌else◌, ◌<?◌}
+use Rattle.base.specs.Choice.{when◌then◌else◌, ◌<?◌}
 use Rattle.base.proofs.Choices.{if_not_below}
 use Rattle.line.specs.declared.Heard.{Heard}
 use Rattle.turns.specs.Link.{DeviceSide, DeviceStep, LinkStep, device_ticks, link_tick}
@@ -73,17 +73,17 @@ pub ruleset counting = (refl, counting_none, counting_more, counting_all, number
 -- ---- a row of numbers, of a tick
 
 count_is : (s : Sent) → count_in (sent_number s) ≡ count s
-unfolding if◌then◌else◌
+unfolding when◌then◌else◌
 count_is Silent = refl
 count_is (Character c) = sym (if_not_below (256 + c) 256 1 0 1 (omega arith) refl)
 
 blank_senders : (n : ℕ) → senders_in (replicate n 0) ≡ 0
-unfolding senders_in if◌then◌else◌
+unfolding senders_in when◌then◌else◌
 blank_senders zero = refl
 blank_senders (suc n) = omega (arith, blank_senders n)
 
 device_senders_lem : (hs : Here) (n : ℕ) (xs : List DeviceStep) → length xs ≡ present hs → length hs ≤ n → senders_in (on_here device_code hs xs (replicate n 0)) ≡ device_senders xs
-unfolding on_here senders_in device_senders if◌then◌else◌
+unfolding on_here senders_in device_senders when◌then◌else◌
 device_senders_lem [] zero [] e h = refl
 device_senders_lem [] (suc n) [] e h = blank_senders (suc n)
 device_senders_lem [] n (x ∷ xs) e h = absurd (omega (arith, e))

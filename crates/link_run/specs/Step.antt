@@ -1,7 +1,7 @@
 -- Inner contracts: nothing that is to be believed rests on them.
 -- One tick of a run: its number, the link after it, and the place after it in the list. The code ticks all parties; a master that has not started has no call in that tick, and after it is what it was before.
 use Rattle.std.specs.Prelude.{ℕ, ◌+◌, ◌-◌, ◌*◌, ◌<◌, ◌≡◌, true, List, [], ◌∷◌, length, drop, get_or}
-use Rattle.base.specs.Choice.{if◌then◌else◌, ◌<?◌, ◌=?◌}
+use Rattle.base.specs.Choice.{when◌then◌else◌, ◌<?◌, ◌=?◌}
 use Rattle.base.specs.Events.{RunIs}
 use Rattle.base.specs.Lent as B
 use Rattle.base.specs.Lent.{Lent}
@@ -26,7 +26,7 @@ use Rattle.link_run.specs.declared.Stepped.{Stepped}
 
 -- 1 for a party that sends
 abbrev pub count_in : ℕ → ℕ
-count_in code = if code <? 256 then 0 else 1
+count_in code = when code <? 256 then 0 else 1
 
 unfoldable pub senders_in : List ℕ → ℕ
 senders_in [] = 0
@@ -53,7 +53,7 @@ starts_left s = record { primary = s.primary - 1; secondary = s.secondary - 1 }
 
 -- the calls that are taken: none of a master that has not started
 abbrev pub call_taken : ℕ → MasterCallWithPart → MasterCallWithPart
-call_taken start c = if start =? 0 then c else record { call = MasterCall.Nothing; part = c.part }
+call_taken start c = when start =? 0 then c else record { call = MasterCall.Nothing; part = c.part }
 
 abbrev pub requests_taken : StartTicks → List MasterCallWithPart → List MasterCallWithPart
 requests_taken s cs = call_taken s.primary (get_or cs 0 no_master_call) ∷ call_taken s.secondary (get_or cs 1 no_master_call) ∷ []
@@ -63,7 +63,7 @@ calls_taken s c = record { masters = requests_taken s c.masters; devices = c.dev
 
 -- the link after a tick: a master that has not started is what it was before
 abbrev pub ticked_master : ℕ → Master → Master → Master
-ticked_master start before ticked = if start =? 0 then ticked else before
+ticked_master start before ticked = when start =? 0 then ticked else before
 
 abbrev pub ticked_masters : StartTicks → List Master → List Master → List Master
 ticked_masters s before ticked =

@@ -5,7 +5,7 @@ use mathlib.Core.Bool.{Bool, true, false}
 use mathlib.Core.List.{List, [], ◌∷◌}
 use mathlib.Core.Path.{◌≡◌, refl, sym, ap, subst, ◌∙◌}
 use lib.ListN.{length, get_or, replicate, length-replicate, get_or-replicate}
-use Rattle.base.specs.Choice.{if◌then◌else◌, ◌outside◌to◌}
+use Rattle.base.specs.Choice.{when◌then◌else◌, ◌outside◌to◌}
 use Rattle.base.proofs.Choices.{if_is_true, inside_low, inside_high}
 use Rattle.base.specs.Refusal.{Called, accepted, refused}
 use Rattle.frame.specs.Limits.{fewest_answered, most_data, longest_frame}
@@ -61,7 +61,7 @@ row_length n k m h =
 -- a slot that was accepted, in front of others
 slot_first : (p : Profile) (i : ℕ) (s : Setting) (slot : Slot) (slots : List Slot) → suc i ≤ 6 → slot_starts p s ≡ accepted slot
     → All (DeviceStarts p) (devices_from rows_fresh (suc i) slots) → All (DeviceStarts p) (devices_from rows_fresh i (slot ∷ slots))
-unfolding devices_from if◌then◌else◌
+unfolding devices_from when◌then◌else◌
 slot_first p i s slot slots h v rest = by s.here v
   where
     started : (c : Called Device) → device_starts p s.preamble s.polling s.unique ≡ c → in_slot c ≡ accepted slot → All (DeviceStarts p) (devices_from rows_fresh i (slot ∷ slots))
@@ -77,7 +77,7 @@ slot_first p i s slot slots h v rest = by s.here v
           content_room = row_length 6 i most_data h;
         }) rest)
 
-    by : (b : Bool) → (if b then device_slot p s else accepted absent) ≡ accepted slot → All (DeviceStarts p) (devices_from rows_fresh i (slot ∷ slots))
+    by : (b : Bool) → (when b then device_slot p s else accepted absent) ≡ accepted slot → All (DeviceStarts p) (devices_from rows_fresh i (slot ∷ slots))
     by true w = started (device_starts p s.preamble s.polling s.unique) refl w
     by false w = subst (λ (y : Slot). All (DeviceStarts p) (devices_from rows_fresh i (y ∷ slots))) (accepted_same absent slot w) rest
 
@@ -137,7 +137,7 @@ limited_bounds limit p retries s l e =
     let inside : (limit outside fewest_answered to most_data) ≡ false = by (limit outside fewest_answered to most_data) b.first b.first_is in
     (inside_low limit fewest_answered most_data (limit outside fewest_answered to most_data) refl inside, inside_high limit fewest_answered most_data (limit outside fewest_answered to most_data) refl inside)
   where
-    by : (t : Bool) (x : Unit {0}) → (if t then refused 9 else accepted tt) ≡ accepted x → t ≡ false
+    by : (t : Bool) (x : Unit {0}) → (when t then refused 9 else accepted tt) ≡ accepted x → t ≡ false
     by false x k = refl
     by true x k = absurd (unlike 9 x (sym (if_is_true true (refused 9) (accepted tt) refl) ∙ k))
 

@@ -8,7 +8,7 @@ use lib.ListN.{length, drop, get_or, set, replicate, length-set, drop_of_length-
 use lib.Seq.{drop-cons, drop-set-lt, get_or-set_same}
 use Rattle.base.specs.Refusal.{number, Called, accepted, refused}
 use Rattle.base.specs.declared.Refusal.{Refusal}
-use Rattle.base.specs.Choice.{if◌then◌else◌, ◌outside◌to◌}
+use Rattle.base.specs.Choice.{when◌then◌else◌, ◌outside◌to◌}
 use Rattle.base.proofs.Choices.{if_is_true, if_is_false, if_true, if_false, if_at_most, if_above}
 use Rattle.frame.specs.Limits.{fewest_answered, most_data}
 use Rattle.line.specs.declared.Profile.{Profile}

@@ -1,7 +1,7 @@
 -- How the code stands for what is to be believed.
 -- The start of a link: the lowest number of its parties' refusals, or the fresh link, with nothing on the line before.
 use Rattle.std.specs.Prelude.{ℕ, true, false, List, [], ◌∷◌, ◌≡◌, replicate}
-use Rattle.base.specs.Choice.{if◌then◌else◌, ◌≤?◌, ◌outside◌to◌}
+use Rattle.base.specs.Choice.{when◌then◌else◌, ◌≤?◌, ◌outside◌to◌}
 use Rattle.base.specs.Refusal.{number, Called, accepted, refused}
 use Rattle.base.specs.declared.Refusal.{Refusal}
 use Rattle.frame.specs.Limits.{fewest_answered, most_data}
@@ -34,7 +34,7 @@ absent = record { device = any_device; here = false }
 
 -- "In one place the lowest applies."
 abbrev pub lower : ℕ → ℕ → ℕ
-lower v w = if v ≤? w then v else w
+lower v w = when v ≤? w then v else w
 
 -- two starts: what they make together where both were accepted, else the lowest number
 abbrev pub both : {A B C : Type 0} → (A → B → C) → Called A → Called B → Called C
@@ -52,7 +52,7 @@ abbrev pub device_slot : Profile → Setting → Called Slot
 device_slot p s = in_slot (device_starts p s.preamble s.polling s.unique)
 
 abbrev pub slot_starts : Profile → Setting → Called Slot
-slot_starts p s = if s.here then device_slot p s else accepted absent
+slot_starts p s = when s.here then device_slot p s else accepted absent
 
 abbrev pub in_front : Slot → List Slot → List Slot
 in_front s ss = s ∷ ss
@@ -103,7 +103,7 @@ pub record StartedIs (p : Profile) (retries : ℕ) (s : List Setting) (r : LinkS
 
 -- "a start with a length outside 2 to 255 with 9"
 abbrev pub limit_taken : ℕ → Called (Unit {0})
-limit_taken limit = if limit outside fewest_answered to most_data then refused 9 else accepted tt
+limit_taken limit = when limit outside fewest_answered to most_data then refused 9 else accepted tt
 
 abbrev pub the_link : Unit {0} → Link → Link
 the_link t l = l

@@ -5,7 +5,7 @@ use mathlib.Core.Bool.{Bool, true, false}
 use mathlib.Core.List.{List, [], ◌∷◌, ◌++◌}
 use mathlib.Core.Path.{◌≡◌, refl, sym, ap, ◌∙◌}
 use lib.ListN.{length, drop, get_or, replicate}
-use Rattle.base.specs.Choice.{if◌then◌else◌, ◌<?◌}
+use Rattle.base.specs.Choice.{when◌then◌else◌, ◌<?◌}
 use Rattle.base.proofs.Choices.{true_false}
 use Rattle.line.specs.declared.Heard.{Heard}
 use Rattle.turns.proofs.Bursting.{if_both}
@@ -29,13 +29,13 @@ use Rattle.link_ticks.specs.Ticks.{master_host_told, device_host_told, devices_t
 abbrev pub step_with : ℕ → Link → Calls → List ℕ → Rows → LinkStep
 step_with limit l c put x = link_tick limit (link_of l x) (calls_of put (heres l.devices) c)
 
-no_more : (b : Bool) → ◌≡◌ {A = List LinkStep} (if b then [] else []) []
-unfolding if◌then◌else◌
+no_more : (b : Bool) → ◌≡◌ {A = List LinkStep} (when b then [] else []) []
+unfolding when◌then◌else◌
 no_more true = refl
 no_more false = refl
 
 one_step : (limit : ℕ) (l : Link) (c : Calls) (put : List ℕ) (x : Rows) → steps_of limit l c put 1 x ≡ step_with limit l c put x ∷ []
-unfolding up_to_told calls_first run if◌then◌else◌
+unfolding up_to_told calls_first run when◌then◌else◌
 one_step limit l c put x = ap (λ (ss : List LinkStep). step_with limit l c put x ∷ ss) (no_more (a_host_told (step_with limit l c put x)))
 
 module _ (limit : ℕ) (l : Link) (c : Calls) (put : List ℕ) (x x_after : Rows) (sent sent_after : List (List ℕ)) (r : Ticked) (is : RunIs limit l c put 1 x sent r x_after sent_after) where
@@ -108,18 +108,18 @@ abbrev pub next : ℕ → LinkStep → LinkStep
 next limit s = link_tick limit (link_after s) uncalled
 
 abbrev pub further : ℕ → ℕ → LinkStep → List LinkStep
-further limit n s = if a_host_told s then [] else up_to_told (run limit (link_after s) (replicate n uncalled))
+further limit n s = when a_host_told s then [] else up_to_told (run limit (link_after s) (replicate n uncalled))
 
 course : (limit n : ℕ) (s : LinkStep) → Course s (further limit n s)
-unfolding up_to_told run if◌then◌else◌
+unfolding up_to_told run when◌then◌else◌
 course limit zero s = by (a_host_told s)
   where
-    by : (b : Bool) → Course s (if b then [] else [])
+    by : (b : Bool) → Course s (when b then [] else [])
     by true = ends
     by false = ends
 course limit (suc n) s = by (a_host_told s) refl (course limit n (next limit s))
   where
-    by : (b : Bool) → a_host_told s ≡ b → Course (next limit s) (further limit n (next limit s)) → Course s (if b then [] else (next limit s ∷ further limit n (next limit s)))
+    by : (b : Bool) → a_host_told s ≡ b → Course (next limit s) (further limit n (next limit s)) → Course s (when b then [] else (next limit s ∷ further limit n (next limit s)))
     by true e c = ends
     by false e c = goes_on e (as_many limit s) (unanswered limit (link_after s)) c
 

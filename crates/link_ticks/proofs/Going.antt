@@ -9,7 +9,7 @@ use mathlib.Core.List.{List, [], ◌∷◌, ◌++◌, append-nil, append_assoc}
 use mathlib.Core.Path.{◌≡◌, refl, sym, ap, subst, ◌∙◌}
 use lib.ListN.{length, drop, get_or, set, replicate, length-append, length-set, length-replicate, get_or-replicate, drop_of_length-le}
 use lib.Seq.{drop-cons, set_at}
-use Rattle.base.specs.Choice.{if◌then◌else◌, ◌<?◌, ◌=?◌}
+use Rattle.base.specs.Choice.{when◌then◌else◌, ◌<?◌, ◌=?◌}
 use Rattle.base.proofs.Choices.{true_false, if_is_true, if_is_false, went_then, went_else}
 use Rattle.line.specs.declared.Heard.{Heard}
 use Rattle.line.specs.declared.Heard.TheVariants.{Silence}
@@ -44,7 +44,7 @@ master_call_at t cs i = master_call_in t (get_or cs i no_master_call)
 
 module _ (limit : ℕ) (heard : Heard) (put : List ℕ) (x : Rows) where
   first_steps : (cs : List DeviceCallWithPart) (i : ℕ) (ss : List Slot) → steps_from limit heard put (device_call_at 0 cs) x i ss ≡ device_ticks limit heard (devices_from x i ss) (device_calls_from put cs i (heres ss))
-  unfolding steps_from device_ticks devices_from device_calls_from if◌then◌else◌
+  unfolding steps_from device_ticks devices_from device_calls_from when◌then◌else◌
   first_steps cs i [] = refl
   first_steps cs i (s ∷ ss) = by s.here (first_steps cs (suc i) ss)
     where
@@ -55,7 +55,7 @@ module _ (limit : ℕ) (heard : Heard) (put : List ℕ) (x : Rows) where
       by false e = e
 
   later_steps : (t : ℕ) (cs : List DeviceCallWithPart) (i : ℕ) (ss : List Slot) → steps_from limit heard put (device_call_at (suc t) cs) x i ss ≡ device_ticks limit heard (devices_from x i ss) []
-  unfolding steps_from device_ticks devices_from if◌then◌else◌
+  unfolding steps_from device_ticks devices_from when◌then◌else◌
   later_steps t cs i [] = refl
   later_steps t cs i (s ∷ ss) = by s.here (later_steps t cs (suc i) ss)
     where
@@ -80,7 +80,7 @@ step_in limit t put ms-calls ds-calls heard x ms ss = record {
 
 step_is : (limit t : ℕ) (put : List ℕ) (ms-calls : List MasterCallWithPart) (ds-calls : List DeviceCallWithPart) (heard : Heard) (x : Rows) (ms : List Master) (ss : List Slot)
     → step_in limit t put ms-calls ds-calls heard x ms ss ≡ link_tick limit (link_of (link_with ms ss heard) x) (calls_in t put (heres ss) ms-calls ds-calls)
-unfolding link_tick if◌then◌else◌
+unfolding link_tick when◌then◌else◌
 step_is limit zero put ms-calls ds-calls heard x ms ss = λ n. record {
   for_primary = (step_in limit zero put ms-calls ds-calls heard x ms ss).for_primary;
   for_secondary = (step_in limit zero put ms-calls ds-calls heard x ms ss).for_secondary;
@@ -180,7 +180,7 @@ link_now a = link_of (link_with a.masters a.slots a.line) a.rows
 
 module _ (limit : ℕ) (put : List ℕ) (most : ℕ) (ms-calls : List MasterCallWithPart) (ds-calls : List DeviceCallWithPart) where
   abbrev pub left_of : Stand → Stand → ℕ → List LinkStep
-  left_of a b t = if b.told then [] else up_to_told (run limit (link_now b) (drop t (calls_first (at_most most) (calls_of put (heres a.slots) (calls_with ms-calls ds-calls)))))
+  left_of a b t = when b.told then [] else up_to_told (run limit (link_now b) (drop t (calls_first (at_most most) (calls_of put (heres a.slots) (calls_with ms-calls ds-calls)))))
 
   abbrev pub whole_of : Stand → List LinkStep
   whole_of a = steps_of limit (link_with a.masters a.slots a.line) (calls_with ms-calls ds-calls) put most a.rows
@@ -258,12 +258,12 @@ module _ (limit : ℕ) (put : List ℕ) (most : ℕ) (ms-calls : List MasterCall
         ∙ ap (λ (hs : List Bool). link_tick limit (link_now b) (calls_in t put hs ms-calls ds-calls)) v.flags
 
     -- what the ticks left are, with this one in front
-    left_is : left_of a b t ≡ step ∷ (if a_host_told step then [] else up_to_told (run limit (link_after step) (left_calls a (suc t))))
+    left_is : left_of a b t ≡ step ∷ (when a_host_told step then [] else up_to_told (run limit (link_after step) (left_calls a (suc t))))
     unfolding run up_to_told
     left_is =
         if_is_false b.told [] _ calm
         ∙ ap (λ (cs : List L.Calls). up_to_told (run limit (link_now b) cs)) (calls_left t (at_most most) put (heres a.slots) ms-calls ds-calls goes)
-        ∙ ap (λ (s : LinkStep). s ∷ (if a_host_told s then [] else up_to_told (run limit (link_after s) (left_calls a (suc t))))) (sym step_turns)
+        ∙ ap (λ (s : LinkStep). s ∷ (when a_host_told s then [] else up_to_told (run limit (link_after s) (left_calls a (suc t))))) (sym step_turns)
 
     module _ (row : List ℕ) (d : At) (m : MastersAt) (blank : row ≡ replicate 8 0)
         (w : Ticking limit b.line put dcall (record { slots = b.slots; rows = b.rows; row = row; dids = b.devices_did_lem; told = b.told; line = Silence }) d 0)
@@ -354,7 +354,7 @@ module _ (limit : ℕ) (put : List ℕ) (most : ℕ) (ms-calls : List MasterCall
             v.left
             ∙ ap (λ (l : List LinkStep). v.steps ++ l) left_is
             ∙ sym (append_assoc v.steps (step ∷ []) _)
-            ∙ (λ i. (v.steps ++ (step ∷ [])) ++ (if sym tells_is i then [] else up_to_told (run limit (sym link_after_lem i) (left_calls a (sym (add-one t) i)))));
+            ∙ (λ i. (v.steps ++ (step ∷ [])) ++ (when sym tells_is i then [] else up_to_told (run limit (sym link_after_lem i) (left_calls a (sym (add-one t) i)))));
         count_is = length-append v.steps (step ∷ []) ∙ ap (λ (n : ℕ). n + 1) v.count_is;
         link_is = link_after_lem ∙ sym (behind_more (link_now a) v.steps step);
         flags = w.flags ∙ v.flags;
@@ -371,28 +371,28 @@ module _ (limit : ℕ) (put : List ℕ) (most : ℕ) (ms-calls : List MasterCall
   -- ---- the end
 
   at_most_64 : at_most most ≤ 64
-  unfolding if◌then◌else◌
+  unfolding when◌then◌else◌
   at_most_64 = by (most <? 64) refl
     where
-      by : (x : Bool) → (most <? 64) ≡ x → (if x then most else 64) ≤ 64
+      by : (x : Bool) → (most <? 64) ≡ x → (when x then most else 64) ≤ 64
       by true k = le_of_lt (ltb-true most 64 k)
       by false k = omega arith
 
   at_most_most : at_most most ≤ most
-  unfolding if◌then◌else◌
+  unfolding when◌then◌else◌
   at_most_most = by (most <? 64) refl
     where
-      by : (x : Bool) → (most <? 64) ≡ x → (if x then most else 64) ≤ most
+      by : (x : Bool) → (most <? 64) ≡ x → (when x then most else 64) ≤ most
       by true k = omega arith
       by false k = ltb-false most 64 k
 
   none_left : (a b : Stand) (t : ℕ) → at_most most ≤ t → left_of a b t ≡ []
-  unfolding run up_to_told if◌then◌else◌
+  unfolding run up_to_told when◌then◌else◌
   none_left a b t h =
-      ap (λ (cs : List L.Calls). if b.told then [] else up_to_told (run limit (link_now b) cs)) (drop_of_length-le (calls_first (at_most most) (calls_of put (heres a.slots) (calls_with ms-calls ds-calls))) {i = t} (omega (arith, calls_length (at_most most) (calls_of put (heres a.slots) (calls_with ms-calls ds-calls)), h)))
+      ap (λ (cs : List L.Calls). when b.told then [] else up_to_told (run limit (link_now b) cs)) (drop_of_length-le (calls_first (at_most most) (calls_of put (heres a.slots) (calls_with ms-calls ds-calls))) {i = t} (omega (arith, calls_length (at_most most) (calls_of put (heres a.slots) (calls_with ms-calls ds-calls)), h)))
       ∙ same b.told
     where
-      same : (x : Bool) → ◌≡◌ {A = List LinkStep} (if x then [] else []) []
+      same : (x : Bool) → ◌≡◌ {A = List LinkStep} (when x then [] else []) []
       same true = refl
       same false = refl
 
@@ -413,8 +413,8 @@ module _ (limit : ℕ) (put : List ℕ) (most : ℕ) (ms-calls : List MasterCall
       }
 
   -- where the loop ends, nothing is left
-  ends_at : (t : ℕ) (p q : Bool) → (t <? most) ≡ p → (t <? 64) ≡ q → (if p then q else false) ≡ false → at_most most ≤ t
-  unfolding if◌then◌else◌
+  ends_at : (t : ℕ) (p q : Bool) → (t <? most) ≡ p → (t <? 64) ≡ q → (when p then q else false) ≡ false → at_most most ≤ t
+  unfolding when◌then◌else◌
   ends_at t true true h k e = absurd (true_false e)
   ends_at t true false h k e = omega (arith, at_most_64, ltb-false t 64 k)
   ends_at t false q h k e = omega (arith, at_most_most, ltb-false t most h)
@@ -424,23 +424,23 @@ module _ (limit : ℕ) (put : List ℕ) (most : ℕ) (ms-calls : List MasterCall
     where
       by : (x : Bool) → b.told ≡ x → left_of a b t ≡ []
       by true k = if_is_true b.told [] (up_to_told (run limit (link_now b) (left_calls a t))) k
-      by false k = none_left a b t (ends_at t (t <? most) (t <? 64) refl refl (sym (if_is_false b.told false (if t <? most then t <? 64 else false) k) ∙ e))
+      by false k = none_left a b t (ends_at t (t <? most) (t <? 64) refl refl (sym (if_is_false b.told false (when t <? most then t <? 64 else false) k) ∙ e))
 
   -- where it goes on
   goes_told : (t : ℕ) (told : Bool) → goes_on t most told ≡ true → told ≡ false
-  goes_told t told e = (went_else told false (if t <? most then t <? 64 else false) true e (λ q. true_false (sym q))).0
+  goes_told t told e = (went_else told false (when t <? most then t <? 64 else false) true e (λ q. true_false (sym q))).0
 
   goes_both : (t : ℕ) (told : Bool) → goes_on t most told ≡ true → ((t <? most) ≡ true) × ((t <? 64) ≡ true)
-  goes_both t told e = went_then (t <? most) (t <? 64) false true (went_else told false (if t <? most then t <? 64 else false) true e (λ q. true_false (sym q))).1 (λ q. true_false (sym q))
+  goes_both t told e = went_then (t <? most) (t <? 64) false true (went_else told false (when t <? most then t <? 64 else false) true e (λ q. true_false (sym q))).1 (λ q. true_false (sym q))
 
   goes_within : (t : ℕ) (told : Bool) → goes_on t most told ≡ true → t < 64
   goes_within t told e = ltb-true t 64 (goes_both t told e).1
 
   goes_below : (t : ℕ) (told : Bool) → goes_on t most told ≡ true → t < at_most most
-  unfolding if◌then◌else◌
+  unfolding when◌then◌else◌
   goes_below t told e = by (most <? 64) refl
     where
-      by : (x : Bool) → (most <? 64) ≡ x → t < (if x then most else 64)
+      by : (x : Bool) → (most <? 64) ≡ x → t < (when x then most else 64)
       by true k = ltb-true t most (goes_both t told e).0
       by false k = goes_within t told e
 

@@ -1,7 +1,7 @@
 -- How the code stands for what is to be believed.
 -- Ticks of a link: one with calls, and more without calls, up to one in which a host is told something. They are a run of crates/turns/specs/Link.antt.
 use Rattle.std.specs.Prelude.{ℕ, zero, suc, ◌+◌, ◌<◌, Bool, true, false, List, [], ◌∷◌, ◌++◌, ◌≡◌, length, drop, get_or, replicate}
-use Rattle.base.specs.Choice.{if◌then◌else◌, ◌<?◌}
+use Rattle.base.specs.Choice.{when◌then◌else◌, ◌<?◌}
 use Rattle.base.specs.Lent.{Lent, before, after}
 use Rattle.line.specs.declared.Heard.{Heard}
 use Rattle.turns.specs.Link.{MasterStep, DeviceStep, LinkStep, link_after, run}
@@ -49,7 +49,7 @@ a_host_told s = master_host_told s.for_primary.told (master_host_told s.for_seco
 -- a run up to the first tick in which a host is told something
 unfoldable pub up_to_told : List LinkStep → List LinkStep
 up_to_told [] = []
-up_to_told (s ∷ ss) = s ∷ (if a_host_told s then [] else up_to_told ss)
+up_to_told (s ∷ ss) = s ∷ (when a_host_told s then [] else up_to_told ss)
 
 -- so many ticks, the first with calls
 unfoldable pub calls_first : ℕ → L.Calls → List L.Calls
@@ -67,11 +67,11 @@ device_call_in (suc t) c = no_device_call
 
 -- whether there is a tick with this number
 abbrev pub goes_on : ℕ → ℕ → Bool → Bool
-goes_on t most told = if told then false else if t <? most then t <? 64 else false
+goes_on t most told = when told then false else when t <? most then t <? 64 else false
 
 -- at most 64
 abbrev pub at_most : ℕ → ℕ
-at_most most = if most <? 64 then most else 64
+at_most most = when most <? 64 then most else 64
 
 -- `limit` is the link's data limit
 abbrev pub steps_of : ℕ → Link → Calls → List ℕ → ℕ → Rows → List LinkStep

@@ -7,7 +7,7 @@ use mathlib.Core.List.{List, ◌∷◌}
 use lib.ListN.{length, get_or, drop, drop_of_length-le}
 use lib.Seq.{drop-cons}
 use borrow.Author.Tests.{lt-ltb, le-ltb}
-use Rattle.base.specs.Choice.{if◌then◌else◌, ◌<?◌, ◌outside◌to◌}
+use Rattle.base.specs.Choice.{when◌then◌else◌, ◌<?◌, ◌outside◌to◌}
 use Rattle.base.proofs.Choices.{if_is_true, if_is_false}
 use Rattle.load.specs.Arguments.{largest, number_from}
 
@@ -26,7 +26,7 @@ module _ (text : List ℕ) (n i c : ℕ) (v : Reading text n i) (h : i < length 
   unfolding number_from
   no_digit r p q = sym (if_is_true (c outside 48 to 57) 0 _ (sym p ∙ q)) ∙ sym here ∙ v.left
 
-  digit : (r : Bool) → r ≡ (c outside 48 to 57) → r ≡ false → number_from n (c ∷ drop (suc i) text) ≡ (if largest <? n * 10 + (c - 48) then 0 else number_from (n * 10 + (c - 48)) (drop (suc i) text))
+  digit : (r : Bool) → r ≡ (c outside 48 to 57) → r ≡ false → number_from n (c ∷ drop (suc i) text) ≡ (when largest <? n * 10 + (c - 48) then 0 else number_from (n * 10 + (c - 48)) (drop (suc i) text))
   unfolding number_from
   digit r p q = if_is_false (c outside 48 to 57) 0 _ (sym p ∙ q)
 

@@ -4,7 +4,7 @@ use native.Mathlib.Omega.{arith}
 use mathlib.Core.Path.{◌≡◌, refl, ap, ap₂, ◌∙◌}
 use mathlib.Core.List.{List, [], ◌∷◌, ◌++◌}
 use borrow.Author.Tests.{ne_eqb}
-use Rattle.base.specs.Choice.{if◌then◌else◌, ◌=?◌}
+use Rattle.base.specs.Choice.{when◌then◌else◌, ◌=?◌}
 use Rattle.base.proofs.Choices.{if_is_false}
 use Rattle.frame.specs.Limits.{most_data}
 use Rattle.turns.specs.Link.{DeviceCall, gives_content, Link, LinkStep, Calls, link_tick, link_after, run}
@@ -65,10 +65,10 @@ wanted_late t p (e ∷ es) h (and q l) = if_is_false (is_of t p e) _ _ (if_is_fa
 wanted_front : (t p : ℕ) (es fs : List Entry) → t < 400 → Late fs → wanted_at t p (es ++ fs) ≡ wanted_at t p es
 unfolding wanted_at
 wanted_front t p [] fs h l = wanted_late t p fs h l
-wanted_front t p (e ∷ es) fs h l = ap (λ (w : ScriptCall). if is_of t p e then Call e.action e.argument else w) (wanted_front t p es fs h l)
+wanted_front t p (e ∷ es) fs h l = ap (λ (w : ScriptCall). when is_of t p e then Call e.action e.argument else w) (wanted_front t p es fs h l)
 
 abbrev given : ℕ → ScriptCall → DeviceCall
-given tick w = if tick =? 0 then gives_content 3 (0 ∷ 0 ∷ []) else device_call w
+given tick w = when tick =? 0 then gives_content 3 (0 ∷ 0 ∷ []) else device_call w
 
 calls_front : (t : ℕ) (es fs : List Entry) → t < 400 → Late fs → calls_at t (es ++ fs) ≡ calls_at t es
 calls_front t es fs h l = λ i. record {

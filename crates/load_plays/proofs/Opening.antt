@@ -3,7 +3,7 @@ use mathlib.Core.Path.{◌≡◌, refl}
 use mathlib.Core.Bool.{true, false}
 use mathlib.Core.List.{List, [], ◌∷◌}
 use lib.ListN.{length}
-use Rattle.base.specs.Choice.{if◌then◌else◌}
+use Rattle.base.specs.Choice.{when◌then◌else◌}
 use Rattle.base.specs.Store.{stored}
 use Rattle.frame.specs.Check.{xor_from}
 use Rattle.frame.specs.Delimiter.{stx, delimiter_of}
@@ -46,11 +46,11 @@ unfolding opening_calls calls_from
 calls_long = refl
 
 pub asks : asked true 0 opening_calls ≡ requests absent_request []
-unfolding opening_calls opening wanted_at stop_of calls_from ready_link run link_tick device_ticks sides carried master_tick device_tick requested requested_up_to master_takes master_sends device_takes device_sends answered content_given taken taken_data silent_inside at_idle at_preamble at_first at_address at_expansion at_command at_count at_data at_check write_buffer write_answer frame_bytes preamble_bytes body_bytes protected_bytes header_bytes xor_from delimiter_of stored device_senders shown_at untouched characters_sent times if◌then◌else◌
+unfolding opening_calls opening wanted_at stop_of calls_from ready_link run link_tick device_ticks sides carried master_tick device_tick requested requested_up_to master_takes master_sends device_takes device_sends answered content_given taken taken_data silent_inside at_idle at_preamble at_first at_address at_expansion at_command at_count at_data at_check write_buffer write_answer frame_bytes preamble_bytes body_bytes protected_bytes header_bytes xor_from delimiter_of stored device_senders shown_at untouched characters_sent times when◌then◌else◌
 asks = refl
 
 pub answers : gave 1 271 opening_calls ≡ gives_answer Same (0 ∷ 0 ∷ [])
-unfolding opening_calls opening wanted_at stop_of calls_from ready_link run link_tick device_ticks sides carried master_tick device_tick requested requested_up_to master_takes master_sends device_takes device_sends answered content_given taken taken_data silent_inside at_idle at_preamble at_first at_address at_expansion at_command at_count at_data at_check write_buffer write_answer frame_bytes preamble_bytes body_bytes protected_bytes header_bytes xor_from delimiter_of stored device_senders shown_at untouched characters_sent times if◌then◌else◌
+unfolding opening_calls opening wanted_at stop_of calls_from ready_link run link_tick device_ticks sides carried master_tick device_tick requested requested_up_to master_takes master_sends device_takes device_sends answered content_given taken taken_data silent_inside at_idle at_preamble at_first at_address at_expansion at_command at_count at_data at_check write_buffer write_answer frame_bytes preamble_bytes body_bytes protected_bytes header_bytes xor_from delimiter_of stored device_senders shown_at untouched characters_sent times when◌then◌else◌
 answers = refl
 
 -- what is told and what becomes of the calls
@@ -68,7 +68,7 @@ pub record Shown (steps : List LinkStep) : Type 0 where
   pub is_off : bursts 0 391 steps ≡ false
 
 pub opened : Shown opening_steps
-unfolding opening_steps opening_calls opening wanted_at stop_of calls_from ready_link run link_tick device_ticks sides carried master_tick device_tick requested requested_up_to master_takes master_sends device_takes device_sends answered content_given taken taken_data silent_inside at_idle at_preamble at_first at_address at_expansion at_command at_count at_data at_check write_buffer write_answer frame_bytes preamble_bytes body_bytes protected_bytes header_bytes xor_from delimiter_of stored device_senders shown_at untouched characters_sent times if◌then◌else◌
+unfolding opening_steps opening_calls opening wanted_at stop_of calls_from ready_link run link_tick device_ticks sides carried master_tick device_tick requested requested_up_to master_takes master_sends device_takes device_sends answered content_given taken taken_data silent_inside at_idle at_preamble at_first at_address at_expansion at_command at_count at_data at_check write_buffer write_answer frame_bytes preamble_bytes body_bytes protected_bytes header_bytes xor_from delimiter_of stored device_senders shown_at untouched characters_sent times when◌then◌else◌
 opened = record {
   primary_taken = refl;
   secondary_taken = refl;

@@ -6,7 +6,7 @@ use mathlib.Core.Bool.{Bool, true, false}
 use mathlib.Core.List.{List, [], ◌∷◌}
 use lib.ListN.{length, replicate, length-replicate}
 use borrow.Author.Tests.{eqb-true, eq-eqb, ne_eqb}
-use Rattle.base.specs.Choice.{if◌then◌else◌, ◌=?◌}
+use Rattle.base.specs.Choice.{when◌then◌else◌, ◌=?◌}
 use Rattle.base.specs.Refusal.{accepted}
 use Rattle.base.proofs.Choices.{if_is_true, if_is_false, true_false}
 use Rattle.base.proofs.Tables.{chain_second}
@@ -46,13 +46,13 @@ Wishes es = Each OwnWish es
 
 -- the opening's, computed
 abbrev wish_test : Entry → Bool
-wish_test e = if e.action =? 4 then e.party =? 2 else true
+wish_test e = when e.action =? 4 then e.party =? 2 else true
 
 tested : (e : Entry) → wish_test e ≡ true → OwnWish e
 tested e t four = eqb-true e.party 2 (sym (if_is_true (e.action =? 4) (e.party =? 2) true (eq-eqb e.action 4 four)) ∙ t)
 
 opening_tested : tests wish_test opening ≡ true
-unfolding tests opening if◌then◌else◌
+unfolding tests opening when◌then◌else◌
 opening_tested = refl
 
 -- another action
@@ -84,8 +84,8 @@ data OtherWanted : ScriptCall → Type 0 where
   other : {a g : ℕ} → (a ≡ 4 → ⊥) → OtherWanted (Call a g)
 
 -- a record of this tick and party is this party's
-outer : (c x : Bool) → (if c then false else x) ≡ true → x ≡ true
-unfolding if◌then◌else◌
+outer : (c x : Bool) → (when c then false else x) ≡ true → x ≡ true
+unfolding when◌then◌else◌
 outer true x h = absurd (true_false (sym h))
 outer false x h = h
 
@@ -141,7 +141,7 @@ device_starts_lem : (party : ℕ) → device_starts fsk_profile 5 (party - 2) pa
 device_starts_lem party e = record { preamble = 5; polling = party - 2; unique = party; starts = e; room = zeros 284; content_room = zeros 255 }
 
 ready_starts : Starts fsk_profile 3 ready_link
-unfolding ready_link if◌then◌else◌
+unfolding ready_link when◌then◌else◌
 ready_starts = record {
   primary = record { starts = refl; room = zeros 284 };
   secondary = record { starts = refl; room = zeros 284 };
@@ -167,7 +167,7 @@ bursts_once seed n =
     (R.and (stays_off 3) (R.and (stays_off 4) (R.and (stays_off 5) (R.and (stays_off 6) (R.and (stays_off 7) R.none))))) (calls_wish (stop_of (load seed n)) 0 (load seed n) (load_wishes seed n))
 
 pub within_premises : WithinPremises
-unfolding ready_link if◌then◌else◌
+unfolding ready_link when◌then◌else◌
 within_premises seed n = record {
   made = fsk_taken;
   starts = ready_starts;

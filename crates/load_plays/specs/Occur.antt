@@ -1,7 +1,7 @@
 -- To be believed: what the engine must do, or what is claimed of it.
 -- Document 02, item 4: "in every play each kind listed occurs, late answers as past T+STO". Each kind is stated on what a run shows: the calls of each tick, and what every party sends, is told and is answered in it.
 use Rattle.std.specs.Prelude.{ℕ, zero, suc, ◌+◌, ◌-◌, ◌<◌, ◌≡◌, Bool, true, false, List, [], ◌∷◌, ◌++◌, length, take, drop}
-use Rattle.base.specs.Choice.{if◌then◌else◌, ◌=?◌}
+use Rattle.base.specs.Choice.{when◌then◌else◌, ◌=?◌}
 use Rattle.frame.specs.Frame.{frame_bytes}
 use Rattle.line.specs.declared.Whole.{Whole}
 use Rattle.turns.specs.Link.{MasterCall, no_request, requests, DeviceCall, no_call, gives_answer, DeviceSide, DeviceStep, Link, LinkStep, Calls}
@@ -74,7 +74,7 @@ is_taken (CallResult.Refused why) = false
 unfoldable pub untouched : ℕ → List LinkStep → Bool
 untouched device [] = true
 untouched device (s ∷ ss) =
-    if senders s =? 0 then (if is_taken (result_in device s) then false else untouched device ss) else false
+    when senders s =? 0 then (when is_taken (result_in device s) then false else untouched device ss) else false
 
 -- a device is told a request, in T+1, the tick after its last character; since then nobody has sent and no answer was taken; its host answers past T+STO, and is refused with 8
 pub record LateAnswer (sto : ℕ) (calls : List Calls) (steps : List LinkStep) : Type 0 where

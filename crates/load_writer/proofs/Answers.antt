@@ -6,7 +6,7 @@ use mathlib.Core.Path.{◌≡◌, refl, sym, ap, ◌∙◌}
 use mathlib.Core.List.{List}
 use lib.ListN.{length}
 use borrow.Author.Tests.{leb-true}
-use Rattle.base.specs.Choice.{if◌then◌else◌, ◌≤?◌, ◌=?◌, ◌outside◌to◌}
+use Rattle.base.specs.Choice.{when◌then◌else◌, ◌≤?◌, ◌=?◌, ◌outside◌to◌}
 use Rattle.base.specs.Store.{stored}
 use Rattle.base.specs.declared.Refusal.{Refusal}
 use Rattle.base.specs.Refusal.{number, Called, accepted, refused}
@@ -18,7 +18,7 @@ use Rattle.load_writer.specs.declared.Loaded.TheVariants.{To, Refused}
 
 -- ---- the answer
 
-pub answer_is : (seed count room : ℕ) (r : Called ℕ) → r ≡ (if seed =? 0 then refused 18 else if count outside 1 to most_records then refused 18 else by_room (4 * count) room) → r ≡ load_answer seed count room
+pub answer_is : (seed count room : ℕ) (r : Called ℕ) → r ≡ (when seed =? 0 then refused 18 else when count outside 1 to most_records then refused 18 else by_room (4 * count) room) → r ≡ load_answer seed count room
 unfolding load_answer
 answer_is seed count room r p = p
 

@@ -9,7 +9,7 @@ use lib.ListN.{length}
 use lib.Arith.{digits_div, digits_mod}
 use lib.Pow.{pow_pos}
 use borrow.Author.Tests.{eq-eqb, ltb-true}
-use Rattle.base.specs.Choice.{if◌then◌else◌, ◌<?◌, ◌=?◌}
+use Rattle.base.specs.Choice.{when◌then◌else◌, ◌<?◌, ◌=?◌}
 use Rattle.base.proofs.Choices.{if_is_true}
 use Rattle.base.proofs.Tables.{chain_first, chain_second}
 use Rattle.turns.proofs.Bursting.{if_both}
@@ -72,7 +72,7 @@ pair_fits k h = omega (arith, h, div-add-mod' k 8, mod-lt k (pow_pos 3))
 
 -- the opening's records, computed
 abbrev fit_test : Entry → Bool
-fit_test e = if e.tick <? 65536 then (if e.party <? 16 then (if e.action <? 16 then e.argument <? 256 else false) else false) else false
+fit_test e = when e.tick <? 65536 then (when e.party <? 16 then (when e.action <? 16 then e.argument <? 256 else false) else false) else false
 
 tested : (e : Entry) → fit_test e ≡ true → Fits e
 tested e t =
@@ -86,7 +86,7 @@ tested e t =
     }
 
 opening_tested : tests fit_test opening ≡ true
-unfolding tests opening if◌then◌else◌
+unfolding tests opening when◌then◌else◌
 opening_tested = refl
 
 mark_fits : (x q : ℕ) → q < 4 → Fits (mark x q)

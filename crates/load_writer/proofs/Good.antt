@@ -7,7 +7,7 @@ use native.Mathlib.Nat.{mod-lt, div-add-mod'}
 use native.Mathlib.Omega.{arith}
 use lib.Pow.{pow_pos}
 use borrow.Author.Tests.{lt-ltb, le-ltb, eq-eqb, ne_eqb}
-use Rattle.base.specs.Choice.{if◌then◌else◌, ◌<?◌, ◌=?◌}
+use Rattle.base.specs.Choice.{when◌then◌else◌, ◌<?◌, ◌=?◌}
 use Rattle.base.proofs.Choices.{true_false, if_is_true, if_is_false}
 use Rattle.turns.proofs.Bursting.{if_both}
 use Rattle.player_script.specs.Script.{is_masters, is_devices, is_call, is_in, called_before, is_good}
@@ -22,7 +22,7 @@ good_more last called e [] a b c d = absurd (true_false (sym d))
 good_more last called e (f ∷ es) a b c d = if_is_false (e.tick <? last) _ _ a ∙ if_is_true (is_call e) _ _ b ∙ if_is_false (is_in e.party (called_before last called e)) _ _ c ∙ d
 
 good_stop : (last : ℕ) (called : List ℕ) (tick : ℕ) → last ≤ tick → is_good last called (stop_at tick ∷ []) ≡ true
-unfolding is_good if◌then◌else◌
+unfolding is_good when◌then◌else◌
 good_stop last called tick h = if_is_false (tick <? last) _ _ (le-ltb tick last h)
 
 -- ---- a pair
@@ -37,23 +37,23 @@ masters_call : (t p action a : ℕ) → p < 2 → is_masters action ≡ true →
 masters_call t p action a h m = if_is_true (p <? 2) _ _ (lt-ltb p 2 h) ∙ m
 
 wish_devices : (k : ℕ) → is_devices (wish_of k) ≡ true
-unfolding if◌then◌else◌
+unfolding when◌then◌else◌
 wish_devices k = if_both (λ (n : ℕ). is_devices n ≡ true) (k =? 0) _ _ refl (if_both (λ (n : ℕ). is_devices n ≡ true) (k =? 1) _ _ refl refl)
 
 asks_polling : is_masters 1 ≡ true
-unfolding if◌then◌else◌
+unfolding when◌then◌else◌
 asks_polling = refl
 
 asks_unique : is_masters 3 ≡ true
-unfolding if◌then◌else◌
+unfolding when◌then◌else◌
 asks_unique = refl
 
 party_3 : (t a : ℕ) → is_call (call t 3 2 a) ≡ true
-unfolding if◌then◌else◌
+unfolding when◌then◌else◌
 party_3 t a = refl
 
 answers : is_devices 2 ≡ true
-unfolding if◌then◌else◌
+unfolding when◌then◌else◌
 answers = refl
 
 party_2 : (t k a : ℕ) → is_call (call t 2 (wish_of k) a) ≡ true
@@ -141,7 +141,7 @@ data Front : ℕ → List ℕ → List Entry → ℕ → Type 0 where
       → Front e.tick (e.party ∷ called_before last called e) es end → Front last called (e ∷ es) end
 
 stop_here : (last : ℕ) (called : List ℕ) (tick : ℕ) → (tick <? last) ≡ false → is_good last called (stop_at tick ∷ []) ≡ true
-unfolding is_good if◌then◌else◌
+unfolding is_good when◌then◌else◌
 stop_here last called tick a = if_is_false (tick <? last) _ _ a
 
 laid_good : (n x last : ℕ) (called : List ℕ) (es : List Entry) (end : ℕ) → Front last called es end → end < pair_tick 0 → is_good last called (laid x es (suc n)) ≡ true
@@ -151,7 +151,7 @@ laid_good zero x last called (e ∷ es) end (more a b c d) h = stop_here last ca
 laid_good (suc n) x last called (e ∷ es) end (more a b c d) h = good_more last called e _ a b c (laid_good n x e.tick _ es end d h)
 
 front_good : (x : ℕ) → Front 0 [] (front x) 400
-unfolding opening is_in if◌then◌else◌
+unfolding opening is_in when◌then◌else◌
 front_good x = more refl refl refl (more refl refl refl (more refl refl refl (more refl refl refl (more refl refl refl (more refl refl refl (more refl refl refl (more refl refl refl
     (more refl refl refl (more refl refl refl (more refl refl refl (more refl refl refl done)))))))))))
 

@@ -6,7 +6,7 @@ use mathlib.Core.Path.{◌≡◌, refl, sym, ap, subst, ◌∙◌}
 use mathlib.Core.List.{[], ◌∷◌}
 use lib.ListN.{length, get_or, get_or-append}
 use borrow.Author.Tests.{eqb-true}
-use Rattle.base.specs.Choice.{if◌then◌else◌, ◌=?◌}
+use Rattle.base.specs.Choice.{when◌then◌else◌, ◌=?◌}
 use Rattle.base.proofs.Choices.{if_is_false}
 use Rattle.base.proofs.Tables.{holds_below, holds_at, among, None, not_among}
 use Rattle.player_script.specs.declared.Entry.{Entry}
@@ -32,11 +32,11 @@ opening_at i j r e p = p ∙ ap (λ (k : ℕ). get_or opening k (stop_at 0)) (sy
 
 -- the last arm's place is none of the others
 pub opening_last : (i : ℕ) → i < 8 → None (Unit {0}) (0 ∷ 1 ∷ 2 ∷ 3 ∷ 4 ∷ 5 ∷ 6 ∷ []) i → i ≡ 7
-unfolding holds_below if◌then◌else◌
+unfolding holds_below when◌then◌else◌
 opening_last i h others =
     eqb-true i 7
     (sym (if_is_false (among (0 ∷ 1 ∷ 2 ∷ 3 ∷ 4 ∷ 5 ∷ 6 ∷ []) i) true (i =? 7) (sym (not_among (0 ∷ 1 ∷ 2 ∷ 3 ∷ 4 ∷ 5 ∷ 6 ∷ []) i others)))
-    ∙ holds_at 8 (λ (k : ℕ). if among (0 ∷ 1 ∷ 2 ∷ 3 ∷ 4 ∷ 5 ∷ 6 ∷ []) k then true else k =? 7) refl i h)
+    ∙ holds_at 8 (λ (k : ℕ). when among (0 ∷ 1 ∷ 2 ∷ 3 ∷ 4 ∷ 5 ∷ 6 ∷ []) k then true else k =? 7) refl i h)
 
 opening_length : length opening ≡ 8
 unfolding opening

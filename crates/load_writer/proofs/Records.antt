@@ -5,7 +5,7 @@ use mathlib.Core.Path.{◌≡◌, refl}
 use mathlib.Core.Bool.{Bool, true, false}
 use mathlib.Core.List.{List, [], ◌∷◌, ◌++◌}
 use lib.ListN.{length, get_or}
-use Rattle.base.specs.Choice.{if◌then◌else◌, ◌<?◌, ◌=?◌}
+use Rattle.base.specs.Choice.{when◌then◌else◌, ◌<?◌, ◌=?◌}
 use Rattle.base.proofs.Tables.{chain_first, chain_second}
 use Rattle.turns.proofs.Bursting.{if_both}
 use Rattle.player_script.specs.declared.Entry.{Entry}
@@ -65,7 +65,7 @@ module _ (P : Entry → Type 0) (bound : ℕ) (low : (k x : ℕ) → 2 * k ≤ b
 
 unfoldable pub tests : (Entry → Bool) → List Entry → Bool
 tests test [] = true
-tests test (e ∷ es) = if test e then tests test es else false
+tests test (e ∷ es) = when test e then tests test es else false
 
 module _ (P : Entry → Type 0) (test : Entry → Bool) (sound : (e : Entry) → test e ≡ true → P e) (marks : (x q : ℕ) → q < 4 → P (mark x q)) where
   each_tested : (es fs : List Entry) → tests test es ≡ true → Each P fs → Each P (es ++ fs)

@@ -2,7 +2,7 @@
 -- Document 02, item 4: "From a 32-bit seed, draw numbers by Marsaglia's xorshift32 (left 13, right 17, left 5) and write a player script". How numbers become records is said in words in docs/LOAD.md.
 use Rattle.std.specs.Prelude.{ℕ, zero, suc, ◌+◌, ◌-◌, ◌*◌, ◌/◌, ◌%◌, ◌^◌, List, [], ◌∷◌, ◌++◌}
 use Rattle.std.specs.Int.Bits.{bit_xor}
-use Rattle.base.specs.Choice.{if◌then◌else◌, ◌<?◌, ◌=?◌}
+use Rattle.base.specs.Choice.{when◌then◌else◌, ◌<?◌, ◌=?◌}
 use Rattle.player_script.specs.declared.Entry.{Entry}
 
 -- ---- the numbers: "Marsaglia's xorshift32 (left 13, right 17, left 5)"
@@ -55,15 +55,15 @@ pair_tick k = 401 + (2 * k - k / 8)
 
 -- the unique address that a master asks: that of party 2 more often than the others; 0 is broadcast, and no device has 1
 abbrev pub asked_of : ℕ → ℕ
-asked_of v = if v <? 8 then v else if v <? 12 then 2 else v - 8
+asked_of v = when v <? 8 then v else when v <? 12 then 2 else v - 8
 
 -- a master's request: by polling address, which is two less than the unique one, in one case of four
 abbrev pub asks : ℕ → ℕ → ℕ → Entry
-asks tick party x = if x / 256 % 4 =? 0 then call tick party 1 ((asked_of (x / 16 % 16) + 62) % 64) else call tick party 3 (asked_of (x / 16 % 16))
+asks tick party x = when x / 256 % 4 =? 0 then call tick party 1 ((asked_of (x / 16 % 16) + 62) % 64) else call tick party 3 (asked_of (x / 16 % 16))
 
 -- what party 2 answers with: burst on, as it is, or off
 abbrev pub wish_of : ℕ → ℕ
-wish_of k = if k =? 0 then 4 else if k =? 1 then 2 else 5
+wish_of k = when k =? 0 then 4 else when k =? 1 then 2 else 5
 
 -- how many bytes an answer has
 abbrev pub length_of : ℕ → ℕ
@@ -72,13 +72,13 @@ length_of x = 2 + x / 1024 % 32
 -- the first of a pair is for a party from 0 to 3; of the devices party 2 alone is ever told to burst, "at most one device bursting"
 unfoldable pub lower : ℕ → ℕ → Entry
 lower tick x =
-    if x % 16 <? 4 then asks tick (x % 2) x else
-    if x % 16 <? 14 then call tick 2 (wish_of (x / 256 % 4)) (length_of x) else
+    when x % 16 <? 4 then asks tick (x % 2) x else
+    when x % 16 <? 14 then call tick 2 (wish_of (x / 256 % 4)) (length_of x) else
     call tick 3 2 (length_of x)
 
 -- the second is for a party from 4 to 7
 abbrev pub upper_party : ℕ → ℕ
-upper_party w = if w <? 10 then 4 else if w <? 12 then 5 else if w <? 14 then 6 else 7
+upper_party w = when w <? 10 then 4 else when w <? 12 then 5 else when w <? 14 then 6 else 7
 
 unfoldable pub upper : ℕ → ℕ → Entry
 upper tick x = call tick (upper_party (x % 16)) 2 (length_of x)

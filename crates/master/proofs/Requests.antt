@@ -6,7 +6,7 @@ use mathlib.Core.List.{List}
 use mathlib.Core.Path.{◌≡◌, refl, sym, ap, subst, ◌∙◌}
 use lib.ListN.{length}
 use borrow.Author.Tests.{ltb-false}
-use Rattle.base.specs.Choice.{if◌then◌else◌, ◌outside◌to◌}
+use Rattle.base.specs.Choice.{when◌then◌else◌, ◌outside◌to◌}
 use Rattle.base.proofs.Choices.{inside_low, inside_high, if_is_false}
 use Rattle.base.specs.Store.{stored}
 use Rattle.base.specs.Refusal.{number, Called, accepted, refused}
@@ -30,7 +30,7 @@ use Rattle.master.specs.Parts.{with_message, Fitting, FramePutIs}
 use Rattle.master.specs.declared.MasterRequested.{MasterRequested}
 
 address_short : (long : Bool) → address_length long ≤ 5
-unfolding if◌then◌else◌
+unfolding when◌then◌else◌
 address_short true = omega arith
 address_short false = omega arith
 

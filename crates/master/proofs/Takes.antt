@@ -3,7 +3,7 @@ use Prim.Native.Nat.{ℕ}
 use mathlib.Core.Bool.{Bool, true, false}
 use mathlib.Core.List.{List}
 use mathlib.Core.Path.{◌≡◌, refl, sym, ap, subst, ◌∙◌}
-use Rattle.base.specs.Choice.{if◌then◌else◌, ◌≤?◌}
+use Rattle.base.specs.Choice.{when◌then◌else◌, ◌≤?◌}
 use Rattle.base.proofs.Choices.{if_is_false, if_true, if_false, true_false}
 use Rattle.line.specs.Reader.{idle, gapped, inside_frame, taken, taken_data}
 use Rattle.line.specs.Reader as Reader
@@ -77,15 +77,15 @@ ended_parts m left t u p q = q ∙ ap (unless_ended left) p
 -- a silent tick, by the message and the timer behind it
 by_parts : (m : Master) (told : MasterTold) (event : Event) (ends : Bool)
     → tells (master_with m m.receiver (burst_counted m) m.noted
-    (if ends then unless_ended (if ends then at_break m else record { message = message_at m.message (waited m.message.stage); told = told }).message.stage (timer_counted m) else timer_counted m)
-    (if ends then at_break m else record { message = message_at m.message (waited m.message.stage); told = told }).message)
-    (if ends then at_break m else record { message = message_at m.message (waited m.message.stage); told = told }).told
+    (when ends then unless_ended (when ends then at_break m else record { message = message_at m.message (waited m.message.stage); told = told }).message.stage (timer_counted m) else timer_counted m)
+    (when ends then at_break m else record { message = message_at m.message (waited m.message.stage); told = told }).message)
+    (when ends then at_break m else record { message = message_at m.message (waited m.message.stage); told = told }).told
     event
-    ≡ (if ends then
+    ≡ (when ends then
     tells (master_with m m.receiver (burst_counted m) m.noted (unless_ended (at_break m).message.stage (timer_counted m)) (at_break m).message) (at_break m).told event
     else
     tells (master_with m m.receiver (burst_counted m) m.noted (timer_counted m) (message_at m.message (waited m.message.stage))) told event)
-unfolding if◌then◌else◌
+unfolding when◌then◌else◌
 by_parts m told event true = refl
 by_parts m told event false = refl
 
@@ -123,10 +123,10 @@ record Unawaited (s : Stage) : Type 0 where
   same : waited s ≡ s
 
 free_ends : (m : Master) → Unawaited (at_break m).message.stage
-unfolding if◌then◌else◌
+unfolding when◌then◌else◌
 free_ends m = by (is_broadcast m.message.header) (m.message.attempts ≤? m.retries)
   where
-    by : (a b : Bool) → Unawaited (if a then ends m.message BroadcastSent else (if b then record { message = message_at m.message Waiting; told = MasterTold.Nothing } else ends m.message (GivenUp m.message.attempts))).message.stage
+    by : (a b : Bool) → Unawaited (when a then ends m.message BroadcastSent else (when b then record { message = message_at m.message Waiting; told = MasterTold.Nothing } else ends m.message (GivenUp m.message.attempts))).message.stage
     by true b = record { goes_on = refl; same = refl }
     by false true = record { goes_on = refl; same = refl }
     by false false = record { goes_on = refl; same = refl }

@@ -1,7 +1,7 @@
 -- Inner contracts: nothing that is to be believed rests on them.
 -- What a master does on what it hears, by the definitions of crates/turns.
 use Rattle.std.specs.Prelude.{ℕ, List, [], ◌≡◌}
-use Rattle.base.specs.Choice.{if◌then◌else◌}
+use Rattle.base.specs.Choice.{when◌then◌else◌}
 use Rattle.line.specs.declared.Heard.{Heard}
 use Rattle.turns.specs.Link.{master_data}
 use Rattle.turns.specs.Master.{master_with, message_at, timer_counted, burst_counted, at_break, waited, rt1_ends, unless_ended, master_takes}
@@ -25,11 +25,11 @@ pub record MasterTakeIs (m : Master) (heard : Heard) (bytes : List ℕ) (t : Mas
 
 -- the message after a silent tick, and what is told
 abbrev pub counted_message : Master → MasterTold → Ending
-counted_message m told = if rt1_ends m.message.stage then at_break m else record { message = message_at m.message (waited m.message.stage); told = told }
+counted_message m told = when rt1_ends m.message.stage then at_break m else record { message = message_at m.message (waited m.message.stage); told = told }
 
 -- the timer after a silent tick that leaves the message at a stage
 abbrev pub counted_timer : Master → Stage → Timer
-counted_timer m left = if rt1_ends m.message.stage then unless_ended left (timer_counted m) else timer_counted m
+counted_timer m left = when rt1_ends m.message.stage then unless_ended left (timer_counted m) else timer_counted m
 
 -- the master with its timer counted, and nothing else
 abbrev pub timer_ticked : Master → Master

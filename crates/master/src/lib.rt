@@ -4,7 +4,7 @@
 mod hears;
 
 ghost use Rattle.std.specs.Prelude.{◌≡◌, true, false, length, ◌≤◌};
-ghost use Rattle.base.specs.Choice.{if◌then◌else◌, ◌=?◌};
+ghost use Rattle.base.specs.Choice.{when◌then◌else◌, ◌=?◌};
 ghost use Rattle.frame.specs.Limits.{largest_polling, reserved_command};
 ghost use Rattle.frame.proofs.Taken.{Fits};
 ghost use Rattle.turns.specs.Master.{has_message, polling_up_to, sends, sends_at, one_more, sends_by, master_sends, no_message, fresh_master, master_starts};
@@ -60,7 +60,7 @@ pub struct MasterTicked {
 
 // Refusal 5: command 254, or a short address with a command but 0.
 fn command_refused(long: bool, command: u8) -> bool
-    ensures { result ≡ (if command =? reserved_command then true else if long then false else (if command =? 0 then false else true)) }
+    ensures { result ≡ (when command =? reserved_command then true else when long then false else (when command =? 0 then false else true)) }
 {
     if command == 254 {
         return true;

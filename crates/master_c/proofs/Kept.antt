@@ -5,7 +5,7 @@ use mathlib.Core.List.{List, ◌++◌}
 use mathlib.Core.Path.{◌≡◌, refl, sym, ap, subst, ◌∙◌}
 use lib.ListN.{length}
 use native.Mathlib.Omega.{arith}
-use Rattle.base.specs.Choice.{if◌then◌else◌}
+use Rattle.base.specs.Choice.{when◌then◌else◌}
 use Rattle.base.specs.Store.{stored}
 use Rattle.line.specs.declared.Profile.{Profile}
 use Rattle.line.specs.declared.Receiver.{Receiver}
@@ -22,7 +22,7 @@ use Rattle.state_words.proofs.Kept.{flag_kept, number_kept, case_kept, header_ke
 use Rattle.master_c.specs.Words.{stage_word, stage_by, stage_of, message_words, message_at, timer_at, noted_at, front_words, end_words, packed, unpacked, limit_at, StageFits, MessageFits, TimerFits, MasterFits}
 
 pub stage_kept : (s : Stage) → StageFits s → stage_of (stage_word s) ≡ s
-unfolding if◌then◌else◌
+unfolding when◌then◌else◌
 stage_kept Free f = refl
 stage_kept Waiting f = refl
 stage_kept (Sending n) f = case_kept stage_by 16 2 n (omega arith) f

@@ -1,7 +1,7 @@
 -- How the code stands for what is to be believed.
 -- A master's tick, over its words and lent buffers.
 use Rattle.std.specs.Prelude.{ℕ, Bool, List, ◌≡◌}
-use Rattle.base.specs.Choice.{if◌then◌else◌}
+use Rattle.base.specs.Choice.{when◌then◌else◌}
 use Rattle.base.specs.Lent.{Lent, before, after}
 use Rattle.line.specs.declared.Event.{Event}
 use Rattle.line.specs.declared.Event.TheVariants.{Frame}
@@ -20,7 +20,7 @@ use Rattle.master_c.specs.Words.{packed, unpacked, limit_at}
 -- the host's request, field by field, or none
 abbrev pub request_of : Bool → ℕ → ℕ → Bool → ℕ → ℕ → MasterCall
 request_of requests preamble revision long address command =
-    if requests then MasterCall.Requests (record { preamble = preamble; revision = revision; long = long; address = address; command = command })
+    when requests then MasterCall.Requests (record { preamble = preamble; revision = revision; long = long; address = address; command = command })
     else MasterCall.Nothing
 
 -- the attempts of a message that is given up; 0 where the host is told anything else

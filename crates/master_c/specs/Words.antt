@@ -1,7 +1,7 @@
 -- How the code stands for what is to be believed.
 -- A master and its data limit as 40 words of 64 bits, one for each field, in the order of `packed`. Whatever words a program in C lends, they stand for some master; proofs/Kept.antt says that `unpacked (packed limit m)` is m, for every master whose numbers are within their types (`MasterFits`). That is every master that the code holds: its fields have these types.
 use Rattle.std.specs.Prelude.{ℕ, ◌+◌, ◌*◌, ◌/◌, ◌%◌, ◌^◌, ◌<◌, List, [], ◌∷◌, ◌++◌}
-use Rattle.base.specs.Choice.{if◌then◌else◌, ◌=?◌}
+use Rattle.base.specs.Choice.{when◌then◌else◌, ◌=?◌}
 use Rattle.turns.specs.declared.Master.{Master}
 use Rattle.turns.specs.declared.Message.{Message}
 use Rattle.turns.specs.declared.Noted.{Noted}
@@ -21,9 +21,9 @@ stage_word (Awaiting n) = 3 + 16 * n
 
 abbrev pub stage_by : ℕ → ℕ → Stage
 stage_by number n =
-    if number =? 1 then Waiting else
-    if number =? 2 then Sending n else
-    if number =? 3 then Awaiting n else
+    when number =? 1 then Waiting else
+    when number =? 2 then Sending n else
+    when number =? 3 then Awaiting n else
     Free
 
 abbrev pub stage_of : ℕ → Stage

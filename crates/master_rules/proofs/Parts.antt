@@ -3,7 +3,7 @@ use Prim.Native.Nat.{ℕ}
 use mathlib.Core.Bool.{Bool, true, false}
 use mathlib.Core.Path.{◌≡◌, refl, sym, ap, ◌∙◌}
 use borrow.Author.Tests.{eq-eqb, ne_eqb}
-use Rattle.base.specs.Choice.{if◌then◌else◌, ◌=?◌}
+use Rattle.base.specs.Choice.{when◌then◌else◌, ◌=?◌}
 use Rattle.base.proofs.Choices.{if_is_true, if_is_false}
 use Rattle.frame.specs.Delimiter.{ack, back}
 use Rattle.frame.specs.declared.Header.{Header}
@@ -63,12 +63,12 @@ module _ (m : Master) (h : Header) (t : Timer) (burst : Bool) where
       behind_is any_stx (if_is_false (h.kind =? back) _ _ (ne_eqb h.kind back b) ∙ if_is_false (h.kind =? ack) _ _ (ne_eqb h.kind ack f)) (q ∙ ap (timer_after m.profile m.primary any_stx) (sym c))
 
   pub other_set : (h.kind ≡ back → ⊥) → burst ≡ true → t ≡ burst_timer m.profile m.primary 0 → t ≡ timer_after m.profile m.primary (ended_by m h) burst
-  unfolding if◌then◌else◌
+  unfolding when◌then◌else◌
   other_set b c q =
-      let e : ended_by m h ≡ (if h.kind =? ack then (if to_itself m h then ack_to_itself else ack_to_other) else any_stx) = if_is_false (h.kind =? back) _ _ (ne_eqb h.kind back b) in
+      let e : ended_by m h ≡ (when h.kind =? ack then (when to_itself m h then ack_to_itself else ack_to_other) else any_stx) = if_is_false (h.kind =? back) _ _ (ne_eqb h.kind back b) in
       q ∙ by (h.kind =? ack) (to_itself m h) ∙ sym (λ i. timer_after m.profile m.primary (e i) (c i))
     where
-      by : (a own : Bool) → burst_timer m.profile m.primary 0 ≡ timer_after m.profile m.primary (if a then (if own then ack_to_itself else ack_to_other) else any_stx) true
+      by : (a own : Bool) → burst_timer m.profile m.primary 0 ≡ timer_after m.profile m.primary (when a then (when own then ack_to_itself else ack_to_other) else any_stx) true
       by true true = refl
       by true false = refl
       by false own = refl

@@ -1,6 +1,6 @@
 -- What an access leaves: what holds of a chip, and of what each access makes of it, holds after a list of accesses.
 use Rattle.std.proofs.Common.{◌≡◌, ℕ, ◌/◌, ◌%◌, Bool, true, false, List, [], ◌∷◌, sym, refl, subst}
-use Rattle.base.specs.Choice.{if◌then◌else◌, ◌<?◌, ◌=?◌}
+use Rattle.base.specs.Choice.{when◌then◌else◌, ◌<?◌, ◌=?◌}
 use Rattle.base.specs.Refusal.{accepted, refused}
 use Rattle.base.proofs.Choices.{true_false, went_else}
 use Rattle.modem.specs.Chip.{receives, register_at, controlled, loaded, data_written}
@@ -31,26 +31,26 @@ other_write x e = λ i. record {
 
 module _ (P : Chip → Type 0) (x : Chip) (p : P x) where
   pub after_read : (n : ℕ) → ((n =? 2) ≡ true → P (read_out x)) → P (looks x n).chip
-  unfolding if◌then◌else◌ looks
+  unfolding when◌then◌else◌ looks
   after_read n q = go (7 <? n) (n =? 2) q
     where
       go : (b d : Bool) → (d ≡ true → P (read_out x))
-          → P (looked_by x (if b then refused 19 else if d then accepted (record { value = register_at x n; chip = read_out x }) else accepted (record { value = register_at x n; chip = x }))).chip
+          → P (looked_by x (when b then refused 19 else when d then accepted (record { value = register_at x n; chip = read_out x }) else accepted (record { value = register_at x n; chip = x }))).chip
       go true d r = p
       go false true r = r refl
       go false false r = p
 
   pub after_write : (n v : ℕ) → ((n =? 1) ≡ true → P (controlled x v)) → ((n =? 2) ≡ true → x.ready ≡ true → P (loaded x (x.control / 128 % 2 =? 1) v)) → P (puts x n v)
-  unfolding if◌then◌else◌ puts
+  unfolding when◌then◌else◌ puts
   after_write n v q r = go (n =? 1) (n =? 2) q r
     where
       data_written_lem : (b : Bool) → x.ready ≡ b → (x.ready ≡ true → P (loaded x (x.control / 128 % 2 =? 1) v))
-          → P (if b then loaded x (x.control / 128 % 2 =? 1) v else loaded x x.sending x.outgoing)
+          → P (when b then loaded x (x.control / 128 % 2 =? 1) v else loaded x x.sending x.outgoing)
       data_written_lem true e s = s e
       data_written_lem false e s = subst P (other_write x e) p
 
       go : (b d : Bool) → (b ≡ true → P (controlled x v)) → (d ≡ true → x.ready ≡ true → P (loaded x (x.control / 128 % 2 =? 1) v))
-          → P (put_by x (if b then accepted (controlled x v) else if d then accepted (data_written x v) else refused 19))
+          → P (put_by x (when b then accepted (controlled x v) else when d then accepted (data_written x v) else refused 19))
       go true d s t = s refl
       go false true s t = data_written_lem x.ready refl (t refl)
       go false false s t = p

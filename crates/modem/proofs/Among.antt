@@ -1,7 +1,7 @@
 -- The driver among further accesses that spare what is heard and sent: it hears what it hears alone, and what it sends goes out.
 use Rattle.std.proofs.Common.{◌≡◌, ℕ, ◌+◌, ◌*◌, ◌/◌, ◌%◌, Bool, true, false, List, sym, refl, ap, ◌∙◌, ap₂, arith, eq-eqb}
 use borrow.Author.Tests.{eqb-false}
-use Rattle.base.specs.Choice.{if◌then◌else◌, ◌=?◌}
+use Rattle.base.specs.Choice.{when◌then◌else◌, ◌=?◌}
 use Rattle.base.proofs.Choices.{true_false, if_is_true, if_is_false}
 use Rattle.line.specs.declared.Heard.{Heard}
 use Rattle.line.specs.declared.Heard.TheVariants.{Silence}
@@ -106,9 +106,9 @@ abbrev pub at_data : Further → Chip → Chip
 at_data f x = after_all (at_kind f x) (f.before own_data_read)
 
 -- the driver hears a character where status bit 5 was set when it read status
-pub among_is : (f : Further) (x : Chip) (b : Bool) → (at_status f x).received ≡ b → (hears_among f x).heard ≡ (if b then damaged_by (at_data f x).latest (at_kind f x).kind else Silence)
-unfolding if◌then◌else◌ looks
-among_is f x b e = ap (λ (r : Bool). if r then damaged_by (at_data f x).latest (at_kind f x).kind else Silence) (received_read (at_status f x) ∙ e)
+pub among_is : (f : Further) (x : Chip) (b : Bool) → (at_status f x).received ≡ b → (hears_among f x).heard ≡ (when b then damaged_by (at_data f x).latest (at_kind f x).kind else Silence)
+unfolding when◌then◌else◌ looks
+among_is f x b e = ap (λ (r : Bool). when r then damaged_by (at_data f x).latest (at_kind f x).kind else Silence) (received_read (at_status f x) ∙ e)
 
 module _ (f : Further) (x : Chip) (u : (o : Own) → any_of writes_data (f.before o) ≡ false) where
   kind_kept : SameData x (at_kind f x)
@@ -120,7 +120,7 @@ module _ (f : Further) (x : Chip) (u : (o : Own) → any_of writes_data (f.befor
   among_heard : (x.received ≡ true → any_of reads_data (f.before own_status_read) ≡ false) → (hears_among f x).heard ≡ (hears x).heard
   among_heard k =
       among_is f x x.received (left x.received refl)
-      ∙ ap₂ (λ (c n : ℕ). if x.received then damaged_by c n else Silence) data_kept.0 kind_kept.1
+      ∙ ap₂ (λ (c n : ℕ). when x.received then damaged_by c n else Silence) data_kept.0 kind_kept.1
       ∙ sym (heard_is x)
     where
       left : (b : Bool) → x.received ≡ b → (at_status f x).received ≡ x.received
@@ -129,15 +129,15 @@ module _ (f : Further) (x : Chip) (u : (o : Own) → any_of writes_data (f.befor
 
   -- the chip after the driver's reads
   pub among_ready : (hears_among f x).chip.ready ≡ x.ready
-  unfolding if◌then◌else◌ looks
+  unfolding when◌then◌else◌ looks
   among_ready = data_kept.2
 
   pub among_sending : (hears_among f x).chip.sending ≡ x.sending
-  unfolding if◌then◌else◌ looks
+  unfolding when◌then◌else◌ looks
   among_sending = data_kept.3
 
 pub among_read : (f : Further) (x : Chip) → (hears_among f x).chip.received ≡ false
-unfolding if◌then◌else◌ looks
+unfolding when◌then◌else◌ looks
 among_read f x = refl
 
 -- a chip with no character unread hears among them what it hears alone
@@ -154,14 +154,14 @@ spared_heard x h bit f r k = among_heard f (arrives x (wire h bit)) k.first_writ
 -- ---- what is sent
 
 requested : (f : Further) (x : Chip) (n : ℕ) → requests (control_written f x (n % 128 + 128)) ≡ true
-unfolding if◌then◌else◌ looks puts
+unfolding when◌then◌else◌ looks puts
 requested f x n = eq-eqb _ 1 (one n)
   where
     one : (n : ℕ) → (n % 128 + 128) / 32 * 32 / 128 % 2 ≡ 1
     one n = omega arith
 
 unrequested : (f : Further) (x : Chip) (n : ℕ) → requests (control_written f x (n % 128)) ≡ false
-unfolding if◌then◌else◌ looks puts
+unfolding when◌then◌else◌ looks puts
 unrequested f x n = ap (λ (k : ℕ). k =? 1) (none n)
   where
     none : (n : ℕ) → n % 128 / 32 * 32 / 128 % 2 ≡ 0
@@ -169,14 +169,14 @@ unrequested f x n = ap (λ (k : ℕ). k =? 1) (none n)
 
 -- a tick's first write, with request to send set
 first_is : (x : Chip) (c : ℕ) → x.ready ≡ true → requests x ≡ true → puts x 2 c ≡ loaded x true c
-unfolding if◌then◌else◌ puts
+unfolding when◌then◌else◌ puts
 first_is x c r q =
-    ap (λ (b : Bool). if b then loaded x (requests x) c else loaded x x.sending x.outgoing) r
+    ap (λ (b : Bool). when b then loaded x (requests x) c else loaded x x.sending x.outgoing) r
     ∙ ap (λ (b : Bool). loaded x b c) q
 
 module _ (h : Heard) (f : Further) (k : Spares h f) (x : Chip) where
   control_kept : (v : ℕ) → SameData x (control_written f x v)
-  unfolding if◌then◌else◌ looks puts
+  unfolding when◌then◌else◌ looks puts
   control_kept v =
       both_unwritten x y (after_all y (f.before own_control_write)) (unwritten x (f.before own_control_read) (k.first_write own_control_read))
       (unwritten y (f.before own_control_write) (k.first_write own_control_write))
@@ -223,7 +223,7 @@ module _ (h : Heard) (f : Further) (k : Spares h f) (x : Chip) where
 -- byte 2 stays read
 module _ (f : Further) (x : Chip) (e : x.received ≡ false) where
   control_read_out : (v : ℕ) → (control_written f x v).received ≡ false
-  unfolding if◌then◌else◌ looks puts
+  unfolding when◌then◌else◌ looks puts
   control_read_out v = stays_read (after_all x (f.before own_control_read)) (f.before own_control_write) (stays_read x (f.before own_control_read) e)
 
   pub silent_read : (stays_silent_among f x).received ≡ false

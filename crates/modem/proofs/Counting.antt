@@ -1,6 +1,6 @@
 -- The tick count over whatever happens to a chip: behind n ticks it is n more, modulo 2^32, and two readings of it give the ticks between them.
 use Rattle.std.proofs.Common.{◌≡◌, ℕ, ◌+◌, ◌%◌, ◌^◌, ◌<◌, Bool, true, false, List, [], ◌∷◌, refl, ap, ◌∙◌, ap₂, arith}
-use Rattle.base.specs.Choice.{if◌then◌else◌}
+use Rattle.base.specs.Choice.{when◌then◌else◌}
 use Rattle.modem.specs.Chip.{arrives, chip_after, elapsed}
 use Rattle.modem.specs.Accesses.{Access, reads, writes, accessed}
 use Rattle.modem.specs.Run.{begins, accesses, ends, chip_behind, ticks_in, CountBehind, reading, ElapsedBehind}
@@ -13,8 +13,8 @@ use Rattle.modem.proofs.Accessing.{after_read, after_write}
 -- ---- only a tick's end changes the count
 
 module _ (x : Chip) where
-  one_of : (b : Bool) (y z : Chip) → y.count ≡ x.count → z.count ≡ x.count → (if b then y else z).count ≡ x.count
-  unfolding if◌then◌else◌
+  one_of : (b : Bool) (y z : Chip) → y.count ≡ x.count → z.count ≡ x.count → (when b then y else z).count ≡ x.count
+  unfolding when◌then◌else◌
   one_of true y z p q = p
   one_of false y z p q = q
 
@@ -50,7 +50,7 @@ count_behind x (accesses a ∷ os) h = count_behind (accessed x a) os (below x.c
 -- ---- two readings
 
 reading_is : (x : Chip) → x.count < 2 ^ 32 → reading x ≡ x.count
-unfolding if◌then◌else◌
+unfolding when◌then◌else◌
 reading_is x h = count_shown x.count h
 
 pub elapsed_behind : ElapsedBehind

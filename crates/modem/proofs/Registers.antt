@@ -1,6 +1,6 @@
 -- Laws by which the chip's functions are proved; `search registers` applies them.
 use Rattle.std.proofs.Common.{◌≡◌, ℕ, ◌+◌, ◌%◌, ◌^◌, Bool, true, false, sym, refl, ap, ◌∙◌}
-use Rattle.base.specs.Choice.{if◌then◌else◌}
+use Rattle.base.specs.Choice.{when◌then◌else◌}
 use Rattle.base.specs.Refusal.{Called, accepted}
 use Rattle.base.proofs.Choices.{if_true, if_false}
 use Rattle.line.specs.declared.Heard.{Heard}
@@ -37,7 +37,7 @@ put_at x n v p q r e f g = g ∙ ap (λ (a : RegisterWritten). put_by x (written
 -- ---- equal parts
 
 pub nine_taken : (x : Chip) (c : ℕ) (bit : Bool) (mark : Mark) (kind : ℕ) (r : Chip)
-    → x.deaf ≡ false → kind ≡ (if x.received then 2 else kind_of c bit mark) → r ≡ receives x true c kind true
+    → x.deaf ≡ false → kind ≡ (when x.received then 2 else kind_of c bit mark) → r ≡ receives x true c kind true
     → r ≡ arrives x (Nine c bit mark)
 nine_taken x c bit mark kind r d e f = if_false x.deaf r _ _ d (f ∙ ap (λ (k : ℕ). receives x true c k true) e)
 
@@ -68,12 +68,12 @@ counted x n = record {
 pub ended_sending : (x : Chip) (n : ℕ) (bit : Bool) → x.sending ≡ true → n ≡ (x.count + 1) % 2 ^ 32 → bit ≡ ninth x.outgoing
     → ◌≡◌ {A = TickEnded} (record { chip = counted x n; carried = Nine x.outgoing bit Mark.Sound }) (tick_ends x)
 ended_sending x n bit s p q =
-    let out : Nine x.outgoing bit Mark.Sound ≡ (if x.sending then Nine x.outgoing (ninth x.outgoing) Mark.Sound else Silence) = if_true x.sending _ _ _ s (ap (λ (b : Bool). Nine x.outgoing b Mark.Sound) q) in
+    let out : Nine x.outgoing bit Mark.Sound ≡ (when x.sending then Nine x.outgoing (ninth x.outgoing) Mark.Sound else Silence) = if_true x.sending _ _ _ s (ap (λ (b : Bool). Nine x.outgoing b Mark.Sound) q) in
     λ i. record { chip = counted x (p i); carried = out i }
 
 pub ended_silent : (x : Chip) (n : ℕ) → x.sending ≡ false → n ≡ (x.count + 1) % 2 ^ 32 → ◌≡◌ {A = TickEnded} (record { chip = counted x n; carried = Silence }) (tick_ends x)
 ended_silent x n s p =
-    let out : Silence ≡ (if x.sending then Nine x.outgoing (ninth x.outgoing) Mark.Sound else Silence) = if_false x.sending _ _ _ s refl in
+    let out : Silence ≡ (when x.sending then Nine x.outgoing (ninth x.outgoing) Mark.Sound else Silence) = if_false x.sending _ _ _ s refl in
     λ i. record { chip = counted x (p i); carried = out i }
 
 -- ---- the driver: one access behind the other

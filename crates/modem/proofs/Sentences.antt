@@ -2,7 +2,7 @@
 use Rattle.std.proofs.Common.{◌≡◌, ℕ, ◌+◌, ◌*◌, ◌/◌, ◌%◌, ◌^◌, ◌<◌, ◌≤◌, Bool, true, false, refl, ap, ◌∙◌, arith, eqb-true}
 use borrow.Author.Tests.{eqb-false}
 use lib.Count.{ones}
-use Rattle.base.specs.Choice.{if◌then◌else◌, ◌<?◌, ◌=?◌, bit}
+use Rattle.base.specs.Choice.{when◌then◌else◌, ◌<?◌, ◌=?◌, bit}
 use Rattle.base.specs.Refusal.{Called, accepted, refused}
 use Rattle.base.proofs.Choices.{true_false, if_is_true, if_is_false}
 use Rattle.modem.specs.Parity.{ninth, parity_kind, kind_of}
@@ -18,7 +18,7 @@ use Rattle.modem.specs.declared.Looked.{Looked}
 -- ---- "the chip adds and checks odd parity"
 
 pub nine_odd : (c : ℕ) → (ones c + bit (ninth c)) % 2 ≡ 1
-unfolding if◌then◌else◌
+unfolding when◌then◌else◌
 nine_odd c = go (ones c) (ones c % 2 =? 0) refl
   where
     go : (n : ℕ) (b : Bool) → (n % 2 =? 0) ≡ b → (n + bit b) % 2 ≡ 1
@@ -29,7 +29,7 @@ nine_odd c = go (ones c) (ones c % 2 =? 0) refl
         odd n f = omega (arith, f)
 
 pub parity_right : (c : ℕ) → kind_of c (ninth c) Mark.Sound ≡ 0
-unfolding if◌then◌else◌
+unfolding when◌then◌else◌
 parity_right c = go (ninth c)
   where
     go : (b : Bool) → parity_kind b b ≡ 0
@@ -37,7 +37,7 @@ parity_right c = go (ninth c)
     go false = refl
 
 pub parity_wrong : (c : ℕ) → kind_of c (other (ninth c)) Mark.Sound ≡ 1
-unfolding if◌then◌else◌
+unfolding when◌then◌else◌
 parity_wrong c = go (ninth c)
   where
     go : (b : Bool) → parity_kind (other b) b ≡ 1
@@ -58,13 +58,13 @@ pub record StatusBits (x : Chip) (s : ℕ) : Type 0 where
   pub interrupting : s / 8 % 2 ≡ bit (interrupt x)
   pub rest : s % 8 ≡ 0
 
-weighed : (b : Bool) (n : ℕ) → (if b then n else 0) ≡ bit b * n
-unfolding if◌then◌else◌
+weighed : (b : Bool) (n : ℕ) → (when b then n else 0) ≡ bit b * n
+unfolding when◌then◌else◌
 weighed true n = omega arith
 weighed false n = omega arith
 
 at_most_one : (b : Bool) → bit b ≤ 1
-unfolding if◌then◌else◌
+unfolding when◌then◌else◌
 at_most_one true = omega arith
 at_most_one false = omega arith
 
@@ -115,41 +115,41 @@ status_bits x = record {
 
 -- "6 interrupt on bit 5"
 pub interrupt_received : (x : Chip) → x.received ≡ true → (x.control / 64 % 2 =? 1) ≡ true → interrupt x ≡ true
-unfolding if◌then◌else◌
+unfolding when◌then◌else◌
 interrupt_received x r k =
-    if_is_true x.received (if x.control / 64 % 2 =? 1 then true else interrupt_ready x) (interrupt_ready x) r ∙ if_is_true (x.control / 64 % 2 =? 1) true (interrupt_ready x) k
+    if_is_true x.received (when x.control / 64 % 2 =? 1 then true else interrupt_ready x) (interrupt_ready x) r ∙ if_is_true (x.control / 64 % 2 =? 1) true (interrupt_ready x) k
 
 -- "5 interrupt on bit 4"
 pub interrupt_on_ready : (x : Chip) → x.ready ≡ true → (x.control / 32 % 2 =? 1) ≡ true → interrupt x ≡ true
-unfolding if◌then◌else◌
+unfolding when◌then◌else◌
 interrupt_on_ready x r k =
-    ap (λ (b : Bool). if x.received then (if x.control / 64 % 2 =? 1 then true else b) else b) (ap (λ (b : Bool). if b then x.control / 32 % 2 =? 1 else false) r ∙ k)
+    ap (λ (b : Bool). when x.received then (when x.control / 64 % 2 =? 1 then true else b) else b) (ap (λ (b : Bool). when b then x.control / 32 % 2 =? 1 else false) r ∙ k)
     ∙ go x.received (x.control / 64 % 2 =? 1)
   where
-    go : (b d : Bool) → (if b then (if d then true else true) else true) ≡ true
+    go : (b d : Bool) → (when b then (when d then true else true) else true) ≡ true
     go true true = refl
     go true false = refl
     go false d = refl
 
 -- and clear otherwise
 pub interrupt_clear : (x : Chip) → (x.received ≡ true → (x.control / 64 % 2 =? 1) ≡ false) → (x.ready ≡ true → (x.control / 32 % 2 =? 1) ≡ false) → interrupt x ≡ false
-unfolding if◌then◌else◌
+unfolding when◌then◌else◌
 interrupt_clear x f g = go x.received refl
   where
-    not_ready : (b : Bool) → x.ready ≡ b → (if b then x.control / 32 % 2 =? 1 else false) ≡ false
+    not_ready : (b : Bool) → x.ready ≡ b → (when b then x.control / 32 % 2 =? 1 else false) ≡ false
     not_ready true e = g e
     not_ready false e = refl
 
-    go : (b : Bool) → x.received ≡ b → (if b then (if x.control / 64 % 2 =? 1 then true else interrupt_ready x) else interrupt_ready x) ≡ false
+    go : (b : Bool) → x.received ≡ b → (when b then (when x.control / 64 % 2 =? 1 then true else interrupt_ready x) else interrupt_ready x) ≡ false
     go true e = if_is_false (x.control / 64 % 2 =? 1) true (interrupt_ready x) (f e) ∙ not_ready x.ready refl
     go false e = not_ready x.ready refl
 
 -- "4 ready (none written this tick)": behind a write it is clear, and in the next tick set
 pub ready_cleared : (x : Chip) (v : ℕ) → ((puts x 2 v).ready ≡ false) × ((chip_after (puts x 2 v)).ready ≡ true)
-unfolding if◌then◌else◌ puts
+unfolding when◌then◌else◌ puts
 ready_cleared x v = (go x.ready, refl)
   where
-    go : (b : Bool) → (if b then loaded x (x.control / 128 % 2 =? 1) v else loaded x x.sending x.outgoing).ready ≡ false
+    go : (b : Bool) → (when b then loaded x (x.control / 128 % 2 =? 1) v else loaded x x.sending x.outgoing).ready ≡ false
     go true = refl
     go false = refl
 
@@ -171,7 +171,7 @@ four_digits : (n a b c p q r : ℕ) → n ≡ a * 256 + p → a ≡ b * 256 + q 
 four_digits n a b c p q r e f g = omega arith
 
 pub count_shown : (n : ℕ) → n < 2 ^ 32 → count_byte n 4 * 16777216 + count_byte n 5 * 65536 + count_byte n 6 * 256 + count_byte n 7 ≡ n
-unfolding if◌then◌else◌
+unfolding when◌then◌else◌
 count_shown n h =
     ap (λ (k : ℕ). k * 16777216 + n / 65536 % 256 * 65536 + n / 256 % 256 * 256 + n % 256) (highest n h)
     ∙ four_digits n (n / 256) (n / 65536) (n / 16777216) (n % 256) (n / 256 % 256) (n / 65536 % 256) (digit n)
@@ -191,11 +191,11 @@ elapsed_ticks from n h k = omega arith
 -- ---- "a tick's first write goes out in it if request to send is then set, any other is lost"
 
 pub second_lost : (x : Chip) (v : ℕ) → x.ready ≡ false → goes_out (puts x 2 v) ≡ goes_out x
-unfolding if◌then◌else◌ puts
+unfolding when◌then◌else◌ puts
 second_lost x v e = ap goes_out (if_is_false x.ready (loaded x (x.control / 128 % 2 =? 1) v) (loaded x x.sending x.outgoing) e)
 
 pub unrequested_lost : (x : Chip) (v : ℕ) → x.ready ≡ true → (x.control / 128 % 2 =? 1) ≡ false → goes_out (puts x 2 v) ≡ Carried.Silence
-unfolding if◌then◌else◌ puts
+unfolding when◌then◌else◌ puts
 unrequested_lost x v e f =
     ap goes_out (if_is_true x.ready (loaded x (x.control / 128 % 2 =? 1) v) (loaded x x.sending x.outgoing) e)
     ∙ if_is_false (x.control / 128 % 2 =? 1) (Nine v (ninth v) Mark.Sound) Carried.Silence f
@@ -205,27 +205,27 @@ unrequested_lost x v e f =
 -- two characters with no read between
 pub overrun_made : (x : Chip) (c e : ℕ) (b d : Bool) (m n : Mark) → x.deaf ≡ false → x.sending ≡ false
     → arrives (chip_after (arrives x (Nine c b m))) (Nine e d n) ≡ receives (chip_after (arrives x (Nine c b m))) true e 2 true
-unfolding if◌then◌else◌
+unfolding when◌then◌else◌
 overrun_made x c e b d m n hears silent = go x.deaf hears
   where
     first : Bool → Chip
-    first deaf = if deaf then receives x false x.latest x.kind x.received else receives x true c (if x.received then 2 else kind_of c b m) true
+    first deaf = when deaf then receives x false x.latest x.kind x.received else receives x true c (when x.received then 2 else kind_of c b m) true
 
     go : (deaf : Bool) → deaf ≡ false → arrives (chip_after (first deaf)) (Nine e d n) ≡ receives (chip_after (first deaf)) true e 2 true
     go true z = absurd (true_false z)
-    go false z = ap (λ (s : Bool). if s then receives (chip_after (first false)) false c (if x.received then 2 else kind_of c b m) true else receives (chip_after (first false)) true e 2 true) silent
+    go false z = ap (λ (s : Bool). when s then receives (chip_after (first false)) false c (when x.received then 2 else kind_of c b m) true else receives (chip_after (first false)) true e 2 true) silent
 
 -- ---- "It refuses a write to bytes 0, 3 and 4 to 7, and any byte above 7, with 19." A refused access changes nothing.
 
 pub write_refused : (x : Chip) (n v : ℕ) → (n =? 1) ≡ false → (n =? 2) ≡ false → (register_written x n v ≡ refused 19) × (puts x n v ≡ x)
-unfolding if◌then◌else◌ puts
+unfolding when◌then◌else◌ puts
 write_refused x n v p q = (by_number, ap (put_by x) by_number)
   where
     by_number : register_written x n v ≡ refused 19
     by_number = if_is_false (n =? 1) _ _ p ∙ if_is_false (n =? 2) _ _ q
 
 pub read_refused : (x : Chip) (n : ℕ) → (7 <? n) ≡ true → (register_read x n ≡ refused 19) × ((looks x n).chip ≡ x)
-unfolding if◌then◌else◌ looks
+unfolding when◌then◌else◌ looks
 read_refused x n p = (by_number, ap (λ (l : Called Looked). (looked_by x l).chip) by_number)
   where
     by_number : register_read x n ≡ refused 19

@@ -1,7 +1,7 @@
 -- To be believed: what the engine must do, or what is claimed of it.
 -- Document 02, item 5: reads and writes of the registers. "It refuses a write to bytes 0, 3 and 4 to 7, and any byte above 7, with 19."
 use Rattle.std.specs.Prelude.{ℕ, false, List, [], ◌∷◌}
-use Rattle.base.specs.Choice.{if◌then◌else◌, ◌<?◌, ◌=?◌}
+use Rattle.base.specs.Choice.{when◌then◌else◌, ◌<?◌, ◌=?◌}
 use Rattle.base.specs.Refusal.{Called, accepted, refused, number}
 use Rattle.modem.specs.Chip.{receives, register_at, controlled, data_written}
 use Rattle.modem.specs.declared.Chip.{Chip}
@@ -12,14 +12,14 @@ use Rattle.modem.specs.declared.RegisterWritten.{RegisterWritten}
 -- "Reading byte 2 clears status bit 5."
 abbrev pub register_read : Chip → ℕ → Called Looked
 register_read x n =
-    if 7 <? n then refused 19 else
-    if n =? 2 then accepted (record { value = register_at x n; chip = receives x x.carrier x.latest x.kind false }) else
+    when 7 <? n then refused 19 else
+    when n =? 2 then accepted (record { value = register_at x n; chip = receives x x.carrier x.latest x.kind false }) else
     accepted (record { value = register_at x n; chip = x })
 
 abbrev pub register_written : Chip → ℕ → ℕ → Called Chip
 register_written x n v =
-    if n =? 1 then accepted (controlled x v) else
-    if n =? 2 then accepted (data_written x v) else
+    when n =? 1 then accepted (controlled x v) else
+    when n =? 2 then accepted (data_written x v) else
     refused 19
 
 -- what a read and a write answer, a refusal by its number

@@ -1,7 +1,7 @@
 -- To be believed: what the engine must do, or what is claimed of it.
 -- Document 02, item 5: the modem chip's registers, and its tick. A tick has three parts: the chip takes what the line carried in the tick before; its host reads and writes registers; the tick ends.
 use Rattle.std.specs.Prelude.{ℕ, ◌+◌, ◌-◌, ◌*◌, ◌/◌, ◌%◌, ◌^◌, Bool, true, false}
-use Rattle.base.specs.Choice.{if◌then◌else◌, ◌=?◌}
+use Rattle.base.specs.Choice.{when◌then◌else◌, ◌=?◌}
 use Rattle.modem.specs.Parity.{ninth, kind_of}
 use Rattle.modem.specs.declared.Mark.TheVariants.{Sound}
 use Rattle.modem.specs.declared.Carried.{Carried}
@@ -35,27 +35,27 @@ receives x carrier latest kind received = record {
 abbrev pub arrives : Chip → Carried → Chip
 arrives x Silence = receives x false x.latest x.kind x.received
 arrives x (Nine c bit mark) =
-    if x.deaf then receives x false x.latest x.kind x.received
-    else receives x true c (if x.received then 2 else kind_of c bit mark) true
+    when x.deaf then receives x false x.latest x.kind x.received
+    else receives x true c (when x.received then 2 else kind_of c bit mark) true
 
 -- ---- what the registers show
 
 -- "5 interrupt on bit 4": control bit 5, and ready
 abbrev pub interrupt_ready : Chip → Bool
-interrupt_ready x = if x.ready then x.control / 32 % 2 =? 1 else false
+interrupt_ready x = when x.ready then x.control / 32 % 2 =? 1 else false
 
 -- "6 interrupt on bit 5": control bit 6, and a character received; or the other
 abbrev pub interrupt : Chip → Bool
-interrupt x = if x.received then (if x.control / 64 % 2 =? 1 then true else interrupt_ready x) else interrupt_ready x
+interrupt x = when x.received then (when x.control / 64 % 2 =? 1 then true else interrupt_ready x) else interrupt_ready x
 
 -- "Byte 0, status: bit 7 carrier .., 6 clear to send (as control bit 7), 5 character received, 4 ready (none written this tick), 3 interrupt, the rest 0."
 abbrev pub status_by : Chip → Bool → ℕ
 status_by x interrupting =
-    (if x.carrier then 128 else 0) +
+    (when x.carrier then 128 else 0) +
     x.control / 128 % 2 * 64 +
-    (if x.received then 32 else 0) +
-    (if x.ready then 16 else 0) +
-    (if interrupting then 8 else 0)
+    (when x.received then 32 else 0) +
+    (when x.ready then 16 else 0) +
+    (when interrupting then 8 else 0)
 
 abbrev pub status : Chip → ℕ
 status x = status_by x (interrupt x)
@@ -63,18 +63,18 @@ status x = status_by x (interrupt x)
 -- "Bytes 4 to 7 are a free-running tick count, most significant first"
 abbrev pub count_byte : ℕ → ℕ → ℕ
 count_byte count n =
-    if n =? 4 then count / 16777216 % 256 else
-    if n =? 5 then count / 65536 % 256 else
-    if n =? 6 then count / 256 % 256 else
+    when n =? 4 then count / 16777216 % 256 else
+    when n =? 5 then count / 65536 % 256 else
+    when n =? 6 then count / 256 % 256 else
     count % 256
 
 -- byte n; "Byte 2 is data: read, the last character received"; "Byte 3 is the damage kind of the character received, or 0."
 abbrev pub register_at : Chip → ℕ → ℕ
 register_at x n =
-    if n =? 0 then status x else
-    if n =? 1 then x.control else
-    if n =? 2 then x.latest else
-    if n =? 3 then x.kind else
+    when n =? 0 then status x else
+    when n =? 1 then x.control else
+    when n =? 2 then x.latest else
+    when n =? 3 then x.kind else
     count_byte x.count n
 
 -- ---- what a write leaves
@@ -111,7 +111,7 @@ loaded x sending outgoing = record {
 
 -- "a tick's first write goes out in it if request to send is then set, any other is lost"
 abbrev pub data_written : Chip → ℕ → Chip
-data_written x v = if x.ready then loaded x (x.control / 128 % 2 =? 1) v else loaded x x.sending x.outgoing
+data_written x v = when x.ready then loaded x (x.control / 128 % 2 =? 1) v else loaded x x.sending x.outgoing
 
 -- ---- a tick ends
 
@@ -132,7 +132,7 @@ chip_after x = record {
 
 -- what goes out in the tick, "and the chip adds .. odd parity"
 abbrev pub goes_out : Chip → Carried
-goes_out x = if x.sending then Nine x.outgoing (ninth x.outgoing) Sound else Silence
+goes_out x = when x.sending then Nine x.outgoing (ninth x.outgoing) Sound else Silence
 
 abbrev pub tick_ends : Chip → TickEnded
 tick_ends x = record { chip = chip_after x; carried = goes_out x }

@@ -1,7 +1,7 @@
 -- To be believed: what the engine must do, or what is claimed of it.
 -- A driver: how a party hears and sends by means of the chip's registers alone.
 use Rattle.std.specs.Prelude.{ℕ, ◌+◌, ◌/◌, ◌%◌, Bool, true, false}
-use Rattle.base.specs.Choice.{if◌then◌else◌, ◌=?◌}
+use Rattle.base.specs.Choice.{when◌then◌else◌, ◌=?◌}
 use Rattle.line.specs.Heard.{damage_number}
 use Rattle.line.specs.declared.Damage.TheVariants.{Parity, Overrun, Framing}
 use Rattle.line.specs.declared.Heard.{Heard}
@@ -17,14 +17,14 @@ use Rattle.modem.specs.declared.ChipHeard.{ChipHeard}
 -- a character with its damage kind
 abbrev pub damaged_by : ℕ → ℕ → Heard
 damaged_by c kind =
-    if kind =? 0 then Character c else
-    if kind =? damage_number Parity then Damaged c Parity else
-    if kind =? damage_number Overrun then Damaged c Overrun else
+    when kind =? 0 then Character c else
+    when kind =? damage_number Parity then Damaged c Parity else
+    when kind =? damage_number Overrun then Damaged c Overrun else
     Damaged c Framing
 
 -- what is heard, by status bit 5, byte 3 and byte 2
 abbrev pub heard_from : ℕ → ℕ → ℕ → Heard
-heard_from status kind c = if status / 32 % 2 =? 1 then damaged_by c kind else Silence
+heard_from status kind c = when status / 32 % 2 =? 1 then damaged_by c kind else Silence
 
 -- the driver reads status, then byte 3, then byte 2, "that reads byte 2 in every tick"
 abbrev pub hears : Chip → ChipHeard
@@ -44,7 +44,7 @@ stays_silent x = puts (looks x 1).chip 1 ((looks x 1).value % 128)
 -- ---- what the line carries for a chip, for what is heard without one
 
 abbrev pub other : Bool → Bool
-other bit = if bit then false else true
+other bit = when bit then false else true
 
 -- a character with its ninth bit, damage 1 with the other ninth bit, damage 2 and 3 with their marks; under a mark the ninth bit may be either
 abbrev pub wire : Heard → Bool → Carried

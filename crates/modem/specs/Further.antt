@@ -1,7 +1,7 @@
 -- To be believed: what the engine must do, or what is claimed of it.
 -- A driver that makes further accesses among its own: any reads and writes, any number of them, whatever they are for. And which of them would change what is heard or goes out.
 use Rattle.std.specs.Prelude.{◌≡◌, ℕ, ◌+◌, ◌/◌, ◌%◌, Bool, true, false, List, [], ◌∷◌}
-use Rattle.base.specs.Choice.{if◌then◌else◌, ◌=?◌}
+use Rattle.base.specs.Choice.{when◌then◌else◌, ◌=?◌}
 use Rattle.line.specs.declared.Heard.{Heard}
 use Rattle.line.specs.declared.Heard.TheVariants.{Silence}
 use Rattle.modem.specs.Accesses.{looks, puts, Access, reads, writes, after_all}
@@ -67,15 +67,15 @@ writes_data (writes n v) = n =? 2
 -- a write to control with bit 7 set, and one with bit 7 clear
 abbrev pub sets_request : Access → Bool
 sets_request (reads n) = false
-sets_request (writes n v) = if n =? 1 then v / 128 % 2 =? 1 else false
+sets_request (writes n v) = when n =? 1 then v / 128 % 2 =? 1 else false
 
 abbrev pub clears_request : Access → Bool
 clears_request (reads n) = false
-clears_request (writes n v) = if n =? 1 then v / 128 % 2 =? 0 else false
+clears_request (writes n v) = when n =? 1 then v / 128 % 2 =? 0 else false
 
 unfoldable pub any_of : (Access → Bool) → List Access → Bool
 any_of is [] = false
-any_of is (a ∷ more) = if is a then true else any_of is more
+any_of is (a ∷ more) = when is a then true else any_of is more
 
 -- further accesses, in a tick in which this is heard, that change neither what is heard nor what goes out. All reads and writes are such, but for these:
 pub record Spares (h : Heard) (f : Further) : Type 0 where

@@ -4,7 +4,7 @@
 #![tactic(auto)]
 
 ghost use Rattle.std.specs.Prelude.{◌≡◌, ◌≤◌};
-ghost use Rattle.base.specs.Choice.{if◌then◌else◌};
+ghost use Rattle.base.specs.Choice.{when◌then◌else◌};
 ghost use Rattle.modem.specs.Parity.{ninth, kind_of};
 ghost use Rattle.modem.specs.Chip.{fresh_chip, receives, arrives, interrupt, interrupt_ready, status_by, status, count_byte, register_at, controlled, loaded, tick_ends, elapsed};
 ghost use Rattle.modem.specs.Accesses.{read_as, register_read, written_as, register_written, looks, puts};
@@ -157,7 +157,7 @@ fn receiving(x: Chip, carrier: bool, latest: u8, kind: u8, received: bool) -> Ch
 
 // The kind that byte 3 shows for a character that arrives.
 fn kind_kept(x: Chip, c: u8, bit: bool, mark: Mark) -> u8
-    ensures { result ≡ (if x.received then 2 else kind_of c bit mark) }
+    ensures { result ≡ (when x.received then 2 else kind_of c bit mark) }
 {
     if x.received {
         return 2;
@@ -208,7 +208,7 @@ fn interrupt_of(x: Chip) -> bool
 
 // A bit of the status byte.
 fn shown(on: bool, bit: u8) -> u8
-    ensures { (result ≡ (if on then bit else 0)) × (result ≤ bit) }
+    ensures { (result ≡ (when on then bit else 0)) × (result ≤ bit) }
 {
     if on {
         return bit;

@@ -5,7 +5,7 @@ use mathlib.Core.List.{List, [], ◌∷◌, ◌++◌}
 use mathlib.Core.Path.{◌≡◌, refl, sym}
 use lib.Count.{ones}
 use lib.ListN.{replicate}
-use Rattle.base.specs.Choice.{if◌then◌else◌}
+use Rattle.base.specs.Choice.{when◌then◌else◌}
 use Rattle.base.specs.Store.{stored}
 use Rattle.base.proofs.Choices.{true_false}
 use Rattle.frame.specs.Delimiter.{delimiter_of}
@@ -40,7 +40,7 @@ abbrev pub busy : Further
 busy = record { before = busy_before; after_character = writes 2 0x33 ∷ writes 1 0x00 ∷ []; after_silence = reads 2 ∷ writes 1 0xE0 ∷ [] }
 
 pub busy_spares : (h : Heard) → Spares h busy
-unfolding any_of if◌then◌else◌
+unfolding any_of when◌then◌else◌
 busy_spares h = record {
   character_left = λ e. absurd (true_false (sym e));
   first_write = first;
@@ -57,7 +57,7 @@ busy_spares h = record {
     first own_data_write = refl
 
 pub busy_told : told_behind (chipped (device_step 255) fresh_chip device (character_ticks busy (0xFF ∷ others))) ≡ replicate 9 0 ++ (1 ∷ [])
-unfolding told_behind character_ticks others device chipped looks puts after_all ones device_tick device_takes device_sends taken taken_data at_idle at_preamble at_first at_command at_count at_check delimiter_of stored if◌then◌else◌
+unfolding told_behind character_ticks others device chipped looks puts after_all ones device_tick device_takes device_sends taken taken_data at_idle at_preamble at_first at_command at_count at_check delimiter_of stored when◌then◌else◌
 busy_told = refl
 
 -- ---- not spared
@@ -78,5 +78,5 @@ unfoldable pub first_nine : List ℕ
 first_nine = 0xFF ∷ 0xFF ∷ 0xFF ∷ 0xFF ∷ 0xFF ∷ 0x02 ∷ 0x80 ∷ 0x00 ∷ 0x00 ∷ []
 
 pub early_not_told : told_behind (chipped (device_step 255) fresh_chip device (character_ticks alone first_nine ++ character_ticks early (0x82 ∷ []))) ≡ replicate 10 0
-unfolding told_behind character_ticks first_nine device chipped looks puts after_all ones device_tick device_takes device_sends taken taken_data at_idle at_preamble at_first at_command at_count at_check delimiter_of stored if◌then◌else◌
+unfolding told_behind character_ticks first_nine device chipped looks puts after_all ones device_tick device_takes device_sends taken taken_data at_idle at_preamble at_first at_command at_count at_check delimiter_of stored when◌then◌else◌
 early_not_told = refl

@@ -5,7 +5,7 @@ use mathlib.Core.List.{List}
 use mathlib.Core.Path.{◌≡◌, refl, sym, ap, ap₂, ◌∙◌}
 use lib.ListN.{length}
 use Rattle.base.specs.Refusal.{Called, accepted, refused}
-use Rattle.base.specs.Choice.{if◌then◌else◌, ◌<?◌}
+use Rattle.base.specs.Choice.{when◌then◌else◌, ◌<?◌}
 use Rattle.base.proofs.Choices.{if_is_true}
 use Rattle.line.specs.Reader.{taken_data}
 use Rattle.line.specs.declared.Event.{Event}
@@ -50,7 +50,7 @@ DeafSent = DeafIf (λ (u : DeviceSent). u.sent) (λ (u : DeviceSent). u.device.d
 abbrev DeafStep : DeviceStep → Type 0
 DeafStep = DeafIf (λ (u : DeviceStep). u.sent) (λ (u : DeviceStep). u.side.device.deaf)
 
-one_of : (b : Bool) (u v : DeviceSent) → DeafSent u → DeafSent v → DeafSent (if b then u else v)
+one_of : (b : Bool) (u v : DeviceSent) → DeafSent u → DeafSent v → DeafSent (when b then u else v)
 one_of = either (λ (u : DeviceSent). u.sent) (λ (u : DeviceSent). u.device.deaf)
 
 answers_deaf : (d : Device) (frame : List ℕ) (n : ℕ) (burst primary : Bool) → DeafSent (answers_from d frame n burst primary)
@@ -65,7 +65,7 @@ by_deaf d frame (Asked n) = λ c e. not_silent c e
 by_deaf d frame AnswerWaits = λ c e. not_silent c e
 by_deaf d frame Begins = answers_deaf d frame 0 (wished d.burst d.wish) (first_for d)
 by_deaf d frame (Answers n) = answers_deaf d frame n d.burst d.primary
-by_deaf d frame Follows = bursts_deaf d frame 0 (back_length d) (if d.primary then false else true)
+by_deaf d frame Follows = bursts_deaf d frame 0 (back_length d) (when d.primary then false else true)
 by_deaf d frame (Bursts n) = bursts_deaf d frame n d.length d.primary
 
 sends_deaf : (d : Device) (frame : List ℕ) → DeafSent (device_sends d frame)

@@ -5,7 +5,7 @@ use mathlib.Core.List.{List}
 use mathlib.Core.Path.{◌≡◌, refl, sym, ap, ap₂, ◌∙◌}
 use lib.ListN.{length}
 use Rattle.base.specs.Refusal.{Called, accepted, refused}
-use Rattle.base.specs.Choice.{if◌then◌else◌, ◌<?◌}
+use Rattle.base.specs.Choice.{when◌then◌else◌, ◌<?◌}
 use Rattle.base.proofs.Choices.{if_is_true}
 use Rattle.line.specs.Reader.{taken_data}
 use Rattle.line.specs.declared.Event.{Event}
@@ -49,7 +49,7 @@ DeafSent = DeafIf (λ (u : MasterSent). u.sent) (λ (u : MasterSent). u.master.d
 abbrev DeafStep : MasterStep → Type 0
 DeafStep = DeafIf (λ (u : MasterStep). u.sent) (λ (u : MasterStep). u.side.master.deaf)
 
-one_of : (b : Bool) (u v : MasterSent) → DeafSent u → DeafSent v → DeafSent (if b then u else v)
+one_of : (b : Bool) (u v : MasterSent) → DeafSent u → DeafSent v → DeafSent (when b then u else v)
 one_of = either (λ (u : MasterSent). u.sent) (λ (u : MasterSent). u.master.deaf)
 
 at_deaf : (m : Master) (frame : List ℕ) (n attempts : ℕ) → DeafSent (sends_at m frame n attempts)

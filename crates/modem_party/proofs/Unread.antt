@@ -5,7 +5,7 @@ use mathlib.Core.List.{List, [], ◌∷◌, ◌++◌}
 use mathlib.Core.Path.{◌≡◌, refl}
 use lib.Count.{ones}
 use lib.ListN.{replicate}
-use Rattle.base.specs.Choice.{if◌then◌else◌}
+use Rattle.base.specs.Choice.{when◌then◌else◌}
 use Rattle.base.specs.Store.{stored}
 use Rattle.frame.specs.Delimiter.{delimiter_of}
 use Rattle.line.specs.Profile.{fsk_profile}
@@ -52,18 +52,18 @@ abbrev pub unread : Behind DeviceSide DeviceStep
 unread = closes alone (arrives fresh_chip (wire (Character 0xFF) false)) (device_step 255 device Silence no_call)
 
 pub overrun_heard : (hears (arrives unread.chip (wire (Character 0xFF) false))).heard ≡ Damaged 0xFF Overrun
-unfolding device looks puts after_all device_tick device_takes device_sends taken taken_data if◌then◌else◌
+unfolding device looks puts after_all device_tick device_takes device_sends taken taken_data when◌then◌else◌
 overrun_heard = refl
 
 pub not_told : told_behind (chipped (device_step 255) unread.chip unread.step.behind (character_ticks alone others)) ≡ replicate 9 0
-unfolding told_behind character_ticks others device chipped looks puts after_all ones device_tick device_takes device_sends taken taken_data at_idle at_preamble at_first at_command at_count at_check delimiter_of stored if◌then◌else◌
+unfolding told_behind character_ticks others device chipped looks puts after_all ones device_tick device_takes device_sends taken taken_data at_idle at_preamble at_first at_command at_count at_check delimiter_of stored when◌then◌else◌
 not_told = refl
 
 -- without the chip, with the first character missing and with it
 pub told_missing : told (plain (device_step 255) unread.step.behind (character_ticks alone others)) ≡ replicate 8 0 ++ (1 ∷ [])
-unfolding told character_ticks others device plain device_tick device_takes device_sends taken taken_data at_idle at_preamble at_first at_command at_count at_check delimiter_of stored if◌then◌else◌
+unfolding told character_ticks others device plain device_tick device_takes device_sends taken taken_data at_idle at_preamble at_first at_command at_count at_check delimiter_of stored when◌then◌else◌
 told_missing = refl
 
 pub told_without : told (plain (device_step 255) device (character_ticks alone (0xFF ∷ others))) ≡ replicate 9 0 ++ (1 ∷ [])
-unfolding told character_ticks others device plain device_tick device_takes device_sends taken taken_data at_idle at_preamble at_first at_command at_count at_check delimiter_of stored if◌then◌else◌
+unfolding told character_ticks others device plain device_tick device_takes device_sends taken taken_data at_idle at_preamble at_first at_command at_count at_check delimiter_of stored when◌then◌else◌
 told_without = refl

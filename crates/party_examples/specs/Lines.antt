@@ -1,7 +1,7 @@
 -- Inner contracts: nothing that is to be believed rests on them.
 -- Which ticks of a party have a line: those in which it hears what the script changed, finds a frame or a broken one, tells its host something or refuses its call. The text of a line is only printed, and nothing is promised of it.
 use Rattle.std.specs.Prelude.{ℕ, Bool, true, false}
-use Rattle.base.specs.Choice.{if◌then◌else◌, ◌<?◌}
+use Rattle.base.specs.Choice.{when◌then◌else◌, ◌<?◌}
 use Rattle.line.specs.declared.Event.{Event}
 use Rattle.line.specs.declared.Event.TheVariants.{Nothing, PassedOver, Broken, Frame, Damaged}
 use Rattle.turns.specs.declared.MasterTold.{MasterTold}
@@ -22,4 +22,4 @@ tells_host MasterTold.BroadcastSent = true
 
 -- a device tells its host only of a frame that it found, so for a device this covers all
 abbrev pub has_line : Bool → Event → ℕ → Bool
-has_line changed event refused = if changed then true else (if event_shows event then true else 0 <? refused)
+has_line changed event refused = when changed then true else (when event_shows event then true else 0 <? refused)

@@ -13,7 +13,6 @@ mod show;
 
 use device::DeviceStarted;
 use device_tick::DeviceTicked;
-use example_texts::read_full;
 use line::{Damage, Event, Heard, Profile};
 use master::{MasterStarted, MasterTicked};
 use show::Reception;
@@ -272,9 +271,8 @@ fn show_both(
     let d_ticked = d.ticked;
     let of_ack = m.bytes;
     let of_stx = d.bytes;
-    show::show_tick(
-        rt, tick, to_m, to_d, m_ticked, d_ticked, log, of_ack, of_stx,
-    )
+    show::show_speeches(rt, tick, &log)?;
+    show::show_tick(rt, tick, to_m, to_d, m_ticked, d_ticked, of_ack, of_stx)
 }
 
 fn tick_both(rt: &impl Print, b: Both, tick: u16, script: &[u8]) -> io::Result<Both> {
@@ -380,6 +378,6 @@ fn lines(rt: &impl Print, words: &[u8]) -> io::Result<()> {
 
 fn main(rt: HostRuntime) -> io::Result<()> {
     let mut input = [0u8; 65536];
-    let count = read_full(&mut rt.reader(), &mut input)?;
+    let count = program_files::read_full(&mut rt.reader(), &mut input);
     lines(&rt, &input[..count])
 }

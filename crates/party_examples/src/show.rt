@@ -79,7 +79,8 @@ fn show_speech(rt: &impl Print, name: &[u8], row: &[u16], tick: u16) -> io::Resu
     Ok(())
 }
 
-fn show_speeches(rt: &impl Print, tick: u16, log: &[u16]) -> io::Result<()> {
+// What ended in the tick before this. The log has a row of 1000 ticks for each of master, device and a third party: 0 where it is silent, and 256 more than the character that it sends.
+pub fn show_speeches(rt: &impl Print, tick: u16, log: &[u16]) -> io::Result<()> {
     if 3000 <= log.len() {
         show_speech(rt, b" master sends", &log[0..1000], tick)?;
         show_speech(rt, b" device sends", &log[1000..2000], tick)?;
@@ -281,7 +282,7 @@ fn show_device(
     Ok(())
 }
 
-// The lines of a tick. The log has a row of 1000 ticks for each of master, device and a third party: 0 where it is silent, and 256 more than the character that it sends.
+// A line for each party that has one in this tick.
 pub fn show_tick(
     rt: &impl Print,
     tick: u16,
@@ -289,11 +290,9 @@ pub fn show_tick(
     to_d: Reception,
     m: MasterTicked,
     d: DeviceTicked,
-    log: [u16; 3000],
     of_ack: [u8; 255],
     of_stx: [u8; 255],
 ) -> io::Result<()> {
-    show_speeches(rt, tick, &log)?;
     show_master(rt, tick, to_m, m, &of_ack)?;
     show_device(rt, tick, to_d, d, &of_stx)
 }

@@ -5,7 +5,7 @@ use mathlib.Core.Path.{◌≡◌, refl, sym, ap, subst, ◌∙◌}
 use mathlib.Core.Bool.{Bool, true, false}
 use mathlib.Core.List.{List, [], ◌∷◌}
 use lib.ListN.{length, get_or, replicate, length-replicate}
-use Rattle.base.specs.Choice.{if◌then◌else◌}
+use Rattle.base.specs.Choice.{when◌then◌else◌}
 use Rattle.base.specs.Refusal.{accepted}
 use Rattle.line.specs.Profile.{profile_made, fsk_profile}
 use Rattle.line.specs.declared.Heard.{Heard}
@@ -162,7 +162,7 @@ ready_starts : (party : ℕ) → device_starts fsk_profile 5 (party - 2) party �
 ready_starts party e = record { preamble = 5; polling = party - 2; unique = party; starts = e; room = zeros 284; content_room = zeros 255 }
 
 pub play_listed : PlayListed
-unfolding ready_link if◌then◌else◌
+unfolding ready_link when◌then◌else◌
 play_listed party es below =
     listed 255 (omega arith) (omega arith) fsk_profile 3 fsk_taken ready_link (calls_from 0 (stop_of es) es) party
     (record { starts = refl; room = zeros 284 })

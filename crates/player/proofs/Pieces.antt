@@ -6,7 +6,7 @@ use mathlib.Core.Bool.{Bool, true, false}
 use mathlib.Core.List.{List, [], ◌∷◌, ◌++◌, append_assoc}
 use mathlib.Core.Path.{◌≡◌, refl, sym, ap, subst, ◌∙◌}
 use lib.ListN.{length, take, length-append}
-use Rattle.base.specs.Choice.{if◌then◌else◌, ◌<?◌, ◌≤?◌}
+use Rattle.base.specs.Choice.{when◌then◌else◌, ◌<?◌, ◌≤?◌}
 use Rattle.base.specs.Store.{stored}
 use Rattle.base.proofs.Choices.{true_false, went_else}
 use Rattle.base.proofs.Stores.{stored_front, stored_none}
@@ -32,10 +32,10 @@ room_is n at e =
     omega (arith, ltb-false n at w.0, leb-true 2560 (n - at) w.1)
 
 no_room : (n at : ℕ) → has_room n at ≡ false → n < at + 2560
-unfolding if◌then◌else◌
+unfolding when◌then◌else◌
 no_room n at e = by (n <? at) refl e
   where
-    by : (t : Bool) → (n <? at) ≡ t → (if t then false else 2560 ≤? n - at) ≡ false → n < at + 2560
+    by : (t : Bool) → (n <? at) ≡ t → (when t then false else 2560 ≤? n - at) ≡ false → n < at + 2560
     by true h f = omega (arith, ltb-true n at h)
     by false h f = omega (arith, leb-false 2560 (n - at) f)
 

@@ -6,7 +6,7 @@ use mathlib.Core.Bool.{Bool, true, false}
 use mathlib.Core.Path.{◌≡◌, refl, sym, ap, subst, ◌∙◌}
 use mathlib.Core.List.{List, [], ◌∷◌, map}
 use lib.ListN.{length, take, get_or, replicate, length-map}
-use Rattle.base.specs.Choice.{if◌then◌else◌, ◌<?◌}
+use Rattle.base.specs.Choice.{when◌then◌else◌, ◌<?◌}
 use Rattle.turns.specs.Link.{LinkStep, run}
 use Rattle.turns.specs.Link as L
 use Rattle.turns.specs.Run.{EachTick}
@@ -53,7 +53,7 @@ here_still n [] = refl
 here_still n (s ∷ ss) = ap (λ (hs : List Bool). s.here ∷ hs) (here_still n ss)
 
 pub quiet_heard : all_heard (replicate 8 quiet_monitor) ≡ replicate 8 quiet_monitor
-unfolding all_heard heard_so_far if◌then◌else◌
+unfolding all_heard heard_so_far when◌then◌else◌
 quiet_heard = refl
 
 heard_eight : (ms : List Monitor) → length ms ≡ 8 → length (all_heard ms) ≡ 8
@@ -132,26 +132,26 @@ rest_room told script ticks p s f h = omega (arith, f, free_most told.form scrip
 -- ---- some ticks of a link
 
 at_most_64 : (most : ℕ) → at_most most ≤ 64
-unfolding if◌then◌else◌
+unfolding when◌then◌else◌
 at_most_64 most = by (most <? 64) refl
   where
-    by : (t : Bool) → (most <? 64) ≡ t → (if t then most else 64) ≤ 64
+    by : (t : Bool) → (most <? 64) ≡ t → (when t then most else 64) ≤ 64
     by true e = omega (arith, ltb-true most 64 e)
     by false e = omega arith
 
 at_most_most : (most : ℕ) → at_most most ≤ most
-unfolding if◌then◌else◌
+unfolding when◌then◌else◌
 at_most_most most = by (most <? 64) refl
   where
-    by : (t : Bool) → (most <? 64) ≡ t → (if t then most else 64) ≤ most
+    by : (t : Bool) → (most <? 64) ≡ t → (when t then most else 64) ≤ most
     by true e = omega arith
     by false e = ltb-false most 64 e
 
 at_most_some : (most : ℕ) → 1 ≤ most → 1 ≤ at_most most
-unfolding if◌then◌else◌
+unfolding when◌then◌else◌
 at_most_some most h = by (most <? 64)
   where
-    by : (t : Bool) → 1 ≤ (if t then most else 64)
+    by : (t : Bool) → 1 ≤ (when t then most else 64)
     by true = h
     by false = omega arith
 

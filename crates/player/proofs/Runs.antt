@@ -6,7 +6,7 @@ use mathlib.Core.Path.{◌≡◌, refl, sym, ap, subst, ◌∙◌}
 use mathlib.Core.List.{List, [], ◌∷◌, ◌++◌}
 use lib.ListN.{length, replicate, length-replicate}
 use borrow.Author.Tests.{ne_eqb}
-use Rattle.base.specs.Choice.{if◌then◌else◌, ◌=?◌}
+use Rattle.base.specs.Choice.{when◌then◌else◌, ◌=?◌}
 use Rattle.base.proofs.Choices.{if_is_true, if_is_false}
 use Rattle.line.specs.declared.Heard.{Heard}
 use Rattle.turns.specs.Link.{no_call, DeviceSide, DeviceStep, Calls, LinkStep, device_tick, device_ticks, link_tick, link_after, run}
@@ -151,11 +151,11 @@ module _ (es : List Entry) where
 
 -- how many ticks are taken at once
 pub told_most : (ss : List LinkStep) → length (up_to_told ss) ≤ length ss
-unfolding up_to_told if◌then◌else◌
+unfolding up_to_told when◌then◌else◌
 told_most [] = omega arith
 told_most (s ∷ ss) = by (a_host_told s) (told_most ss)
   where
-    by : (t : Bool) → length (up_to_told ss) ≤ length ss → suc (length (if t then [] else up_to_told ss)) ≤ suc (length ss)
+    by : (t : Bool) → length (up_to_told ss) ≤ length ss → suc (length (when t then [] else up_to_told ss)) ≤ suc (length ss)
     by true h = omega arith
     by false h = omega (arith, h)
 

@@ -7,7 +7,7 @@ use mathlib.Core.List.{List, [], ◌∷◌, ◌++◌, map}
 use lib.ListN.{length, take, drop, replicate}
 use lib.Seq.{take-append_seam}
 use borrow.Author.Tests.{ltb-false}
-use Rattle.base.specs.Choice.{if◌then◌else◌, ◌<?◌}
+use Rattle.base.specs.Choice.{when◌then◌else◌, ◌<?◌}
 use Rattle.base.proofs.Choices.{if_below, if_not_below}
 use Rattle.line.specs.declared.Heard.{Heard}
 use Rattle.turns.specs.Link.{DeviceCall, DeviceSide, DeviceStep, Calls, LinkStep, device_tick, device_ticks, sides, link_tick, link_after, run}
@@ -103,10 +103,10 @@ codes_count hs [] = refl
 codes_count hs (s ∷ ss) = ap suc (codes_count hs ss)
 
 lesser_is : (m n : ℕ) → m ≤ n → lesser m n ≡ m
-unfolding if◌then◌else◌
+unfolding when◌then◌else◌
 lesser_is m n h = by (m <? n) refl
   where
-    by : (t : Bool) → (m <? n) ≡ t → (if t then m else n) ≡ m
+    by : (t : Bool) → (m <? n) ≡ t → (when t then m else n) ≡ m
     by true e = refl
     by false e = omega (arith, ltb-false m n e)
 

@@ -5,7 +5,7 @@ use mathlib.Core.Bool.{true}
 use mathlib.Core.Path.{◌≡◌, refl, sym, ap, subst, ◌∙◌}
 use mathlib.Core.List.{List, [], ◌∷◌, ◌++◌}
 use lib.ListN.{replicate}
-use Rattle.base.specs.Choice.{if◌then◌else◌}
+use Rattle.base.specs.Choice.{when◌then◌else◌}
 use Rattle.base.specs.Refusal.{accepted}
 use Rattle.texts.specs.Put.{PutIs}
 use Rattle.texts.proofs.Puts.{put_then}
@@ -39,7 +39,7 @@ pub settings_are : (a b c d e f : Setting) → a ≡ setting_of 2 → b ≡ sett
 settings_are a b c d e f p q r s t u = λ i. p i ∷ q i ∷ r i ∷ s i ∷ t i ∷ u i ∷ []
 
 all_accepted : link_starts fsk_profile 3 settings ≡ accepted ready_start
-unfolding if◌then◌else◌ devices_start
+unfolding when◌then◌else◌ devices_start
 all_accepted = refl
 
 pub ready_start_lem : (p : Profile) (s : List Setting) (r : LinkStarted) → p ≡ fsk_profile → s ≡ settings → StartedIs p 3 s r → r.link ≡ ready_start

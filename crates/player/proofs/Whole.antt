@@ -4,7 +4,7 @@ use native.Mathlib.Omega.{arith}
 use mathlib.Core.Bool.{Bool, true, false}
 use mathlib.Core.Path.{◌≡◌, refl, sym, ap, subst, ◌∙◌}
 use mathlib.Core.List.{List, [], ◌∷◌}
-use Rattle.base.specs.Choice.{if◌then◌else◌, ◌=?◌}
+use Rattle.base.specs.Choice.{when◌then◌else◌, ◌=?◌}
 use Rattle.base.specs.Refusal.{number, Called, accepted, refused}
 use Rattle.base.specs.declared.Refusal.{Refusal}
 use Rattle.base.proofs.Choices.{if_is_false, went_else}
@@ -28,7 +28,7 @@ plays_good form script before r after g p = put_same _ _ before 0 r after p (sym
 
 -- "16", and a newline
 bad_output : 49 ∷ 54 ∷ 10 ∷ [] ≡ output_of (refused 16)
-unfolding decimal_of if◌then◌else◌
+unfolding decimal_of when◌then◌else◌
 bad_output = refl
 
 pub plays_bad : (form : Form) (script before : List ℕ) (r : ℕ) (after : List ℕ) → good_in form script ≡ false → PutIs (49 ∷ 54 ∷ 10 ∷ []) before 0 r after → PutIs (play form script) before 0 r after
@@ -53,7 +53,7 @@ only_24 size n e =
 
 -- "24", and a newline
 size_output : 50 ∷ 52 ∷ 10 ∷ [] ≡ output_of (refused 24)
-unfolding decimal_of if◌then◌else◌
+unfolding decimal_of when◌then◌else◌
 size_output = refl
 
 pub sized_plays : (size : ℕ) (script before : List ℕ) (r : ℕ) (after : List ℕ) (form : Form) (s : SizedForm) → s ≡ Is form → sized_as s ≡ form_of size

@@ -1,7 +1,7 @@
 -- To be believed: what the engine must do, or what is claimed of it.
 -- Document 01, "The player": the link that stands ready, and the listing.
 use Rattle.std.specs.Prelude.{ℕ, ◌-◌, true, false, List, [], ◌∷◌, ◌++◌, replicate}
-use Rattle.base.specs.Choice.{if◌then◌else◌}
+use Rattle.base.specs.Choice.{when◌then◌else◌}
 use Rattle.base.specs.Refusal.{Called, accepted, refused}
 use Rattle.frame.specs.Limits.{most_data, longest_frame}
 use Rattle.line.specs.Profile.{fsk_profile}
@@ -40,7 +40,7 @@ listing es = head_line ++ lines_text (lines_from 0 (replicate 8 quiet_monitor) (
 
 -- "16: bad script"
 abbrev pub script_taken : Form → List ℕ → Called (List Entry)
-script_taken form script = if good_in form script then accepted (records_in form script) else refused 16
+script_taken form script = when good_in form script then accepted (records_in form script) else refused 16
 
 -- the listing; or the number of the refusal, a line of its own: "the output is then that number alone"
 abbrev pub output_of : Called (List Entry) → List ℕ

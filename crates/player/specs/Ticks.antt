@@ -1,7 +1,7 @@
 -- Inner contracts: nothing that is to be believed rests on them.
 -- The ticks of a play, one after the other or several at once.
 use Rattle.std.specs.Prelude.{ℕ, ◌+◌, ◌-◌, ◌≤◌, ◌<◌, Bool, true, false, List, ◌≡◌, length, replicate}
-use Rattle.base.specs.Choice.{if◌then◌else◌, ◌<?◌, ◌≤?◌}
+use Rattle.base.specs.Choice.{when◌then◌else◌, ◌<?◌, ◌≤?◌}
 use Rattle.base.specs.Lent.{Lent, before, after}
 use Rattle.texts.specs.Put.{PutIs}
 use Rattle.frame.specs.Limits.{most_data}
@@ -49,7 +49,7 @@ abbrev pub lines_room : ℕ
 lines_room = 2560
 
 abbrev pub has_room : ℕ → ℕ → Bool
-has_room length at = if length <? at then false else lines_room ≤? length - at
+has_room length at = when length <? at then false else lines_room ≤? length - at
 
 -- the run of so many of a play's next ticks
 abbrev pub steps_from : Form → List ℕ → ℕ → Playing → Rows → List LinkStep

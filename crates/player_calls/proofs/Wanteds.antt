@@ -5,7 +5,7 @@ use mathlib.Core.Bool.{Bool, true, false}
 use mathlib.Core.Path.{◌≡◌, refl, sym, ap, ◌∙◌}
 use mathlib.Core.List.{List, [], ◌∷◌}
 use lib.ListN.{take, get_or, replicate}
-use Rattle.base.specs.Choice.{if◌then◌else◌, ◌=?◌}
+use Rattle.base.specs.Choice.{when◌then◌else◌, ◌=?◌}
 use Rattle.turns.specs.Link as L
 use Rattle.turns.specs.declared.Wish.{Wish}
 use Rattle.turns.specs.declared.Wish.TheVariants.{Same, On, Off}
@@ -98,33 +98,33 @@ wanted_in Old script tick party h = wanted_small script tick party h
 wanted_in New script tick party h = long_small script tick party h
 
 master_stands : (w : ScriptCall) → master_call_of zero_bytes (master_call_for w) ≡ master_call w
-unfolding if◌then◌else◌
+unfolding when◌then◌else◌
 master_stands Nothing = refl
 master_stands (Call action argument) = by (action =? 1)
   where
-    by : (b : Bool) → master_call_of zero_bytes (if b then request_with false argument 0 else request_with true argument 3)
-        ≡ (if b then L.requests (record { preamble = 5; revision = 7; long = false; address = argument; command = 0 }) []
+    by : (b : Bool) → master_call_of zero_bytes (when b then request_with false argument 0 else request_with true argument 3)
+        ≡ (when b then L.requests (record { preamble = 5; revision = 7; long = false; address = argument; command = 0 }) []
         else L.requests (record { preamble = 5; revision = 7; long = true; address = argument; command = 3 }) [])
     by true = refl
     by false = refl
 
 answer_stands : (w : ScriptCall) → Small w → device_call_of zero_bytes (device_call_for w) ≡ device_call w
-unfolding if◌then◌else◌
+unfolding when◌then◌else◌
 answer_stands _ wants_none = refl
 answer_stands _ (wants_call {action} {argument} h) = by (action =? 2) (action =? 4)
   where
-    by : (a b : Bool) → device_call_of zero_bytes (if a then answer_with Same argument else if b then answer_with On argument else answer_with Off argument)
-        ≡ (if a then L.gives_answer Same (replicate argument 0) else if b then L.gives_answer On (replicate argument 0) else L.gives_answer Off (replicate argument 0))
+    by : (a b : Bool) → device_call_of zero_bytes (when a then answer_with Same argument else when b then answer_with On argument else answer_with Off argument)
+        ≡ (when a then L.gives_answer Same (replicate argument 0) else when b then L.gives_answer On (replicate argument 0) else L.gives_answer Off (replicate argument 0))
     by true b = ap (L.gives_answer Same) (zeros_are argument h)
     by false true = ap (L.gives_answer On) (zeros_are argument h)
     by false false = ap (L.gives_answer Off) (zeros_are argument h)
 
 device_stands : (tick party : ℕ) (es : List Entry) → Small (wanted_at tick party es) → device_call_of zero_bytes (device_call_in tick (wanted_at tick party es)) ≡ device_call_at tick party es
-unfolding if◌then◌else◌
+unfolding when◌then◌else◌
 device_stands tick party es s = by (tick =? 0)
   where
-    by : (b : Bool) → device_call_of zero_bytes (if b then record { call = DeviceCall.Content 3; part = zeros 2 } else device_call_for (wanted_at tick party es))
-        ≡ (if b then L.gives_content 3 (0 ∷ 0 ∷ []) else device_call (wanted_at tick party es))
+    by : (b : Bool) → device_call_of zero_bytes (when b then record { call = DeviceCall.Content 3; part = zeros 2 } else device_call_for (wanted_at tick party es))
+        ≡ (when b then L.gives_content 3 (0 ∷ 0 ∷ []) else device_call (wanted_at tick party es))
     by true = ap (L.gives_content 3) (zeros_are 2 (omega arith))
     by false = answer_stands (wanted_at tick party es) s
 

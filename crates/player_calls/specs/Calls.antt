@@ -1,7 +1,7 @@
 -- Inner contracts: nothing that is to be believed rests on them.
 -- Document 01, "The player": the calls of the code's link in a tick of a script. The law `calls_stand` in proofs/Wanteds.antt says that they are those that the script wants.
 use Rattle.std.specs.Prelude.{ℕ, Bool, true, false, List, [], ◌∷◌, replicate}
-use Rattle.base.specs.Choice.{if◌then◌else◌, ◌=?◌}
+use Rattle.base.specs.Choice.{when◌then◌else◌, ◌=?◌}
 use Rattle.frame.specs.Limits.{most_data}
 use Rattle.turns.specs.declared.Wish.{Wish}
 use Rattle.turns.specs.declared.Wish.TheVariants.{Same, On, Off}
@@ -34,7 +34,7 @@ request_with long address command = record {
 -- "1 master asks command 0 of that polling address", "3 master asks command 3 of that unique address"
 abbrev pub master_call_for : ScriptCall → MasterCallWithPart
 master_call_for Nothing = no_master_call
-master_call_for (Call action argument) = if action =? 1 then request_with false argument 0 else request_with true argument 3
+master_call_for (Call action argument) = when action =? 1 then request_with false argument 0 else request_with true argument 3
 
 abbrev pub answer_with : Wish → ℕ → DeviceCallWithPart
 answer_with wish count = record { call = DeviceCall.Answers wish; part = zeros count }
@@ -43,12 +43,12 @@ answer_with wish count = record { call = DeviceCall.Answers wish; part = zeros c
 abbrev pub device_call_for : ScriptCall → DeviceCallWithPart
 device_call_for Nothing = no_device_call
 device_call_for (Call action argument) =
-    if action =? 2 then answer_with Same argument else
-    if action =? 4 then answer_with On argument else answer_with Off argument
+    when action =? 2 then answer_with Same argument else
+    when action =? 4 then answer_with On argument else answer_with Off argument
 
 -- "Burst content is command 3 with two zero bytes": each device's call of tick 0
 abbrev pub device_call_in : ℕ → ScriptCall → DeviceCallWithPart
-device_call_in tick w = if tick =? 0 then record { call = DeviceCall.Content 3; part = zeros 2 } else device_call_for w
+device_call_in tick w = when tick =? 0 then record { call = DeviceCall.Content 3; part = zeros 2 } else device_call_for w
 
 abbrev pub calls_for : ℕ → ScriptTick → Calls
 calls_for tick t = record {

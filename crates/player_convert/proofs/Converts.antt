@@ -6,7 +6,7 @@ use mathlib.Core.Bool.{Bool, true, false}
 use mathlib.Core.List.{List}
 use mathlib.Core.Path.{◌≡◌, refl, sym, ap, subst, ◌∙◌}
 use lib.ListN.{length}
-use Rattle.base.specs.Choice.{if◌then◌else◌, ◌<?◌}
+use Rattle.base.specs.Choice.{when◌then◌else◌, ◌<?◌}
 use Rattle.base.specs.Refusal.{number, Called, accepted, refused}
 use Rattle.base.specs.declared.Refusal.{Refusal}
 use Rattle.base.specs.declared.Refusal.TheVariants.{BufferShort, BadScript, TickTooLarge}
@@ -43,8 +43,8 @@ module _ (script out : List ℕ) where
   unfolding records_in
   old_size = omega (arith, old_length (long_records_of script), new_count script)
 
-  room_by : (bytes : List ℕ) (b : Bool) → (length out <? length bytes) ≡ b → by_room bytes (length out) ≡ (if b then refused 15 else accepted bytes)
-  room_by bytes b e = ap (λ (t : Bool). if t then refused 15 else accepted bytes) e
+  room_by : (bytes : List ℕ) (b : Bool) → (length out <? length bytes) ≡ b → by_room bytes (length out) ≡ (when b then refused 15 else accepted bytes)
+  room_by bytes b e = ap (λ (t : Bool). when t then refused 15 else accepted bytes) e
 
   pub new_short : length out / 6 < length script / 4 → ConvertIs (by_room (turned New (records_in Old script)) (length out)) out (C.Refused BufferShort) out
   new_short h = refuses _ out BufferShort (sym (if_is_true (length out <? length (turned New (records_in Old script))) _ _ (lt-ltb (length out) _ (omega (arith, new_size, h)))))

@@ -5,7 +5,7 @@ use borrow.Author.Tests.{lt-ltb, le-ltb, ltb-true, ltb-false}
 use mathlib.Core.Bool.{Bool, true, false}
 use mathlib.Core.List.{List, [], ◌∷◌}
 use mathlib.Core.Path.{◌≡◌, refl, sym, ◌∙◌}
-use Rattle.base.specs.Choice.{if◌then◌else◌, ◌<?◌}
+use Rattle.base.specs.Choice.{when◌then◌else◌, ◌<?◌}
 use Rattle.base.proofs.Choices.{true_false, if_is_false, went_else}
 use Rattle.player_script.specs.Script.{records_of, long_records_of, records_in, good_in, stop_of}
 use Rattle.player_script.specs.Reads.{Rising, Reads}
@@ -52,16 +52,16 @@ first_at_most low e [] r = omega arith
 first_at_most low e (g ∷ es) (Rising.more l (Rising.more m r)) = omega (arith, m, first_at_most e.tick g es (Rising.more m r))
 
 above_stop : (most low : ℕ) (es : List Entry) → Rising low es → any_above most es ≡ (most <? stop_of es)
-unfolding any_above stop_of if◌then◌else◌
+unfolding any_above stop_of when◌then◌else◌
 above_stop most low [] r = sym (le-ltb most 0 (omega arith))
 above_stop most low (e ∷ []) r = by (most <? e.tick)
   where
-    by : (t : Bool) → (if t then true else false) ≡ t
+    by : (t : Bool) → (when t then true else false) ≡ t
     by true = refl
     by false = refl
 above_stop most low (e ∷ g ∷ es) (Rising.more l (Rising.more m r)) = by (most <? e.tick) refl (above_stop most e.tick (g ∷ es) (Rising.more m r))
   where
-    by : (t : Bool) → (most <? e.tick) ≡ t → any_above most (g ∷ es) ≡ (most <? stop_of (g ∷ es)) → (if t then true else any_above most (g ∷ es)) ≡ (most <? stop_of (g ∷ es))
+    by : (t : Bool) → (most <? e.tick) ≡ t → any_above most (g ∷ es) ≡ (most <? stop_of (g ∷ es)) → (when t then true else any_above most (g ∷ es)) ≡ (most <? stop_of (g ∷ es))
     by true h rest = sym (lt-ltb most (stop_of (g ∷ es)) (omega (arith, ltb-true most e.tick h, m, first_at_most e.tick g es (Rising.more m r))))
     by false h rest = rest
 

@@ -6,7 +6,7 @@ use mathlib.Core.Bool.{Bool, true, false}
 use mathlib.Core.List.{List, [], ◌∷◌}
 use mathlib.Core.Path.{◌≡◌, refl, sym, ap, ◌∙◌}
 use lib.ListN.{length}
-use Rattle.base.specs.Choice.{if◌then◌else◌, ◌<?◌}
+use Rattle.base.specs.Choice.{when◌then◌else◌, ◌<?◌}
 use Rattle.base.specs.Refusal.{Called, accepted, refused}
 use Rattle.base.proofs.Choices.{if_is_true, if_is_false, went_then, went_else}
 use Rattle.player_script.specs.Script.{width, records_of, long_records_of, records_in, is_in, is_good, good_in}
@@ -72,24 +72,24 @@ there_and_back f script result room back bytes e enough =
 
 -- a script with a request and a stop, there and back
 run_there : converted Old (0 ∷ 0 ∷ 1 ∷ 0 ∷ 0 ∷ 60 ∷ 0 ∷ 0 ∷ []) 12 ≡ accepted (0 ∷ 0 ∷ 0 ∷ 0 ∷ 1 ∷ 0 ∷ 0 ∷ 0 ∷ 0 ∷ 60 ∷ 0 ∷ 0 ∷ [])
-unfolding records_in records_of good_in is_good width any_above turned if◌then◌else◌ is_in
+unfolding records_in records_of good_in is_good width any_above turned when◌then◌else◌ is_in
 run_there = refl
 
 -- a byte less of room is 15
 run_short : converted Old (0 ∷ 60 ∷ 0 ∷ 0 ∷ []) 5 ≡ refused 15
-unfolding records_in records_of good_in is_good width any_above turned if◌then◌else◌
+unfolding records_in records_of good_in is_good width any_above turned when◌then◌else◌
 run_short = refl
 
 -- 65,535 fits, 65,536 is 25, before 15
 run_fits : converted New (0 ∷ 0 ∷ 255 ∷ 255 ∷ 0 ∷ 0 ∷ []) 4 ≡ accepted (255 ∷ 255 ∷ 0 ∷ 0 ∷ [])
-unfolding records_in long_records_of good_in is_good width any_above turned if◌then◌else◌
+unfolding records_in long_records_of good_in is_good width any_above turned when◌then◌else◌
 run_fits = refl
 
 run_above : converted New (0 ∷ 1 ∷ 0 ∷ 0 ∷ 0 ∷ 0 ∷ []) 0 ≡ refused 25
-unfolding records_in long_records_of good_in is_good width any_above turned if◌then◌else◌
+unfolding records_in long_records_of good_in is_good width any_above turned when◌then◌else◌
 run_above = refl
 
 -- without a good script the stop does not decide: two stops, the first at tick 65,536
 run_bad : converted New (0 ∷ 1 ∷ 0 ∷ 0 ∷ 0 ∷ 0 ∷ 0 ∷ 0 ∷ 0 ∷ 0 ∷ 0 ∷ 0 ∷ []) 8 ≡ refused 16
-unfolding records_in long_records_of good_in is_good width any_above turned if◌then◌else◌
+unfolding records_in long_records_of good_in is_good width any_above turned when◌then◌else◌
 run_bad = refl

@@ -1,7 +1,7 @@
 -- To be believed: what the engine must do, or what is claimed of it.
 -- Document 02, item 11: "Old scripts turn into new ones, and new ones whose ticks fit back, with every value kept, and play to the same listing."
 use Rattle.std.specs.Prelude.{ℕ, ◌+◌, ◌*◌, ◌/◌, ◌%◌, ◌≤◌, ◌<◌, Bool, true, false, List, [], ◌∷◌, ◌++◌, ◌≡◌, length}
-use Rattle.base.specs.Choice.{if◌then◌else◌, ◌<?◌}
+use Rattle.base.specs.Choice.{when◌then◌else◌, ◌<?◌}
 use Rattle.base.specs.Store.{stored}
 use Rattle.base.specs.Refusal.{number, Called, accepted, refused}
 use Rattle.player_script.specs.Script.{form_of, records_in, good_in}
@@ -34,21 +34,21 @@ most_tick New = 4294967295
 -- whether some record's tick is above this one
 unfoldable pub any_above : ℕ → List Entry → Bool
 any_above most [] = false
-any_above most (e ∷ es) = if most <? e.tick then true else any_above most es
+any_above most (e ∷ es) = when most <? e.tick then true else any_above most es
 
 -- "then 15": the result, where so many bytes are lent
 abbrev pub by_room : List ℕ → ℕ → Called (List ℕ)
-by_room bytes room = if room <? length bytes then refused 15 else accepted bytes
+by_room bytes room = when room <? length bytes then refused 15 else accepted bytes
 
 -- "then a tick too large to turn back with 25"
 abbrev pub by_ticks : Form → List ℕ → ℕ → Called (List ℕ)
 by_ticks f script room =
-    if any_above (most_tick (other f)) (records_in f script) then refused 25
+    when any_above (most_tick (other f)) (records_in f script) then refused 25
     else by_room (turned (other f) (records_in f script)) room
 
 -- "then 16"; a script of form f in the other form
 abbrev pub converted : Form → List ℕ → ℕ → Called (List ℕ)
-converted f script room = if good_in f script then by_ticks f script room else refused 16
+converted f script room = when good_in f script then by_ticks f script room else refused 16
 
 -- "It refuses a record size other than 4 or 6 with 24": a script whose records have so many bytes, in the other form
 abbrev pub converted_in : Called Form → List ℕ → ℕ → Called (List ℕ)

@@ -4,7 +4,7 @@ use native.Mathlib.Omega.{arith}
 use mathlib.Core.Bool.{Bool, true, false}
 use mathlib.Core.List.{List, ◌++◌}
 use mathlib.Core.Path.{◌≡◌, refl, sym, ap, subst, ◌∙◌}
-use Rattle.base.specs.Choice.{if◌then◌else◌}
+use Rattle.base.specs.Choice.{when◌then◌else◌}
 use Rattle.base.proofs.Choices.{if_is_false, if_answer_true, if_answer_false}
 use Rattle.player_script.specs.Script.{records_in, good_in, stop_of}
 use Rattle.player_script.specs.Pieces.{Gone, bad, good_after, joined}
@@ -28,10 +28,10 @@ module _ (f : Form) (gone : Gone) (rest : List ℕ) where
 
   -- they hold no whole script
   pub end_held : (r : Input) → r ≡ end_of f gone rest → held_in r < 3145740
-  unfolding end_of if◌then◌else◌
+  unfolding end_of when◌then◌else◌
   end_held r p = subst (λ (x : Input). held_in x < 3145740) (sym p) (by (good_after f gone rest))
     where
-      by : (t : Bool) → held_in (if t then LongGood (stop_of (records_in f rest)) else LongBad) < 3145740
+      by : (t : Bool) → held_in (when t then LongGood (stop_of (records_in f rest)) else LongBad) < 3145740
       by true = omega arith
       by false = omega arith
 
@@ -42,8 +42,8 @@ pub ruleset ends = (refl, end_good, end_bad, end_held)
 pub long_told : LongTold
 unfolding end_of told_of
 long_told f pieces rest ws h =
-    ap (λ (b : Bool). if b then LongGood (stop_of (records_in f rest)) else LongBad) (sym (pieces_good f pieces rest ws h))
-    ∙ ap (λ (n : ℕ). if good_in f (joined pieces ++ rest) then LongGood n else LongBad) (sym (pieces_stop f pieces rest ws h))
+    ap (λ (b : Bool). when b then LongGood (stop_of (records_in f rest)) else LongBad) (sym (pieces_good f pieces rest ws h))
+    ∙ ap (λ (n : ℕ). when good_in f (joined pieces ++ rest) then LongGood n else LongBad) (sym (pieces_stop f pieces rest ws h))
 
 bad_end : (f : Form) (rest : List ℕ) → end_of f bad rest ≡ LongBad
 unfolding end_of

@@ -1,7 +1,7 @@
 -- How the code stands for what is to be believed.
 -- A script on standard input, and what is told of one that is longer than the room. Which bytes are read no contract can say: each step of reading has its definition here, and the claims join the steps.
 use Rattle.std.specs.Prelude.{ℕ, ◌≤◌, List, ◌++◌, ◌≡◌, length, take, drop}
-use Rattle.base.specs.Choice.{if◌then◌else◌}
+use Rattle.base.specs.Choice.{when◌then◌else◌}
 use Rattle.base.specs.Store.{stored}
 use Rattle.player_script.specs.Script.{width, records_in, good_in, stop_of}
 use Rattle.player_script.specs.Pieces.{Gone, bad, nothing, good_after, EachWhole, joined, walked_over}
@@ -31,13 +31,13 @@ pub record EndStays (room later : List ℕ) : Type 0 where
 
 -- what a script's last bytes tell of it, after the records gone by
 unfoldable pub end_of : Form → Gone → List ℕ → Input
-end_of f gone rest = if good_after f gone rest then LongGood (stop_of (records_in f rest)) else LongBad
+end_of f gone rest = when good_after f gone rest then LongGood (stop_of (records_in f rest)) else LongBad
 
 -- ---- what they are together
 
 -- document 02, item 11: "then 16 .. then a tick too large to turn back with 25, then 15", for a script that is longer than the room
 unfoldable pub told_of : Form → List ℕ → Input
-told_of f script = if good_in f script then LongGood (stop_of (records_in f script)) else LongBad
+told_of f script = when good_in f script then LongGood (stop_of (records_in f script)) else LongBad
 
 -- the last bytes tell what the whole tells, after any number of pieces of whole records
 abbrev pub LongTold : Type 0

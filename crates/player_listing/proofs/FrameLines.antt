@@ -5,7 +5,7 @@ use mathlib.Core.Path.{◌≡◌, refl, sym, ap, subst, subst₂, ◌∙◌}
 use mathlib.Core.Bool.{Bool, true, false}
 use mathlib.Core.List.{List, [], ◌∷◌, ◌++◌, append_assoc}
 use lib.ListN.{length, take, length-append}
-use Rattle.base.specs.Choice.{if◌then◌else◌}
+use Rattle.base.specs.Choice.{when◌then◌else◌}
 use Rattle.base.proofs.Choices.{if_below}
 use Rattle.frame.specs.Check.{exclusive_or}
 use Rattle.frame.specs.Frame.{protected_bytes, body_bytes, preamble_bytes, frame_bytes}
@@ -30,29 +30,29 @@ use Rattle.player_listing.specs.declared.Monitor.{Monitor}
 
 -- ---- choices
 
-both_then : (a l m : Bool) → (if (if a then l else false) then m else false) ≡ (if a then (if l then m else false) else false)
-unfolding if◌then◌else◌
+both_then : (a l m : Bool) → (when (when a then l else false) then m else false) ≡ (when a then (when l then m else false) else false)
+unfolding when◌then◌else◌
 both_then true l m = refl
 both_then false l m = refl
 
-itself : (a : Bool) → a ≡ (if a then true else false)
-unfolding if◌then◌else◌
+itself : (a : Bool) → a ≡ (when a then true else false)
+unfolding when◌then◌else◌
 itself true = refl
 itself false = refl
 
-true_first : (a : Bool) → (if true then a else false) ≡ a
-unfolding if◌then◌else◌
+true_first : (a : Bool) → (when true then a else false) ≡ a
+unfolding when◌then◌else◌
 true_first a = refl
 
 -- alone in n ticks, and in the next
-alone_next : (lone : ℕ → Bool) (tick n : ℕ) → (if alone_for lone tick n then lone (tick + n) else false) ≡ alone_for lone tick (suc n)
+alone_next : (lone : ℕ → Bool) (tick n : ℕ) → (when alone_for lone tick n then lone (tick + n) else false) ≡ alone_for lone tick (suc n)
 unfolding alone_for
 alone_next lone tick zero = true_first (lone (tick + 0)) ∙ ap lone (omega arith) ∙ itself (lone tick)
 alone_next lone tick (suc n) =
     let there : tick + suc n ≡ tick + 1 + n = omega arith in
     both_then (lone tick) (alone_for lone (tick + 1) n) (lone (tick + suc n))
-    ∙ ap (λ (m : ℕ). if lone tick then (if alone_for lone (tick + 1) n then lone m else false) else false) there
-    ∙ ap (λ (b : Bool). if lone tick then b else false) (alone_next lone (tick + 1) n)
+    ∙ ap (λ (m : ℕ). when lone tick then (when alone_for lone (tick + 1) n then lone m else false) else false) there
+    ∙ ap (λ (b : Bool). when lone tick then b else false) (alone_next lone (tick + 1) n)
 
 -- ---- the characters of a frame
 
@@ -108,14 +108,14 @@ more k h = sym (if_below k 65535 (k + 1) (k + 1) 65535 h refl)
 module _ (lone : ℕ → Bool) (party : ℕ) where
   -- a character of which the reader tells nothing, and the last of a frame
   hears_nothing : (tick : ℕ) (r s : Receiver) (k c : ℕ) (alone : Bool) → taken r (Character c) ≡ tells s Nothing
-      → listens tick party (lone tick) (monitor_at r k alone) (Sent.Character c) ≡ goes_on s (one_more k) (if alone then lone tick else false)
+      → listens tick party (lone tick) (monitor_at r k alone) (Sent.Character c) ≡ goes_on s (one_more k) (when alone then lone tick else false)
   unfolding listens ends_with
-  hears_nothing tick r s k c alone e = ap (λ (t : Taken). ends_by tick party (one_more k) (if alone then lone tick else false) t.receiver t.event) e
+  hears_nothing tick r s k c alone e = ap (λ (t : Taken). ends_by tick party (one_more k) (when alone then lone tick else false) t.receiver t.event) e
 
   hears_last : (tick : ℕ) (r : Receiver) (k c : ℕ) (alone : Bool) (w : Whole) → taken r (Character c) ≡ tells idle (Frame w)
-      → listens tick party (lone tick) (monitor_at r k alone) (Sent.Character c) ≡ frame_ends (line_of tick party w.header (one_more k)) (if alone then lone tick else false)
+      → listens tick party (lone tick) (monitor_at r k alone) (Sent.Character c) ≡ frame_ends (line_of tick party w.header (one_more k)) (when alone then lone tick else false)
   unfolding listens ends_with
-  hears_last tick r k c alone w e = ap (λ (t : Taken). ends_by tick party (one_more k) (if alone then lone tick else false) t.receiver t.event) e
+  hears_last tick r k c alone w e = ap (λ (t : Taken). ends_by tick party (one_more k) (when alone then lone tick else false) t.receiver t.event) e
 
   -- the lines behind a tick
   behind_tick : ℕ → List Sent → PartyLines → List Line
@@ -124,7 +124,7 @@ module _ (lone : ℕ → Bool) (party : ℕ) where
   -- characters of which the reader tells nothing
   no_line : {r s : Receiver} {b d cs : List ℕ} (tick k : ℕ) (alone : Bool) (us : List Sent) → Leads r b cs s d → k + length cs ≤ 65535
       → party_lines lone party tick (monitor_at r k alone) (sent_characters cs ++ us)
-      ≡ party_lines lone party (tick + length cs) (monitor_at s (k + length cs) (if alone then alone_for lone tick (length cs) else false)) us
+      ≡ party_lines lone party (tick + length cs) (monitor_at s (k + length cs) (when alone then alone_for lone tick (length cs) else false)) us
   unfolding party_lines sent_characters alone_for behind_tick
   no_line {r} tick k alone us stays small =
       let t : tick ≡ tick + 0 = omega arith in
@@ -134,7 +134,7 @@ module _ (lone : ℕ → Bool) (party : ℕ) where
       let below : k < 65535 = omega arith in
       let ticks : tick + 1 + length cs ≡ tick + suc (length cs) = omega arith in
       let counts : k + 1 + length cs ≡ k + suc (length cs) = omega arith in
-      let now : Bool = if alone then lone tick else false in
+      let now : Bool = when alone then lone tick else false in
       ap (behind_tick tick (sent_characters cs ++ us)) (hears_nothing tick r s k c alone p)
       ∙ ap (λ (n : ℕ). party_lines lone party (tick + 1) (monitor_at s n now) (sent_characters cs ++ us)) (more k below)
       ∙ no_line (tick + 1) (k + 1) now us l (omega arith)
@@ -148,7 +148,7 @@ module _ (lone : ℕ → Bool) (party : ℕ) where
   no_line_at_stop tick k (suc n) alone us stays small = absurd (omega arith)
   no_line_at_stop {r} tick k (suc n) alone us (hears {s = s} {c = c} {cs = cs} p q l) small =
       ap (behind_tick tick (sent_characters (take n (cs ++ us)))) (hears_nothing tick r s k c alone p)
-      ∙ no_line_at_stop (tick + 1) (one_more k) n (if alone then lone tick else false) us l (omega arith)
+      ∙ no_line_at_stop (tick + 1) (one_more k) n (when alone then lone tick else false) us l (omega arith)
 
   -- a frame from its first character to its last
   one_line : (tick : ℕ) (w : List ℕ) (f : IsFrame w) (us : List Sent)
@@ -159,9 +159,9 @@ module _ (lone : ℕ → Bool) (party : ℕ) where
       let n : ℕ = length x.front in
       let c : ℕ = x.last in
       let long : length w ≡ n + 1 = ap (λ (l : List ℕ). length l) x.is ∙ length-append x.front (c ∷ []) in
-      let before : Bool = if true then alone_for lone tick n else false in
-      let alone : (if before then lone (tick + n) else false) ≡ alone_for lone tick (length w) =
-      ap (λ (b : Bool). if b then lone (tick + n) else false) (true_first (alone_for lone tick n)) ∙ alone_next lone tick n ∙ ap (alone_for lone tick) (omega (arith, long)) in
+      let before : Bool = when true then alone_for lone tick n else false in
+      let alone : (when before then lone (tick + n) else false) ≡ alone_for lone tick (length w) =
+      ap (λ (b : Bool). when b then lone (tick + n) else false) (true_first (alone_for lone tick n)) ∙ alone_next lone tick n ∙ ap (alone_for lone tick) (omega (arith, long)) in
       let last : tick + n ≡ tick + length w - 1 = omega (arith, long) in
       let behind : tick + n + 1 ≡ tick + length w = omega (arith, long) in
       let count : one_more (0 + n) ≡ length w = more (0 + n) (omega (arith, long, x.short)) ∙ (omega (arith, long)) in
@@ -169,7 +169,7 @@ module _ (lone : ℕ → Bool) (party : ℕ) where
       ∙ ap (party_lines lone party tick quiet_monitor) (characters_end x.front c us)
       ∙ no_line tick 0 true (Sent.Character c ∷ us) x.leads (omega (arith, long, x.short))
       ∙ ap (behind_tick (tick + n) us) (hears_last (tick + n) x.reader (0 + n) c before x.whole x.told)
-      ∙ (λ i. (if alone i then line_of (last i) party (x.header_is i) (count i) ∷ [] else []) ++ party_lines lone party (behind i) quiet_monitor us)
+      ∙ (λ i. (when alone i then line_of (last i) party (x.header_is i) (count i) ∷ [] else []) ++ party_lines lone party (behind i) quiet_monitor us)
 
   -- ---- what a party sends, as silent ticks and frames
 

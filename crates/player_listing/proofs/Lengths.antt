@@ -6,7 +6,7 @@ use mathlib.Core.Bool.{Bool, true, false}
 use mathlib.Core.Path.{◌≡◌, refl}
 use mathlib.Core.List.{List, [], ◌∷◌, ◌++◌}
 use lib.ListN.{length, length-append}
-use Rattle.base.specs.Choice.{if◌then◌else◌, ◌<?◌, ◌=?◌}
+use Rattle.base.specs.Choice.{when◌then◌else◌, ◌<?◌, ◌=?◌}
 use Rattle.texts.specs.Decimal.{decimal_of}
 use Rattle.frame.specs.Delimiter.{stx, ack}
 use Rattle.line.specs.Reader.{taken}
@@ -24,8 +24,8 @@ use Rattle.player_listing.specs.declared.Monitor.{Monitor}
 
 -- ---- a line
 
-pub if_most : (t : Bool) (a b : List ℕ) (n : ℕ) → length a ≤ n → length b ≤ n → length (if t then a else b) ≤ n
-unfolding if◌then◌else◌
+pub if_most : (t : Bool) (a b : List ℕ) (n : ℕ) → length a ≤ n → length b ≤ n → length (when t then a else b) ≤ n
+unfolding when◌then◌else◌
 if_most true a b n h k = h
 if_most false a b n h k = k
 
@@ -78,10 +78,10 @@ lines_most (l ∷ ls) = omega (arith, length-append (line_text l) (lines_text ls
 
 -- a frame's line is left out where somebody else sent
 abbrev most : Bool → ℕ
-most alone = if alone then 1 else 0
+most alone = when alone then 1 else 0
 
 frame_most : (l : Line) (alone : Bool) → length (frame_ends l alone).lines ≤ most alone
-unfolding frame_ends if◌then◌else◌
+unfolding frame_ends when◌then◌else◌
 frame_most l true = omega arith
 frame_most l false = omega arith
 
@@ -96,8 +96,8 @@ ends_with_most : (tick party n : ℕ) (alone : Bool) (t : Taken) → length (end
 unfolding ends_with
 ends_with_most tick party n alone t = ends_most tick party n alone t.receiver t.event
 
-both_most : (a b : Bool) → (most (if a then b else false) ≤ most b) × (most b ≤ 1)
-unfolding if◌then◌else◌
+both_most : (a b : Bool) → (most (when a then b else false) ≤ most b) × (most b ≤ 1)
+unfolding when◌then◌else◌
 both_most true true = (omega arith, omega arith)
 both_most true false = (omega arith, omega arith)
 both_most false true = (omega arith, omega arith)
@@ -107,7 +107,7 @@ party_most : (tick party : ℕ) (lone : Bool) (e : Monitor) (s : Sent) → (leng
 unfolding listens
 party_most tick party lone e Silent = (omega arith, omega arith)
 party_most tick party lone e (Sent.Character c) =
-    let here = ends_with_most tick party (one_more e.count) (if e.alone then lone else false) (taken e.receiver (Character c)) in
+    let here = ends_with_most tick party (one_more e.count) (when e.alone then lone else false) (taken e.receiver (Character c)) in
     let bounds = both_most e.alone lone in
     (omega (arith, here, bounds.0, bounds.1), omega (arith, here, bounds.0))
 
@@ -119,7 +119,7 @@ lines_senders tick party lone (e ∷ es) (s ∷ ss) =
     omega (arith, length-append (listens tick party lone e s).lines (lines_of tick (party + 1) lone es ss).lines, (party_most tick party lone e s).0, lines_senders tick (party + 1) lone es ss)
 
 lines_shared : (tick party : ℕ) (es : List Monitor) (ss : List Sent) → length (lines_of tick party false es ss).lines ≤ 0
-unfolding lines_of if◌then◌else◌
+unfolding lines_of when◌then◌else◌
 lines_shared tick party [] ss = omega arith
 lines_shared tick party (e ∷ es) [] = omega arith
 lines_shared tick party (e ∷ es) (s ∷ ss) =

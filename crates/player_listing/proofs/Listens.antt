@@ -7,7 +7,7 @@ use mathlib.Core.Path.{◌≡◌, refl, sym, ap, subst, ◌∙◌}
 use mathlib.Core.List.{List, [], ◌∷◌, ◌++◌, append-nil, append_assoc}
 use lib.ListN.{length, take, drop, get_or, set, replicate, length-set, drop_of_length-le}
 use lib.Seq.{drop-cons, drop-set-lt, take_all}
-use Rattle.base.specs.Choice.{if◌then◌else◌, ◌≤?◌}
+use Rattle.base.specs.Choice.{when◌then◌else◌, ◌≤?◌}
 use Rattle.base.proofs.Choices.{if_is_true, if_is_false}
 use Rattle.base.proofs.Lists.{front_more}
 use Rattle.texts.specs.Put.{Out, out_of, put, PutIs}
@@ -51,14 +51,14 @@ pub ends_alone : (l : Line) (alone : Bool) (e : Monitor) (before after : List �
 unfolding frame_ends
 ends_alone l alone e before after at r a p q = record {
   monitor_is = p;
-  text = put_same (line_text l) (lines_text (if alone then l ∷ [] else [])) before at r after q (one_line l ∙ ap lines_text (sym (if_is_true alone (l ∷ []) [] a)));
+  text = put_same (line_text l) (lines_text (when alone then l ∷ [] else [])) before at r after q (one_line l ∙ ap lines_text (sym (if_is_true alone (l ∷ []) [] a)));
 }
 
 pub ends_with_others : (l : Line) (alone : Bool) (e : Monitor) (before : List ℕ) (at : ℕ) → alone ≡ false → e ≡ quiet_monitor → PartyIs (frame_ends l alone) before at e at before
 unfolding frame_ends lines_text
 ends_with_others l alone e before at a p = record {
   monitor_is = p;
-  text = put_same [] (lines_text (if alone then l ∷ [] else [])) before at at before (put_none before at) (ap lines_text (sym (if_is_false alone (l ∷ []) [] a)));
+  text = put_same [] (lines_text (when alone then l ∷ [] else [])) before at at before (put_none before at) (ap lines_text (sym (if_is_false alone (l ∷ []) [] a)));
 }
 
 pub ruleset ends = (refl, ends_alone, ends_with_others)
@@ -96,7 +96,7 @@ pub ruleset tells = (refl, told_nothing, told_passed_over, told_broken, told_dam
 
 -- a character
 pub hears : (tick party : ℕ) (lone : Bool) (e : Monitor) (c : ℕ) (n : ℕ) (alone : Bool) (t : Taken) (before after : List ℕ) (at : ℕ) (f : Monitor) (r : ℕ)
-    → t ≡ character e.receiver.place e.receiver c → n ≡ one_more e.count → alone ≡ (if e.alone then lone else false) → PartyIs (ends_with tick party n alone t) before at f r after
+    → t ≡ character e.receiver.place e.receiver c → n ≡ one_more e.count → alone ≡ (when e.alone then lone else false) → PartyIs (ends_with tick party n alone t) before at f r after
     → PartyIs (listens tick party lone e (Sent.Character c)) before at f r after
 unfolding listens taken
 hears tick party lone e c n alone t before after at f r p q s v =

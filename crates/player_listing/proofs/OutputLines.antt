@@ -5,7 +5,7 @@ use mathlib.Core.Path.{◌≡◌, refl, sym, ap, subst, ◌∙◌}
 use mathlib.Core.Bool.{Bool, true, false}
 use mathlib.Core.List.{List, [], ◌∷◌, ◌++◌, append-nil}
 use lib.ListN.{length, get_or, replicate, length-replicate, get_or-replicate}
-use Rattle.base.specs.Choice.{if◌then◌else◌, ◌=?◌}
+use Rattle.base.specs.Choice.{when◌then◌else◌, ◌=?◌}
 use Rattle.base.proofs.Choices.{if_equal, if_unequal}
 use Rattle.line.specs.Reader.{taken}
 use Rattle.line.specs.declared.Event.{Event}
@@ -22,13 +22,13 @@ use Rattle.player_listing.proofs.FrameLines.{no_gap_listed}
 abbrev none : List Line
 none = []
 
-no_lines : (b : Bool) → none ≡ (if b then none else none)
-unfolding if◌then◌else◌
+no_lines : (b : Bool) → none ≡ (when b then none else none)
+unfolding when◌then◌else◌
 no_lines true = refl
 no_lines false = refl
 
-if_append : (b : Bool) (l : Line) (ls ks both : List Line) → both ≡ ls ++ ks → (if b then l ∷ both else both) ≡ (if b then l ∷ ls else ls) ++ ks
-unfolding if◌then◌else◌
+if_append : (b : Bool) (l : Line) (ls ks both : List Line) → both ≡ ls ++ ks → (when b then l ∷ both else both) ≡ (when b then l ∷ ls else ls) ++ ks
+unfolding when◌then◌else◌
 if_append true l ls ks both e = ap (λ (x : List Line). l ∷ x) e
 if_append false l ls ks both e = e
 
@@ -40,12 +40,12 @@ lines_by_append k (l ∷ ls) ks = if_append (l.party =? k) l (lines_by k ls) (li
 -- ---- one party
 
 module _ (k tick party : ℕ) where
-  frame_by : (h : Line) (alone : Bool) → h.party ≡ party → lines_by k (frame_ends h alone).lines ≡ (if party =? k then (frame_ends h alone).lines else [])
-  unfolding lines_by frame_ends if◌then◌else◌
-  frame_by h true e = ap (λ (n : ℕ). if n =? k then h ∷ [] else []) e
+  frame_by : (h : Line) (alone : Bool) → h.party ≡ party → lines_by k (frame_ends h alone).lines ≡ (when party =? k then (frame_ends h alone).lines else [])
+  unfolding lines_by frame_ends when◌then◌else◌
+  frame_by h true e = ap (λ (n : ℕ). when n =? k then h ∷ [] else []) e
   frame_by h false e = no_lines (party =? k)
 
-  event_by : (count : ℕ) (alone : Bool) (r : Receiver) (e : Event) → lines_by k (ends_by tick party count alone r e).lines ≡ (if party =? k then (ends_by tick party count alone r e).lines else [])
+  event_by : (count : ℕ) (alone : Bool) (r : Receiver) (e : Event) → lines_by k (ends_by tick party count alone r e).lines ≡ (when party =? k then (ends_by tick party count alone r e).lines else [])
   unfolding lines_by
   event_by count alone r Nothing = no_lines (party =? k)
   event_by count alone r PassedOver = no_lines (party =? k)
@@ -53,11 +53,11 @@ module _ (k tick party : ℕ) where
   event_by count alone r (Frame w) = frame_by (line_of tick party w.header count) alone refl
   event_by count alone r (Damaged w m) = no_lines (party =? k)
 
-  listens_by : (lone : Bool) (e : Monitor) (s : Sent) → lines_by k (listens tick party lone e s).lines ≡ (if party =? k then (listens tick party lone e s).lines else [])
+  listens_by : (lone : Bool) (e : Monitor) (s : Sent) → lines_by k (listens tick party lone e s).lines ≡ (when party =? k then (listens tick party lone e s).lines else [])
   unfolding listens ends_with lines_by
   listens_by lone e Silent = no_lines (party =? k)
   listens_by lone e (Sent.Character c) =
-      event_by (one_more e.count) (if e.alone then lone else false) (taken e.receiver (Character c)).receiver (taken e.receiver (Character c)).event
+      event_by (one_more e.count) (when e.alone then lone else false) (taken e.receiver (Character c)).receiver (taken e.receiver (Character c)).event
 
 own : (tick k : ℕ) (lone : Bool) (e : Monitor) (s : Sent) → lines_by k (listens tick k lone e s).lines ≡ (listens tick k lone e s).lines
 own tick k lone e s = listens_by k tick k lone e s ∙ sym (if_equal k k _ (listens tick k lone e s).lines [] refl refl)

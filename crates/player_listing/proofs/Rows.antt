@@ -8,7 +8,7 @@ use mathlib.Core.Path.{◌≡◌, refl, sym, ap, subst, ◌∙◌}
 use mathlib.Core.List.{List, [], ◌∷◌, map}
 use lib.ListN.{length, take, drop, get_or, set, length-set, length-map, get_or-map}
 use lib.Seq.{drop-cons, map-set_same}
-use Rattle.base.specs.Choice.{if◌then◌else◌, ◌<?◌, ◌≤?◌}
+use Rattle.base.specs.Choice.{when◌then◌else◌, ◌<?◌, ◌≤?◌}
 use Rattle.base.proofs.Choices.{if_below, if_not_below, if_equal, if_unequal}
 use Rattle.texts.specs.Put.{out_of, put}
 use Rattle.texts.proofs.Puts.{put_length}
@@ -91,10 +91,10 @@ heard_quiet : quiet_monitor ≡ heard_so_far quiet_monitor
 heard_quiet = heard_nothing quiet_monitor quiet_monitor refl refl
 
 one_at_least : (n : ℕ) → one_more n ≡ 0 → ⊥
-unfolding if◌then◌else◌
+unfolding when◌then◌else◌
 one_at_least n = go (n <? 65535)
   where
-    go : (t : Bool) → (if t then n + 1 else 65535) ≡ 0 → ⊥
+    go : (t : Bool) → (when t then n + 1 else 65535) ≡ 0 → ⊥
     go true e = absurd (omega (arith, e))
     go false e = absurd (omega (arith, e))
 
@@ -112,7 +112,7 @@ heard_character : (tick party : ℕ) (lone : Bool) (m : Monitor) (c : ℕ) → (
 unfolding listens ends_with
 heard_character tick party lone m c =
     let t : Taken = taken m.receiver (Character c) in
-    heard_by tick party m.count (if m.alone then lone else false) t.receiver t.event
+    heard_by tick party m.count (when m.alone then lone else false) t.receiver t.event
 
 -- ---- the loop over eight parties
 
@@ -203,18 +203,18 @@ pub record RowsListed (tick n : ℕ) (rows : List (List ℕ)) (ms₀ : List Moni
       ≡ put (out_of before at) (lines_text (lines_from tick (all_heard ms₀) (rows_sent (take n rows))))
 
 lesser_first : (m n : ℕ) → lesser m n ≤ m
-unfolding if◌then◌else◌
+unfolding when◌then◌else◌
 lesser_first m n = go (m <? n) (λ e. ltb-false m n e)
   where
-    go : (t : Bool) → (t ≡ false → n ≤ m) → (if t then m else n) ≤ m
+    go : (t : Bool) → (t ≡ false → n ≤ m) → (when t then m else n) ≤ m
     go true h = omega arith
     go false h = h refl
 
 lesser_second : (m n : ℕ) → lesser m n ≤ n
-unfolding if◌then◌else◌
+unfolding when◌then◌else◌
 lesser_second m n = go (m <? n) (λ e. ltb-true m n e)
   where
-    go : (t : Bool) → (t ≡ true → m < n) → (if t then m else n) ≤ n
+    go : (t : Bool) → (t ≡ true → m < n) → (when t then m else n) ≤ n
     go true h = omega (arith, h refl)
     go false h = omega arith
 

@@ -2,7 +2,7 @@
 -- Document 01, "The player": "one line per frame that its sender sent to the end before the stop, alone in each tick". What a master or a device sends from its start on are silent ticks and frames, and the output has a line for each frame that it sent to the end alone, and no other line of that party.
 use Rattle.std.specs.Prelude.{ℕ, zero, suc, ◌+◌, ◌-◌, ◌<◌, ◌≡◌, Bool, true, false, List, [], ◌∷◌, ◌++◌, length, take, get_or, replicate}
 use Rattle.base.specs.Refusal.{accepted}
-use Rattle.base.specs.Choice.{if◌then◌else◌, ◌=?◌}
+use Rattle.base.specs.Choice.{when◌then◌else◌, ◌=?◌}
 use Rattle.line.specs.Profile.{profile_made}
 use Rattle.line.specs.declared.Profile.{Profile}
 use Rattle.turns.specs.Link.{MasterSide, DeviceSide}
@@ -22,7 +22,7 @@ sent_characters (c ∷ cs) = Character c ∷ sent_characters cs
 -- "alone in each tick", in n ticks from this one on; `lone` says of each tick whether at most one party sends in it
 unfoldable pub alone_for : (ℕ → Bool) → ℕ → ℕ → Bool
 alone_for lone tick zero = true
-alone_for lone tick (suc n) = if lone tick then alone_for lone (tick + 1) n else false
+alone_for lone tick (suc n) = when lone tick then alone_for lone (tick + 1) n else false
 
 -- the lines of one party, from this tick on, by what it sends
 unfoldable pub party_lines : (ℕ → Bool) → ℕ → ℕ → Monitor → List Sent → List Line
@@ -33,7 +33,7 @@ party_lines lone party tick e (s ∷ ss) =
 
 -- the line of a frame whose first character is sent in this tick: "tick of its last character, party, type, master (0 primary), length in characters"
 unfoldable pub frame_line : (ℕ → Bool) → ℕ → ℕ → (w : List ℕ) → IsFrame w → List Line
-frame_line lone party tick w f = if alone_for lone tick (length w) then line_of (tick + length w - 1) party f.header (length w) ∷ [] else []
+frame_line lone party tick w f = when alone_for lone tick (length w) then line_of (tick + length w - 1) party f.header (length w) ∷ [] else []
 
 -- what a party sends from this tick on, as silent ticks and frames, and the lines of the frames that it "sent to the end before the stop, alone in each tick". A frame that the stop cuts off has no line.
 pub data Frames (lone : ℕ → Bool) (party : ℕ) : ℕ → List Sent → List Line → Type 0 where
@@ -65,7 +65,7 @@ DeviceListed limit =
 -- the lines of one party
 unfoldable pub lines_by : ℕ → List Line → List Line
 lines_by party [] = []
-lines_by party (l ∷ ls) = if l.party =? party then l ∷ lines_by party ls else lines_by party ls
+lines_by party (l ∷ ls) = when l.party =? party then l ∷ lines_by party ls else lines_by party ls
 
 -- what it sends in each tick
 unfoldable pub sent_by : ℕ → List (List Sent) → List Sent

@@ -1,7 +1,7 @@
 -- To be believed: what the engine must do, or what is claimed of it.
 -- Document 01, "The player": "one line per frame that its sender sent to the end before the stop, alone in each tick". What every party sent in a tick is a list: primary, secondary, then the devices.
 use Rattle.std.specs.Prelude.{ℕ, ◌+◌, Bool, true, false, List, [], ◌∷◌, ◌++◌}
-use Rattle.base.specs.Choice.{if◌then◌else◌, ◌<?◌, ◌≤?◌}
+use Rattle.base.specs.Choice.{when◌then◌else◌, ◌<?◌, ◌≤?◌}
 use Rattle.frame.specs.declared.Header.{Header}
 use Rattle.line.specs.Reader.{idle, taken}
 use Rattle.line.specs.declared.Event.{Event}
@@ -41,7 +41,7 @@ goes_on r count alone = record { monitor = record { receiver = r; count = count;
 
 -- a frame that was sent to the end, "alone in each tick" or not
 unfoldable pub frame_ends : Line → Bool → PartyLines
-frame_ends l alone = record { monitor = quiet_monitor; lines = if alone then l ∷ [] else [] }
+frame_ends l alone = record { monitor = quiet_monitor; lines = when alone then l ∷ [] else [] }
 
 -- after a character, by what the reader tells of it
 abbrev pub ends_by : ℕ → ℕ → ℕ → Bool → Receiver → Event → PartyLines
@@ -56,13 +56,13 @@ ends_with tick party count alone t = ends_by tick party count alone t.receiver t
 
 -- one more character. The count stops at 65,535; the longest frame has 284 characters.
 abbrev pub one_more : ℕ → ℕ
-one_more n = if n <? 65535 then n + 1 else 65535
+one_more n = when n <? 65535 then n + 1 else 65535
 
 -- a tick of one party. The characters of a frame are sent in successive ticks, so after a silent tick the monitor starts again.
 unfoldable pub listens : ℕ → ℕ → Bool → Monitor → Sent → PartyLines
 listens tick party lone e Silent = record { monitor = quiet_monitor; lines = [] }
 listens tick party lone e (Sent.Character c) =
-    ends_with tick party (one_more e.count) (if e.alone then lone else false) (taken e.receiver (Character c))
+    ends_with tick party (one_more e.count) (when e.alone then lone else false) (taken e.receiver (Character c))
 
 -- ---- every party
 

@@ -1,7 +1,7 @@
 -- To be believed: what the engine must do, or what is claimed of it.
 -- Document 01, "The player": the text of the output, which is the header line and then a line for each frame.
 use Rattle.std.specs.Prelude.{ℕ, Bool, List, [], ◌∷◌, ◌++◌}
-use Rattle.base.specs.Choice.{if◌then◌else◌, ◌=?◌}
+use Rattle.base.specs.Choice.{when◌then◌else◌, ◌=?◌}
 use Rattle.texts.specs.Decimal.{decimal_of}
 use Rattle.frame.specs.Delimiter.{stx, ack}
 use Rattle.player_listing.specs.Lines.{Line}
@@ -18,11 +18,11 @@ head_line =
 
 -- the types' names, fixed byte strings: STX, ACK, BACK
 abbrev pub type_name : ℕ → List ℕ
-type_name frame = if frame =? stx then 83 ∷ 84 ∷ 88 ∷ [] else (if frame =? ack then 65 ∷ 67 ∷ 75 ∷ [] else 66 ∷ 65 ∷ 67 ∷ 75 ∷ [])
+type_name frame = when frame =? stx then 83 ∷ 84 ∷ 88 ∷ [] else (when frame =? ack then 65 ∷ 67 ∷ 75 ∷ [] else 66 ∷ 65 ∷ 67 ∷ 75 ∷ [])
 
 -- "master (0 primary)"
 abbrev pub master_digit : Bool → ℕ
-master_digit primary = if primary then 48 else 49
+master_digit primary = when primary then 48 else 49
 
 -- a word of a line, with a space after it
 abbrev pub word : List ℕ → List ℕ

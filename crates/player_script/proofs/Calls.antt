@@ -6,7 +6,7 @@ use mathlib.Core.Path.{◌≡◌, refl, sym, ap, ◌∙◌}
 use mathlib.Core.List.{List, [], ◌∷◌}
 use lib.ListN.{length, drop}
 use borrow.Author.Tests.{eq-eqb, ne_eqb}
-use Rattle.base.specs.Choice.{if◌then◌else◌, ◌=?◌}
+use Rattle.base.specs.Choice.{when◌then◌else◌, ◌=?◌}
 use Rattle.base.proofs.Choices.{if_true, if_false, if_is_true, if_is_false}
 use Rattle.player_script.specs.Script.{width, records_in, wanted_at, leading, tick_of, place_behind, tick_at}
 use Rattle.player_script.specs.Walk.{entry_in, wanted_by, kept, with_record, no_calls}
@@ -45,21 +45,21 @@ pub ruleset keeps = (kept_own, kept_none)
 
 unfoldable pub walked : ℕ → ℕ → List Entry → ScriptTick → ScriptTick
 walked w tick [] t = t
-walked w tick (e ∷ es) t = if e.tick =? tick then walked w tick es (with_record w t e) else t
+walked w tick (e ∷ es) t = when e.tick =? tick then walked w tick es (with_record w t e) else t
 
 -- a party's call, and where it has none the later one
 abbrev first : ScriptCall → ScriptCall → ScriptCall
 first before later = kept before true later
 
 first_none : (w : ScriptCall) → first w Nothing ≡ w
-unfolding if◌then◌else◌
+unfolding when◌then◌else◌
 first_none Nothing = refl
 first_none (Call a b) = refl
 
 -- the record's call comes before the later ones
 kept_first : (before : ScriptCall) (own stop : Bool) (a b : ℕ) (later : ScriptCall)
-    → first (kept before own (if stop then Nothing else Call a b)) later ≡ first before (if (if true then (if stop then false else own) else false) then Call a b else later)
-unfolding if◌then◌else◌
+    → first (kept before own (when stop then Nothing else Call a b)) later ≡ first before (when (when true then (when stop then false else own) else false) then Call a b else later)
+unfolding when◌then◌else◌
 kept_first (Call x y) own stop a b later = refl
 kept_first Nothing true true a b later = refl
 kept_first Nothing true false a b later = refl
@@ -68,31 +68,31 @@ kept_first Nothing false false a b later = refl
 
 module _ (w : ℕ) (f : ScriptTick → ScriptCall) (party : ℕ) (one : (t : ScriptTick) (e : Entry) → f (with_record w t e) ≡ kept (f t) (e.party =? party) (wanted_by e)) where
   walked_party : (tick : ℕ) (es : List Entry) (t : ScriptTick) → f (walked w tick es t) ≡ first (f t) (wanted_at tick party (leading tick es))
-  unfolding walked leading wanted_at if◌then◌else◌
+  unfolding walked leading wanted_at when◌then◌else◌
   walked_party tick [] t = sym (first_none (f t))
   walked_party tick (e ∷ es) t = go (e.tick =? tick) refl (walked_party tick es (with_record w t e))
     where
       go : (b : Bool) → (e.tick =? tick) ≡ b → f (walked w tick es (with_record w t e)) ≡ first (f (with_record w t e)) (wanted_at tick party (leading tick es))
-          → f (if b then walked w tick es (with_record w t e) else t) ≡ first (f t) (wanted_at tick party (if b then e ∷ leading tick es else []))
+          → f (when b then walked w tick es (with_record w t e) else t) ≡ first (f t) (wanted_at tick party (when b then e ∷ leading tick es else []))
       go false q rest = sym (first_none (f t))
       go true q rest =
           rest
           ∙ ap (λ (x : ScriptCall). first x (wanted_at tick party (leading tick es))) (one t e)
           ∙ kept_first (f t) (e.party =? party) (e.action =? 0) e.action e.argument (wanted_at tick party (leading tick es))
-          ∙ ap (λ (b : Bool). first (f t) (if (if b then (if e.action =? 0 then false else e.party =? party) else false) then Call e.action e.argument else (wanted_at tick party (leading tick es)))) (sym q)
+          ∙ ap (λ (b : Bool). first (f t) (when (when b then (when e.action =? 0 then false else e.party =? party) else false) then Call e.action e.argument else (wanted_at tick party (leading tick es)))) (sym q)
 
 walked_next : (w tick : ℕ) (es : List Entry) (t : ScriptTick) → (walked w tick es t).next ≡ place_behind w t.next (leading tick es)
-unfolding walked leading with_record place_behind if◌then◌else◌
+unfolding walked leading with_record place_behind when◌then◌else◌
 walked_next w tick [] t = refl
 walked_next w tick (e ∷ es) t = go (e.tick =? tick) (walked_next w tick es (with_record w t e))
   where
     go : (b : Bool) → (walked w tick es (with_record w t e)).next ≡ place_behind w (t.next + w) (leading tick es)
-        → (if b then walked w tick es (with_record w t e) else t).next ≡ place_behind w t.next (if b then e ∷ leading tick es else [])
+        → (when b then walked w tick es (with_record w t e) else t).next ≡ place_behind w t.next (when b then e ∷ leading tick es else [])
     go false rest = refl
     go true rest = rest
 
 pub walked_all : (w at tick : ℕ) (es : List Entry) → walked w tick es (no_calls at) ≡ tick_of tick (leading tick es) (place_behind w at (leading tick es))
-unfolding with_record if◌then◌else◌
+unfolding with_record when◌then◌else◌
 walked_all w at tick es = λ i. record {
   primary = walked_party w (λ (t : ScriptTick). t.primary) 0 (λ t e. refl) tick es (no_calls at) i;
   secondary = walked_party w (λ (t : ScriptTick). t.secondary) 1 (λ t e. refl) tick es (no_calls at) i;
@@ -133,12 +133,12 @@ pub walk_within : (f : Form) (script : List ℕ) (at tick w : ℕ) (t : ScriptTi
 walk_within f script at tick w t v p h = omega (arith, v.within, p, h, width_some f)
 
 module _ (f : Form) (script : List ℕ) (at tick w : ℕ) (t : ScriptTick) (e : Entry) (v : Walking f script at tick t) (same : w ≡ width f) (h : w ≤ length script - t.next) (p : e ≡ entry_in f script t.next) where
-  walk_step : tick_at f script at tick ≡ (if e.tick =? tick then walked (width f) tick (records_in f (drop (t.next + width f) script)) (with_record (width f) t e) else t)
+  walk_step : tick_at f script at tick ≡ (when e.tick =? tick then walked (width f) tick (records_in f (drop (t.next + width f) script)) (with_record (width f) t e) else t)
   unfolding walked
   walk_step =
       sym v.walks
       ∙ ap (λ (es : List Entry). walked (width f) tick es t) (records_more f script t.next (walk_within f script at tick w t v same h))
-      ∙ ap (λ (x : Entry). if x.tick =? tick then walked (width f) tick (records_in f (drop (t.next + width f) script)) (with_record (width f) t x) else t) (sym p)
+      ∙ ap (λ (x : Entry). when x.tick =? tick then walked (width f) tick (records_in f (drop (t.next + width f) script)) (with_record (width f) t x) else t) (sym p)
 
   pub walk_other : (e.tick ≡ tick → ⊥) → t ≡ tick_at f script at tick
   walk_other n = sym (walk_step ∙ if_is_false (e.tick =? tick) _ _ (ne_eqb e.tick tick n))

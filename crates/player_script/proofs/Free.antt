@@ -7,7 +7,7 @@ use mathlib.Core.Path.{◌≡◌, refl, sym, ap, subst, ◌∙◌}
 use mathlib.Core.List.{List, [], ◌∷◌}
 use lib.ListN.{length, drop}
 use borrow.Author.Tests.{eq-eqb, ne_eqb, eqb-false, lt-ltb, le-ltb, ltb-true}
-use Rattle.base.specs.Choice.{if◌then◌else◌, ◌<?◌, ◌=?◌}
+use Rattle.base.specs.Choice.{when◌then◌else◌, ◌<?◌, ◌=?◌}
 use Rattle.base.proofs.Choices.{if_is_true, if_is_false}
 use Rattle.player_script.specs.Script.{width, records_in, wanted_at}
 use Rattle.player_script.specs.Reads.{Rising, none, more, Reads}
@@ -39,27 +39,27 @@ module _ (f : Form) (script : List ℕ) (at tick stop : ℕ) where
   pub free_end : (r w : ℕ) → (tick ≡ 0 → ⊥) → w ≡ width f → at ≤ length script → length script - at < w → r ≡ stop - tick → r ≡ free_ticks f script at tick stop
   free_end r w n e k h p = free_later [] r n (records_none f script at (omega (arith, e, k, h, width_some f))) p
 
-  pub free_record : (e : Entry) (r w : ℕ) → (tick ≡ 0 → ⊥) → w ≡ width f → at ≤ length script → w ≤ length script - at → e ≡ entry_in f script at → r ≡ (if e.tick <? stop then e.tick else stop) - tick → r ≡ free_ticks f script at tick stop
+  pub free_record : (e : Entry) (r w : ℕ) → (tick ≡ 0 → ⊥) → w ≡ width f → at ≤ length script → w ≤ length script - at → e ≡ entry_in f script at → r ≡ (when e.tick <? stop then e.tick else stop) - tick → r ≡ free_ticks f script at tick stop
   free_record e r w n z k h q p =
       free_later (entry_in f script at ∷ records_in f (drop (at + width f) script)) r n (records_more f script at (free_within f script at w z k h))
-      (p ∙ ap (λ (x : Entry). (if x.tick <? stop then x.tick else stop) - tick) q)
+      (p ∙ ap (λ (x : Entry). (when x.tick <? stop then x.tick else stop) - tick) q)
 
-pub before_record : (next stop tick r : ℕ) → next < stop → r ≡ next - tick → r ≡ (if next <? stop then next else stop) - tick
+pub before_record : (next stop tick r : ℕ) → next < stop → r ≡ next - tick → r ≡ (when next <? stop then next else stop) - tick
 before_record next stop tick r h p = p ∙ ap (λ (n : ℕ). n - tick) (sym (if_is_true (next <? stop) next stop (lt-ltb next stop h)))
 
-pub before_stop : (next stop tick r : ℕ) → stop ≤ next → r ≡ stop - tick → r ≡ (if next <? stop then next else stop) - tick
+pub before_stop : (next stop tick r : ℕ) → stop ≤ next → r ≡ stop - tick → r ≡ (when next <? stop then next else stop) - tick
 before_stop next stop tick r h p = p ∙ ap (λ (n : ℕ). n - tick) (sym (if_is_false (next <? stop) next stop (le-ltb next stop h)))
 
 -- they end before the stop
 pub free_most : (f : Form) (script : List ℕ) (at tick stop : ℕ) → free_ticks f script at tick stop ≤ stop - tick
-unfolding free_ticks if◌then◌else◌
+unfolding free_ticks when◌then◌else◌
 free_most f script at tick stop = by (tick =? 0) (records_in f (drop at script))
   where
-    to : (e : Entry) (t : Bool) → (e.tick <? stop) ≡ t → (if t then e.tick else stop) - tick ≤ stop - tick
+    to : (e : Entry) (t : Bool) → (e.tick <? stop) ≡ t → (when t then e.tick else stop) - tick ≤ stop - tick
     to e true h = omega (arith, ltb-true e.tick stop h)
     to e false h = omega arith
 
-    by : (t : Bool) (es : List Entry) → (if t then 0 else free_before tick stop es) ≤ stop - tick
+    by : (t : Bool) (es : List Entry) → (when t then 0 else free_before tick stop es) ≤ stop - tick
     by true es = omega arith
     by false [] = omega arith
     by false (e ∷ es) = to e (e.tick <? stop) refl
@@ -75,17 +75,17 @@ pub record Free (f : Form) (script : List ℕ) (at tick stop ticks : ℕ) : Type
   pub wants_none : (n party : ℕ) → n < ticks → wanted_at (tick + n) party (records_in f script) ≡ Nothing
 
 -- the earlier of a record's tick and the stop's
-earlier_low : (next stop : ℕ) → (if next <? stop then next else stop) ≤ next
+earlier_low : (next stop : ℕ) → (when next <? stop then next else stop) ≤ next
 earlier_low next stop = go (dec_lt next stop)
   where
-    go : Dec (next < stop) → (if next <? stop then next else stop) ≤ next
+    go : Dec (next < stop) → (when next <? stop then next else stop) ≤ next
     go (yes h) = omega (arith, if_is_true (next <? stop) next stop (lt-ltb next stop h))
     go (no h) = omega (arith, if_is_false (next <? stop) next stop (le-ltb next stop (omega (arith, h))), h)
 
-earlier_high : (next stop : ℕ) → (if next <? stop then next else stop) ≤ stop
+earlier_high : (next stop : ℕ) → (when next <? stop then next else stop) ≤ stop
 earlier_high next stop = go (dec_lt next stop)
   where
-    go : Dec (next < stop) → (if next <? stop then next else stop) ≤ stop
+    go : Dec (next < stop) → (when next <? stop then next else stop) ≤ stop
     go (yes h) = omega (arith, if_is_true (next <? stop) next stop (lt-ltb next stop h))
     go (no h) = omega (arith, if_is_false (next <? stop) next stop (le-ltb next stop (omega (arith, h))))
 
@@ -117,10 +117,10 @@ module _ (f : Form) (script : List ℕ) (at tick stop ticks : ℕ) (v : Reads f 
   }
 
   pub free_is : ticks ≡ free_ticks f script at tick stop → Free f script at tick stop ticks
-  unfolding free_ticks if◌then◌else◌
+  unfolding free_ticks when◌then◌else◌
   free_is e = by_first (tick =? 0) refl e
     where
-      by_first : (t : Bool) → (tick =? 0) ≡ t → ticks ≡ (if t then 0 else free_before tick stop (records_in f (drop at script))) → Free f script at tick stop ticks
+      by_first : (t : Bool) → (tick =? 0) ≡ t → ticks ≡ (when t then 0 else free_before tick stop (records_in f (drop at script))) → Free f script at tick stop ticks
       by_first true q g = nothing_free g
       by_first false q g = some_free (records_in f (drop at script)) refl (positive (eqb-false tick 0 q)) v.rising g
         where

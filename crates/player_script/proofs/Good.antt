@@ -8,7 +8,7 @@ use mathlib.Core.List.{List, [], ◌∷◌}
 use lib.ListN.{length, get_or, set, replicate, length-set, get_or-replicate}
 use lib.Seq.{get_or-set_same, get_or-set_other}
 use borrow.Author.Tests.{ltb-false, le-ltb, lt-ltb, eq-eqb, ne_eqb, eqb-true, eqb-false}
-use Rattle.base.specs.Choice.{if◌then◌else◌, ◌<?◌, ◌=?◌}
+use Rattle.base.specs.Choice.{when◌then◌else◌, ◌<?◌, ◌=?◌}
 use Rattle.base.proofs.Choices.{true_false, if_true, if_false, if_is_true, if_is_false, went_else}
 use Rattle.base.proofs.Tables.{chain_first, chain_second}
 use Rattle.player_script.specs.Script.{width, records_in, is_stop, is_masters, is_devices, is_call, is_in, called_before, is_good, good_in}
@@ -20,8 +20,8 @@ use Rattle.player_script.specs.declared.Form.{Form}
 
 abbrev step : ℕ → List ℕ → Entry → List Entry → Bool
 step last called e rest =
-    if e.tick <? last then false else
-    if is_call e then (if is_in e.party (called_before last called e) then false else is_good e.tick (e.party ∷ called_before last called e) rest) else false
+    when e.tick <? last then false else
+    when is_call e then (when is_in e.party (called_before last called e) then false else is_good e.tick (e.party ∷ called_before last called e) rest) else false
 
 -- the code's mark of a party is one more than the tick of its last call: these parties are marked with the tick `last`, and none with a later one
 pub record Marked (seen : List ℕ) (last : ℕ) (called : List ℕ) : Type 0 where
@@ -76,7 +76,7 @@ call_party e r q t = go (dec_le 8 e.party)
     go (no l) = omega arith
     go (yes l) =
         absurd (true_false (sym t ∙ q
-        ∙ if_is_false (e.party <? 2) (is_masters e.action) (if e.party <? 8 then is_devices e.action else false) (le-ltb e.party 2 (omega arith))
+        ∙ if_is_false (e.party <? 2) (is_masters e.action) (when e.party <? 8 then is_devices e.action else false) (le-ltb e.party 2 (omega arith))
         ∙ if_is_false (e.party <? 8) (is_devices e.action) false (le-ltb e.party 8 l)))
 
 no_marks : Marked (replicate 8 0) 0 []
@@ -90,17 +90,17 @@ no_marks = record {
 -- ---- a record more, after such marks
 
 abbrev on_call : List ℕ → Entry → Gone
-on_call marks e = if get_or marks e.party 0 =? (e.tick + 1) then bad else up_to e.tick (set marks e.party (e.tick + 1))
+on_call marks e = when get_or marks e.party 0 =? (e.tick + 1) then bad else up_to e.tick (set marks e.party (e.tick + 1))
 
 module _ (last : ℕ) (marks : List ℕ) (e : Entry) where
-  call_is : with_call last marks e ≡ (if e.tick <? last then bad else if is_call e then on_call marks e else bad)
+  call_is : with_call last marks e ≡ (when e.tick <? last then bad else when is_call e then on_call marks e else bad)
   unfolding with_call
   call_is = refl
 
   pub call_falls : e.tick < last → with_call last marks e ≡ bad
   call_falls l = call_is ∙ if_is_true (e.tick <? last) _ _ (lt-ltb e.tick last l)
 
-  rises_is : last ≤ e.tick → with_call last marks e ≡ (if is_call e then on_call marks e else bad)
+  rises_is : last ≤ e.tick → with_call last marks e ≡ (when is_call e then on_call marks e else bad)
   rises_is l = call_is ∙ if_is_false (e.tick <? last) _ _ (le-ltb e.tick last l)
 
   pub call_none : last ≤ e.tick → is_call e ≡ false → with_call last marks e ≡ bad
@@ -125,10 +125,10 @@ bad_rest (e ∷ f ∷ es) = bad_rest (f ∷ es)
 
 -- nothing is good after a bad record
 pub bad_after : (f : Form) (rest : List ℕ) → good_after f bad rest ≡ false
-unfolding good_after if◌then◌else◌
+unfolding good_after when◌then◌else◌
 bad_after f rest = by (length rest % width f =? 0)
   where
-    by : (t : Bool) → (if t then rest_good bad (records_in f rest) else false) ≡ false
+    by : (t : Bool) → (when t then rest_good bad (records_in f rest) else false) ≡ false
     by true = bad_rest (records_in f rest)
     by false = refl
 
@@ -137,11 +137,11 @@ module _ (last : ℕ) (called marks : List ℕ) (m : Marked marks last called) (
   unfolding is_good
   good_is = refl
 
-  rising_good : last ≤ e.tick → is_good last called (e ∷ f ∷ es) ≡ (if is_call e then (if is_in e.party (called_before last called e) then false else is_good e.tick (e.party ∷ called_before last called e) (f ∷ es)) else false)
+  rising_good : last ≤ e.tick → is_good last called (e ∷ f ∷ es) ≡ (when is_call e then (when is_in e.party (called_before last called e) then false else is_good e.tick (e.party ∷ called_before last called e) (f ∷ es)) else false)
   rising_good l = good_is ∙ if_is_false (e.tick <? last) _ _ (le-ltb e.tick last l)
 
   call_good : last ≤ e.tick → is_call e ≡ true
-      → is_good last called (e ∷ f ∷ es) ≡ (if is_in e.party (called_before last called e) then false else is_good e.tick (e.party ∷ called_before last called e) (f ∷ es))
+      → is_good last called (e ∷ f ∷ es) ≡ (when is_in e.party (called_before last called e) then false else is_good e.tick (e.party ∷ called_before last called e) (f ∷ es))
   call_good l q = rising_good l ∙ if_is_true (is_call e) _ _ q
 
   both_bad : is_good last called (e ∷ f ∷ es) ≡ false → with_call last marks e ≡ bad → Same last called marks (e ∷ f ∷ es)
@@ -183,7 +183,7 @@ good_marked last called marks (e ∷ f ∷ es) m =
 
 pub good_whole : (f : Form) (script : List ℕ) (r : Bool) → r ≡ good_after f nothing script → r ≡ good_in f script
 unfolding good_in good_after
-good_whole f script r q = q ∙ ap (λ (b : Bool). if length script % width f =? 0 then b else false) (sym (good_marked 0 [] (replicate 8 0) (records_in f script) no_marks))
+good_whole f script r q = q ∙ ap (λ (b : Bool). when length script % width f =? 0 then b else false) (sym (good_marked 0 [] (replicate 8 0) (records_in f script) no_marks))
 
 pub after_whole : (f : Form) (gone : Gone) (rest : List ℕ) (w : ℕ) (r : Bool) → w ≡ width f → length rest % w ≡ 0 → r ≡ rest_good gone (records_in f rest) → r ≡ good_after f gone rest
 unfolding good_after

@@ -5,7 +5,7 @@ use mathlib.Core.Bool.{Bool, false}
 use mathlib.Core.Path.{◌≡◌, refl, sym, ap, ◌∙◌}
 use mathlib.Core.List.{List, [], ◌∷◌, ◌++◌, append_assoc}
 use lib.ListN.{length, drop, length-append}
-use Rattle.base.specs.Choice.{if◌then◌else◌, ◌=?◌}
+use Rattle.base.specs.Choice.{when◌then◌else◌, ◌=?◌}
 use Rattle.player_script.specs.Script.{width, records_in, stop_of}
 use Rattle.player_script.specs.Pieces.{Gone, nothing, walked_by, rest_good, good_after, EachWhole, none, more, joined, walked_over, PiecesGood, PiecesStop}
 use Rattle.player_script.specs.Walk.{entry_in}
@@ -47,8 +47,8 @@ module _ (f : Form) (piece rest : List ℕ) (even : length piece % width f ≡ 0
   pub piece_good : (gone : Gone) → good_after f gone (piece ++ rest) ≡ good_after f (walked_by gone (records_in f piece)) rest
   unfolding good_after
   piece_good gone =
-      ap (λ (n : ℕ). if n =? 0 then rest_good gone (records_in f (piece ++ rest)) else false) (whole_front f piece rest even)
-      ∙ ap (λ (b : Bool). if length rest % width f =? 0 then b else false) (rest_after gone)
+      ap (λ (n : ℕ). when n =? 0 then rest_good gone (records_in f (piece ++ rest)) else false) (whole_front f piece rest even)
+      ∙ ap (λ (b : Bool). when length rest % width f =? 0 then b else false) (rest_after gone)
 
   piece_stop : stop_of (records_in f (piece ++ rest)) ≡ stop_of (records_in f rest)
   piece_stop = ap stop_of both_is ∙ stop_append (records_in f piece) (entry_in f rest 0) (records_in f (drop (0 + width f) rest)) ∙ ap stop_of (sym first_is)

@@ -7,7 +7,7 @@ use mathlib.Core.Path.{◌≡◌, refl, sym, ap, subst, ◌∙◌}
 use mathlib.Core.List.{List, [], ◌∷◌}
 use lib.ListN.{length, drop}
 use borrow.Author.Tests.{eqb-true, eqb-false, ne_eqb}
-use Rattle.base.specs.Choice.{if◌then◌else◌, ◌=?◌}
+use Rattle.base.specs.Choice.{when◌then◌else◌, ◌=?◌}
 use Rattle.base.proofs.Choices.{if_is_false}
 use Rattle.base.proofs.Tables.{chain_second}
 use Rattle.player_script.specs.Script.{width, records_in, called_before, is_good, good_in, is_of, wanted_at, leading, tick_of, place_behind, tick_at}
@@ -39,7 +39,7 @@ reads_start f script g = record { rising = good_rises 0 [] (records_in f script)
 -- the records behind the leading ones
 unfoldable behind : ℕ → List Entry → List Entry
 behind tick [] = []
-behind tick (e ∷ es) = if e.tick =? tick then behind tick es else e ∷ es
+behind tick (e ∷ es) = when e.tick =? tick then behind tick es else e ∷ es
 
 -- they are those behind so many bytes
 abbrev BehindIs : Form → List ℕ → ℕ → ℕ → Type 0
@@ -52,14 +52,14 @@ behind_none f script tick at h =
     ap (λ (es : List Entry). records_in f (drop (place_behind (width f) at (leading tick es)) script)) none_left ∙ none_left ∙ ap (behind tick) (sym none_left)
 
 behind_more : (f : Form) (script : List ℕ) (tick at : ℕ) → at + width f ≤ length script → BehindIs f script tick (at + width f) → BehindIs f script tick at
-unfolding place_behind leading behind if◌then◌else◌
+unfolding place_behind leading behind when◌then◌else◌
 behind_more f script tick at h rest =
     ap (λ (es : List Entry). records_in f (drop (place_behind (width f) at (leading tick es)) script)) (records_more f script at h)
     ∙ go ((entry_in f script at).tick =? tick)
     ∙ ap (behind tick) (sym (records_more f script at h))
   where
-    go : (t : Bool) → records_in f (drop (place_behind (width f) at (if t then entry_in f script at ∷ leading tick (records_in f (drop (at + width f) script)) else [])) script)
-        ≡ (if t then behind tick (records_in f (drop (at + width f) script)) else entry_in f script at ∷ records_in f (drop (at + width f) script))
+    go : (t : Bool) → records_in f (drop (place_behind (width f) at (when t then entry_in f script at ∷ leading tick (records_in f (drop (at + width f) script)) else [])) script)
+        ≡ (when t then behind tick (records_in f (drop (at + width f) script)) else entry_in f script at ∷ records_in f (drop (at + width f) script))
     go true = rest
     go false = records_more f script at h
 
@@ -90,33 +90,33 @@ later_none low tick party (e ∷ es) (more l r) h = other_tick tick party e es (
 
 -- the leading records want all that is wanted in their tick
 leading_all : (tick party : ℕ) (es : List Entry) → Rising tick es → wanted_at tick party (leading tick es) ≡ wanted_at tick party es
-unfolding wanted_at leading if◌then◌else◌
+unfolding wanted_at leading when◌then◌else◌
 leading_all tick party [] none = refl
 leading_all tick party (e ∷ es) (more l r) = go (e.tick =? tick) refl (λ q. leading_all tick party es (subst (λ (n : ℕ). Rising n es) (eqb-true e.tick tick q) r))
   where
     go : (t : Bool) → (e.tick =? tick) ≡ t → ((e.tick =? tick) ≡ true → wanted_at tick party (leading tick es) ≡ wanted_at tick party es)
-        → wanted_at tick party (if t then e ∷ leading tick es else []) ≡ wanted_at tick party (e ∷ es)
-    go true q rest = ap (λ (w : ScriptCall). if is_of tick party e then Call e.action e.argument else w) (rest q)
+        → wanted_at tick party (when t then e ∷ leading tick es else []) ≡ wanted_at tick party (e ∷ es)
+    go true q rest = ap (λ (w : ScriptCall). when is_of tick party e then Call e.action e.argument else w) (rest q)
     go false q rest = sym (other_tick tick party e es (eqb-false e.tick tick q) ∙ later_none e.tick tick party es r (above e tick l q))
 
 -- the leading records want nothing in later ticks
 behind_all : (tick later party : ℕ) (es : List Entry) → tick < later → wanted_at later party (behind tick es) ≡ wanted_at later party es
-unfolding wanted_at behind if◌then◌else◌
+unfolding wanted_at behind when◌then◌else◌
 behind_all tick later party [] h = refl
 behind_all tick later party (e ∷ es) h = go (e.tick =? tick) refl (behind_all tick later party es h)
   where
     go : (t : Bool) → (e.tick =? tick) ≡ t → wanted_at later party (behind tick es) ≡ wanted_at later party es
-        → wanted_at later party (if t then behind tick es else e ∷ es) ≡ wanted_at later party (e ∷ es)
+        → wanted_at later party (when t then behind tick es else e ∷ es) ≡ wanted_at later party (e ∷ es)
     go true q rest = rest ∙ sym (other_tick later party e es (λ p. omega (arith, eqb-true e.tick tick q)))
     go false q rest = refl
 
 -- behind them the ticks are later
 behind_rises : (tick : ℕ) (es : List Entry) → Rising tick es → Rising (tick + 1) (behind tick es)
-unfolding behind if◌then◌else◌
+unfolding behind when◌then◌else◌
 behind_rises tick [] none = none
 behind_rises tick (e ∷ es) (more l r) = go (e.tick =? tick) refl (λ q. behind_rises tick es (subst (λ (n : ℕ). Rising n es) (eqb-true e.tick tick q) r))
   where
-    go : (t : Bool) → (e.tick =? tick) ≡ t → ((e.tick =? tick) ≡ true → Rising (tick + 1) (behind tick es)) → Rising (tick + 1) (if t then behind tick es else e ∷ es)
+    go : (t : Bool) → (e.tick =? tick) ≡ t → ((e.tick =? tick) ≡ true → Rising (tick + 1) (behind tick es)) → Rising (tick + 1) (when t then behind tick es else e ∷ es)
     go true q rest = rest q
     go false q rest = let later : tick + 1 ≤ e.tick = omega (arith, above e tick l q) in more later r
 

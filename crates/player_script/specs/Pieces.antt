@@ -1,7 +1,7 @@
 -- How the code stands for what is to be believed.
 -- A script read in pieces, since it may be longer than any buffer: what is kept of the records gone by, and that the whole is good just if the last piece is good after them.
 use Rattle.std.specs.Prelude.{ℕ, ◌+◌, ◌%◌, ◌≤◌, Bool, false, List, [], ◌∷◌, ◌++◌, ◌≡◌, length, get_or, set, replicate}
-use Rattle.base.specs.Choice.{if◌then◌else◌, ◌<?◌, ◌=?◌}
+use Rattle.base.specs.Choice.{when◌then◌else◌, ◌<?◌, ◌=?◌}
 use Rattle.player_script.specs.Script.{width, records_in, is_stop, is_call, good_in, stop_of}
 use Rattle.player_script.specs.declared.Entry.{Entry}
 use Rattle.player_script.specs.declared.Form.{Form}
@@ -20,9 +20,9 @@ nothing = up_to 0 (replicate 8 0)
 -- a record more: a falling tick, what is no call, and a second call to a party in a tick are bad
 unfoldable pub with_call : ℕ → List ℕ → Entry → Gone
 with_call last marks e =
-    if e.tick <? last then bad else
-    if is_call e
-    then (if get_or marks e.party 0 =? (e.tick + 1) then bad else up_to e.tick (set marks e.party (e.tick + 1)))
+    when e.tick <? last then bad else
+    when is_call e
+    then (when get_or marks e.party 0 =? (e.tick + 1) then bad else up_to e.tick (set marks e.party (e.tick + 1)))
     else bad
 
 abbrev pub with_one : Gone → Entry → Gone
@@ -35,7 +35,7 @@ walked_by gone (e ∷ es) = walked_by (with_one gone e) es
 
 -- the last record is the stop
 abbrev pub stops_after : ℕ → Entry → Bool
-stops_after last e = if e.tick <? last then false else is_stop e
+stops_after last e = when e.tick <? last then false else is_stop e
 
 abbrev pub ends_after : Gone → Entry → Bool
 ends_after bad e = false
@@ -48,7 +48,7 @@ rest_good gone (e ∷ f ∷ es) = rest_good (with_one gone e) (f ∷ es)
 
 -- what is left of a script is good after the records gone by
 unfoldable pub good_after : Form → Gone → List ℕ → Bool
-good_after f gone rest = if length rest % width f =? 0 then rest_good gone (records_in f rest) else false
+good_after f gone rest = when length rest % width f =? 0 then rest_good gone (records_in f rest) else false
 
 -- what the code says of a walk, with the marks that it leaves
 unfoldable pub walked_as : Walked → List ℕ → Gone

@@ -1,7 +1,7 @@
 -- To be believed: what the engine must do, or what is claimed of it.
 -- Document 01, "The player", the script: its records, what makes it good, and the calls of each tick.
 use Rattle.std.specs.Prelude.{ℕ, zero, suc, ◌+◌, ◌*◌, ◌/◌, ◌%◌, Bool, true, false, List, [], ◌∷◌, length, get_or, drop, replicate}
-use Rattle.base.specs.Choice.{if◌then◌else◌, ◌<?◌, ◌=?◌}
+use Rattle.base.specs.Choice.{when◌then◌else◌, ◌<?◌, ◌=?◌}
 use Rattle.base.specs.Refusal.{number, Called, accepted, refused}
 use Rattle.turns.specs.Link.{MasterCall, no_request, requests, DeviceCall, no_call, gives_answer, gives_content, Calls}
 use Rattle.turns.specs.declared.Wish.TheVariants.{Same, On, Off}
@@ -48,7 +48,7 @@ width New = 6
 
 -- the form whose records have so many bytes: "It refuses a record size other than 4 or 6 with 24"
 unfoldable pub form_of : ℕ → Called Form
-form_of size = if size =? 4 then accepted Old else if size =? 6 then accepted New else refused 24
+form_of size = when size =? 4 then accepted Old else when size =? 6 then accepted New else refused 24
 
 -- what the code's answer to a size says
 abbrev pub sized_as : SizedForm → Called Form
@@ -57,10 +57,10 @@ sized_as (Refused why) = refused (number why)
 
 -- the size that a program's argument says, the digit 4 or 6; any other word says none, which is 24 too
 abbrev pub digit_size : ℕ → ℕ
-digit_size c = if c =? 52 then 4 else if c =? 54 then 6 else 0
+digit_size c = when c =? 52 then 4 else when c =? 54 then 6 else 0
 
 abbrev pub size_in : List ℕ → ℕ
-size_in word = if length word =? 1 then digit_size (get_or word 0 0) else 0
+size_in word = when length word =? 1 then digit_size (get_or word 0 0) else 0
 
 -- the whole records of a script of a form
 unfoldable pub records_in : Form → List ℕ → List Entry
@@ -71,74 +71,74 @@ records_in New script = long_records_of script
 
 -- "0 stop before this tick (party 0, argument 0, last record)"
 abbrev pub is_stop : Entry → Bool
-is_stop e = if e.action =? 0 then (if e.party =? 0 then e.argument =? 0 else false) else false
+is_stop e = when e.action =? 0 then (when e.party =? 0 then e.argument =? 0 else false) else false
 
 -- "1 master asks command 0 .. ; 3 master asks command 3 .."
 abbrev pub is_masters : ℕ → Bool
-is_masters action = if action =? 1 then true else action =? 3
+is_masters action = when action =? 1 then true else action =? 3
 
 -- "2 device answers .. ; 4 and 5 as 2, with burst on or off"
 abbrev pub is_devices : ℕ → Bool
-is_devices action = if action =? 2 then true else (if action =? 4 then true else action =? 5)
+is_devices action = when action =? 2 then true else (when action =? 4 then true else action =? 5)
 
 -- "Parties: 0 primary, 1 secondary, 2 to 7 devices"; "a master's action for a device or the reverse, another party or action" is bad
 abbrev pub is_call : Entry → Bool
-is_call e = if e.party <? 2 then is_masters e.action else (if e.party <? 8 then is_devices e.action else false)
+is_call e = when e.party <? 2 then is_masters e.action else (when e.party <? 8 then is_devices e.action else false)
 
 unfoldable pub is_in : ℕ → List ℕ → Bool
 is_in n [] = false
-is_in n (m ∷ ms) = if n =? m then true else is_in n ms
+is_in n (m ∷ ms) = when n =? m then true else is_in n ms
 
 -- the parties that have a call in the tick of this record, before it; in the tick `last` they are these
 abbrev pub called_before : ℕ → List ℕ → Entry → List ℕ
-called_before last called e = if e.tick =? last then called else []
+called_before last called e = when e.tick =? last then called else []
 
 -- the records after one of tick `last`, in which these parties have calls: "A falling tick, two calls to one party in a tick (the stop is no call), .. or a missing stop" is bad
 unfoldable pub is_good : ℕ → List ℕ → List Entry → Bool
 is_good last called [] = false
-is_good last called (e ∷ []) = if e.tick <? last then false else is_stop e
+is_good last called (e ∷ []) = when e.tick <? last then false else is_stop e
 is_good last called (e ∷ f ∷ es) =
-    if e.tick <? last then false else
-    if is_call e
-    then (if is_in e.party (called_before last called e) then false else is_good e.tick (e.party ∷ called_before last called e) (f ∷ es))
+    when e.tick <? last then false else
+    when is_call e
+    then (when is_in e.party (called_before last called e) then false else is_good e.tick (e.party ∷ called_before last called e) (f ∷ es))
     else false
 
 -- "bytes left over" are bad too
 unfoldable pub good_script : List ℕ → Bool
-good_script script = if length script % 4 =? 0 then is_good 0 [] (records_of script) else false
+good_script script = when length script % 4 =? 0 then is_good 0 [] (records_of script) else false
 
 -- a script of a form: good records, and no bytes left over
 unfoldable pub good_in : Form → List ℕ → Bool
-good_in f script = if length script % width f =? 0 then is_good 0 [] (records_in f script) else false
+good_in f script = when length script % width f =? 0 then is_good 0 [] (records_in f script) else false
 
 -- ---- the calls of a tick
 
 -- the record of this party in this tick; the stop is no call
 abbrev pub is_of : ℕ → ℕ → Entry → Bool
-is_of tick party e = if e.tick =? tick then (if e.action =? 0 then false else e.party =? party) else false
+is_of tick party e = when e.tick =? tick then (when e.action =? 0 then false else e.party =? party) else false
 
 -- what a script wants of a party in a tick
 unfoldable pub wanted_at : ℕ → ℕ → List Entry → ScriptCall
 wanted_at tick party [] = Nothing
-wanted_at tick party (e ∷ es) = if is_of tick party e then Call e.action e.argument else wanted_at tick party es
+wanted_at tick party (e ∷ es) = when is_of tick party e then Call e.action e.argument else wanted_at tick party es
 
 -- "FSK, R 3, preamble 5"
 abbrev pub master_call : ScriptCall → MasterCall
 master_call Nothing = no_request
 master_call (Call action argument) =
-    if action =? 1 then requests (record { preamble = 5; revision = 7; long = false; address = argument; command = 0 }) []
+    when action =? 1 then requests (record { preamble = 5; revision = 7; long = false; address = argument; command = 0 }) []
     else requests (record { preamble = 5; revision = 7; long = true; address = argument; command = 3 }) []
 
 -- "2 device answers with that many zero bytes"
 abbrev pub device_call : ScriptCall → DeviceCall
 device_call Nothing = no_call
 device_call (Call action argument) =
-    if action =? 2 then gives_answer Same (replicate argument 0) else
-    if action =? 4 then gives_answer On (replicate argument 0) else gives_answer Off (replicate argument 0)
+    when action =? 2 then gives_answer Same (replicate argument 0) else
+    when action =? 4 then gives_answer On (replicate argument 0) else gives_answer Off (replicate argument 0)
 
 -- "Burst content is command 3 with two zero bytes": each device's call of tick 0, where an answer could only be refused
 abbrev pub device_call_at : ℕ → ℕ → List Entry → DeviceCall
-device_call_at tick party es = if tick =? 0 then gives_content 3 (0 ∷ 0 ∷ []) else device_call (wanted_at tick party es)
+device_call_at tick party es = when tick =? 0 then gives_content 3 (0 ∷ 0 ∷ []) else device_call (wanted_at tick party es)
 
 abbrev pub calls_at : ℕ → List Entry → Calls
 calls_at tick es = record {
@@ -164,7 +164,7 @@ calls_from tick (suc n) es = calls_at tick es ∷ calls_from (tick + 1) n es
 -- the records of this tick that stand first
 unfoldable pub leading : ℕ → List Entry → List Entry
 leading tick [] = []
-leading tick (e ∷ es) = if e.tick =? tick then e ∷ leading tick es else []
+leading tick (e ∷ es) = when e.tick =? tick then e ∷ leading tick es else []
 
 -- what these records want of each party in a tick, and the place where reading goes on
 abbrev pub tick_of : ℕ → List Entry → ℕ → ScriptTick

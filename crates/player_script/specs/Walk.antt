@@ -1,7 +1,7 @@
 -- Inner contracts: nothing that is to be believed rests on them.
 -- One record more in a walk over a tick's records: what the code's steps are; and how many ticks have none.
 use Rattle.std.specs.Prelude.{ℕ, ◌+◌, ◌-◌, Bool, List, [], ◌∷◌, get_or, drop}
-use Rattle.base.specs.Choice.{if◌then◌else◌, ◌<?◌, ◌=?◌}
+use Rattle.base.specs.Choice.{when◌then◌else◌, ◌<?◌, ◌=?◌}
 use Rattle.player_script.specs.Script.{entry_of, long_entry_of, records_in}
 use Rattle.player_script.specs.declared.Entry.{Entry}
 use Rattle.player_script.specs.declared.Form.{Form}
@@ -25,11 +25,11 @@ entry_in New script at = long_entry_at script at
 
 -- what a record wants: the stop is no call
 abbrev pub wanted_by : Entry → ScriptCall
-wanted_by e = if e.action =? 0 then Nothing else Call e.action e.argument
+wanted_by e = when e.action =? 0 then Nothing else Call e.action e.argument
 
 -- a party's call stays; a party that has none takes its own
 abbrev pub kept : ScriptCall → Bool → ScriptCall → ScriptCall
-kept Nothing own w = if own then w else Nothing
+kept Nothing own w = when own then w else Nothing
 kept (Call action argument) own w = Call action argument
 
 -- one record of so many bytes more
@@ -63,7 +63,7 @@ no_calls at = record {
 -- how many ticks from this one on have no record, before the stop; in tick 0 the burst contents are given
 abbrev pub free_before : ℕ → ℕ → List Entry → ℕ
 free_before tick stop [] = stop - tick
-free_before tick stop (e ∷ es) = (if e.tick <? stop then e.tick else stop) - tick
+free_before tick stop (e ∷ es) = (when e.tick <? stop then e.tick else stop) - tick
 
 unfoldable pub free_ticks : Form → List ℕ → ℕ → ℕ → ℕ → ℕ
-free_ticks f script at tick stop = if tick =? 0 then 0 else free_before tick stop (records_in f (drop at script))
+free_ticks f script at tick stop = when tick =? 0 then 0 else free_before tick stop (records_in f (drop at script))

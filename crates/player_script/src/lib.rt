@@ -2,7 +2,7 @@
 #![tactic(auto)]
 
 ghost use Rattle.std.specs.Prelude.{◌≡◌, ◌+◌, ◌-◌, ◌%◌, ◌<◌, ◌≤◌, length};
-ghost use Rattle.base.specs.Choice.{if◌then◌else◌, ◌<?◌};
+ghost use Rattle.base.specs.Choice.{when◌then◌else◌, ◌<?◌};
 ghost use Rattle.player_script.specs.Script.{entry_of, long_entry_of, width, records_in, is_stop, is_masters, is_devices, is_call, good_in, stop_of, tick_at, form_of, sized_as, digit_size, size_in};
 ghost use Rattle.player_script.specs.Pieces.{up_to, walked_by, walked_as, stops_after, rest_good, good_after};
 ghost use Rattle.player_script.specs.Walk.{entry_at, long_entry_at, entry_in, wanted_by, kept, with_record, no_calls, free_ticks};
@@ -386,7 +386,7 @@ pub fn calls_at(form: Form, script: &[u8], at: usize, tick: usize) -> ScriptTick
 // The ticks up to the next record's, or up to the stop's if that is earlier.
 fn free_before(next: usize, tick: u32, stop: u32) -> u32
     requires { next < 4294967296 }
-    ensures { result ≡ (if next <? stop then next else stop) - tick }
+    ensures { result ≡ (when next <? stop then next else stop) - tick }
 {
     if next < (stop as usize) {
         return ticks_to(next as u32, tick);

@@ -1,7 +1,7 @@
 -- Two scripts, cut at tick 400, with the listings that an independent simulation of document 01 gave for them: the definitions print the same.
 use mathlib.Core.Path.{◌≡◌, refl}
 use mathlib.Core.List.{[], ◌∷◌, ◌++◌}
-use Rattle.base.specs.Choice.{if◌then◌else◌}
+use Rattle.base.specs.Choice.{when◌then◌else◌}
 use Rattle.base.specs.Store.{stored}
 use Rattle.texts.specs.Decimal.{decimal_of}
 use Rattle.frame.specs.Check.{xor_from}
@@ -54,7 +54,7 @@ pub one_bursts : play Old
     ∷ 67 ∷ 75 ∷ 32 ∷ 48 ∷ 32 ∷ 53 ∷ 48 ∷ 10 ∷ 50 ∷ 52 ∷ 52 ∷ 32 ∷ 53 ∷ 32 ∷ 66 ∷ 65 ∷ 67 ∷ 75 ∷ 32 ∷ 48 ∷ 32 ∷ 49 ∷ 54 ∷ 10
     ∷ 50 ∷ 53 ∷ 57 ∷ 32 ∷ 49 ∷ 32 ∷ 83 ∷ 84 ∷ 88 ∷ 32 ∷ 49 ∷ 32 ∷ 49 ∷ 52 ∷ 10 ∷ 51 ∷ 48 ∷ 56 ∷ 32 ∷ 53 ∷ 32 ∷ 66 ∷ 65 ∷ 67
     ∷ 75 ∷ 32 ∷ 49 ∷ 32 ∷ 49 ∷ 54 ∷ 10 ∷ 51 ∷ 49 ∷ 57 ∷ 32 ∷ 48 ∷ 32 ∷ 83 ∷ 84 ∷ 88 ∷ 32 ∷ 48 ∷ 32 ∷ 49 ∷ 48 ∷ 10 ∷ [])
-unfolding play records_of records_in width is_in is_good good_in wanted_at stop_of calls_from ready_link devices_sent sent_in frame_ends ends_with listens lines_of senders tick_lines lines_from decimal_of line_text lines_text run link_tick device_ticks sides carried master_tick device_tick requested requested_up_to master_takes master_sends device_takes device_sends answered content_given taken taken_data at_idle at_preamble at_first at_address at_expansion at_command at_count at_data at_check write_buffer write_answer frame_bytes preamble_bytes body_bytes protected_bytes header_bytes xor_from delimiter_of stored if◌then◌else◌
+unfolding play records_of records_in width is_in is_good good_in wanted_at stop_of calls_from ready_link devices_sent sent_in frame_ends ends_with listens lines_of senders tick_lines lines_from decimal_of line_text lines_text run link_tick device_ticks sides carried master_tick device_tick requested requested_up_to master_takes master_sends device_takes device_sends answered content_given taken taken_data at_idle at_preamble at_first at_address at_expansion at_command at_count at_data at_check write_buffer write_answer frame_bytes preamble_bytes body_bytes protected_bytes header_bytes xor_from delimiter_of stored when◌then◌else◌
 one_bursts = refl
 
 -- two devices burst, and frames collide. The lines:
@@ -86,5 +86,5 @@ pub two_burst : play Old
     ∷ 49 ∷ 32 ∷ 83 ∷ 84 ∷ 88 ∷ 32 ∷ 49 ∷ 32 ∷ 49 ∷ 52 ∷ 10 ∷ 49 ∷ 53 ∷ 50 ∷ 32 ∷ 55 ∷ 32 ∷ 65 ∷ 67 ∷ 75 ∷ 32 ∷ 49 ∷ 32 ∷ 51
     ∷ 52 ∷ 10 ∷ 49 ∷ 54 ∷ 56 ∷ 32 ∷ 55 ∷ 32 ∷ 66 ∷ 65 ∷ 67 ∷ 75 ∷ 32 ∷ 48 ∷ 32 ∷ 49 ∷ 54 ∷ 10 ∷ 49 ∷ 56 ∷ 51 ∷ 32 ∷ 49 ∷ 32
     ∷ 83 ∷ 84 ∷ 88 ∷ 32 ∷ 49 ∷ 32 ∷ 49 ∷ 52 ∷ 10 ∷ 50 ∷ 50 ∷ 53 ∷ 32 ∷ 52 ∷ 32 ∷ 65 ∷ 67 ∷ 75 ∷ 32 ∷ 49 ∷ 32 ∷ 52 ∷ 49 ∷ 10 ∷ [])
-unfolding play records_of records_in width is_in is_good good_in wanted_at stop_of calls_from ready_link devices_sent sent_in frame_ends ends_with listens lines_of senders tick_lines lines_from decimal_of line_text lines_text run link_tick device_ticks sides carried master_tick device_tick requested requested_up_to master_takes master_sends device_takes device_sends answered content_given taken taken_data at_idle at_preamble at_first at_address at_expansion at_command at_count at_data at_check write_buffer write_answer frame_bytes preamble_bytes body_bytes protected_bytes header_bytes xor_from delimiter_of stored if◌then◌else◌
+unfolding play records_of records_in width is_in is_good good_in wanted_at stop_of calls_from ready_link devices_sent sent_in frame_ends ends_with listens lines_of senders tick_lines lines_from decimal_of line_text lines_text run link_tick device_ticks sides carried master_tick device_tick requested requested_up_to master_takes master_sends device_takes device_sends answered content_given taken taken_data at_idle at_preamble at_first at_address at_expansion at_command at_count at_data at_check write_buffer write_answer frame_bytes preamble_bytes body_bytes protected_bytes header_bytes xor_from delimiter_of stored when◌then◌else◌
 two_burst = refl

@@ -6,7 +6,7 @@ use mathlib.Core.Bool.{Bool, true, false}
 use mathlib.Core.List.{List, [], ◌∷◌}
 use lib.ListN.{length}
 use borrow.Author.Tests.{lt-ltb, lt-leb, leb-false}
-use Rattle.base.specs.Choice.{if◌then◌else◌, ◌<?◌, ◌≤?◌, ◌=?◌, ◌outside◌to◌}
+use Rattle.base.specs.Choice.{when◌then◌else◌, ◌<?◌, ◌≤?◌, ◌=?◌, ◌outside◌to◌}
 use Rattle.base.specs.Refusal.{Called, accepted, refused}
 use Rattle.base.proofs.Choices.{if_is_true, if_is_false}
 use Rattle.frame.specs.Delimiter.{stx}
@@ -118,7 +118,7 @@ module _ (y : PortDevice) (p : Plain y.device) (h : y.device.deaf ≡ false) whe
       subst (λ (t : PortDeviceTaken). InHand t.device) (sym (silent_awake y))
       (by (n ≤? 1) refl)
     where
-      turn : (device_takes y.device Silence).device.turn ≡ (if n ≤? 1 then Listens else Asked (n - 1))
+      turn : (device_takes y.device Silence).device.turn ≡ (when n ≤? 1 then Listens else Asked (n - 1))
       turn = silent_turn y.device p h o ∙ ap waited e
 
       by : (t : Bool) → (n ≤? 1) ≡ t → InHand (listens_on y Silence Awake (reads (device_takes y.device Silence))).device
@@ -153,7 +153,7 @@ damage_turned : (d : Device) (w : Whole) (m : FrameDamage) → Turned (D.after_d
 damage_turned d w m = if_both Turned (has_error d w m) _ _ (is_answered refl) (listens refl)
 
 no_quiet : (n : ℕ) (c : Heard) → IsCharacter c → (quiet_after n c ≡ 0) × (unless_quiet (quiet_after n c) Awake ≡ Awake)
-unfolding if◌then◌else◌
+unfolding when◌then◌else◌
 no_quiet n (Character c) i = (refl, refl)
 no_quiet n (Heard.Damaged c kind) i = (refl, refl)
 no_quiet n Silence i = elim i [ ]

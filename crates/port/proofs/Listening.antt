@@ -6,7 +6,7 @@ use mathlib.Core.Bool.{Bool, true, false}
 use mathlib.Core.List.{List, [], ◌∷◌}
 use lib.ListN.{length}
 use borrow.Author.Tests.{eqb-true, eq-eqb, ltb-true, ltb-false, le-leb, lt-leb}
-use Rattle.base.specs.Choice.{if◌then◌else◌, ◌<?◌, ◌≤?◌, ◌=?◌}
+use Rattle.base.specs.Choice.{when◌then◌else◌, ◌<?◌, ◌≤?◌, ◌=?◌}
 use Rattle.base.specs.Refusal.{Called, accepted, refused}
 use Rattle.base.proofs.Choices.{true_false, if_is_true, if_is_false}
 use Rattle.line.specs.Gaps.{IsCharacter}
@@ -94,8 +94,8 @@ wake_is [] h = refl
 wake_is (b ∷ []) h = refl
 wake_is (b ∷ (a ∷ past)) h = refl
 
-ones_are : (past : List Heard) (h : Heard) → last_two_ones past h ≡ (if was_ones past then is_undamaged 0xFF h else false)
-unfolding was_ones if◌then◌else◌
+ones_are : (past : List Heard) (h : Heard) → last_two_ones past h ≡ (when was_ones past then is_undamaged 0xFF h else false)
+unfolding was_ones when◌then◌else◌
 ones_are [] h = refl
 ones_are (b ∷ past) h = refl
 
@@ -108,11 +108,11 @@ module _ (m : Manner) (past : List Heard) (heard : Heard) (woken : past_after m 
   unfolding Listened first_of second_of
   dozes_off = (refl, subst (λ (l : List Heard). EarIs l (Dozes Silence Silence)) (sym woken) (is_dozing Silence Silence refl refl))
 
-  unless_quiet_lem : (q n : ℕ) → Counted q n → (ear : Ear) (x : Manner) → Listened ear x → Listened (unless_quiet n ear) (if doze_ticks ≤? q then dozing else x)
-  unfolding if◌then◌else◌
-  unless_quiet_lem q n c ear x l = subst (λ (t : Bool). Listened (unless_quiet n ear) (if t then dozing else x)) (same_test q n c) (by (doze_ticks ≤? n))
+  unless_quiet_lem : (q n : ℕ) → Counted q n → (ear : Ear) (x : Manner) → Listened ear x → Listened (unless_quiet n ear) (when doze_ticks ≤? q then dozing else x)
+  unfolding when◌then◌else◌
+  unless_quiet_lem q n c ear x l = subst (λ (t : Bool). Listened (unless_quiet n ear) (when t then dozing else x)) (same_test q n c) (by (doze_ticks ≤? n))
     where
-      by : (t : Bool) → Listened (if t then Dozes Silence Silence else ear) (if t then dozing else x)
+      by : (t : Bool) → Listened (when t then Dozes Silence Silence else ear) (when t then dozing else x)
       by true = dozes_off
       by false = l
 
@@ -136,7 +136,7 @@ module _ (q : ℕ) (past : List Heard) (y : PortDevice) (heard : Heard) (c : Cou
 
   -- unless it dozes off, with this ear
   unless : (m : Manner) (woken : past_after m dozing past heard ≡ []) (ear : Ear) (x : Manner) → manner ear ≡ x → EarIs (past_after m (manner ear) past heard) ear
-      → (manner (unless_quiet (quiet_after y.quiet heard) ear) ≡ (if doze_ticks ≤? quiet_heard heard q then dozing else x))
+      → (manner (unless_quiet (quiet_after y.quiet heard) ear) ≡ (when doze_ticks ≤? quiet_heard heard q then dozing else x))
       × EarIs (past_after m (manner (unless_quiet (quiet_after y.quiet heard) ear)) past heard) (unless_quiet (quiet_after y.quiet heard) ear)
   unfolding Listened
   unless m woken ear x e r = unless_quiet_lem m past heard woken (quiet_heard heard q) (quiet_after y.quiet heard) counted ear x (e, r)
@@ -149,7 +149,7 @@ module _ (q : ℕ) (past : List Heard) (y : PortDevice) (heard : Heard) (c : Cou
       (λ z. let l = unless reading refl Awake next (sym (if_is_false (hears_wake_up y.device heard) _ _ z)) is_awake in made Awake e _ refl l.0 l.1)
     where
       next : Manner
-      next = if hears_wake_up y.device heard then passing_over else reading
+      next = when hears_wake_up y.device heard then passing_over else reading
 
   passing_heeds : (before : Bool) → y.ear ≡ PassesOver before → before ≡ was_ones past → Heeds q past y heard (hears_by y heard (PassesOver before))
   unfolding was_ones
@@ -162,7 +162,7 @@ module _ (q : ℕ) (past : List Heard) (y : PortDevice) (heard : Heard) (c : Cou
       made (PassesOver before) e _ refl l.0 l.1)
     where
       next : Manner
-      next = if last_two_ones past heard then reading else passing_over
+      next = when last_two_ones past heard then reading else passing_over
 
   dozing_heeds : (a b : Heard) → y.ear ≡ Dozes a b → a ≡ second_of past → b ≡ first_of past → Heeds q past y heard (hears_by y heard (Dozes a b))
   unfolding was_ones first_of second_of

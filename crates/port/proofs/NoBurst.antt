@@ -6,7 +6,7 @@ use mathlib.Core.Bool.{Bool, true, false}
 use mathlib.Core.List.{List, [], ◌∷◌}
 use lib.ListN.{length}
 use borrow.Author.Tests.{eq-eqb}
-use Rattle.base.specs.Choice.{if◌then◌else◌, ◌<?◌, ◌=?◌, ◌outside◌to◌}
+use Rattle.base.specs.Choice.{when◌then◌else◌, ◌<?◌, ◌=?◌, ◌outside◌to◌}
 use Rattle.base.specs.Refusal.{Called, accepted, refused}
 use Rattle.base.proofs.Choices.{true_false, if_is_true, if_is_false}
 use Rattle.frame.specs.Delimiter.{back}
@@ -63,8 +63,8 @@ phase_clear x (S.wakes n c l d s w) = c.no_burst
 same_frame : (v w : Whole) → Frame v ≡ Frame w → v ≡ w
 same_frame v w e = cc
 
-frame_or : (v : Whole) (d : FrameDamage) → (t : Bool) → (v.header.kind =? back) ≡ t → NoBack (if t then Event.Damaged v d else Frame v)
-unfolding if◌then◌else◌
+frame_or : (v : Whole) (d : FrameDamage) → (t : Bool) → (v.header.kind =? back) ≡ t → NoBack (when t then Event.Damaged v d else Frame v)
+unfolding when◌then◌else◌
 frame_or v d true e w q f = let z : ◌≡◌ {A = ℕ} 0 1 = cc in omega arith
 frame_or v d false e w q f = true_false (sym (eq-eqb v.header.kind back (ap (λ (u : Whole). u.header.kind) (same_frame v w q) ∙ f)) ∙ e)
 
@@ -236,16 +236,16 @@ result_is limit heard t wish put frame bytes = go (port_answered limit t.device.
 
 module _ (limit : ℕ) (d : Device) (count : ℕ) (p : Plain d) where
   by_turn : (turn : Turn) → RefusedOn (result_by (answered_by limit d Same count turn)) (result_by (answered_by limit d On count turn))
-  unfolding result_by if◌then◌else◌
+  unfolding result_by when◌then◌else◌
   by_turn Listens = by_8
   by_turn (Asked n) = within (count outside 2 to limit)
     where
-      on : result_by (if wish_refused d On then refused 10 else accepted (device_with d d.receiver (answers_at d n) d.request On (frame_length d.preamble (answer_header d.request true) count) d.due)) ≡ CallResult.Refused 10
+      on : result_by (when wish_refused d On then refused 10 else accepted (device_with d d.receiver (answers_at d n) d.request On (frame_length d.preamble (answer_header d.request true) count) d.due)) ≡ CallResult.Refused 10
       on = ap result_by (if_is_true (wish_refused d On) _ _ (on_refused d p.no_content))
 
       within : (t : Bool) → RefusedOn
-          (result_by (if t then refused 9 else accepted (device_with d d.receiver (answers_at d n) d.request Same (frame_length d.preamble (answer_header d.request d.burst) count) d.due)))
-          (result_by (if t then refused 9 else (if wish_refused d On then refused 10 else accepted (device_with d d.receiver (answers_at d n) d.request On (frame_length d.preamble (answer_header d.request true) count) d.due))))
+          (result_by (when t then refused 9 else accepted (device_with d d.receiver (answers_at d n) d.request Same (frame_length d.preamble (answer_header d.request d.burst) count) d.due)))
+          (result_by (when t then refused 9 else (when wish_refused d On then refused 10 else accepted (device_with d d.receiver (answers_at d n) d.request On (frame_length d.preamble (answer_header d.request true) count) d.due))))
       within true = by_9
       within false = subst (RefusedOn CallResult.Taken) (sym on) by_10
   by_turn AnswerWaits = by_8
@@ -255,10 +255,10 @@ module _ (limit : ℕ) (d : Device) (count : ℕ) (p : Plain d) where
   by_turn (Bursts n) = by_8
 
   refused_on : RefusedOn (result_by (port_answered limit d Same count)) (result_by (port_answered limit d On count))
-  unfolding result_by port_answered answered if◌then◌else◌
+  unfolding result_by port_answered answered when◌then◌else◌
   refused_on = late (too_late d)
     where
-      late : (t : Bool) → RefusedOn (result_by (if t then refused 8 else answered_by limit d Same count d.turn)) (result_by (if t then refused 8 else answered_by limit d On count d.turn))
+      late : (t : Bool) → RefusedOn (result_by (when t then refused 8 else answered_by limit d Same count d.turn)) (result_by (when t then refused 8 else answered_by limit d On count d.turn))
       late true = by_8
       late false = by_turn d.turn
 

@@ -1,11 +1,11 @@
 -- Theorem: the port's profile meets each of document 01's conditions but that on RT1 secondary (specs/Numbers).
 use native.Mathlib.Omega.{arith}
 use mathlib.Core.Path.{refl}
-use Rattle.base.specs.Choice.{if◌then◌else◌}
+use Rattle.base.specs.Choice.{when◌then◌else◌}
 use Rattle.port.specs.Numbers.{InfraredConditions}
 
 pub infrared_conditions : InfraredConditions
-unfolding if◌then◌else◌
+unfolding when◌then◌else◌
 infrared_conditions = record {
   no_value_refused = refl;
   hold_below_rt2 = omega arith;

@@ -4,7 +4,7 @@ use mathlib.Core.Path.{◌≡◌, refl}
 use mathlib.Core.Bool.{Bool, true, false}
 use mathlib.Core.List.{List, [], ◌∷◌, ◌++◌}
 use lib.ListN.{replicate}
-use Rattle.base.specs.Choice.{if◌then◌else◌}
+use Rattle.base.specs.Choice.{when◌then◌else◌}
 use Rattle.base.specs.Store.{stored}
 use Rattle.frame.specs.Check.{xor_from}
 use Rattle.frame.specs.Delimiter.{stx, delimiter_of}
@@ -59,11 +59,11 @@ answered_at command k =
     ++ (replicate (k - 2) (hears Silence) ++ (record { heard = Silence; call = gives_answer Same (0 ∷ 0 ∷ []) } ∷ [])))))
 
 pub t_52 : (answered_at 0 52 ≡ CallResult.Taken) × (answered_at 0 53 ≡ CallResult.Refused 8)
-unfolding answered_at last_result carried hears device port_device_run port_device_tick port_device_takes port_answered port_device_sends device_takes device_sends answered taken taken_data silent_inside at_idle at_preamble at_first at_address at_expansion at_command at_count at_data at_check write_buffer write_answer frame_bytes preamble_bytes body_bytes protected_bytes header_bytes xor_from delimiter_of stored if◌then◌else◌
+unfolding answered_at last_result carried hears device port_device_run port_device_tick port_device_takes port_answered port_device_sends device_takes device_sends answered taken taken_data silent_inside at_idle at_preamble at_first at_address at_expansion at_command at_count at_data at_check write_buffer write_answer frame_bytes preamble_bytes body_bytes protected_bytes header_bytes xor_from delimiter_of stored when◌then◌else◌
 t_52 = (refl, refl)
 
 pub t_87 : (answered_at 3 87 ≡ CallResult.Taken) × (answered_at 3 88 ≡ CallResult.Refused 8)
-unfolding answered_at last_result carried hears device port_device_run port_device_tick port_device_takes port_answered port_device_sends device_takes device_sends answered taken taken_data silent_inside at_idle at_preamble at_first at_address at_expansion at_command at_count at_data at_check write_buffer write_answer frame_bytes preamble_bytes body_bytes protected_bytes header_bytes xor_from delimiter_of stored if◌then◌else◌
+unfolding answered_at last_result carried hears device port_device_run port_device_tick port_device_takes port_answered port_device_sends device_takes device_sends answered taken taken_data silent_inside at_idle at_preamble at_first at_address at_expansion at_command at_count at_data at_check write_buffer write_answer frame_bytes preamble_bytes body_bytes protected_bytes header_bytes xor_from delimiter_of stored when◌then◌else◌
 t_87 = (refl, refl)
 
 -- ---- a device dozes off in the tick that takes its 20,946th quiet tick
@@ -72,7 +72,7 @@ unfoldable pub manner_of : PortDeviceSide → List DeviceInput → Manner
 manner_of x is = manner (after_ticks 255 x is).device.ear
 
 pub dozes_off : (manner_of (device Awake 20944) (hears Silence ∷ (hears Silence ∷ [])) ≡ reading) × (manner_of (device Awake 20945) (hears Silence ∷ (hears Silence ∷ [])) ≡ dozing)
-unfolding manner_of after_ticks hears device port_device_tick port_device_takes port_device_sends device_takes device_sends taken taken_data silent_inside if◌then◌else◌
+unfolding manner_of after_ticks hears device port_device_tick port_device_takes port_device_sends device_takes device_sends taken taken_data silent_inside when◌then◌else◌
 dozes_off = (refl, refl)
 
 -- three bytes wake it, and two do not; the tick in which it is deaf comes first
@@ -80,7 +80,7 @@ unfoldable pub dozes_for : List ℕ → Manner
 dozes_for cs = manner_of (device (Dozes Silence Silence) 20946) (hears Silence ∷ carried cs)
 
 pub three_wake : (dozes_for (0x00 ∷ 0xFF ∷ []) ≡ dozing) × (dozes_for (0x00 ∷ 0xFF ∷ 0x00 ∷ []) ≡ passing_over) × (dozes_for (0xFF ∷ 0x00 ∷ 0xFF ∷ []) ≡ passing_over) × (dozes_for (0x00 ∷ 0xFF ∷ 0xFF ∷ []) ≡ dozing)
-unfolding dozes_for carried manner_of after_ticks hears device port_device_tick port_device_takes port_device_sends device_takes device_sends taken taken_data silent_inside if◌then◌else◌
+unfolding dozes_for carried manner_of after_ticks hears device port_device_tick port_device_takes port_device_sends device_takes device_sends taken taken_data silent_inside when◌then◌else◌
 three_wake = (refl, refl, refl, refl)
 
 -- ---- a master that begins 20,946 and 20,947 ticks after an answer's last character
@@ -101,5 +101,5 @@ unfoldable pub asks : MasterInput
 asks = record { heard = Silence; call = requests (record { preamble = 5; revision = 7; long = false; address = 2; command = 0 }) [] }
 
 pub begins_with : (first_sent (port_master_run 255 (master 20945) (asks ∷ [])) ≡ Sent.Character 0xFF) × (first_sent (port_master_run 255 (master 20946) (asks ∷ [])) ≡ Sent.Character 0x00)
-unfolding first_sent asks master port_master_run port_master_tick port_master_takes port_requested port_master_sends requested requested_up_to master_takes master_sends taken taken_data silent_inside frame_bytes preamble_bytes body_bytes protected_bytes header_bytes xor_from delimiter_of stored if◌then◌else◌
+unfolding first_sent asks master port_master_run port_master_tick port_master_takes port_requested port_master_sends requested requested_up_to master_takes master_sends taken taken_data silent_inside frame_bytes preamble_bytes body_bytes protected_bytes header_bytes xor_from delimiter_of stored when◌then◌else◌
 begins_with = (refl, refl)

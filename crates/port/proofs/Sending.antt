@@ -7,7 +7,7 @@ use mathlib.Core.List.{List, [], ◌∷◌, ◌++◌}
 use lib.ListN.{length, drop}
 use lib.Seq.{drop-cons}
 use borrow.Author.Tests.{ltb-true, lt-ltb, ne_eqb}
-use Rattle.base.specs.Choice.{if◌then◌else◌, ◌<?◌, ◌=?◌, ◌outside◌to◌}
+use Rattle.base.specs.Choice.{when◌then◌else◌, ◌<?◌, ◌=?◌, ◌outside◌to◌}
 use Rattle.base.specs.Refusal.{Called, accepted, refused}
 use Rattle.base.specs.Store.{stored}
 use Rattle.base.proofs.Choices.{if_is_true, if_is_false}
@@ -192,7 +192,7 @@ module _ (retries : ℕ) (frame : List ℕ) (found : List Event) where
     waking_sends : {w : List ℕ} {b : Bool} (k : ℕ) → y.wake ≡ Left k → y.master.message.stage ≡ Waiting → 0 < y.master.timer.window
         → A.Held frame y.master.message.length y.master.message.header w b → y.master.message.attempts < most_sent retries b
         → SentIs y (in_hand w b (wake_up_bytes k ++ w) y.master.message.attempts) (port_master_sends y frame)
-    unfolding port_master_sends wake_up_bytes if◌then◌else◌
+    unfolding port_master_sends wake_up_bytes when◌then◌else◌
     waking_sends {w} {b} k left e o h most = subst (λ (v : WakeUp). SentIs y (in_hand w b (wake_up_bytes k ++ w) y.master.message.attempts) (P.sends_by y frame v)) (sym left) (by k)
       where
         long : 1 < length w

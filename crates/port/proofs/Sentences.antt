@@ -5,7 +5,7 @@ use mathlib.Core.Path.{◌≡◌, refl, ap, ◌∙◌}
 use mathlib.Core.Bool.{Bool, true, false}
 use mathlib.Core.List.{List}
 use borrow.Author.Tests.{le-leb, lt-leb, eq-eqb, ne_eqb}
-use Rattle.base.specs.Choice.{if◌then◌else◌, ◌=?◌}
+use Rattle.base.specs.Choice.{when◌then◌else◌, ◌=?◌}
 use Rattle.base.specs.Refusal.{refused}
 use Rattle.base.proofs.Choices.{if_is_true, if_is_false}
 use Rattle.frame.specs.Delimiter.{back}
@@ -47,7 +47,7 @@ module _ (limit : ℕ) (d : Device) (wish : Wish) (count k : ℕ) (turn : d.turn
   up_to_sto h = if_is_false (too_late d) _ _ (ap (past_sto d.request.command) turn ∙ lt-leb (88 - k + sto_of d.request.command) 87 (omega arith))
 
 pub sto_of_commands : (sto_of 0 ≡ 52) × (sto_of 11 ≡ 52) × (sto_of 3 ≡ 87)
-unfolding if◌then◌else◌
+unfolding when◌then◌else◌
 sto_of_commands = (refl, refl, refl)
 
 -- ---- an answer is an undamaged ACK
@@ -77,14 +77,14 @@ start_preamble preamble polling unique f = if_is_false (preamble =? port_preambl
 -- ---- "three wake-up bytes that alternate, or .. two characters other than 0xFF, damaged or not"
 
 pub three_alternate : (wakes (Character 0x00) (Character 0xFF) (Character 0x00) ≡ true) × (wakes (Character 0xFF) (Character 0x00) (Character 0xFF) ≡ true)
-unfolding if◌then◌else◌
+unfolding when◌then◌else◌
 three_alternate = (refl, refl)
 
 pub two_others : (wakes Silence (Character 0x55) (Heard.Damaged 0x00 Parity) ≡ true) × (wakes Silence (Character 0x00) (Character 0x00) ≡ true)
-unfolding if◌then◌else◌
+unfolding when◌then◌else◌
 two_others = (refl, refl)
 
 -- a damaged 0xFF is neither, and a silent tick begins both counts anew
 pub not_yet : (wakes (Character 0x00) (Heard.Damaged 0xFF Parity) (Character 0x00) ≡ false) × (wakes (Character 0x00) (Character 0xFF) (Character 0xFF) ≡ false) × (wakes (Character 0x55) Silence (Character 0x55) ≡ false)
-unfolding if◌then◌else◌
+unfolding when◌then◌else◌
 not_yet = (refl, refl, refl)

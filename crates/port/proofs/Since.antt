@@ -5,7 +5,7 @@ use mathlib.Core.Path.{◌≡◌, refl, sym, ◌∙◌}
 use mathlib.Core.Bool.{Bool, true, false}
 use mathlib.Core.List.{List, [], ◌∷◌}
 use borrow.Author.Tests.{leb-true, leb-false, le-leb, lt-leb, ltb-true, ltb-false}
-use Rattle.base.specs.Choice.{if◌then◌else◌, ◌<?◌, ◌≤?◌}
+use Rattle.base.specs.Choice.{when◌then◌else◌, ◌<?◌, ◌≤?◌}
 use Rattle.base.proofs.Choices.{if_is_true, if_is_false}
 use Rattle.line.specs.declared.Event.{Event}
 use Rattle.turns.proofs.Masters.{if_cases}
@@ -51,13 +51,13 @@ module _ (doze since : ℕ) (past : List Event) (e : Event) (q : ends_answer e �
   stays high zero h = sym (lt-leb since 0 (omega (arith, some)))
   stays high (suc n) h = if_is_false (ends_answer e) _ _ q ∙ a n (omega arith) ∙ lt-leb since n (omega arith) ∙ sym (lt-leb since (suc n) (omega arith))
 
-  older : Agrees doze (if since ≤? doze then since + 1 else since) (e ∷ past)
+  older : Agrees doze (when since ≤? doze then since + 1 else since) (e ∷ past)
   older = if_cases (λ (k : ℕ). Agrees doze k (e ∷ past)) (since ≤? doze) _ _ (λ z. counted (leb-true since doze z)) (λ z. stays (leb-false since doze z))
 
 pub counts_none : (doze : ℕ) → Counts doze (doze + 1) []
 counts_none doze = record { agrees = none_yet doze }
 
-pub counts_next : (doze since : ℕ) (past : List Event) (e : Event) → Counts doze since past → Counts doze (if ends_answer e then 1 else (if since ≤? doze then since + 1 else since)) (e ∷ past)
+pub counts_next : (doze since : ℕ) (past : List Event) (e : Event) → Counts doze since past → Counts doze (when ends_answer e then 1 else (when since ≤? doze then since + 1 else since)) (e ∷ past)
 counts_next doze since past e c = record { agrees = if_cases (λ (k : ℕ). Agrees doze k (e ∷ past)) (ends_answer e) _ _ (λ q. answered doze past e q) (λ q. older doze since past e q c.agrees) }
 
 -- a wake-up goes first exactly where no answer is among the last ticks

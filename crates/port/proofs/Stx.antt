@@ -6,7 +6,7 @@ use mathlib.Core.Bool.{true, false}
 use mathlib.Core.List.{List, ◌∷◌, ◌++◌}
 use lib.ListN.{length}
 use borrow.Author.Tests.{eq-eqb}
-use Rattle.base.specs.Choice.{if◌then◌else◌, ◌=?◌}
+use Rattle.base.specs.Choice.{when◌then◌else◌, ◌=?◌}
 use Rattle.base.specs.Refusal.{Called, accepted, refused}
 use Rattle.base.proofs.Choices.{true_false, if_is_true, if_is_false}
 use Rattle.base.specs.Store.{stored}
@@ -47,7 +47,7 @@ use Rattle.port.proofs.Waking.{Listened, listened, takes_by, Leads, leads_one}
 -- ---- the reader behind two 0xFF
 
 two_less : (b cs : List ℕ) (s : Receiver) (d : List ℕ) → R.Leads idle b (0xFF ∷ 0xFF ∷ cs) s d → R.Leads (blank (Preamble 2)) b cs s d
-unfolding taken taken_data at_idle at_preamble if◌then◌else◌
+unfolding taken taken_data at_idle at_preamble when◌then◌else◌
 two_less b cs s d (R.hears p q (R.hears r t l)) = go (ap (λ (k : Taken). k.receiver) p) q r t l
   where
     go : {s1 s2 : Receiver} {d1 d2 : List ℕ} → blank (Preamble 1) ≡ s1 → b ≡ d1 → taken s1 (Character 0xFF) ≡ tells s2 Nothing → taken_data s1 (Character 0xFF) d1 ≡ d2 → R.Leads s2 d2 cs s d → R.Leads (blank (Preamble 2)) b cs s d
@@ -96,7 +96,7 @@ reading_takes r u p c x s e w t =
 -- a character of the frame that goes on
 reads_one : (limit : ℕ) (r s : Receiver) (u p c : ℕ) (x : PortDeviceSide) (call : PortCall) → Reading r u p x → taken r (Character c) ≡ tells s Nothing
     → ((port_device_tick limit x (Character c) call).sent ≡ Silent) × ((port_device_tick limit x (Character c) call).told ≡ DeviceTold.Nothing) × Reading s u p (port_device_tick limit x (Character c) call).side
-unfolding port_device_tick if◌then◌else◌
+unfolding port_device_tick when◌then◌else◌
 reads_one limit r s u p c x call w t =
     let k = listens_on x.device (Character c) Awake (reads (on_character x.device.device s Nothing)) in
     let l = subst (λ (z : PortDeviceTaken). Listened k (device_calls limit (Character c) z call (heard_frame x (Character c)) (device_data x (Character c)))) (sym (reading_takes r u p c x s Nothing w t)) (listened limit (Character c) k call _ _ refl) in
@@ -133,7 +133,7 @@ told_is limit heard t (gives_answer wish put) frame bytes = go (port_answered li
 
 -- whose request it is depends on the addresses
 same_answer : (d e : Device) (h : Header) → d.unique ≡ e.unique → d.polling ≡ e.polling → may_answer d h ≡ may_answer e h
-same_answer d e h u p = λ i. (if seeks_tag h then true else (if h.long then u i =? h.address else (if p i =? h.address then h.command =? 0 else false)))
+same_answer d e h u p = λ i. (when seeks_tag h then true else (when h.long then u i =? h.address else (when p i =? h.address then h.command =? 0 else false)))
 
 told_request : (d : Device) (w : Whole) → w.header.kind ≡ stx → w.expansion ≡ 0 → may_answer d w.header ≡ true → (after_frame d w).told ≡ Request w
 told_request d w f x m =

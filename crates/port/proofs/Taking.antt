@@ -5,7 +5,7 @@ use mathlib.Core.Path.{◌≡◌, refl, sym, ap, subst, ◌∙◌}
 use mathlib.Core.Bool.{Bool, true, false}
 use mathlib.Core.List.{List}
 use borrow.Author.Tests.{eqb-true, eqb-false}
-use Rattle.base.specs.Choice.{if◌then◌else◌, ◌=?◌, ◌≤?◌}
+use Rattle.base.specs.Choice.{when◌then◌else◌, ◌=?◌, ◌≤?◌}
 use Rattle.base.proofs.Choices.{true_false, if_is_true, if_is_false}
 use Rattle.frame.specs.Delimiter.{ack, back}
 use Rattle.frame.specs.declared.Header.{Header}
@@ -104,7 +104,7 @@ waited_still (Sending _) x'' = elim x'' [ ]
 -- ---- timers
 
 pub own_is : (primary : Bool) → own_rt1 infrared_profile primary ≡ infrared_profile.rt1p
-unfolding if◌then◌else◌
+unfolding when◌then◌else◌
 own_is true = refl
 own_is false = refl
 

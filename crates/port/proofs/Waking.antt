@@ -6,7 +6,7 @@ use mathlib.Core.Bool.{Bool, true, false}
 use mathlib.Core.List.{List, [], ◌∷◌, ◌++◌}
 use lib.ListN.{length}
 use borrow.Author.Tests.{eq-eqb, ne_eqb}
-use Rattle.base.specs.Choice.{if◌then◌else◌, ◌=?◌}
+use Rattle.base.specs.Choice.{when◌then◌else◌, ◌=?◌}
 use Rattle.base.specs.Refusal.{Called, refused}
 use Rattle.base.proofs.Choices.{if_is_true, if_is_false}
 use Rattle.line.specs.declared.Heard.{Heard}
@@ -117,11 +117,11 @@ takes_by y heard ear hears e = if_is_false y.device.deaf _ _ hears ∙ ap (hears
 module _ (limit : ℕ) (x : PortDeviceSide) (call : PortCall) where
   -- one that passes over
   passes_zero : (before : Bool) → With (PassesOver before) x → Led limit x 0x00 call (PassesOver false)
-  unfolding if◌then◌else◌
+  unfolding when◌then◌else◌
   passes_zero before w = led limit x 0x00 call _ (takes_by x.device (Character 0x00) (PassesOver before) w.hears w.ear_is) w.listens refl
 
   passes_ones : With (PassesOver false) x → Led limit x 0xFF call (PassesOver true)
-  unfolding if◌then◌else◌
+  unfolding when◌then◌else◌
   passes_ones w = led limit x 0xFF call _ (takes_by x.device (Character 0xFF) (PassesOver false) w.hears w.ear_is) w.listens refl
 
   -- one that dozes wakes, or has heard one more
@@ -130,7 +130,7 @@ module _ (limit : ℕ) (x : PortDeviceSide) (call : PortCall) where
     dozes_on : Led limit x c call (Dozes b (Character c)) → Dozing c b
 
   doze : (a b : Heard) (c : ℕ) → With (Dozes a b) x → Dozing c b
-  unfolding if◌then◌else◌
+  unfolding when◌then◌else◌
   doze a b c w = go (wakes a b (Character c)) refl
     where
       go : (t : Bool) → wakes a b (Character c) ≡ t → Dozing c b
@@ -139,18 +139,18 @@ module _ (limit : ℕ) (x : PortDeviceSide) (call : PortCall) where
 
   -- the third wake-up byte wakes it
   third_wakes : With (Dozes (Character 0x00) (Character 0xFF)) x → Led limit x 0x00 call (PassesOver false)
-  unfolding if◌then◌else◌
+  unfolding when◌then◌else◌
   third_wakes w = led limit x 0x00 call _ (takes_by x.device (Character 0x00) (Dozes (Character 0x00) (Character 0xFF)) w.hears w.ear_is) w.listens refl
 
   -- one that is awake between frames
   awake_zero : x.device.ear ≡ Awake → x.device.device.deaf ≡ false → x.device.device.receiver.place ≡ Idle → Led limit x 0x00 call (PassesOver false)
-  unfolding if◌then◌else◌
+  unfolding when◌then◌else◌
   awake_zero e hears idle =
       led limit x 0x00 call _ (takes_by x.device (Character 0x00) Awake hears e ∙ if_is_true (hears_wake_up x.device.device (Character 0x00)) _ _ (if_is_true (is_idle x.device.device.receiver.place) _ _ (ap is_idle idle))) refl refl
 
   -- the second 0xFF in a row
   second_reads : With (PassesOver true) x → ((port_device_tick limit x (Character 0xFF) call).sent ≡ Silent) × ((port_device_tick limit x (Character 0xFF) call).told ≡ DeviceTold.Nothing) × ReadsPreamble (port_device_tick limit x (Character 0xFF) call).side
-  unfolding if◌then◌else◌ port_device_tick
+  unfolding when◌then◌else◌ port_device_tick
   second_reads w =
       let t = hears_by x.device (Character 0xFF) (PassesOver true) in
       let l = subst (λ (u : PortDeviceTaken). Listened t (device_calls limit (Character 0xFF) u call (heard_frame x (Character 0xFF)) (device_data x (Character 0xFF)))) (sym (takes_by x.device (Character 0xFF) (PassesOver true) w.hears w.ear_is)) (listened limit (Character 0xFF) t call _ _ w.listens) in

@@ -1,7 +1,7 @@
 -- To be believed: what the engine must do, or what is claimed of it.
 -- Document 02, item 13: a device of the infrared port. It is document 01's device (crates/turns/specs/Device.antt) except for what stands here: the shorter STO of commands 0 and 11, its preamble, and that it dozes. It has no call for burst content, so document 01's refusal of "burst on without burst content" with 10 refuses every "burst on" (specs/NoBurst).
 use Rattle.std.specs.Prelude.{ℕ, ◌+◌, Bool, true, false, List}
-use Rattle.base.specs.Choice.{if◌then◌else◌, ◌<?◌, ◌≤?◌, ◌=?◌}
+use Rattle.base.specs.Choice.{when◌then◌else◌, ◌<?◌, ◌≤?◌, ◌=?◌}
 use Rattle.base.specs.Refusal.{Called, accepted, refused}
 use Rattle.frame.specs.Delimiter.{back}
 use Rattle.line.specs.Profile.{infrared_profile}
@@ -41,32 +41,32 @@ is_undamaged c (Damaged e kind) = false
 -- a character other than 0xFF, "damaged or not"
 abbrev pub is_other : Heard → Bool
 is_other Silence = false
-is_other (Character c) = if c =? 0xFF then false else true
-is_other (Damaged c kind) = if c =? 0xFF then false else true
+is_other (Character c) = when c =? 0xFF then false else true
+is_other (Damaged c kind) = when c =? 0xFF then false else true
 
 -- two of "three wake-up bytes that alternate", 0x00 and 0xFF
 abbrev pub both_undamaged : ℕ → ℕ → Heard → Heard → Bool
-both_undamaged c e a b = if is_undamaged c a then is_undamaged e b else false
+both_undamaged c e a b = when is_undamaged c a then is_undamaged e b else false
 
 -- "three wake-up bytes that alternate", in successive ticks
 abbrev pub alternate : Heard → Heard → Heard → Bool
-alternate a b h = if both_undamaged 0x00 0xFF a b then is_undamaged 0x00 h else (if both_undamaged 0xFF 0x00 a b then is_undamaged 0xFF h else false)
+alternate a b h = when both_undamaged 0x00 0xFF a b then is_undamaged 0x00 h else (when both_undamaged 0xFF 0x00 a b then is_undamaged 0xFF h else false)
 
 -- "or two characters other than 0xFF, damaged or not"
 abbrev pub wakes : Heard → Heard → Heard → Bool
-wakes a b h = if alternate a b h then true else (if is_other b then is_other h else false)
+wakes a b h = when alternate a b h then true else (when is_other b then is_other h else false)
 
 -- ---- take: what was heard
 
 -- a silent tick is quiet, and is counted as long as the count matters; any character ends the quiet
 abbrev pub quiet_after : ℕ → Heard → ℕ
-quiet_after n Silence = if n <? doze_ticks then n + 1 else n
+quiet_after n Silence = when n <? doze_ticks then n + 1 else n
 quiet_after n (Character c) = 0
 quiet_after n (Damaged c kind) = 0
 
 -- "dozes after 20,946 quiet ticks"; else it listens in this manner
 abbrev pub unless_quiet : ℕ → Ear → Ear
-unless_quiet quiet ear = if doze_ticks ≤? quiet then Dozes Silence Silence else ear
+unless_quiet quiet ear = when doze_ticks ≤? quiet then Dozes Silence Silence else ear
 
 -- the device after what was heard, which then listens in this manner
 abbrev pub device_took : PortDevice → Heard → Ear → DeviceTaken → PortDeviceTaken
@@ -97,15 +97,15 @@ with_receiver d r = device_with d r d.turn d.request d.wish d.length d.due
 -- "and then passes over characters until two 0xFF", "in successive ticks": the second is read as the second of a preamble
 abbrev pub passes_on : PortDevice → Heard → Bool → PortDeviceTaken
 passes_on y heard before =
-    if is_undamaged 0xFF heard then
-    (if before then listens_on y heard Awake (unread (with_receiver y.device (blank (Preamble 2))) Nothing)
+    when is_undamaged 0xFF heard then
+    (when before then listens_on y heard Awake (unread (with_receiver y.device (blank (Preamble 2))) Nothing)
     else listens_on y heard (PassesOver true) (unread y.device (passed_over heard)))
     else listens_on y heard (PassesOver false) (unread y.device (passed_over heard))
 
 -- a dozing device
 abbrev pub dozes_on : PortDevice → Heard → Heard → Heard → PortDeviceTaken
 dozes_on y heard a b =
-    if wakes a b heard then device_took y heard (PassesOver false) (unread y.device Nothing)
+    when wakes a b heard then device_took y heard (PassesOver false) (unread y.device Nothing)
     else device_took y heard (Dozes b heard) (unread y.device Nothing)
 
 abbrev pub is_idle : Place → Bool
@@ -122,14 +122,14 @@ is_idle Check = false
 
 -- "an awake one that hears 0x00 between frames"
 abbrev pub hears_wake_up : Device → Heard → Bool
-hears_wake_up d heard = if is_idle d.receiver.place then is_undamaged 0x00 heard else false
+hears_wake_up d heard = when is_idle d.receiver.place then is_undamaged 0x00 heard else false
 
 -- "a BACK counts as a damaged frame": it is told as one, and a device does nothing on either
 abbrev pub counted_as : Event → Event
 counted_as Nothing = Nothing
 counted_as PassedOver = PassedOver
 counted_as Broken = Broken
-counted_as (Frame w) = if w.header.kind =? back then Event.Damaged w no_damage else Frame w
+counted_as (Frame w) = when w.header.kind =? back then Event.Damaged w no_damage else Frame w
 counted_as (Event.Damaged w d) = Event.Damaged w d
 
 abbrev pub reads : DeviceTaken → DeviceTaken
@@ -142,7 +142,7 @@ drops_request d = device_with d d.receiver Listens d.request Same d.length d.due
 -- "does the same"; all else is as in document 01
 abbrev pub awake : PortDevice → Heard → PortDeviceTaken
 awake y heard =
-    if hears_wake_up y.device heard then listens_on y heard (PassesOver false) (unread (drops_request y.device) (passed_over heard))
+    when hears_wake_up y.device heard then listens_on y heard (PassesOver false) (unread (drops_request y.device) (passed_over heard))
     else listens_on y heard Awake (reads (device_takes y.device heard))
 
 abbrev pub hears_by : PortDevice → Heard → Ear → PortDeviceTaken
@@ -153,7 +153,7 @@ hears_by y heard (Dozes a b) = dozes_on y heard a b
 -- "A sending party hears nothing", and neither does a fresh one in its first tick
 unfoldable pub port_device_takes : PortDevice → Heard → PortDeviceTaken
 port_device_takes y heard =
-    if y.device.deaf then record { device = y; told = DeviceTold.Nothing; event = Nothing }
+    when y.device.deaf then record { device = y; told = DeviceTold.Nothing; event = Nothing }
     else hears_by y heard y.ear
 
 -- ---- the host's answer
@@ -172,7 +172,7 @@ abbrev pub too_late : Device → Bool
 too_late d = past_sto d.request.command d.turn
 
 unfoldable pub port_answered : ℕ → Device → Wish → ℕ → Called Device
-port_answered limit d wish count = if too_late d then refused 8 else answered limit d wish count
+port_answered limit d wish count = when too_late d then refused 8 else answered limit d wish count
 
 -- ---- send: a character of its own ends the quiet
 
@@ -194,4 +194,4 @@ device_started (refused why) = refused why
 
 abbrev pub port_device_starts : ℕ → ℕ → ℕ → Called PortDevice
 port_device_starts preamble polling unique =
-    if preamble =? port_preamble then device_started (device_starts infrared_profile preamble polling unique) else refused 3
+    when preamble =? port_preamble then device_started (device_starts infrared_profile preamble polling unique) else refused 3

@@ -1,7 +1,7 @@
 -- To be believed: what the engine must do, or what is claimed of it.
 -- Document 02, item 13: when a device dozes, when it wakes and when it goes on reading, worked out from what it heard and sent, for every list. The proofs are in proofs/Listening and proofs/Hands.
 use Rattle.std.specs.Prelude.{ℕ, ◌+◌, Bool, true, false, ◌≡◌, List, [], ◌∷◌}
-use Rattle.base.specs.Choice.{if◌then◌else◌, ◌≤?◌}
+use Rattle.base.specs.Choice.{when◌then◌else◌, ◌≤?◌}
 use Rattle.base.specs.Refusal.{accepted}
 use Rattle.line.specs.declared.Heard.{Heard}
 use Rattle.line.specs.declared.Heard.TheVariants.{Silence, Character, Damaged}
@@ -36,7 +36,7 @@ quiet_heard (Damaged c kind) q = 0
 
 -- in a tick in which it is deaf a device hears nothing
 abbrev pub quiet_taken : PortDeviceSide → Heard → ℕ → ℕ
-quiet_taken x heard q = if x.device.device.deaf then q else quiet_heard heard q
+quiet_taken x heard q = when x.device.device.deaf then q else quiet_heard heard q
 
 abbrev pub quiet_sent : Sent → ℕ → ℕ
 quiet_sent Silent q = q
@@ -53,14 +53,14 @@ last_wake (b ∷ (a ∷ past)) h = wakes a b h
 -- "passes over characters until two 0xFF", "in successive ticks"
 abbrev pub last_two_ones : List Heard → Heard → Bool
 last_two_ones [] h = false
-last_two_ones (b ∷ past) h = if is_undamaged 0xFF b then is_undamaged 0xFF h else false
+last_two_ones (b ∷ past) h = when is_undamaged 0xFF b then is_undamaged 0xFF h else false
 
 -- how it listens after a tick that it hears, with so many quiet ticks, this tick included: "dozes after 20,946 quiet ticks"
 abbrev pub manner_after : Manner → Device → List Heard → Heard → ℕ → Manner
 -- "an awake one that hears 0x00 between frames does the same"
-manner_after reading d past h q = if doze_ticks ≤? q then dozing else (if hears_wake_up d h then passing_over else reading)
-manner_after passing_over d past h q = if doze_ticks ≤? q then dozing else (if last_two_ones past h then reading else passing_over)
-manner_after dozing d past h q = if last_wake past h then passing_over else dozing
+manner_after reading d past h q = when doze_ticks ≤? q then dozing else (when hears_wake_up d h then passing_over else reading)
+manner_after passing_over d past h q = when doze_ticks ≤? q then dozing else (when last_two_ones past h then reading else passing_over)
+manner_after dozing d past h q = when last_wake past h then passing_over else dozing
 
 -- what was heard in the ticks since it has listened in this manner
 abbrev pub past_after : Manner → Manner → List Heard → Heard → List Heard

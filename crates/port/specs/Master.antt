@@ -1,7 +1,7 @@
 -- To be believed: what the engine must do, or what is claimed of it.
 -- Document 02, item 13: the master of the infrared port. It is document 01's master (crates/turns/specs/Master.antt) except for what stands here: what a frame does, the request's preamble, and the wake-up.
 use Rattle.std.specs.Prelude.{ℕ, ◌+◌, ◌-◌, ◌%◌, Bool, true, false, List}
-use Rattle.base.specs.Choice.{if◌then◌else◌, ◌<?◌, ◌≤?◌, ◌=?◌}
+use Rattle.base.specs.Choice.{when◌then◌else◌, ◌<?◌, ◌≤?◌, ◌=?◌}
 use Rattle.base.specs.Refusal.{Called, accepted, refused}
 use Rattle.frame.specs.Delimiter.{ack, back}
 use Rattle.line.specs.Profile.{infrared_profile}
@@ -31,7 +31,7 @@ use Rattle.port.specs.declared.PortMasterSent.{PortMasterSent}
 -- After a whole frame without damage. "[No] BURST ever set, and a BACK counts as a damaged frame"; else document 01's timer and message.
 unfoldable pub after_port_frame : Master → Receiver → Whole → List ℕ → MasterTaken
 after_port_frame m r w bytes =
-    if w.header.kind =? back then after_break m r (Damaged w no_damage) else
+    when w.header.kind =? back then after_break m r (Damaged w no_damage) else
     tells (master_with m r m.burst m.noted
     (timer_after m.profile m.primary (ended_by m w.header) m.burst)
     (if_awaiting m.message.stage m.message (at_frame m w bytes)).message)
@@ -56,7 +56,7 @@ ends_answer (Damaged w d) = false
 
 -- ticks since an answer's last character, which is taken in the tick after it; they are counted as long as the count matters
 abbrev pub since_after : ℕ → Event → ℕ
-since_after n e = if ends_answer e then 1 else (if n ≤? doze_ticks then n + 1 else n)
+since_after n e = when ends_answer e then 1 else (when n ≤? doze_ticks then n + 1 else n)
 
 abbrev pub master_took : PortMaster → MasterTaken → PortMasterTaken
 master_took x t =
@@ -68,7 +68,7 @@ port_master_takes x heard bytes = master_took x (by_found x.master bytes (master
 -- ---- the host's request: "another preamble with 3"
 
 unfoldable pub port_requested : ℕ → Master → Request → ℕ → Called Master
-port_requested limit m q count = if q.preamble =? port_preamble then requested limit m q count else refused 3
+port_requested limit m q count = when q.preamble =? port_preamble then requested limit m q count else refused 3
 
 -- ---- send
 
@@ -81,11 +81,11 @@ begins m (Awaiting n) = false
 
 -- "A master with no answer's last character in the 20,946 ticks before sends before each STX" its wake-up
 abbrev pub wakes_first : PortMaster → Bool
-wakes_first x = if begins x.master x.master.message.stage then doze_ticks <? x.since else false
+wakes_first x = when begins x.master x.master.message.stage then doze_ticks <? x.since else false
 
 -- "0x00, 0xFF in turn": with n characters still to be sent, this one among them
 abbrev pub wake_up_character : ℕ → ℕ
-wake_up_character n = if n % 2 =? 0 then 0x00 else 0xFF
+wake_up_character n = when n % 2 =? 0 then 0x00 else 0xFF
 
 -- the same master, which has sent a character and hears nothing in the next tick
 abbrev pub deafened : Master → Master
@@ -105,8 +105,8 @@ sends_plain x frame = record {
 
 -- "the message directly behind"
 abbrev pub sends_by : PortMaster → List ℕ → WakeUp → PortMasterSent
-sends_by x frame Off = if wakes_first x then sends_wake_up x wake_up_length else sends_plain x frame
-sends_by x frame (Left n) = if n =? 0 then sends_plain x frame else sends_wake_up x n
+sends_by x frame Off = when wakes_first x then sends_wake_up x wake_up_length else sends_plain x frame
+sends_by x frame (Left n) = when n =? 0 then sends_plain x frame else sends_wake_up x n
 
 unfoldable pub port_master_sends : PortMaster → List ℕ → PortMasterSent
 port_master_sends x frame = sends_by x frame x.wake

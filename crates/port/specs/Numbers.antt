@@ -1,7 +1,7 @@
 -- To be believed: what the engine must do, or what is claimed of it.
 -- Document 02, item 13: the infrared port's numbers. "Ticks are characters of 11 bits at 19,200 bit/s." STO, HOLD, RT2 and RT1 are `infrared_profile` of crates/line/specs/Profile.antt, beside FSK and C8PSK.
 use Rattle.std.specs.Prelude.{ℕ, ◌+◌, ◌<◌, false, ◌≡◌}
-use Rattle.base.specs.Choice.{if◌then◌else◌, ◌=?◌}
+use Rattle.base.specs.Choice.{when◌then◌else◌, ◌=?◌}
 use Rattle.base.specs.Refusal.{refused}
 use Rattle.line.specs.Profile.{infrared_profile, value_refused, profile_made}
 use Rattle.line.specs.declared.Profile.{Profile}
@@ -11,7 +11,7 @@ abbrev pub identity_sto : ℕ
 identity_sto = 52
 
 abbrev pub sto_of : ℕ → ℕ
-sto_of command = if command =? 0 then identity_sto else (if command =? 11 then identity_sto else infrared_profile.sto)
+sto_of command = when command =? 0 then identity_sto else (when command =? 11 then identity_sto else infrared_profile.sto)
 
 -- "the preamble is exactly 5"
 abbrev pub port_preamble : ℕ

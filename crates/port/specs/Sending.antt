@@ -1,7 +1,7 @@
 -- To be believed: what the engine must do, or what is claimed of it.
 -- Document 02, item 13: "A master with no answer's last character in the 20,946 ticks before sends before each STX 358 characters of 0x00, 0xFF in turn, the message directly behind." This is claimed for every list, of what the master hears and sends, what its host asks and what it is told. Its messages, the STX frames sent and the attempts reported are followed as in crates/turns/specs/Attempts.antt. The proof is in proofs/Sending.
 use Rattle.std.specs.Prelude.{ℕ, zero, suc, ◌+◌, ◌≤◌, ◌<◌, Bool, true, false, ◌≡◌, List, [], ◌∷◌, ◌++◌, length}
-use Rattle.base.specs.Choice.{if◌then◌else◌}
+use Rattle.base.specs.Choice.{when◌then◌else◌}
 use Rattle.base.specs.Refusal.{accepted}
 use Rattle.frame.specs.Limits.{most_data, longest_frame}
 use Rattle.line.specs.declared.Event.{Event}
@@ -21,11 +21,11 @@ wake_up_bytes (suc n) = wake_up_character (suc n) ∷ wake_up_bytes n
 unfoldable pub answer_among : ℕ → List Event → Bool
 answer_among zero es = false
 answer_among (suc n) [] = false
-answer_among (suc n) (e ∷ es) = if ends_answer e then true else answer_among n es
+answer_among (suc n) (e ∷ es) = when ends_answer e then true else answer_among n es
 
 -- the characters of an attempt, which may be a retry, by what the master has found when it begins: the newest is what the port carried in the tick before
 abbrev pub attempt : List Event → List ℕ → List ℕ
-attempt found stx = if answer_among doze_ticks found then stx else wake_up_bytes wake_up_length ++ stx
+attempt found stx = when answer_among doze_ticks found then stx else wake_up_bytes wake_up_length ++ stx
 
 -- What is sent in a tick: nothing, or the next character of an attempt, without a gap. `left` of the message's log is what is left of the attempt that is being sent. No attempt begins beyond the most that may be made, and an STX is counted with its last character.
 pub data Sends (retries : ℕ) (found : List Event) : MessageLog → Sent → MessageLog → Type 0 where

@@ -1,7 +1,7 @@
 -- To be believed: what the engine must do, or what is claimed of it.
 -- A tick of the port's master and of a device of the port, with their lent buffers, as `master_tick` and `device_tick` of crates/turns/specs/Link.antt are for the pair: they take what the port carried in the tick before, then the host's call, then send one character or none.
 use Rattle.std.specs.Prelude.{ℕ, Bool, true, false, List, [], ◌∷◌, length}
-use Rattle.base.specs.Choice.{if◌then◌else◌}
+use Rattle.base.specs.Choice.{when◌then◌else◌}
 use Rattle.base.specs.Refusal.{Called, accepted, refused}
 use Rattle.base.specs.Store.{stored}
 use Rattle.frame.specs.Frame.{frame_bytes}
@@ -48,7 +48,7 @@ pub record PortMasterStep : Type 0 where
   pub result : CallResult
 
 abbrev pub master_data : PortMasterSide → Heard → List ℕ
-master_data x heard = if x.master.master.deaf then x.bytes else taken_data x.master.master.receiver heard x.bytes
+master_data x heard = when x.master.master.deaf then x.bytes else taken_data x.master.master.receiver heard x.bytes
 
 abbrev pub with_master : PortMaster → Master → PortMaster
 with_master x m = record { master = m; since = x.since; wake = x.wake }
@@ -111,19 +111,19 @@ pub data PortCall : Type 0 where
 
 -- an awake device reads, unless it hears 0x00 between frames
 abbrev pub reads_by : Device → Heard → Ear → Bool
-reads_by d heard Awake = if hears_wake_up d heard then false else true
+reads_by d heard Awake = when hears_wake_up d heard then false else true
 reads_by d heard (PassesOver before) = false
 reads_by d heard (Dozes a b) = false
 
 abbrev pub reads_tick : PortDevice → Heard → Bool
-reads_tick y heard = if y.device.deaf then false else reads_by y.device heard y.ear
+reads_tick y heard = when y.device.deaf then false else reads_by y.device heard y.ear
 
 abbrev pub device_data : PortDeviceSide → Heard → List ℕ
-device_data x heard = if reads_tick x.device heard then taken_data x.device.device.receiver heard x.bytes else x.bytes
+device_data x heard = when reads_tick x.device heard then taken_data x.device.device.receiver heard x.bytes else x.bytes
 
 -- the frame buffer after what was heard: an error answer may have been put into it
 abbrev pub heard_frame : PortDeviceSide → Heard → List ℕ
-heard_frame x heard = if reads_tick x.device heard then error_frame x.device.device (device_takes x.device.device heard).event x.frame else x.frame
+heard_frame x heard = when reads_tick x.device heard then error_frame x.device.device (device_takes x.device.device heard).event x.frame else x.frame
 
 abbrev pub with_device : PortDevice → Device → PortDevice
 with_device y d = record { device = d; ear = y.ear; quiet = y.quiet }

@@ -5,7 +5,7 @@ use mathlib.Core.Bool.{Bool, true, false}
 use mathlib.Core.List.{List, [], ◌∷◌}
 use mathlib.Core.Path.{◌≡◌, refl, sym, ap, subst, ◌∙◌}
 use borrow.Author.Tests.{ne_eqb}
-use Rattle.base.specs.Choice.{if◌then◌else◌, ◌=?◌}
+use Rattle.base.specs.Choice.{when◌then◌else◌, ◌=?◌}
 use Rattle.base.proofs.Choices.{if_is_false}
 use Rattle.line.specs.declared.Damage.TheVariants.{Parity, Overrun, Framing}
 use Rattle.line.specs.declared.Heard.{Heard}
@@ -29,7 +29,7 @@ use Rattle.port_c.specs.Words.{wake_word, wake_of, master_words, unpacked_master
 use Rattle.port_c.specs.Fits.{WakeFits, PortMasterFits, HeardFits, BothFit, EarFits, PortDeviceFits}
 
 wake_kept : (w : WakeUp) → WakeFits w → wake_of (wake_word w) ≡ w
-unfolding if◌then◌else◌
+unfolding when◌then◌else◌
 wake_kept Off f = refl
 wake_kept (Left n) f = if_is_false (n + 1 =? 0) _ _ (ne_eqb (n + 1) 0 (λ e. omega arith)) ∙ ap (λ (k : ℕ). Left (k % 2 ^ 16)) (one_less n) ∙ ap Left (number_kept 16 n f)
   where
@@ -40,7 +40,7 @@ pub port_master_kept : (limit : ℕ) (x : PortMaster) → PortMasterFits x → u
 port_master_kept limit x f = λ i. record { master = master_kept limit x.master f.master i; since = number_kept 16 x.since f.since i; wake = wake_kept x.wake f.wake i }
 
 heard_kept : (h : Heard) → HeardFits h → heard_of (heard_kind h % 2 ^ 8) (heard_character h % 2 ^ 8) ≡ h
-unfolding if◌then◌else◌
+unfolding when◌then◌else◌
 heard_kept Silence f = refl
 heard_kept (Character c) f = ap Character (number_kept 8 c f)
 heard_kept (Damaged c Parity) f = ap (λ (k : ℕ). Damaged k Parity) (number_kept 8 c f)
@@ -49,7 +49,7 @@ heard_kept (Damaged c Framing) f = ap (λ (k : ℕ). Damaged k Framing) (number_
 
 ear_kept : (e : Ear) → EarFits e
     → ear_by (ear_number e) (heard_of (heard_kind (ear_first e) % 2 ^ 8) (heard_character (ear_first e) % 2 ^ 8)) (heard_of (heard_kind (ear_second e) % 2 ^ 8) (heard_character (ear_second e) % 2 ^ 8)) ≡ e
-unfolding if◌then◌else◌
+unfolding when◌then◌else◌
 ear_kept Awake f = refl
 ear_kept (PassesOver true) f = refl
 ear_kept (PassesOver false) f = refl

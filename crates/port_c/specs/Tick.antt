@@ -1,7 +1,7 @@
 -- How the code stands for what is to be believed.
 -- A tick of the port's master and of a device of the port, over their words and lent buffers.
 use Rattle.std.specs.Prelude.{ℕ, List, ◌≡◌}
-use Rattle.base.specs.Choice.{if◌then◌else◌, ◌=?◌}
+use Rattle.base.specs.Choice.{when◌then◌else◌, ◌=?◌}
 use Rattle.base.specs.Lent.{Lent, before, after}
 use Rattle.line.specs.declared.Heard.{Heard}
 use Rattle.turns.specs.Told.{master_tells, device_tells}
@@ -45,9 +45,9 @@ PortMasterTicks words port frame bytes heard call put results r =
 -- a host's call by its number: 1 is an answer, 2 one that wishes burst on, 3 one that wishes it off, any other number nothing
 abbrev pub call_by : ℕ → PortCall
 call_by number =
-    if number =? 1 then PortCall.Answers Same else
-    if number =? 2 then PortCall.Answers On else
-    if number =? 3 then PortCall.Answers Off else
+    when number =? 1 then PortCall.Answers Same else
+    when number =? 2 then PortCall.Answers On else
+    when number =? 3 then PortCall.Answers Off else
     PortCall.Nothing
 
 pub record DeviceStepIs (limit : ℕ) (s : PortDeviceStep) (words port frame bytes results : List ℕ) (r : ℕ) : Type 0 where

@@ -1,7 +1,7 @@
 -- How the code stands for what is to be believed.
 -- The port's words beside those of its master or device. Whatever words a program in C lends, they stand for some master or device; proofs/Kept.antt says that `unpacked_master` and `unpacked_device` give back every one that the code holds.
 use Rattle.std.specs.Prelude.{ℕ, ◌+◌, ◌-◌, ◌%◌, ◌^◌, true, false, List, [], ◌∷◌}
-use Rattle.base.specs.Choice.{if◌then◌else◌, ◌=?◌}
+use Rattle.base.specs.Choice.{when◌then◌else◌, ◌=?◌}
 use Rattle.line.specs.declared.Damage.{Damage}
 use Rattle.line.specs.declared.Damage.TheVariants.{Parity, Overrun, Framing}
 use Rattle.line.specs.declared.Heard.{Heard}
@@ -25,7 +25,7 @@ wake_word Off = 0
 wake_word (Left n) = n + 1
 
 abbrev pub wake_of : ℕ → WakeUp
-wake_of word = if word =? 0 then Off else Left ((word - 1) % 2 ^ 16)
+wake_of word = when word =? 0 then Off else Left ((word - 1) % 2 ^ 16)
 
 abbrev pub master_words : PortMaster → List ℕ
 master_words x = x.since ∷ wake_word x.wake ∷ []
@@ -53,7 +53,7 @@ heard_character (Damaged c kind) = c
 
 abbrev pub ear_number : Ear → ℕ
 ear_number Awake = 0
-ear_number (PassesOver before) = if before then 2 else 1
+ear_number (PassesOver before) = when before then 2 else 1
 ear_number (Dozes a b) = 3
 
 abbrev pub ear_first : Ear → Heard
@@ -67,7 +67,7 @@ ear_second (PassesOver before) = Silence
 ear_second (Dozes a b) = b
 
 abbrev pub ear_by : ℕ → Heard → Heard → Ear
-ear_by number a b = if number =? 1 then PassesOver false else if number =? 2 then PassesOver true else if number =? 3 then Dozes a b else Awake
+ear_by number a b = when number =? 1 then PassesOver false else when number =? 2 then PassesOver true else when number =? 3 then Dozes a b else Awake
 
 abbrev pub device_words : PortDevice → List ℕ
 device_words y =

@@ -5,7 +5,7 @@ use mathlib.Core.List.{List}
 use mathlib.Core.Path.{◌≡◌, refl, sym, ap, ◌∙◌}
 use lib.ListN.{length}
 use borrow.Author.Tests.{eq-eqb, ne_eqb}
-use Rattle.base.specs.Choice.{if◌then◌else◌, ◌≤?◌, ◌=?◌}
+use Rattle.base.specs.Choice.{when◌then◌else◌, ◌≤?◌, ◌=?◌}
 use Rattle.base.specs.Refusal.{number, Called, accepted, refused}
 use Rattle.base.specs.declared.Refusal.{Refusal}
 use Rattle.base.proofs.Choices.{if_is_true, if_is_false, if_true, if_false}
@@ -142,8 +142,8 @@ module _ (y : PortDevice) (heard : Heard) (bytes frame : List ℕ) (zero : Bool)
 pub ruleset waking = (refl, awake_zero, awake_reads)
 
 -- a choice, and the choice of the other test
-flip : (t : Bool) (a b : List ℕ) → (if t then a else b) ≡ (if (if t then false else true) then b else a)
-unfolding if◌then◌else◌
+flip : (t : Bool) (a b : List ℕ) → (when t then a else b) ≡ (when (when t then false else true) then b else a)
+unfolding when◌then◌else◌
 flip true a b = refl
 flip false a b = refl
 
@@ -169,8 +169,8 @@ module _ (y : PortDevice) (heard : Heard) (bytes frame : List ℕ) (x : PortDevi
       frame_is = p.frame_is ∙ same frame (error_frame y.device (device_takes y.device heard).event frame) _ refl;
     }
       where
-        same : (a b c : List ℕ) → b ≡ c → (if hears_wake_up y.device heard then a else b) ≡ (if reads_tick y heard then c else a)
-        same a b c f = ap (λ (l : List ℕ). if hears_wake_up y.device heard then a else l) f ∙ flip (hears_wake_up y.device heard) a c ∙ ap (λ (t : Bool). if t then c else a) (sym (reads_by_lem Awake e))
+        same : (a b c : List ℕ) → b ≡ c → (when hears_wake_up y.device heard then a else b) ≡ (when reads_tick y heard then c else a)
+        same a b c f = ap (λ (l : List ℕ). when hears_wake_up y.device heard then a else l) f ∙ flip (hears_wake_up y.device heard) a c ∙ ap (λ (t : Bool). when t then c else a) (sym (reads_by_lem Awake e))
 
     pub take_passes : (before : Bool) → y.ear ≡ PassesOver before → x ≡ passes_on y heard before → PortTakeIs y heard bytes frame x bytes frame
     take_passes before e p =

@@ -1,7 +1,7 @@
 -- Inner contracts: nothing that is to be believed rests on them.
 -- What the parts of a device's tick promise, and a call inside it.
 use Rattle.std.specs.Prelude.{ℕ, List, ◌≡◌}
-use Rattle.base.specs.Choice.{if◌then◌else◌}
+use Rattle.base.specs.Choice.{when◌then◌else◌}
 use Rattle.line.specs.declared.Event.{Event}
 use Rattle.line.specs.declared.Heard.{Heard}
 use Rattle.turns.specs.Device.{device_takes, error_frame}
@@ -20,8 +20,8 @@ use Rattle.port_device.specs.Ticks.{side_of, call_of}
 -- a device that is awake and hears: it reads, unless it hears 0x00 between frames
 pub record AwakeIs (y : PortDevice) (heard : Heard) (bytes frame : List ℕ) (t : PortDeviceTaken) (bytes_after frame_after : List ℕ) : Type 0 where
   pub takes : t ≡ awake y heard
-  pub data_is : bytes_after ≡ (if hears_wake_up y.device heard then bytes else L.device_data (lent y.device bytes) heard)
-  pub frame_is : frame_after ≡ (if hears_wake_up y.device heard then frame else error_frame y.device (device_takes y.device heard).event frame)
+  pub data_is : bytes_after ≡ (when hears_wake_up y.device heard then bytes else L.device_data (lent y.device bytes) heard)
+  pub frame_is : frame_after ≡ (when hears_wake_up y.device heard then frame else error_frame y.device (device_takes y.device heard).event frame)
 
 pub record PortTakeIs (y : PortDevice) (heard : Heard) (bytes frame : List ℕ) (t : PortDeviceTaken) (bytes_after frame_after : List ℕ) : Type 0 where
   pub takes : t ≡ port_device_takes y heard

@@ -10,7 +10,6 @@
 
 mod show;
 
-use example_texts::read_full;
 use line::{Damage, Event, Heard};
 use master::MasterCall;
 use port::{PortDevice, PortMaster};
@@ -383,6 +382,6 @@ fn lines(rt: &impl Print, words: &[u8]) -> io::Result<()> {
 
 fn main(rt: HostRuntime) -> io::Result<()> {
     let mut input = [0u8; 65536];
-    let count = read_full(&mut rt.reader(), &mut input)?;
+    let count = program_files::read_full(&mut rt.reader(), &mut input);
     lines(&rt, &input[..count])
 }

@@ -7,7 +7,7 @@ use mathlib.Core.List.{List}
 use lib.ListN.{length, get_or, set}
 use lib.Seq.{set_out}
 use borrow.Author.Tests.{lt-ltb, ltb-true}
-use Rattle.base.specs.Choice.{if◌then◌else◌, ◌<?◌}
+use Rattle.base.specs.Choice.{when◌then◌else◌, ◌<?◌}
 use Rattle.line.specs.declared.Event.{Event}
 use Rattle.line.specs.declared.Event.TheVariants.{Nothing, PassedOver, Broken, Frame, Damaged}
 use Rattle.line.specs.declared.Whole.{Whole}
@@ -27,11 +27,11 @@ Carries rows (Empty i was) = (i < length rows) × (was ≡ row_of rows i)
 Carries rows Full = Unit {0}
 
 sought_carries : (rows : List Row) (key : Key) → Carries rows (sought rows key)
-unfolding sought if◌then◌else◌
+unfolding sought when◌then◌else◌
 sought_carries rows key = by (first_of (has_key key) rows <? length rows) (first_of is_empty rows <? length rows) refl refl
   where
     by : (t u : Bool) → (first_of (has_key key) rows <? length rows) ≡ t → (first_of is_empty rows <? length rows) ≡ u
-        → Carries rows (if t then Match (first_of (has_key key) rows) (row_of rows (first_of (has_key key) rows)) else if u then Empty (first_of is_empty rows) (row_of rows (first_of is_empty rows)) else Full)
+        → Carries rows (when t then Match (first_of (has_key key) rows) (row_of rows (first_of (has_key key) rows)) else when u then Empty (first_of is_empty rows) (row_of rows (first_of is_empty rows)) else Full)
     by true u e f = (ltb-true (first_of (has_key key) rows) (length rows) e, refl)
     by false true e f = (ltb-true (first_of is_empty rows) (length rows) f, refl)
     by false false e f = tt
@@ -48,8 +48,8 @@ module _ (rows : List Row) (area : List ℕ) (tick : ℕ) (bytes : List ℕ) whe
   nothing_made refusal = λ i. record { rows = set_out rows n empty_row (le_refl n) i; area = area; refusal = refusal }
 
   chosen : (t : Bool) (w : Whole) (i : ℕ) (was : Row) → t ≡ true → was ≡ row_of rows i
-      → made (if t then row_put i tick w bytes was else nothing_put n 0) (if t then area_row area w bytes i else area) ≡ superseded rows area tick w bytes i
-  unfolding if◌then◌else◌
+      → made (when t then row_put i tick w bytes was else nothing_put n 0) (when t then area_row area w bytes i else area) ≡ superseded rows area tick w bytes i
+  unfolding when◌then◌else◌
   chosen t w i was e c = rw e (λ j. record { rows = set rows i (row_for i tick w (get_or bytes 1 0) (c j)); area = area_row area w bytes i; refusal = 0 })
 
   at_row : (w : Whole) (i : ℕ) (was : Row) → i < n → was ≡ row_of rows i → made (put_at n tick w bytes i was) (area_at n area w bytes i) ≡ superseded rows area tick w bytes i
@@ -61,9 +61,9 @@ module _ (rows : List Row) (area : List ℕ) (tick : ℕ) (bytes : List ℕ) whe
   by_place w Full c = nothing_made 20
 
   by_reading : (t : Bool) (w : Whole) (s : Sought) → Carries rows s
-      → made (if t then put_by n tick w bytes s else nothing_put n 0) (if t then area_by n area w bytes s else area)
-      ≡ (if t then entered_by rows area tick w bytes s else unchanged rows area 0)
-  unfolding if◌then◌else◌
+      → made (when t then put_by n tick w bytes s else nothing_put n 0) (when t then area_by n area w bytes s else area)
+      ≡ (when t then entered_by rows area tick w bytes s else unchanged rows area 0)
+  unfolding when◌then◌else◌
   by_reading true w s v = by_place w s v
   by_reading false w s v = nothing_made 0
 
@@ -73,13 +73,13 @@ module _ (rows : List Row) (area : List ℕ) (tick : ℕ) (bytes : List ℕ) whe
   by_event Broken s e = nothing_made 0
   by_event (Frame w) s e =
       by_reading (is_reading w bytes) w s (subst (Carries rows) (sym e) (sought_carries rows (key_of w)))
-      ∙ ap (λ (k : Sought). if is_reading w bytes then entered_by rows area tick w bytes k else unchanged rows area 0) e
+      ∙ ap (λ (k : Sought). when is_reading w bytes then entered_by rows area tick w bytes k else unchanged rows area 0) e
   by_event (Damaged w m) s e = nothing_made 0
 
   by_room : (t : Bool) (event : Event) (s : Sought) → s ≡ sought rows (told_key event)
-      → made (if t then nothing_put n 15 else put_of n s tick event bytes) (if t then area else area_of n s area event bytes)
-      ≡ (if t then unchanged rows area 15 else entered_of rows area tick event bytes)
-  unfolding if◌then◌else◌
+      → made (when t then nothing_put n 15 else put_of n s tick event bytes) (when t then area else area_of n s area event bytes)
+      ≡ (when t then unchanged rows area 15 else entered_of rows area tick event bytes)
+  unfolding when◌then◌else◌
   by_room true event s e = nothing_made 15
   by_room false event s e = by_event event s e
 

@@ -4,7 +4,7 @@ use mathlib.Core.Bool.{Bool, true, false}
 use mathlib.Core.List.{List, [], ◌∷◌}
 use mathlib.Core.Path.{◌≡◌, refl}
 use lib.ListN.{replicate, get_or, take, drop}
-use Rattle.base.specs.Choice.{if◌then◌else◌}
+use Rattle.base.specs.Choice.{when◌then◌else◌}
 use Rattle.base.specs.Store.{stored}
 use Rattle.line.specs.declared.Event.TheVariants.{Frame}
 use Rattle.line.specs.declared.Whole.{Whole}
@@ -30,22 +30,22 @@ run = after_all (heard 10 2 3 (0x00 ∷ 0x20 ∷ 0x11 ∷ []) ∷ heard 20 4 2 (
 run_rows : run.rows
     ≡ record { address = 2; tick = 30; place = 0; command = 3; count = 2; primary = 0; secondary = 0; spare = 0 }
     ∷ record { address = 4; tick = 20; place = 255; command = 3; count = 2; primary = 0; secondary = 0; spare = 0 } ∷ []
-unfolding after_all after_op entered sought first_of stored if◌then◌else◌
+unfolding after_all after_op entered sought first_of stored when◌then◌else◌
 run_rows = refl
 
 -- the byte past the new count stays
 run_bytes : take 3 run.area ≡ 0x00 ∷ 0x0F ∷ 0x11 ∷ []
-unfolding after_all after_op entered sought first_of stored if◌then◌else◌
+unfolding after_all after_op entered sought first_of stored when◌then◌else◌
 run_bytes = refl
 
 -- a third device is refused
 run_full : (entered run.rows run.area 40 (Frame (ack 6 2)) (0x00 ∷ 0x00 ∷ [])).refusal ≡ 20
-unfolding after_all after_op entered sought first_of stored if◌then◌else◌
+unfolding after_all after_op entered sought first_of stored when◌then◌else◌
 run_full = refl
 
 -- a frame that is entered again after a newer one of its key puts the older back
 older_back : (row_of (after_all (heard 10 2 3 (0x00 ∷ 0x20 ∷ 0x11 ∷ []) ∷ []) run).rows 0).tick ≡ 10
-unfolding after_all after_op entered sought first_of stored if◌then◌else◌
+unfolding after_all after_op entered sought first_of stored when◌then◌else◌
 older_back = refl
 
 -- of a table that was not cleared: two rows have one key, and only the first is superseded
@@ -54,12 +54,12 @@ old_row = record { address = 2; tick = 5; place = 0; command = 3; count = 2; pri
 
 not_cleared : (after_all (heard 10 2 2 (0x00 ∷ 0x20 ∷ []) ∷ []) (record { rows = old_row ∷ old_row ∷ []; area = replicate 510 0; log = [] })).rows
     ≡ record { address = 2; tick = 10; place = 0; command = 3; count = 2; primary = 0; secondary = 0; spare = 0 } ∷ old_row ∷ []
-unfolding after_all after_op entered sought first_of stored if◌then◌else◌
+unfolding after_all after_op entered sought first_of stored when◌then◌else◌
 not_cleared = refl
 
 -- of a count above 255, which no frame has: the data run into the next row's bytes
 too_long : get_or (after_all (heard 10 2 256 (0x00 ∷ 0x00 ∷ replicate 254 0x33) ∷ []) two_rows).area 255 0 ≡ 0x33
-unfolding after_all after_op entered sought first_of stored if◌then◌else◌
+unfolding after_all after_op entered sought first_of stored when◌then◌else◌
 too_long = refl
 
 -- ---- the bits of two masters
@@ -80,16 +80,16 @@ abbrev both : Kept
 both = after_all (to_master 10 6 true 3 (0x00 ∷ 0x50 ∷ 0x11 ∷ []) ∷ to_master 20 1 false 2 (0x00 ∷ 0x4F ∷ []) ∷ []) one_row
 
 both_row : row_of both.rows 0 ≡ record { address = 2; tick = 20; place = 0; command = 3; count = 2; primary = 0x50; secondary = 0x40; spare = 0 }
-unfolding after_all after_op entered sought first_of stored if◌then◌else◌
+unfolding after_all after_op entered sought first_of stored when◌then◌else◌
 both_row = refl
 
 both_bytes : take 3 both.area ≡ 0x00 ∷ 0x0F ∷ 0x11 ∷ []
-unfolding after_all after_op entered sought first_of stored if◌then◌else◌
+unfolding after_all after_op entered sought first_of stored when◌then◌else◌
 both_bytes = refl
 
 -- each host is shown its own bits
 both_shown : shown_in true both.rows both.area 0 ∷ shown_in false both.rows both.area 0 ∷ [] ≡ 0x5F ∷ 0x4F ∷ []
-unfolding after_all after_op entered sought first_of stored if◌then◌else◌
+unfolding after_all after_op entered sought first_of stored when◌then◌else◌
 both_shown = refl
 
 -- two runs with the same frames to the primary: its host is shown the same bits, the secondary's other ones
@@ -97,15 +97,15 @@ abbrev other : Kept
 other = after_all (to_master 10 1 false 2 (0x00 ∷ 0x10 ∷ []) ∷ to_master 30 6 true 2 (0x00 ∷ 0x50 ∷ []) ∷ []) one_row
 
 same_mine : mine_of true both.log ≡ mine_of true other.log
-unfolding after_all after_op entered sought first_of stored mine_of if◌then◌else◌
+unfolding after_all after_op entered sought first_of stored mine_of when◌then◌else◌
 same_mine = refl
 
 primary_same : shown_bits true both 0 ∷ shown_bits true other 0 ∷ [] ≡ 0x50 ∷ 0x50 ∷ []
-unfolding after_all after_op entered sought first_of stored if◌then◌else◌
+unfolding after_all after_op entered sought first_of stored when◌then◌else◌
 primary_same = refl
 
 secondary_differs : shown_bits false both 0 ∷ shown_bits false other 0 ∷ [] ≡ 0x40 ∷ 0x10 ∷ []
-unfolding after_all after_op entered sought first_of stored if◌then◌else◌
+unfolding after_all after_op entered sought first_of stored when◌then◌else◌
 secondary_differs = refl
 
 -- of tables that were not cleared: no frame was entered in either, and the primary's host is shown other bits
@@ -113,5 +113,5 @@ abbrev lent : ℕ → Kept
 lent bits = record { rows = record { address = 2; tick = 5; place = 0; command = 3; count = 2; primary = bits; secondary = 0; spare = 0 } ∷ []; area = replicate 255 0; log = [] }
 
 lent_differ : shown_bits true (lent 0x40) 0 ∷ shown_bits true (lent 0x10) 0 ∷ [] ≡ 0x40 ∷ 0x10 ∷ []
-unfolding if◌then◌else◌
+unfolding when◌then◌else◌
 lent_differ = refl

@@ -9,7 +9,7 @@ use mathlib.Core.List.{List, [], ◌∷◌}
 use lib.ListN.{length, get_or, set}
 use lib.Seq.{set_out}
 use borrow.Author.Tests.{leb-true, leb-false}
-use Rattle.base.specs.Choice.{if◌then◌else◌, ◌≤?◌}
+use Rattle.base.specs.Choice.{when◌then◌else◌, ◌≤?◌}
 use Rattle.base.specs.Store.{stored}
 use Rattle.base.proofs.Choices.{if_is_true, if_is_false}
 use Rattle.base.proofs.Stores.{length_stored}

@@ -9,7 +9,7 @@ use mathlib.Core.Option.{Option, none, some}
 use lib.ListN.{length, get_or, set, replicate, length-set, length-replicate, get_or-replicate}
 use lib.Seq.{get_or-set_same, get_or-set_other}
 use borrow.Author.Tests.{eqb-true, eqb-false, eq-eqb, ne_eqb}
-use Rattle.base.specs.Choice.{if◌then◌else◌, ◌=?◌, ◌<?◌, ◌≤?◌}
+use Rattle.base.specs.Choice.{when◌then◌else◌, ◌=?◌, ◌<?◌, ◌≤?◌}
 use Rattle.base.specs.Store.{stored}
 use Rattle.base.proofs.Choices.{true_false, if_is_true, if_is_false, went_else}
 use Rattle.base.proofs.Tables.{chain_first, chain_second}
@@ -31,10 +31,10 @@ same? m n = by (m =? n) refl
     by false e = no (eqb-false m n e)
 
 -- ---- keys
-pub key_is : (a c b d : ℕ) → (if a =? b then c =? d else false) ≡ true → (a ≡ b) × (c ≡ d)
+pub key_is : (a c b d : ℕ) → (when a =? b then c =? d else false) ≡ true → (a ≡ b) × (c ≡ d)
 key_is a c b d e = (eqb-true a b (chain_first (a =? b) (c =? d) e), eqb-true c d (chain_second (a =? b) (c =? d) e))
 
-pub is_key : (a c b d : ℕ) → a ≡ b → c ≡ d → (if a =? b then c =? d else false) ≡ true
+pub is_key : (a c b d : ℕ) → a ≡ b → c ≡ d → (when a =? b then c =? d else false) ≡ true
 is_key a c b d e f = if_is_true (a =? b) (c =? d) false (eq-eqb a b e) ∙ eq-eqb c d f
 
 -- a key from a row and a key from another
@@ -283,7 +283,7 @@ frame_entered : (k : Kept) (r : Reading) → r.frame.count ≤ row_bytes → New
 unfolding after_op
 frame_entered k r fits v = by (entered k.rows k.area r.tick (Frame r.frame) r.bytes) (is_entered k.rows k.area r.frame r.bytes) (entered_view k.rows k.area r)
   where
-    by : (e : Entered) (was : Bool) → EnteredView k.rows k.area r e was → Newest (record { rows = e.rows; area = e.area; log = if was then r ∷ k.log else k.log })
+    by : (e : Entered) (was : Bool) → EnteredView k.rows k.area r e was → Newest (record { rows = e.rows; area = e.area; log = when was then r ∷ k.log else k.log })
     by e was (EnteredView.stays n q f) = subst Newest (kept_same k e _ _ _ q (if_is_false was (r ∷ k.log) k.log f)) v
     by e was (EnteredView.goes i q f l room reads to) =
         subst Newest (kept_same k e _ _ _ q (if_is_true was (r ∷ k.log) k.log f))

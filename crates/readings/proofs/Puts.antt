@@ -8,7 +8,7 @@ use lib.ListN.{length, take, drop, set, get_or, length-set}
 use lib.Seq.{get_or-take, get_or-set_same, get_or-set_other}
 use borrow.Author.Tests.{eqb-true, eqb-false}
 use borrow.Rule.Slice.PartMut.{put_mid}
-use Rattle.base.specs.Choice.{if◌then◌else◌, ◌=?◌}
+use Rattle.base.specs.Choice.{when◌then◌else◌, ◌=?◌}
 use Rattle.base.proofs.Choices.{if_below, if_not_below, if_answer_true, if_answer_false, if_is_true, if_is_false}
 use Rattle.base.proofs.Stores.{stored_part, take_length_is, Storing, storing_none, storing_more, storing_all}
 use Rattle.base.specs.Store.{stored}
@@ -28,7 +28,7 @@ put_same at refusal row to e = λ i. record { at = at; row = e i; refusal = refu
 
 -- a row, from its parts
 pub row_is : (i tick : ℕ) (w : Whole) (second : ℕ) (was : Row) (own first other p s : ℕ) → own ≡ own_bits second → first ≡ kept_bits true was → other ≡ kept_bits false was
-    → p ≡ (if w.header.primary then own else first) → s ≡ (if w.header.primary then other else own)
+    → p ≡ (when w.header.primary then own else first) → s ≡ (when w.header.primary then other else own)
     → ◌≡◌ {A = Row} (record { address = w.header.address; tick = tick; place = 255 * i; command = w.header.command; count = w.count; primary = p; secondary = s; spare = 0 }) (row_for i tick w second was)
 row_is i tick w second was own first other p s e f g k l = λ j. record {
   address = w.header.address;
@@ -36,8 +36,8 @@ row_is i tick w second was own first other p s e f g k l = λ j. record {
   place = 255 * i;
   command = w.header.command;
   count = w.count;
-  primary = (k ∙ (λ m. if w.header.primary then e m else f m)) j;
-  secondary = (l ∙ (λ m. if w.header.primary then g m else e m)) j;
+  primary = (k ∙ (λ m. when w.header.primary then e m else f m)) j;
+  secondary = (l ∙ (λ m. when w.header.primary then g m else e m)) j;
   spare = 0;
 }
 

@@ -10,7 +10,7 @@ use lib.ListN.{length, get_or, drop}
 use lib.Seq.{drop-cons, drop-length}
 use borrow.Author.Tests.{lt-ltb, le-ltb, ltb-false}
 use lib.Dec.{leb-suc-suc}
-use Rattle.base.specs.Choice.{if◌then◌else◌, ◌<?◌, ◌=?◌}
+use Rattle.base.specs.Choice.{when◌then◌else◌, ◌<?◌, ◌=?◌}
 use Rattle.base.proofs.Choices.{if_is_true, if_is_false}
 use Rattle.line.specs.declared.Event.{Event}
 use Rattle.readings.specs.Table.{has_key, is_empty, first_of, row_of, sought, looked_up, empty_row}
@@ -48,7 +48,7 @@ suc_test m n = leb-suc-suc (suc m) n
 
 module _ {A : Type 0} (test : Row → Bool) (make : ℕ → Row → A) where
   abbrev In : ℕ → List Row → A → A
-  In at rows other = if first_of test rows <? length rows then make (at + first_of test rows) (row_of rows (first_of test rows)) else other
+  In at rows other = when first_of test rows <? length rows then make (at + first_of test rows) (row_of rows (first_of test rows)) else other
 
   in_none : (at : ℕ) (other : A) → In at [] other ≡ other
   unfolding first_of
@@ -56,15 +56,15 @@ module _ {A : Type 0} (test : Row → Bool) (make : ℕ → Row → A) where
 
   in_here : (at : ℕ) (row : Row) (rows : List Row) (other : A) → test row ≡ true → In at (row ∷ rows) other ≡ make at row
   in_here at row rows other e =
-      ap (λ (k : ℕ). if k <? suc (length rows) then make (at + k) (row_of (row ∷ rows) k) else other) (first_here test row rows e)
+      ap (λ (k : ℕ). when k <? suc (length rows) then make (at + k) (row_of (row ∷ rows) k) else other) (first_here test row rows e)
       ∙ if_is_true (0 <? suc (length rows)) (make (at + 0) row) other (lt-ltb 0 (suc (length rows)) (omega arith))
       ∙ ap (λ (k : ℕ). make k row) (add-zero at)
 
   in_later : (at : ℕ) (row : Row) (rows : List Row) (other : A) → test row ≡ false → In at (row ∷ rows) other ≡ In (suc at) rows other
   in_later at row rows other e =
-      ap (λ (k : ℕ). if k <? suc (length rows) then make (at + k) (row_of (row ∷ rows) k) else other) (first_later test row rows e)
-      ∙ ap (λ (t : Bool). if t then make (at + suc (first_of test rows)) (row_of rows (first_of test rows)) else other) (suc_test (first_of test rows) (length rows))
-      ∙ ap (λ (k : ℕ). if first_of test rows <? length rows then make k (row_of rows (first_of test rows)) else other) (add-suc at (first_of test rows) ∙ sym (suc-add at (first_of test rows)))
+      ap (λ (k : ℕ). when k <? suc (length rows) then make (at + k) (row_of (row ∷ rows) k) else other) (first_later test row rows e)
+      ∙ ap (λ (t : Bool). when t then make (at + suc (first_of test rows)) (row_of rows (first_of test rows)) else other) (suc_test (first_of test rows) (length rows))
+      ∙ ap (λ (k : ℕ). when first_of test rows <? length rows then make k (row_of rows (first_of test rows)) else other) (add-suc at (first_of test rows) ∙ sym (suc-add at (first_of test rows)))
 
 -- ---- what is sought, by the rows that are left
 behind_match : (at i : ℕ) (was : Row) (rows : List Row) (key : Key) → sought_from at (Match i was) rows key ≡ Match i was
@@ -92,15 +92,15 @@ behind_none at (row ∷ rows) key = by (has_key key row) (is_empty row) refl ref
   where
     by : (t u : Bool) → has_key key row ≡ t → is_empty row ≡ u → sought_from (suc at) Full rows key ≡ In (has_key key) Match (suc at) rows (In is_empty Empty (suc at) rows Full) → sought_from (suc at) (next Full at row key) rows key ≡ In (has_key key) Match at (row ∷ rows) (In is_empty Empty at (row ∷ rows) Full)
     by true u e f behind =
-        ap (λ (v : Sought). sought_from (suc at) v rows key) (if_is_true (has_key key row) (Match at row) (if is_empty row then Empty at row else Full) e)
+        ap (λ (v : Sought). sought_from (suc at) v rows key) (if_is_true (has_key key row) (Match at row) (when is_empty row then Empty at row else Full) e)
         ∙ behind_match (suc at) at row rows key ∙ sym (in_here (has_key key) Match at row rows (In is_empty Empty at (row ∷ rows) Full) e)
     by false true e f behind =
-        ap (λ (v : Sought). sought_from (suc at) v rows key) (if_is_false (has_key key row) (Match at row) (if is_empty row then Empty at row else Full) e ∙ if_is_true (is_empty row) (Empty at row) Full f)
+        ap (λ (v : Sought). sought_from (suc at) v rows key) (if_is_false (has_key key row) (Match at row) (when is_empty row then Empty at row else Full) e ∙ if_is_true (is_empty row) (Empty at row) Full f)
         ∙ behind_empty (suc at) at row rows key
         ∙ ap (λ (v : Sought). In (has_key key) Match (suc at) rows v) (sym (in_here is_empty Empty at row rows Full f))
         ∙ sym (in_later (has_key key) Match at row rows (In is_empty Empty at (row ∷ rows) Full) e)
     by false false e f behind =
-        ap (λ (v : Sought). sought_from (suc at) v rows key) (if_is_false (has_key key row) (Match at row) (if is_empty row then Empty at row else Full) e ∙ if_is_false (is_empty row) (Empty at row) Full f)
+        ap (λ (v : Sought). sought_from (suc at) v rows key) (if_is_false (has_key key row) (Match at row) (when is_empty row then Empty at row else Full) e ∙ if_is_false (is_empty row) (Empty at row) Full f)
         ∙ behind
         ∙ ap (λ (v : Sought). In (has_key key) Match (suc at) rows v) (sym (in_later is_empty Empty at row rows Full f))
         ∙ sym (in_later (has_key key) Match at row rows (In is_empty Empty at (row ∷ rows) Full) e)
@@ -109,8 +109,8 @@ pub sought_is : (rows : List Row) (key : Key) → sought_from 0 Full rows key �
 unfolding sought
 sought_is rows key =
     behind_none 0 rows key
-    ∙ ap (λ (k : ℕ). if first_of (has_key key) rows <? length rows then Match k (row_of rows (first_of (has_key key) rows)) else In is_empty Empty 0 rows Full) (zero-add (first_of (has_key key) rows))
-    ∙ ap (λ (k : ℕ). if first_of (has_key key) rows <? length rows then Match (first_of (has_key key) rows) (row_of rows (first_of (has_key key) rows)) else if first_of is_empty rows <? length rows then Empty k (row_of rows (first_of is_empty rows)) else Full) (zero-add (first_of is_empty rows))
+    ∙ ap (λ (k : ℕ). when first_of (has_key key) rows <? length rows then Match k (row_of rows (first_of (has_key key) rows)) else In is_empty Empty 0 rows Full) (zero-add (first_of (has_key key) rows))
+    ∙ ap (λ (k : ℕ). when first_of (has_key key) rows <? length rows then Match (first_of (has_key key) rows) (row_of rows (first_of (has_key key) rows)) else when first_of is_empty rows <? length rows then Empty k (row_of rows (first_of is_empty rows)) else Full) (zero-add (first_of is_empty rows))
 
 -- ---- a search that has looked at the first i rows
 pub record Seeking (rows : List Row) (key : Key) (i : ℕ) (s : Sought) : Type 0 where
@@ -136,14 +136,14 @@ seeking_all rows key s v = sym (ap (λ (rest : List Row). sought_from (length ro
 
 -- ---- the row that is looked up
 match_is : (rows : List Row) (key : Key) → match_of (length rows) (sought rows key) ≡ first_of (has_key key) rows
-unfolding sought if◌then◌else◌
+unfolding sought when◌then◌else◌
 match_is rows key = by (first_of (has_key key) rows <? length rows) (first_of is_empty rows <? length rows) refl
   where
     none : (first_of (has_key key) rows <? length rows) ≡ false → length rows ≡ first_of (has_key key) rows
     none e = let m = first_most (has_key key) rows in let n = ltb-false (first_of (has_key key) rows) (length rows) e in omega (arith, m, n)
 
     by : (t u : Bool) → (first_of (has_key key) rows <? length rows) ≡ t
-        → match_of (length rows) (if t then Match (first_of (has_key key) rows) (row_of rows (first_of (has_key key) rows)) else if u then Empty (first_of is_empty rows) (row_of rows (first_of is_empty rows)) else Full) ≡ first_of (has_key key) rows
+        → match_of (length rows) (when t then Match (first_of (has_key key) rows) (row_of rows (first_of (has_key key) rows)) else when u then Empty (first_of is_empty rows) (row_of rows (first_of is_empty rows)) else Full) ≡ first_of (has_key key) rows
     by true u e = refl
     by false true e = none e
     by false false e = none e
@@ -151,7 +151,7 @@ match_is rows key = by (first_of (has_key key) rows <? length rows) (first_of is
 pub found_is : (rows : List Row) (key : Key) (s : Sought) → s ≡ sought rows key → looked_up_by (length rows) s key ≡ looked_up rows key
 found_is rows key s e =
     ap (λ (u : Sought). looked_up_by (length rows) u key) e
-    ∙ ap (λ (n : ℕ). if key.address =? 0 then length rows else n) (match_is rows key)
+    ∙ ap (λ (n : ℕ). when key.address =? 0 then length rows else n) (match_is rows key)
 
 pub match_at : (rows : ℕ) (s q : Sought) (x : ℕ) → s ≡ q → x ≡ match_of rows q → x ≡ match_of rows s
 match_at rows s q x e p = p ∙ ap (match_of rows) (sym e)

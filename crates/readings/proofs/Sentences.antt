@@ -10,7 +10,7 @@ use mathlib.Core.Option.{Option, none, some}
 use lib.ListN.{length, get_or, set, length-set}
 use lib.Seq.{get_or-set_same, get_or-set_other}
 use borrow.Author.Tests.{ltb-true, ltb-false, le-ltb, eqb-true, ne_eqb}
-use Rattle.base.specs.Choice.{if◌then◌else◌, ◌<?◌, ◌=?◌}
+use Rattle.base.specs.Choice.{when◌then◌else◌, ◌<?◌, ◌=?◌}
 use Rattle.base.specs.Store.{stored}
 use Rattle.base.proofs.Choices.{true_false, if_is_true, if_is_false}
 use Rattle.base.proofs.Stores.{length_stored}
@@ -104,14 +104,14 @@ frame_or v (Frame w) = w
 frame_or v (Damaged w m) = v
 
 answers : (rows : List Row) (area : List ℕ) (tick : ℕ) (w : Whole) (bytes : List ℕ) → Answers rows area (Frame w) bytes (entered rows area tick (Frame w) bytes)
-unfolding entered if◌then◌else◌ frame_or
+unfolding entered when◌then◌else◌ frame_or
 answers rows area tick w bytes = by (length area <? row_bytes * length rows) (is_reading w bytes) refl refl (first_match rows (key_of w))
   where
     same : (v : Whole) → Frame w ≡ Frame v → w ≡ v
     same v e = ap (frame_or w) e
 
     by : (t u : Bool) → (length area <? row_bytes * length rows) ≡ t → is_reading w bytes ≡ u → SoughtIs rows (key_of w) (sought rows (key_of w))
-        → Answers rows area (Frame w) bytes (if t then unchanged rows area 15 else if u then entered_by rows area tick w bytes (sought rows (key_of w)) else unchanged rows area 0)
+        → Answers rows area (Frame w) bytes (when t then unchanged rows area 15 else when u then entered_by rows area tick w bytes (sought rows (key_of w)) else unchanged rows area 0)
     by true u e f s = answers_short (ltb-true (length area) (row_bytes * length rows) e) refl
     by false false e f s = answers_none (ltb-false (length area) (row_bytes * length rows) e) refl (λ v g reads full. true_false (sym reads ∙ ap (λ (x : Whole). is_reading x bytes) (sym (same v g)) ∙ f))
     by false true e f (is_match i s l k first) =
@@ -124,11 +124,11 @@ answers rows area tick w bytes = by (length area <? row_bytes * length rows) (is
         answers_full (ltb-false (length area) (row_bytes * length rows) e) w refl f (no_key, filled) (ap (entered_by rows area tick w bytes) s)
 
 other_answers : (rows : List Row) (area : List ℕ) (event : Event) (bytes : List ℕ) (e : Entered) → ((w : Whole) → event ≡ Frame w → ⊥)
-    → e ≡ (if length area <? row_bytes * length rows then unchanged rows area 15 else unchanged rows area 0) → Answers rows area event bytes e
-unfolding if◌then◌else◌
+    → e ≡ (when length area <? row_bytes * length rows then unchanged rows area 15 else unchanged rows area 0) → Answers rows area event bytes e
+unfolding when◌then◌else◌
 other_answers rows area event bytes e f = by (length area <? row_bytes * length rows) refl
   where
-    by : (t : Bool) → (length area <? row_bytes * length rows) ≡ t → e ≡ (if t then unchanged rows area 15 else unchanged rows area 0) → Answers rows area event bytes e
+    by : (t : Bool) → (length area <? row_bytes * length rows) ≡ t → e ≡ (when t then unchanged rows area 15 else unchanged rows area 0) → Answers rows area event bytes e
     by true k q = answers_short (ltb-true (length area) (row_bytes * length rows) k) q
     by false k q = answers_none (ltb-false (length area) (row_bytes * length rows) k) (ap (λ (x : Entered). x.refusal) q) (λ w g reads full. f w g)
 
@@ -284,14 +284,14 @@ start_holding rows area r fits reads i l room to = record {
     none_before j lj (Goes.to_empty k first no_key) = no_key j (omega (arith, lj, l))
 
 -- a frame that a row holds leaves the row as it was
-bits_again : (p e : Bool) (own kept z : ℕ) → e ≡ false → (if p then own else if e then 0 else if true then (if p then own else kept) else z) ≡ (if p then own else kept)
-unfolding if◌then◌else◌
+bits_again : (p e : Bool) (own kept z : ℕ) → e ≡ false → (when p then own else when e then 0 else when true then (when p then own else kept) else z) ≡ (when p then own else kept)
+unfolding when◌then◌else◌
 bits_again true e own kept z f = refl
 bits_again false true own kept z f = absurd (true_false f)
 bits_again false false own kept z f = refl
 
-bits_too : (p e : Bool) (own kept z : ℕ) → e ≡ false → (if p then (if e then 0 else if false then z else (if p then kept else own)) else own) ≡ (if p then kept else own)
-unfolding if◌then◌else◌
+bits_too : (p e : Bool) (own kept z : ℕ) → e ≡ false → (when p then (when e then 0 else when false then z else (when p then kept else own)) else own) ≡ (when p then kept else own)
+unfolding when◌then◌else◌
 bits_too true true own kept z f = absurd (true_false f)
 bits_too true false own kept z f = refl
 bits_too false e own kept z f = refl
@@ -304,8 +304,8 @@ same_row rows now r i reads e = λ j. record {
   place = row_bytes * i;
   command = r.frame.header.command;
   count = r.frame.count;
-  primary = (ap (λ (row : Row). if to then own else kept_bits true row) e ∙ bits_again to (is_empty new) own (kept_bits true (row_of rows i)) new.secondary filled) j;
-  secondary = (ap (λ (row : Row). if to then kept_bits false row else own) e ∙ bits_too to (is_empty new) own (kept_bits false (row_of rows i)) new.primary filled) j;
+  primary = (ap (λ (row : Row). when to then own else kept_bits true row) e ∙ bits_again to (is_empty new) own (kept_bits true (row_of rows i)) new.secondary filled) j;
+  secondary = (ap (λ (row : Row). when to then kept_bits false row else own) e ∙ bits_too to (is_empty new) own (kept_bits false (row_of rows i)) new.primary filled) j;
   spare = 0;
 }
   where

@@ -8,7 +8,7 @@ use mathlib.Core.Option.{Option, none, some}
 use lib.ListN.{length, get_or, set, take, length-set}
 use lib.Seq.{get_or-set_same, get_or-set_other, get_or-take}
 use borrow.Author.Tests.{ne_eqb, ltb-false}
-use Rattle.base.specs.Choice.{if◌then◌else◌, ◌=?◌, ◌<?◌, ◌≤?◌}
+use Rattle.base.specs.Choice.{when◌then◌else◌, ◌=?◌, ◌<?◌, ◌≤?◌}
 use Rattle.base.proofs.Choices.{true_false, if_is_true, if_is_false, went_else}
 use Rattle.base.specs.Store.{stored}
 use Rattle.line.specs.declared.Event.{Event}
@@ -25,19 +25,19 @@ use Rattle.readings.proofs.Newest.{same?, key_is, is_key, same_key, newest_later
 
 -- ---- the newest bits after one frame more
 bits_of : Key → Bool → Reading → ℕ → ℕ
-bits_of key primary r before = if is_to primary r then (if is_of key r.frame then own_bits (get_or r.bytes 1 0) else before) else before
+bits_of key primary r before = when is_to primary r then (when is_of key r.frame then own_bits (get_or r.bytes 1 0) else before) else before
 
 one_more : (primary : Bool) (key : Key) (r : Reading) (log : List Reading) → last_bits key (mine_of primary (r ∷ log)) ≡ bits_of key primary r (last_bits key (mine_of primary log))
-unfolding mine_of last_bits bits_of if◌then◌else◌
+unfolding mine_of last_bits bits_of when◌then◌else◌
 one_more primary key r log = by (is_to primary r)
   where
-    by : (t : Bool) → last_bits key (if t then mine r ∷ mine_of primary log else mine_of primary log)
-        ≡ (if t then (if is_of key r.frame then own_bits (get_or r.bytes 1 0) else last_bits key (mine_of primary log)) else last_bits key (mine_of primary log))
+    by : (t : Bool) → last_bits key (when t then mine r ∷ mine_of primary log else mine_of primary log)
+        ≡ (when t then (when is_of key r.frame then own_bits (get_or r.bytes 1 0) else last_bits key (mine_of primary log)) else last_bits key (mine_of primary log))
     by true = refl
     by false = refl
 
-same_both : (t : Bool) (x : ℕ) → (if t then x else x) ≡ x
-unfolding if◌then◌else◌
+same_both : (t : Bool) (x : ℕ) → (when t then x else x) ≡ x
+unfolding when◌then◌else◌
 same_both true x = refl
 same_both false x = refl
 
@@ -45,26 +45,26 @@ more_other : (primary : Bool) (key : Key) (r : Reading) (log : List Reading) →
 unfolding bits_of
 more_other primary key r log e =
     one_more primary key r log
-    ∙ ap (λ (x : ℕ). if is_to primary r then x else last_bits key (mine_of primary log)) (if_is_false (is_of key r.frame) (own_bits (get_or r.bytes 1 0)) (last_bits key (mine_of primary log)) e)
+    ∙ ap (λ (x : ℕ). when is_to primary r then x else last_bits key (mine_of primary log)) (if_is_false (is_of key r.frame) (own_bits (get_or r.bytes 1 0)) (last_bits key (mine_of primary log)) e)
     ∙ same_both (is_to primary r) (last_bits key (mine_of primary log))
 
 more_here : (primary : Bool) (key : Key) (r : Reading) (log : List Reading) → is_of key r.frame ≡ true
-    → last_bits key (mine_of primary (r ∷ log)) ≡ (if is_to primary r then own_bits (get_or r.bytes 1 0) else last_bits key (mine_of primary log))
+    → last_bits key (mine_of primary (r ∷ log)) ≡ (when is_to primary r then own_bits (get_or r.bytes 1 0) else last_bits key (mine_of primary log))
 unfolding bits_of
 more_here primary key r log e =
     one_more primary key r log
-    ∙ ap (λ (x : ℕ). if is_to primary r then x else last_bits key (mine_of primary log)) (if_is_true (is_of key r.frame) (own_bits (get_or r.bytes 1 0)) (last_bits key (mine_of primary log)) e)
+    ∙ ap (λ (x : ℕ). when is_to primary r then x else last_bits key (mine_of primary log)) (if_is_true (is_of key r.frame) (own_bits (get_or r.bytes 1 0)) (last_bits key (mine_of primary log)) e)
 
 -- the bits that frames say are own bits
-own_if : (t : Bool) (a b : ℕ) → own_bits a ≡ a → own_bits b ≡ b → own_bits (if t then a else b) ≡ (if t then a else b)
-unfolding if◌then◌else◌
+own_if : (t : Bool) (a b : ℕ) → own_bits a ≡ a → own_bits b ≡ b → own_bits (when t then a else b) ≡ (when t then a else b)
+unfolding when◌then◌else◌
 own_if true a b e f = e
 own_if false a b e f = f
 
 bits_own : (key : Key) (primary : Bool) (r : Reading) (before : ℕ) → own_bits before ≡ before → own_bits (bits_of key primary r before) ≡ bits_of key primary r before
 unfolding bits_of
 bits_own key primary r before e =
-    own_if (is_to primary r) (if is_of key r.frame then own_bits (get_or r.bytes 1 0) else before) before
+    own_if (is_to primary r) (when is_of key r.frame then own_bits (get_or r.bytes 1 0) else before) before
     (own_if (is_of key r.frame) (own_bits (get_or r.bytes 1 0)) before (own_own (get_or r.bytes 1 0)) e) e
 
 last_own : (primary : Bool) (key : Key) (log : List Reading) → own_bits (last_bits key (mine_of primary log)) ≡ last_bits key (mine_of primary log)
@@ -92,16 +92,16 @@ none_bits primary key (r ∷ log) e = by (is_of key r.frame) refl (none_bits pri
 
 -- a new row's bits, for either master
 new_bits : (primary p empty : Bool) (own kt kf : ℕ) → empty ≡ false
-    → (if empty then 0 else if primary then (if p then own else kt) else (if p then kf else own))
-    ≡ (if (if primary then p else if p then false else true) then own else (if primary then kt else kf))
-unfolding if◌then◌else◌
+    → (when empty then 0 else when primary then (when p then own else kt) else (when p then kf else own))
+    ≡ (when (when primary then p else when p then false else true) then own else (when primary then kt else kf))
+unfolding when◌then◌else◌
 new_bits primary p true own kt kf e = absurd (true_false e)
 new_bits true true false own kt kf e = refl
 new_bits true false false own kt kf e = refl
 new_bits false true false own kt kf e = refl
 new_bits false false false own kt kf e = refl
 
-kept_by : (primary : Bool) (row : Row) → (if primary then kept_bits true row else kept_bits false row) ≡ kept_bits primary row
+kept_by : (primary : Bool) (row : Row) → (when primary then kept_bits true row else kept_bits false row) ≡ kept_bits primary row
 kept_by true row = if_is_true true (kept_bits true row) (kept_bits false row) refl
 kept_by false row = if_is_false false (kept_bits true row) (kept_bits false row) refl
 
@@ -121,7 +121,7 @@ kept_stays rows area r primary j lj f other = by (entered rows area r.tick (Fram
             ∙ ap (kept_bits primary) (here rows area r i l reads)
             ∙ new_bits primary r.frame.header.primary (is_empty (new_row rows i r.tick r.frame r.bytes)) (own_bits (get_or r.bytes 1 0)) (kept_bits true (row_of rows i)) (kept_bits false (row_of rows i))
             (filled_new rows area r i l reads)
-            ∙ if_is_false (is_to primary r) (own_bits (get_or r.bytes 1 0)) (if primary then kept_bits true (row_of rows i) else kept_bits false (row_of rows i)) other
+            ∙ if_is_false (is_to primary r) (own_bits (get_or r.bytes 1 0)) (when primary then kept_bits true (row_of rows i) else kept_bits false (row_of rows i)) other
             ∙ kept_by primary (row_of rows i)
             ∙ ap (λ (n : ℕ). kept_bits primary (row_of rows n)) (sym e)
 
@@ -189,21 +189,21 @@ module _ (rows : List Row) (area : List ℕ) (log : List Reading) (v : Newest (r
           let was_filled : is_empty (row_of rows i) ≡ false = ne_eqb (row_of rows i).address 0 (λ z. reading_address r.frame r.bytes reads (sym one.0 ∙ z)) in
           w.keeps primary i l was_filled ∙ ap (λ (x : Key). last_bits x (mine_of primary log)) (same_key (key_in (row_of rows i)) key one.0 one.1)
       by (Goes.to_empty k first no_key) =
-          if_is_true (is_empty (row_of rows i)) 0 (if primary then (row_of rows i).primary else (row_of rows i).secondary) k
+          if_is_true (is_empty (row_of rows i)) 0 (when primary then (row_of rows i).primary else (row_of rows i).secondary) k
           ∙ sym (none_bits primary key log (is_none (newest_of key log) refl))
         where
           is_none : (n : Option Reading) → newest_of key log ≡ n → newest_of key log ≡ none
           is_none none e = e
           is_none (some s) e = let row = v.has_row key s e in absurd (true_false (sym row.1.1.1 ∙ no_key row.0 row.1.0))
 
-  both : (t : Bool) → (if t then kept_bits true (row_of rows i) else kept_bits false (row_of rows i)) ≡ last_bits key (mine_of t log)
+  both : (t : Bool) → (when t then kept_bits true (row_of rows i) else kept_bits false (row_of rows i)) ≡ last_bits key (mine_of t log)
   both true = if_is_true true (kept_bits true (row_of rows i)) (kept_bits false (row_of rows i)) refl ∙ kept_is true
   both false = if_is_false false (kept_bits true (row_of rows i)) (kept_bits false (row_of rows i)) refl ∙ kept_is false
 
   keeps_new : (primary : Bool) → kept_bits primary row_new ≡ last_bits key (mine_of primary (r ∷ log))
   keeps_new primary =
       new_bits primary r.frame.header.primary (is_empty row_new) (own_bits (get_or r.bytes 1 0)) (kept_bits true (row_of rows i)) (kept_bits false (row_of rows i)) (filled_new rows area r i l reads)
-      ∙ ap (λ (x : ℕ). if is_to primary r then own_bits (get_or r.bytes 1 0) else x) (both primary)
+      ∙ ap (λ (x : ℕ). when is_to primary r then own_bits (get_or r.bytes 1 0) else x) (both primary)
       ∙ sym (more_here primary key r log (key_new rows area r i l reads))
 
   abbrev Keeps : Bool → Row → Type 0
@@ -245,7 +245,7 @@ frame_kept : (k : Kept) (r : Reading) → r.frame.count ≤ row_bytes → length
 unfolding after_op
 frame_kept k r fits full v w = by (entered k.rows k.area r.tick (Frame r.frame) r.bytes) (is_entered k.rows k.area r.frame r.bytes) (entered_view k.rows k.area r)
   where
-    by : (e : Entered) (was : Bool) → EnteredView k.rows k.area r e was → KeptIs (record { rows = e.rows; area = e.area; log = if was then r ∷ k.log else k.log })
+    by : (e : Entered) (was : Bool) → EnteredView k.rows k.area r e was → KeptIs (record { rows = e.rows; area = e.area; log = when was then r ∷ k.log else k.log })
     by e was (EnteredView.stays n q f) = subst KeptIs (kept_same k e _ _ _ q (if_is_false was (r ∷ k.log) k.log f)) w
     by e was (EnteredView.goes i q f l room reads to) =
         subst KeptIs (kept_same k e _ _ _ q (if_is_true was (r ∷ k.log) k.log f))

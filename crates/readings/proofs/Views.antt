@@ -6,7 +6,7 @@ use mathlib.Core.Bool.{Bool, true, false}
 use mathlib.Core.List.{List, [], ◌∷◌}
 use lib.ListN.{length, get_or}
 use borrow.Author.Tests.{ltb-true, ltb-false}
-use Rattle.base.specs.Choice.{if◌then◌else◌, ◌<?◌}
+use Rattle.base.specs.Choice.{when◌then◌else◌, ◌<?◌}
 use Rattle.base.proofs.Choices.{true_false, if_is_true, if_is_false}
 use Rattle.line.specs.declared.Event.{Event}
 use Rattle.line.specs.declared.Event.TheVariants.{Nothing, PassedOver, Broken, Frame, Damaged}
@@ -56,14 +56,14 @@ not_frame e w f p = true_false (sym (ap is_frame p) ∙ f)
 
 -- ---- which row is sought
 pub first_match : (rows : List Row) (key : Key) → SoughtIs rows key (sought rows key)
-unfolding sought if◌then◌else◌
+unfolding sought when◌then◌else◌
 first_match rows key = by (first_of (has_key key) rows <? length rows) (first_of is_empty rows <? length rows) refl refl
   where
     no_row : (test : Row → Bool) → (first_of test rows <? length rows) ≡ false → NoRow test rows
     no_row test e j l = first_before test rows j (let k = ltb-false (first_of test rows) (length rows) e in omega (arith, k, l))
 
     by : (t u : Bool) → (first_of (has_key key) rows <? length rows) ≡ t → (first_of is_empty rows <? length rows) ≡ u
-        → SoughtIs rows key (if t then Match (first_of (has_key key) rows) (row_of rows (first_of (has_key key) rows)) else if u then Empty (first_of is_empty rows) (row_of rows (first_of is_empty rows)) else Full)
+        → SoughtIs rows key (when t then Match (first_of (has_key key) rows) (row_of rows (first_of (has_key key) rows)) else when u then Empty (first_of is_empty rows) (row_of rows (first_of is_empty rows)) else Full)
     by true u e f =
         let l = ltb-true (first_of (has_key key) rows) (length rows) e in
         is_match (first_of (has_key key) rows) refl l (first_holds (has_key key) rows l) (λ j k. first_before (has_key key) rows j k)
@@ -85,13 +85,13 @@ pub data EnteredView (rows : List Row) (area : List ℕ) (r : Reading) (e : Ente
 
 pub entered_view : (rows : List Row) (area : List ℕ) (r : Reading)
     → EnteredView rows area r (entered rows area r.tick (Frame r.frame) r.bytes) (is_entered rows area r.frame r.bytes)
-unfolding entered if◌then◌else◌
+unfolding entered when◌then◌else◌
 entered_view rows area r = by (length area <? row_bytes * length rows) (is_reading r.frame r.bytes) refl refl (first_match rows (key_of r.frame))
   where
     by : (t u : Bool) → (length area <? row_bytes * length rows) ≡ t → is_reading r.frame r.bytes ≡ u → SoughtIs rows (key_of r.frame) (sought rows (key_of r.frame))
         → EnteredView rows area r
-        (if t then unchanged rows area 15 else if u then entered_by rows area r.tick r.frame r.bytes (sought rows (key_of r.frame)) else unchanged rows area 0)
-        (if t then false else if u then is_place (sought rows (key_of r.frame)) else false)
+        (when t then unchanged rows area 15 else when u then entered_by rows area r.tick r.frame r.bytes (sought rows (key_of r.frame)) else unchanged rows area 0)
+        (when t then false else when u then is_place (sought rows (key_of r.frame)) else false)
     by true u e f v = EnteredView.stays 15 refl refl
     by false false e f v = EnteredView.stays 0 refl refl
     by false true e f (is_match i s l k first) =
@@ -105,7 +105,7 @@ abbrev pub NoFrame : Event → Type 0
 NoFrame event = (w : Whole) → event ≡ Frame w → ⊥
 
 pub no_frame_stays : (rows : List Row) (area : List ℕ) (tick : ℕ) (event : Event) (bytes : List ℕ) → NoFrame event
-    → entered rows area tick event bytes ≡ (if length area <? row_bytes * length rows then unchanged rows area 15 else unchanged rows area 0)
+    → entered rows area tick event bytes ≡ (when length area <? row_bytes * length rows then unchanged rows area 15 else unchanged rows area 0)
 unfolding entered
 no_frame_stays rows area tick Nothing bytes f = refl
 no_frame_stays rows area tick PassedOver bytes f = refl
@@ -121,7 +121,7 @@ pub data Tells (rows : List Row) (area : List ℕ) (tick : ℕ) (event : Event) 
 pub tells_view : (rows : List Row) (area : List ℕ) (tick : ℕ) (event : Event) (bytes : List ℕ) → Tells rows area tick event bytes
 tells_view rows area tick event bytes = by event refl
   where
-    chosen : (t : Bool) → (n : ℕ) × ((if t then unchanged rows area 15 else unchanged rows area 0) ≡ unchanged rows area n)
+    chosen : (t : Bool) → (n : ℕ) × ((when t then unchanged rows area 15 else unchanged rows area 0) ≡ unchanged rows area n)
     chosen true = (15, if_is_true true _ _ refl)
     chosen false = (0, if_is_false false _ _ refl)
 

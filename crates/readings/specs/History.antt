@@ -2,7 +2,7 @@
 -- Document 02, item 7: "Analysts want the newest data per device and command." What one operation leaves of any table, and what a table holds after any list of operations from a cleared table on.
 use Rattle.std.specs.Prelude.{ℕ, ◌+◌, ◌*◌, ◌<◌, ◌≤◌, Bool, true, false, List, [], ◌∷◌, ◌≡◌, length, get_or, replicate}
 use Rattle.std.proofs.Math.Option.{Option, none, some}
-use Rattle.base.specs.Choice.{if◌then◌else◌, ◌<?◌, ◌=?◌}
+use Rattle.base.specs.Choice.{when◌then◌else◌, ◌<?◌, ◌=?◌}
 use Rattle.line.specs.declared.Event.{Event}
 use Rattle.line.specs.declared.Event.TheVariants.{Nothing, PassedOver, Broken, Frame, Damaged}
 use Rattle.line.specs.declared.Whole.{Whole}
@@ -70,8 +70,8 @@ is_place Full = false
 -- whether a frame is entered
 abbrev pub is_entered : List Row → List ℕ → Whole → List ℕ → Bool
 is_entered rows area w bytes =
-    if length area <? row_bytes * length rows then false else
-    if is_reading w bytes then is_place (sought rows (key_of w)) else
+    when length area <? row_bytes * length rows then false else
+    when is_reading w bytes then is_place (sought rows (key_of w)) else
     false
 
 -- a table with its byte area, and the frames that were entered since it was cleared, the newest first
@@ -84,7 +84,7 @@ abbrev pub logged : Kept → ℕ → Event → List ℕ → List Reading
 logged k tick Nothing bytes = k.log
 logged k tick PassedOver bytes = k.log
 logged k tick Broken bytes = k.log
-logged k tick (Frame w) bytes = if is_entered k.rows k.area w bytes then record { tick = tick; frame = w; bytes = bytes } ∷ k.log else k.log
+logged k tick (Frame w) bytes = when is_entered k.rows k.area w bytes then record { tick = tick; frame = w; bytes = bytes } ∷ k.log else k.log
 logged k tick (Damaged w m) bytes = k.log
 
 unfoldable pub after_op : Op → Kept → Kept
@@ -122,11 +122,11 @@ FromCleared claim = (n : ℕ) (area : List ℕ) (ops : List Op) → OpsFit ops �
 
 -- the newest frame of an address and a command
 abbrev pub is_of : Key → Whole → Bool
-is_of key w = if w.header.address =? key.address then w.header.command =? key.command else false
+is_of key w = when w.header.address =? key.address then w.header.command =? key.command else false
 
 unfoldable pub newest_of : Key → List Reading → Option Reading
 newest_of key [] = none
-newest_of key (r ∷ log) = if is_of key r.frame then some r else newest_of key log
+newest_of key (r ∷ log) = when is_of key r.frame then some r else newest_of key log
 
 -- row i holds a frame: its fields, and its data at their place
 pub record RowHolds (area : List ℕ) (i : ℕ) (row : Row) (r : Reading) : Type 0 where

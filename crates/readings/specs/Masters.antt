@@ -1,7 +1,7 @@
 -- To be believed: what the engine must do, or what is claimed of it.
 -- Document 02, item 8: "From a cleared table, what one host is shown as its bits depends only on entered frames to it, on which rows exist then and on clearing."
 use Rattle.std.specs.Prelude.{ℕ, ◌+◌, ◌*◌, ◌<◌, Bool, true, false, List, [], ◌∷◌, ◌≡◌, length, get_or}
-use Rattle.base.specs.Choice.{if◌then◌else◌, ◌=?◌}
+use Rattle.base.specs.Choice.{when◌then◌else◌, ◌=?◌}
 use Rattle.line.specs.declared.Event.TheVariants.{Frame}
 use Rattle.readings.specs.Table.{row_bytes, has_key, key_of, is_empty, row_of, own_bits, kept_bits, shown_byte}
 use Rattle.readings.specs.History.{Reading, Op, told, Kept, after_op, after_all, fresh, OpsFit, key_in}
@@ -19,7 +19,7 @@ shown_bits primary k i = own_bits (shown_in primary k.rows k.area i)
 
 -- whether a frame is to a master: its master bit, whichever host reported it
 abbrev pub is_to : Bool → Reading → Bool
-is_to primary r = if primary then r.frame.header.primary else if r.frame.header.primary then false else true
+is_to primary r = when primary then r.frame.header.primary else when r.frame.header.primary then false else true
 
 -- what an entered frame says to its master alone
 pub record Mine : Type 0 where
@@ -32,13 +32,13 @@ mine r = record { key = key_of r.frame; bits = own_bits (get_or r.bytes 1 0) }
 -- the entered frames to a master since the table was cleared, the newest first
 unfoldable pub mine_of : Bool → List Reading → List Mine
 mine_of primary [] = []
-mine_of primary (r ∷ log) = if is_to primary r then mine r ∷ mine_of primary log else mine_of primary log
+mine_of primary (r ∷ log) = when is_to primary r then mine r ∷ mine_of primary log else mine_of primary log
 
 -- the bits of the newest of an address and a command; where there is none, 0
 unfoldable pub last_bits : Key → List Mine → ℕ
 last_bits key [] = 0
 last_bits key (m ∷ frames) =
-    if (if m.key.address =? key.address then m.key.command =? key.command else false) then m.bits else
+    when (when m.key.address =? key.address then m.key.command =? key.command else false) then m.bits else
     last_bits key frames
 
 -- ---- claims

@@ -1,7 +1,7 @@
 -- How the code stands for what is to be believed.
 -- The search, row by row: what it has found after each row; and a table as flat numbers, seven for a row in document 02's order.
 use Rattle.std.specs.Prelude.{ℕ, zero, suc, ◌+◌, ◌*◌, ◌/◌, ◌%◌, List, [], ◌∷◌, get_or, length}
-use Rattle.base.specs.Choice.{if◌then◌else◌, ◌≤?◌, ◌=?◌}
+use Rattle.base.specs.Choice.{when◌then◌else◌, ◌≤?◌, ◌=?◌}
 use Rattle.base.specs.Store.{stored}
 use Rattle.line.specs.declared.Event.{Event}
 use Rattle.line.specs.declared.Event.TheVariants.{Nothing, PassedOver, Broken, Frame, Damaged}
@@ -26,8 +26,8 @@ told_key (Damaged w m) = no_key
 -- one more row is looked at: a match stays; an empty row stays until there is a match; where neither was found yet, this row is taken if it is one of them
 abbrev pub next : Sought → ℕ → Row → Key → Sought
 next (Match i was) at row key = Match i was
-next (Empty i was) at row key = if has_key key row then Match at row else Empty i was
-next Full at row key = if has_key key row then Match at row else if is_empty row then Empty at row else Full
+next (Empty i was) at row key = when has_key key row then Match at row else Empty i was
+next Full at row key = when has_key key row then Match at row else when is_empty row then Empty at row else Full
 
 -- what the search finds, where the rows from a number on are still to be looked at
 unfoldable pub sought_from : ℕ → Sought → List Row → Key → Sought
@@ -41,7 +41,7 @@ match_of rows (Empty i was) = rows
 match_of rows Full = rows
 
 abbrev pub looked_up_by : ℕ → Sought → Key → ℕ
-looked_up_by rows s key = if key.address =? 0 then rows else match_of rows s
+looked_up_by rows s key = when key.address =? 0 then rows else match_of rows s
 
 -- ---- flat numbers
 
@@ -73,4 +73,4 @@ row_numbers row = row.address ∷ row.command ∷ row.tick ∷ row.count ∷ row
 
 -- the numbers with a row put at a place, or as they were where no row has that place
 abbrev pub numbers_put : List ℕ → ℕ → Row → List ℕ
-numbers_put numbers at row = if length numbers / 7 ≤? at then numbers else stored numbers (7 * at) (row_numbers row)
+numbers_put numbers at row = when length numbers / 7 ≤? at then numbers else stored numbers (7 * at) (row_numbers row)

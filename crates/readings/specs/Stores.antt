@@ -1,7 +1,7 @@
 -- How the code stands for what is to be believed.
 -- The data of a frame that is entered are stored first, and its row is then put into the table.
 use Rattle.std.specs.Prelude.{ℕ, ◌*◌, List, ◌≡◌, length, get_or}
-use Rattle.base.specs.Choice.{if◌then◌else◌, ◌<?◌, ◌=?◌}
+use Rattle.base.specs.Choice.{when◌then◌else◌, ◌<?◌, ◌=?◌}
 use Rattle.base.specs.Refusal.{number}
 use Rattle.base.specs.Store.{stored}
 use Rattle.base.specs.declared.Refusal.TheVariants.{BufferShort, TableFull}
@@ -16,7 +16,7 @@ use Rattle.readings.specs.declared.Sought.TheVariants.{Match, Empty, Full}
 
 -- what is stored for data byte i
 abbrev pub stored_byte : ℕ → ℕ → ℕ
-stored_byte i b = if i =? 1 then common_byte b else b
+stored_byte i b = when i =? 1 then common_byte b else b
 
 -- no row is put: its place is past the last row
 abbrev pub nothing_put : ℕ → ℕ → Put
@@ -28,7 +28,7 @@ row_put i tick w bytes was = record { at = i; row = row_for i tick w (get_or byt
 
 -- at a place that is no row's, nothing is put
 abbrev pub put_at : ℕ → ℕ → Whole → List ℕ → ℕ → Row → Put
-put_at rows tick w bytes i was = if i <? rows then row_put i tick w bytes was else nothing_put rows 0
+put_at rows tick w bytes i was = when i <? rows then row_put i tick w bytes was else nothing_put rows 0
 
 abbrev pub put_by : ℕ → ℕ → Whole → List ℕ → Sought → Put
 put_by rows tick w bytes (Match i was) = put_at rows tick w bytes i was
@@ -36,7 +36,7 @@ put_by rows tick w bytes (Empty i was) = put_at rows tick w bytes i was
 put_by rows tick w bytes Full = nothing_put rows (number TableFull)
 
 abbrev pub put_frame : ℕ → Sought → ℕ → Whole → List ℕ → Put
-put_frame rows s tick w bytes = if is_reading w bytes then put_by rows tick w bytes s else nothing_put rows 0
+put_frame rows s tick w bytes = when is_reading w bytes then put_by rows tick w bytes s else nothing_put rows 0
 
 abbrev pub put_of : ℕ → Sought → ℕ → Event → List ℕ → Put
 put_of rows s tick Nothing bytes = nothing_put rows 0
@@ -47,7 +47,7 @@ put_of rows s tick (Damaged w m) bytes = nothing_put rows 0
 
 abbrev pub put_for : ℕ → ℕ → Sought → ℕ → Event → List ℕ → Put
 put_for size rows s tick event bytes =
-    if size <? row_bytes * rows then nothing_put rows (number BufferShort) else
+    when size <? row_bytes * rows then nothing_put rows (number BufferShort) else
     put_of rows s tick event bytes
 
 -- the byte area with the frame's data in row i
@@ -55,7 +55,7 @@ abbrev pub area_row : List ℕ → Whole → List ℕ → ℕ → List ℕ
 area_row area w bytes i = stored area (row_bytes * i) (stored_data w bytes)
 
 abbrev pub area_at : ℕ → List ℕ → Whole → List ℕ → ℕ → List ℕ
-area_at rows area w bytes i = if i <? rows then area_row area w bytes i else area
+area_at rows area w bytes i = when i <? rows then area_row area w bytes i else area
 
 abbrev pub area_by : ℕ → List ℕ → Whole → List ℕ → Sought → List ℕ
 area_by rows area w bytes (Match i was) = area_at rows area w bytes i
@@ -63,7 +63,7 @@ area_by rows area w bytes (Empty i was) = area_at rows area w bytes i
 area_by rows area w bytes Full = area
 
 abbrev pub area_frame : ℕ → Sought → List ℕ → Whole → List ℕ → List ℕ
-area_frame rows s area w bytes = if is_reading w bytes then area_by rows area w bytes s else area
+area_frame rows s area w bytes = when is_reading w bytes then area_by rows area w bytes s else area
 
 abbrev pub area_of : ℕ → Sought → List ℕ → Event → List ℕ → List ℕ
 area_of rows s area Nothing bytes = area
@@ -73,7 +73,7 @@ area_of rows s area (Frame w) bytes = area_frame rows s area w bytes
 area_of rows s area (Damaged w m) bytes = area
 
 abbrev pub area_for : ℕ → Sought → List ℕ → Event → List ℕ → List ℕ
-area_for rows s area event bytes = if length area <? row_bytes * rows then area else area_of rows s area event bytes
+area_for rows s area event bytes = when length area <? row_bytes * rows then area else area_of rows s area event bytes
 
 -- what a frame that is entered in row i leaves: the area before and after, and the row that is put
 pub record RowIs (area area' : List ℕ) (i tick : ℕ) (w : Whole) (bytes : List ℕ) (was : Row) (r : Put) : Type 0 where

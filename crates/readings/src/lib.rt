@@ -2,7 +2,7 @@
 #![tactic(auto)]
 
 ghost use Rattle.std.specs.Prelude.{◌+◌, ◌*◌, ◌≤◌, ◌≡◌, length, take};
-ghost use Rattle.base.specs.Choice.{if◌then◌else◌};
+ghost use Rattle.base.specs.Choice.{when◌then◌else◌};
 ghost use Rattle.base.specs.Store.{stored};
 ghost use Rattle.readings.specs.Table.{row_bytes, empty_row, has_key, is_reading, row_for, sought, own_bits, common_byte, stored_bytes, kept_bits, shown_byte};
 ghost use Rattle.readings.specs.Search.{told_key, next, looked_up_by, row_at, rows_of, row_numbers};
@@ -206,7 +206,7 @@ fn kept_bits(primary: bool, row: Row) -> u8
 }
 
 fn chosen(first: bool, a: u8, b: u8) -> u8
-    ensures { result ≡ (if first then a else b) }
+    ensures { result ≡ (when first then a else b) }
 {
     if first {
         return a;

@@ -6,7 +6,7 @@ use mathlib.Core.Bool.{Bool, true, false}
 use mathlib.Core.List.{List}
 use lib.ListN.{length, take, drop}
 use borrow.Rule.Slice.PartMut.{put_mid}
-use Rattle.base.specs.Choice.{if◌then◌else◌, ◌<?◌}
+use Rattle.base.specs.Choice.{when◌then◌else◌, ◌<?◌}
 use Rattle.base.specs.Store.{stored}
 use Rattle.base.proofs.Choices.{if_at_most, if_above}
 use Rattle.base.proofs.Stores.{stored_part}
@@ -50,8 +50,8 @@ pub ruleset parts = (refl, put_none, put_part)
 abbrev Blank : Put → Type 0
 Blank p = p.row.spare ≡ 0
 
-if_blank : (t : Bool) (p q : Put) → Blank p → Blank q → Blank (if t then p else q)
-unfolding if◌then◌else◌
+if_blank : (t : Bool) (p q : Put) → Blank p → Blank q → Blank (when t then p else q)
+unfolding when◌then◌else◌
 if_blank true p q b c = b
 if_blank false p q b c = c
 

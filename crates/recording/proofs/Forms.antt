@@ -8,7 +8,7 @@ use mathlib.Core.List.{List, [], ◌∷◌, ◌++◌}
 use lib.Bits.{bit_or, bit_and, or_add_and, and_le_r}
 use lib.ListN.{length, drop, get_or, length-drop}
 use borrow.Author.Tests.{eq-eqb, ne_eqb, eqb-true, eqb-false, le-ltb, lt-ltb, ltb-true, ltb-false}
-use Rattle.base.specs.Choice.{if◌then◌else◌, ◌=?◌, ◌<?◌}
+use Rattle.base.specs.Choice.{when◌then◌else◌, ◌=?◌, ◌<?◌}
 use Rattle.base.proofs.Choices.{if_is_true, if_is_false, went_else, true_false}
 use Rattle.line.specs.declared.Heard.{Heard}
 use Rattle.line.specs.Heard.{heard_of}
@@ -62,15 +62,15 @@ tick_beyond recording t v i e = record { there = λ n. absurd (omega arith); bey
 -- ---- a tick that no recording has
 
 -- a choice between two, in either order of its tests
-or_or : (a b c : Bool) → (if (if a then true else b) then true else c) ≡ (if a then true else (if b then true else c))
-unfolding if◌then◌else◌
+or_or : (a b c : Bool) → (when (when a then true else b) then true else c) ≡ (when a then true else (when b then true else c))
+unfolding when◌then◌else◌
 or_or true b c = refl
 or_or false b c = refl
 
-marks_three : (a b c r : ℕ) → r ≡ bit_or (bit_or a b) c → is_marked r ≡ (if is_marked a then true else (if is_marked b then true else is_marked c))
+marks_three : (a b c r : ℕ) → r ≡ bit_or (bit_or a b) c → is_marked r ≡ (when is_marked a then true else (when is_marked b then true else is_marked c))
 marks_three a b c r e =
     or_marks (bit_or a b) c r e
-    ∙ ap (λ (t : Bool). if t then true else is_marked c) (or_marks a b (bit_or a b) refl)
+    ∙ ap (λ (t : Bool). when t then true else is_marked c) (or_marks a b (bit_or a b) refl)
     ∙ or_or (is_marked a) (is_marked b) (is_marked c)
 
 -- each test of the definition at the first byte f and the character c
@@ -86,16 +86,16 @@ taken_kind f c z h n =
     ∙ if_is_false (4 <? f / 32) true _ (le-ltb 4 (f / 32) (omega arith))
     ∙ if_is_false (f / 32 =? 0) _ false (ne_eqb (f / 32) 0 (λ e. n (omega arith)))
 
-in_silence_is : (f c : ℕ) → f ≡ 0 → tick_refused f c ≡ (if c =? 0 then false else true)
+in_silence_is : (f c : ℕ) → f ≡ 0 → tick_refused f c ≡ (when c =? 0 then false else true)
 in_silence_is f c e =
     if_is_true (f % 32 =? 0) _ true (eq-eqb (f % 32) 0 (omega arith))
     ∙ if_is_false (4 <? f / 32) true _ (le-ltb 4 (f / 32) (omega arith))
     ∙ if_is_true (f / 32 =? 0) _ false (eq-eqb (f / 32) 0 (omega arith))
 
 -- the three marks of a tick, by the same tests
-module _ (v f a b : ℕ) (ef : f ≡ v % 256) (ea : a ≡ (if 128 <? f then 1 else 0)) (eb : b ≡ (if f =? 0 then v else 0)) where
+module _ (v f a b : ℕ) (ef : f ≡ v % 256) (ea : a ≡ (when 128 <? f then 1 else 0)) (eb : b ≡ (when f =? 0 then v else 0)) where
   abbrev Three : Bool
-  Three = if is_marked (f % 32) then true else (if is_marked a then true else is_marked b)
+  Three = when is_marked (f % 32) then true else (when is_marked a then true else is_marked b)
 
   three : (p : Bool) → (f % 32 =? 0) ≡ p → (q : Bool) → (128 <? f) ≡ q → (s : Bool) → (f =? 0) ≡ s → (u : Bool) → (v =? 0) ≡ u → Three ≡ tick_refused f (v / 256)
   three false ep q eq s es u eu =
@@ -130,7 +130,7 @@ module _ (v f a b : ℕ) (ef : f ≡ v % 256) (ea : a ≡ (if 128 <? f then 1 el
       ∙ marked b (λ e. some (sym here ∙ e))
       ∙ sym (in_silence_is f (v / 256) none ∙ if_is_false (v / 256 =? 0) false true (ne_eqb (v / 256) 0 (λ e. some (omega arith))))
 
-pub badness_is : (v f a b r : ℕ) → f ≡ v % 256 → a ≡ (if 128 <? f then 1 else 0) → b ≡ (if f =? 0 then v else 0) → r ≡ bit_or (bit_or (f % 32) a) b → BadnessIs v r
+pub badness_is : (v f a b r : ℕ) → f ≡ v % 256 → a ≡ (when 128 <? f then 1 else 0) → b ≡ (when f =? 0 then v else 0) → r ≡ bit_or (bit_or (f % 32) a) b → BadnessIs v r
 badness_is v f a b r ef ea eb er =
     marks_three (f % 32) a b r er
     ∙ three v f a b ef ea eb (f % 32 =? 0) refl (128 <? f) refl (f =? 0) refl (v =? 0) refl
@@ -141,12 +141,12 @@ badness_is v f a b r ef ea eb er =
 pub record Looking (recording : List ℕ) (ticks bad t : ℕ) : Type 0 where
   pub count : ticks ≡ length recording / 2
   pub within : 2 * t ≤ length recording
-  pub left : (if is_marked bad then true else bad_recording (drop (2 * t) recording)) ≡ bad_recording recording
+  pub left : (when is_marked bad then true else bad_recording (drop (2 * t) recording)) ≡ bad_recording recording
 
 pub looking_none : (recording : List ℕ) (ticks : ℕ) → ticks ≡ length recording / 2 → Looking recording ticks 0 0
 looking_none recording ticks e = record { count = e; within = omega arith; left = if_is_false (is_marked 0) true _ (unmarked 0 refl) }
 
-bad_tick : (first c : ℕ) (recording : List ℕ) → bad_recording (first ∷ c ∷ recording) ≡ (if tick_refused first c then true else bad_recording recording)
+bad_tick : (first c : ℕ) (recording : List ℕ) → bad_recording (first ∷ c ∷ recording) ≡ (when tick_refused first c then true else bad_recording recording)
 unfolding bad_recording
 bad_tick first c recording = refl
 
@@ -154,9 +154,9 @@ pub looking_more : (recording : List ℕ) (ticks bad t v n r : ℕ) → Looking 
 looking_more recording ticks bad t v n r w h tick b e = record {
   count = w.count;
   within = omega arith;
-  left = ap (λ (x : Bool). if x then true else bad_recording (drop (2 * (t + 1)) recording)) (e ∙ ap (λ (x : Bool). if is_marked bad then true else x) seen)
+  left = ap (λ (x : Bool). when x then true else bad_recording (drop (2 * (t + 1)) recording)) (e ∙ ap (λ (x : Bool). when is_marked bad then true else x) seen)
       ∙ or_or (is_marked bad) (tick_refused first c) (bad_recording (drop (2 * (t + 1)) recording))
-      ∙ ap (λ (x : Bool). if is_marked bad then true else x) (sym split)
+      ∙ ap (λ (x : Bool). when is_marked bad then true else x) (sym split)
       ∙ w.left;
 }
   where
@@ -175,11 +175,11 @@ looking_more recording ticks bad t v n r w h tick b e = record {
     next : 2 * t + 2 ≡ 2 * (t + 1)
     next = omega arith
 
-    split : bad_recording (drop (2 * t) recording) ≡ (if tick_refused first c then true else bad_recording (drop (2 * (t + 1)) recording))
+    split : bad_recording (drop (2 * t) recording) ≡ (when tick_refused first c then true else bad_recording (drop (2 * (t + 1)) recording))
     split =
         ap bad_recording (two_more recording (2 * t) (omega arith))
         ∙ bad_tick first c (drop (2 * t + 2) recording)
-        ∙ ap (λ (k : ℕ). if tick_refused first c then true else bad_recording (drop k recording)) next
+        ∙ ap (λ (k : ℕ). when tick_refused first c then true else bad_recording (drop k recording)) next
 
 -- what is said by the ticks from one on
 pub ticks_on : (recording : List ℕ) (t : ℕ) → 2 * t + 2 ≤ length recording → ticks_of (drop (2 * t) recording) ≡ heard_of (get_or recording (2 * t) 0 / 32) (get_or recording (2 * t + 1) 0) ∷ ticks_of (drop (2 * (t + 1)) recording)
@@ -217,13 +217,13 @@ ticks_both zero (a ∷ b ∷ first) second e = absurd (omega arith)
 ticks_both (suc n) (a ∷ b ∷ first) second e = ap (λ (l : List Heard). heard_of (a / 32) b ∷ l) (ticks_both n first second (omega arith))
 
 -- they are bad just where one of them is
-pub bad_both : (n : ℕ) (first second : List ℕ) → length first ≡ 2 * n → bad_recording (first ++ second) ≡ (if bad_recording first then true else bad_recording second)
+pub bad_both : (n : ℕ) (first second : List ℕ) → length first ≡ 2 * n → bad_recording (first ++ second) ≡ (when bad_recording first then true else bad_recording second)
 unfolding bad_recording
 bad_both n [] second e = sym (if_is_false false true (bad_recording second) refl)
 bad_both n (a ∷ []) second e = absurd (omega arith)
 bad_both zero (a ∷ b ∷ first) second e = absurd (omega arith)
 bad_both (suc n) (a ∷ b ∷ first) second e =
-    ap (λ (t : Bool). if tick_refused a b then true else t) (bad_both n first second (omega arith))
+    ap (λ (t : Bool). when tick_refused a b then true else t) (bad_both n first second (omega arith))
     ∙ sym (or_or (tick_refused a b) (bad_recording first) (bad_recording second))
 
 -- a good recording's ticks are each good
@@ -234,11 +234,11 @@ good_here recording t e h = went_else (tick_refused (get_or recording (2 * t) 0)
     next : (t : ℕ) → 2 * t + 2 ≡ 2 * (t + 1)
     next t = omega arith
 
-    split : bad_recording (drop (2 * t) recording) ≡ (if tick_refused (get_or recording (2 * t) 0) (get_or recording (2 * t + 1) 0) then true else bad_recording (drop (2 * (t + 1)) recording))
+    split : bad_recording (drop (2 * t) recording) ≡ (when tick_refused (get_or recording (2 * t) 0) (get_or recording (2 * t + 1) 0) then true else bad_recording (drop (2 * (t + 1)) recording))
     split =
         ap bad_recording (two_more recording (2 * t) (omega arith))
         ∙ bad_tick (get_or recording (2 * t) 0) (get_or recording (2 * t + 1) 0) (drop (2 * t + 2) recording)
-        ∙ ap (λ (k : ℕ). if tick_refused (get_or recording (2 * t) 0) (get_or recording (2 * t + 1) 0) then true else bad_recording (drop k recording)) (next t)
+        ∙ ap (λ (k : ℕ). when tick_refused (get_or recording (2 * t) 0) (get_or recording (2 * t + 1) 0) then true else bad_recording (drop k recording)) (next t)
 
 -- what follows a tick of a good recording is good, and so is each tick
 pub good_from : (recording : List ℕ) → bad_recording recording ≡ false → (t : ℕ) → 2 * t ≤ length recording → bad_recording (drop (2 * t) recording) ≡ false

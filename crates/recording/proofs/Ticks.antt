@@ -4,7 +4,7 @@ use native.Mathlib.Omega.{arith}
 use mathlib.Core.Path.{◌≡◌, refl, sym, ap, ◌∙◌}
 use mathlib.Core.Bool.{Bool, true, false}
 use borrow.Author.Tests.{eqb-true, eqb-false, ltb-false}
-use Rattle.base.specs.Choice.{if◌then◌else◌, ◌=?◌, ◌<?◌}
+use Rattle.base.specs.Choice.{when◌then◌else◌, ◌=?◌, ◌<?◌}
 use Rattle.base.proofs.Choices.{true_false}
 use Rattle.line.specs.Heard.{damage_number, heard_of}
 use Rattle.line.specs.declared.Damage.{Damage}
@@ -32,11 +32,11 @@ kind_damage x c z h n = go (x / 32 =? 1) refl (x / 32 =? 2) refl (x / 32 =? 3) r
         hurt Framing (omega arith)
 
 pub good_tick : (x c : ℕ) → tick_refused x c ≡ false → Good x c
-unfolding if◌then◌else◌
+unfolding when◌then◌else◌
 good_tick x c e = go (x % 32 =? 0) refl (4 <? x / 32) refl (x / 32 =? 0) refl (c =? 0) refl e
   where
     go : (p : Bool) → (x % 32 =? 0) ≡ p → (q : Bool) → (4 <? x / 32) ≡ q → (s : Bool) → (x / 32 =? 0) ≡ s → (u : Bool) → (c =? 0) ≡ u
-        → (if p then (if q then true else if s then (if u then false else true) else false) else true) ≡ false → Good x c
+        → (when p then (when q then true else when s then (when u then false else true) else false) else true) ≡ false → Good x c
     go false ep q eq s es u eu k = absurd (true_false k)
     go true ep true eq s es u eu k = absurd (true_false k)
     go true ep false eq true es true eu k = silent (omega (arith, eqb-true (x % 32) 0 ep, eqb-true (x / 32) 0 es)) (eqb-true c 0 eu)
@@ -50,17 +50,17 @@ heard_as {c = c} (sound e) = Character c
 heard_as {c = c} (hurt kind e) = Damaged c kind
 
 pub hears_kind : (c : ℕ) (kind : Damage) → heard_of (32 * (1 + damage_number kind) / 32) c ≡ Damaged c kind
-unfolding if◌then◌else◌
+unfolding when◌then◌else◌
 hears_kind c Parity = refl
 hears_kind c Overrun = refl
 hears_kind c Framing = refl
 
 hears_silence : (c : ℕ) → heard_of (0 / 32) c ≡ Silence
-unfolding if◌then◌else◌
+unfolding when◌then◌else◌
 hears_silence c = refl
 
 hears_character : (c : ℕ) → heard_of (32 / 32) c ≡ Character c
-unfolding if◌then◌else◌
+unfolding when◌then◌else◌
 hears_character c = refl
 
 pub heard_as_lem : {x c : ℕ} (g : Good x c) → heard_of (x / 32) c ≡ heard_as g

@@ -1,7 +1,7 @@
 -- To be believed: what the engine must do, or what is claimed of it.
 -- Document 02, item 9: "A recording has two bytes a tick, most significant bit first: 3 bits of kind (0 silence, 1 character, 2 to 4 damage 1 to 3), 5 zero bits, 8 bits of character, zero for silence."
 use Rattle.std.specs.Prelude.{ℕ, ◌/◌, ◌%◌, Bool, true, false, List, [], ◌∷◌}
-use Rattle.base.specs.Choice.{if◌then◌else◌, ◌<?◌, ◌=?◌}
+use Rattle.base.specs.Choice.{when◌then◌else◌, ◌<?◌, ◌=?◌}
 use Rattle.line.specs.Heard.{heard_of}
 use Rattle.line.specs.declared.Heard.{Heard}
 
@@ -14,9 +14,9 @@ ticks_of (first ∷ c ∷ recording) = heard_of (first / 32) c ∷ ticks_of reco
 -- "5 zero bits", kinds 0 to 4, and "8 bits of character, zero for silence": the two bytes of a tick that no recording has
 abbrev pub tick_refused : ℕ → ℕ → Bool
 tick_refused first c =
-    if first % 32 =? 0 then
-    (if 4 <? first / 32 then true else
-    if first / 32 =? 0 then (if c =? 0 then false else true) else
+    when first % 32 =? 0 then
+    (when 4 <? first / 32 then true else
+    when first / 32 =? 0 then (when c =? 0 then false else true) else
     false)
     else true
 
@@ -24,4 +24,4 @@ tick_refused first c =
 unfoldable pub bad_recording : List ℕ → Bool
 bad_recording [] = false
 bad_recording (first ∷ []) = true
-bad_recording (first ∷ c ∷ recording) = if tick_refused first c then true else bad_recording recording
+bad_recording (first ∷ c ∷ recording) = when tick_refused first c then true else bad_recording recording

@@ -2,7 +2,7 @@
 #![tactic(auto)]
 
 ghost use Rattle.std.specs.Prelude.{◌≡◌, ◌≤◌};
-ghost use Rattle.base.specs.Choice.{if◌then◌else◌, ◌=?◌, ◌<?◌};
+ghost use Rattle.base.specs.Choice.{when◌then◌else◌, ◌=?◌, ◌<?◌};
 ghost use Rattle.recording.specs.Form.{bad_recording};
 ghost use Rattle.recording.specs.Marks.{is_marked, or_marked, BadnessIs};
 ghost use Rattle.recording.specs.Recording.{TickAt};
@@ -26,7 +26,7 @@ pub fn tick_at(recording: &[u8], t: usize) -> u16
 
 // Not 0 for a first byte above those of kind 4.
 fn above(first: u16) -> u16
-    ensures { result ≡ (if 128 <? first then 1 else 0) }
+    ensures { result ≡ (when 128 <? first then 1 else 0) }
 {
     if 128 < first {
         return 1;
@@ -36,7 +36,7 @@ fn above(first: u16) -> u16
 
 // Not 0 for silence with a character.
 fn in_silence(first: u16, v: u16) -> u16
-    ensures { result ≡ (if first =? 0 then v else 0) }
+    ensures { result ≡ (when first =? 0 then v else 0) }
 {
     if first == 0 {
         return v;

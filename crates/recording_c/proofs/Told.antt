@@ -2,7 +2,7 @@
 use Prim.Native.Nat.{ℕ, ◌+◌, ◌/◌}
 use mathlib.Core.Path.{◌≡◌, refl, ap₂}
 use mathlib.Core.List.{List, [], ◌∷◌, ◌++◌}
-use Rattle.base.specs.Choice.{if◌then◌else◌, ◌=?◌}
+use Rattle.base.specs.Choice.{when◌then◌else◌, ◌=?◌}
 use Rattle.line.specs.Reader.{passing}
 use Rattle.line.specs.declared.Event.{Event}
 use Rattle.line.specs.declared.Event.TheVariants.{Nothing, PassedOver, Broken, Frame, Damaged}
@@ -15,7 +15,7 @@ use Rattle.recording_list.specs.Listing.{adds, found}
 use Rattle.recording_c.specs.Told.{entry_by, entries_by, ListedAsTold}
 
 adds_by : (t : ℕ) (e : Event) → adds t e ≡ entry_by t (event_number e)
-unfolding if◌then◌else◌
+unfolding when◌then◌else◌
 adds_by t Nothing = refl
 adds_by t PassedOver = refl
 adds_by t Broken = refl

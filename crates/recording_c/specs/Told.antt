@@ -1,17 +1,17 @@
 -- How the code stands for what is to be believed.
 -- The list of a recording, made from the numbers that nengapiko_ticks gives for its ticks.
 use Rattle.std.specs.Prelude.{ℕ, ◌+◌, ◌≡◌, List, [], ◌∷◌, ◌++◌}
-use Rattle.base.specs.Choice.{if◌then◌else◌, ◌=?◌}
+use Rattle.base.specs.Choice.{when◌then◌else◌, ◌=?◌}
 use Rattle.recording_c.specs.Ticks.{told}
 use Rattle.recording_list.specs.Listing.{entry, listing_of}
 
 -- the entry of tick t, by its number: 2 broken, 3 whole, 4 damaged, and 1, passed over, in tick 0; any other tick has none
 abbrev pub entry_by : ℕ → ℕ → List ℕ
 entry_by t n =
-    if n =? 2 then entry t 0 else
-    if n =? 3 then entry t 1 else
-    if n =? 4 then entry t 2 else
-    if n =? 1 then (if t =? 0 then entry t 0 else []) else
+    when n =? 2 then entry t 0 else
+    when n =? 3 then entry t 1 else
+    when n =? 4 then entry t 2 else
+    when n =? 1 then (when t =? 0 then entry t 0 else []) else
     []
 
 unfoldable pub entries_by : ℕ → List ℕ → List ℕ

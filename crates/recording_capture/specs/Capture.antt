@@ -1,7 +1,7 @@
 -- How the code stands for what is to be believed.
 -- What the program `capture` writes after the file's header: a packet in the tick of each whole frame's check byte, in the order of the ticks. What goes from piece to piece of a recording is `Kept`.
 use Rattle.std.specs.Prelude.{ℕ, ◌+◌, ◌%◌, ◌^◌, Bool, true, false, List, [], ◌∷◌, ◌++◌, take}
-use Rattle.base.specs.Choice.{if◌then◌else◌}
+use Rattle.base.specs.Choice.{when◌then◌else◌}
 use Rattle.line.specs.Reader.{passing, taken, taken_data}
 use Rattle.line.specs.declared.Event.{Event}
 use Rattle.line.specs.declared.Event.TheVariants.{Nothing, PassedOver, Broken, Frame, Damaged}
@@ -44,7 +44,7 @@ is_inside Check = true
 
 -- there they are kept for the next tick; elsewhere there are none
 abbrev pub held_behind : Place → ℕ → ℕ
-held_behind place held = if is_inside place then held else 0
+held_behind place held = when is_inside place then held else 0
 
 -- ---- a tick
 

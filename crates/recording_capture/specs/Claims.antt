@@ -1,7 +1,7 @@
 -- How the code stands for what is to be believed.
 -- What is claimed of the packets: a packet's body is what was heard, a recording may be gone through in pieces, whatever their sizes, and nothing is left out of the output with room for it.
 use Rattle.std.specs.Prelude.{◌≡◌, ℕ, ◌*◌, ◌≤◌, Bool, true, false, List, [], ◌∷◌, ◌++◌, length, take}
-use Rattle.base.specs.Choice.{if◌then◌else◌}
+use Rattle.base.specs.Choice.{when◌then◌else◌}
 use Rattle.line.specs.Reader.{taken}
 use Rattle.line.specs.declared.Heard.{Heard}
 use Rattle.line.specs.declared.Receiver.{Receiver}
@@ -19,7 +19,7 @@ heard_texts (h ∷ hs) = heard_text h ++ heard_texts hs
 -- the reader is after the delimiter after each of these ticks
 unfoldable pub stays_inside : Receiver → List Heard → Bool
 stays_inside r [] = true
-stays_inside r (h ∷ hs) = if is_inside (taken r h).receiver.place then stays_inside (taken r h).receiver hs else false
+stays_inside r (h ∷ hs) = when is_inside (taken r h).receiver.place then stays_inside (taken r h).receiver hs else false
 
 -- A packet's body is the frame "from .. its delimiter to its check byte, as heard": with no bytes kept before the delimiter's tick, those of each tick from it on, as far as the buffer goes.
 abbrev pub AsHeard : Type 0

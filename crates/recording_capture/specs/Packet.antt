@@ -1,7 +1,7 @@
 -- To be believed: what the engine must do, or what is claimed of it.
 -- A capture is a classic pcap file: its header, and a packet for each whole frame, a HART-IP token-passing message in UDP in IPv4. Every number in it has its most significant byte first.
 use Rattle.std.specs.Prelude.{ℕ, ◌+◌, ◌-◌, ◌*◌, ◌/◌, ◌%◌, Bool, List, [], ◌∷◌, ◌++◌, length}
-use Rattle.base.specs.Choice.{if◌then◌else◌, ◌=?◌}
+use Rattle.base.specs.Choice.{when◌then◌else◌, ◌=?◌}
 use Rattle.frame.specs.Delimiter.{stx, ack}
 use Rattle.frame.specs.declared.Header.{Header}
 use Rattle.recording_capture.specs.declared.Clock.{Clock}
@@ -37,18 +37,18 @@ record_header clock tick size = big32 (seconds_of clock tick) ++ (big32 (microse
 
 -- 192.168.0.1 the primary, 192.168.0.2 the secondary
 abbrev pub master_address : Bool → ℕ
-master_address primary = if primary then 3232235521 else 3232235522
+master_address primary = when primary then 3232235521 else 3232235522
 
 -- 192.168.1.p of polling address p; of a unique address 10 and its last three bytes, the device's identification number
 abbrev pub device_address : Bool → ℕ → ℕ
-device_address long address = if long then 167772160 + address % 16777216 else 3232235776 + address % 256
+device_address long address = when long then 167772160 + address % 16777216 else 3232235776 + address % 256
 
 -- an STX goes from the master to the device, an ACK or a BACK from the device to the master
 abbrev pub source_of : Header → ℕ
-source_of h = if h.kind =? stx then master_address h.primary else device_address h.long h.address
+source_of h = when h.kind =? stx then master_address h.primary else device_address h.long h.address
 
 abbrev pub target_of : Header → ℕ
-target_of h = if h.kind =? stx then device_address h.long h.address else master_address h.primary
+target_of h = when h.kind =? stx then device_address h.long h.address else master_address h.primary
 
 -- ---- the IPv4 header: version 4 and five words of header, size, no number, not to be cut up, 64 hops, UDP, checksum, addresses
 
@@ -81,7 +81,7 @@ udp_header size = big16 5094 ++ (big16 5094 ++ (big16 size ++ big16 0))
 
 -- "message type 0 for an STX, 1 for an ACK, 2 for a BACK"
 abbrev pub message_type : ℕ → ℕ
-message_type frame = if frame =? stx then 0 else if frame =? ack then 1 else 2
+message_type frame = when frame =? stx then 0 else when frame =? ack then 1 else 2
 
 unfoldable pub hart_header : ℕ → ℕ → ℕ → List ℕ
 hart_header frame number size = 1 ∷ message_type frame ∷ 3 ∷ 0 ∷ (big16 number ++ big16 size)

@@ -7,7 +7,7 @@ use mathlib.Core.Bool.{Bool, true, false}
 use mathlib.Core.List.{List, [], ◌∷◌, ◌++◌}
 use lib.ListN.{length}
 use borrow.Author.Tests.{eq-eqb, ne_eqb, eqb-true, eqb-false, le-ltb}
-use Rattle.base.specs.Choice.{if◌then◌else◌, ◌=?◌, ◌<?◌}
+use Rattle.base.specs.Choice.{when◌then◌else◌, ◌=?◌, ◌<?◌}
 use Rattle.base.specs.declared.Refusal.TheVariants.{BadRecording, BufferShort, UnequalTaps}
 use Rattle.base.proofs.Choices.{if_is_true, if_is_false, went_else, true_false}
 use Rattle.line.specs.Heard.{damage_number, heard_of}
@@ -87,11 +87,11 @@ silent_first (Character c) = refl
 silent_first (Damaged c kind) = refl
 
 silence_ticks : (n : ℕ) → ticks_of (silence (suc n)) ≡ Silence ∷ ticks_of (silence n)
-unfolding ticks_of silence if◌then◌else◌
+unfolding ticks_of silence when◌then◌else◌
 silence_ticks n = refl
 
 silence_good : (n : ℕ) → bad_recording (silence n) ≡ false
-unfolding bad_recording silence if◌then◌else◌
+unfolding bad_recording silence when◌then◌else◌
 silence_good zero = refl
 silence_good (suc n) = silence_good n
 
@@ -146,7 +146,7 @@ swapped_characters c d = go (c =? d) refl
     go false e = if_is_false (d =? c) _ _ (ne_eqb d c (λ k. eqb-false c d e (sym k))) ∙ sym (if_is_false (c =? d) _ _ e)
 
 swapped_damage : (c d : ℕ) (j k : Damage) → Swapped (Damaged c j) (Damaged d k) (together (Damaged c j) (Damaged d k)) (together (Damaged d k) (Damaged c j))
-unfolding if◌then◌else◌
+unfolding when◌then◌else◌
 swapped_damage c d Parity Parity = equal c d Parity refl refl refl refl
 swapped_damage c d Parity Overrun = alike refl
 swapped_damage c d Parity Framing = alike refl
@@ -195,15 +195,15 @@ swapped_difference t (h ∷ hs) (g ∷ gs) =
 
 -- the answer
 swapped_tests : (a b : Bool) (x y : JoinAnswer) → y ≡ x
-    → (if b then Refused BadRecording else if a then Refused BadRecording else y) ≡ (if a then Refused BadRecording else if b then Refused BadRecording else x)
-unfolding if◌then◌else◌
+    → (when b then Refused BadRecording else when a then Refused BadRecording else y) ≡ (when a then Refused BadRecording else when b then Refused BadRecording else x)
+unfolding when◌then◌else◌
 swapped_tests true true x y e = refl
 swapped_tests true false x y e = refl
 swapped_tests false true x y e = refl
 swapped_tests false false x y e = e
 
 abbrev by_lengths : ℕ → ℕ → ℕ → Difference → JoinAnswer
-by_lengths m n room d = if m =? n then (if room <? m then Refused BufferShort else by_difference d) else Refused UnequalTaps
+by_lengths m n room d = when m =? n then (when room <? m then Refused BufferShort else by_difference d) else Refused UnequalTaps
 
 swapped_length : (m n room : ℕ) (d e : Difference) → e ≡ d → by_lengths n m room e ≡ by_lengths m n room d
 swapped_length m n room d e k = go (m =? n) refl
@@ -212,7 +212,7 @@ swapped_length m n room d e k = go (m =? n) refl
     go true f =
         let same : m ≡ n = eqb-true m n f in
         if_is_true (n =? m) _ _ (eq-eqb n m (sym same))
-        ∙ ap₂ (λ (l : ℕ) (x : Difference). if room <? l then Refused BufferShort else by_difference x) (sym same) k
+        ∙ ap₂ (λ (l : ℕ) (x : Difference). when room <? l then Refused BufferShort else by_difference x) (sym same) k
         ∙ sym (if_is_true (m =? n) _ _ f)
     go false f = if_is_false (n =? m) _ _ (ne_eqb n m (λ z. eqb-false m n f (sym z))) ∙ sym (if_is_false (m =? n) _ _ f)
 

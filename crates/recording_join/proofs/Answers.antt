@@ -6,7 +6,7 @@ use mathlib.Core.Path.{◌≡◌, refl, sym, ap, subst, ◌∙◌}
 use mathlib.Core.Bool.{Bool, true, false}
 use mathlib.Core.List.{List}
 use lib.ListN.{length}
-use Rattle.base.specs.Choice.{if◌then◌else◌, ◌<?◌, ◌=?◌}
+use Rattle.base.specs.Choice.{when◌then◌else◌, ◌<?◌, ◌=?◌}
 use Rattle.base.specs.Store.{stored}
 use Rattle.base.proofs.Choices.{if_is_true, if_is_false, went_then, went_else}
 use Rattle.base.specs.declared.Refusal.{Refusal}
@@ -60,16 +60,16 @@ record Reached (first second : List ℕ) (room : ℕ) (answer : JoinAnswer) : Ty
   is : by_difference (difference_of first second) ≡ answer
 
 abbrev ByRoom : List ℕ → List ℕ → ℕ → JoinAnswer
-ByRoom first second room = if room <? length first then Refused BufferShort else by_difference (difference_of first second)
+ByRoom first second room = when room <? length first then Refused BufferShort else by_difference (difference_of first second)
 
 abbrev ByLength : List ℕ → List ℕ → ℕ → JoinAnswer
-ByLength first second room = if length first =? length second then ByRoom first second room else Refused UnequalTaps
+ByLength first second room = when length first =? length second then ByRoom first second room else Refused UnequalTaps
 
 -- an answer that is no refusal by its number alone
 reached : (first second : List ℕ) (room : ℕ) (answer : JoinAnswer) → ((why : Refusal) → Refused why ≡ answer → ⊥) → join_answer first second room ≡ answer → Reached first second room answer
 reached first second room answer n e =
-    let one : (bad_recording first ≡ false) × ((if bad_recording second then Refused BadRecording else ByLength first second room) ≡ answer) =
-    went_else (bad_recording first) (Refused BadRecording) (if bad_recording second then Refused BadRecording else ByLength first second room) answer e (n BadRecording) in
+    let one : (bad_recording first ≡ false) × ((when bad_recording second then Refused BadRecording else ByLength first second room) ≡ answer) =
+    went_else (bad_recording first) (Refused BadRecording) (when bad_recording second then Refused BadRecording else ByLength first second room) answer e (n BadRecording) in
     let two : (bad_recording second ≡ false) × (ByLength first second room ≡ answer) =
     went_else (bad_recording second) (Refused BadRecording) (ByLength first second room) answer one.1 (n BadRecording) in
     let three : ((length first =? length second) ≡ true) × (ByRoom first second room ≡ answer) =

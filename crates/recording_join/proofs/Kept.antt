@@ -7,7 +7,7 @@ use mathlib.Core.Bool.{Bool, true, false}
 use mathlib.Core.List.{List, [], ◌∷◌, ◌++◌}
 use lib.ListN.{length, get_or}
 use borrow.Author.Tests.{eq-eqb, eqb-true, eqb-false, ne_eqb}
-use Rattle.base.specs.Choice.{if◌then◌else◌, ◌=?◌, ◌<?◌}
+use Rattle.base.specs.Choice.{when◌then◌else◌, ◌=?◌, ◌<?◌}
 use Rattle.base.proofs.Choices.{if_is_true, if_is_false, went_else, true_false}
 use Rattle.line.specs.Heard.{damage_number, heard_of}
 use Rattle.line.specs.declared.Damage.{Damage}
@@ -33,13 +33,13 @@ same_both h k e = cc
 abbrev OneOf : Heard → Heard → Heard → Type 0
 OneOf h g k = Either (k ≡ h) (k ≡ g)
 
-one_choice : (t : Bool) (h g k : Heard) → (if t then both g else both h) ≡ both k → OneOf h g k
-unfolding if◌then◌else◌
+one_choice : (t : Bool) (h g k : Heard) → (when t then both g else both h) ≡ both k → OneOf h g k
+unfolding when◌then◌else◌
 one_choice true h g k e = in_second (same_both g k e)
 one_choice false h g k e = in_first (same_both h k e)
 
-one_same : (t : Bool) (h g k : Heard) → (if t then both h else differ) ≡ both k → OneOf h g k
-unfolding if◌then◌else◌
+one_same : (t : Bool) (h g k : Heard) → (when t then both h else differ) ≡ both k → OneOf h g k
+unfolding when◌then◌else◌
 one_same true h g k e = in_first (same_both h k e)
 one_same false h g k e = absurd (both_not k (sym e))
 
@@ -55,8 +55,8 @@ one_of (Damaged c a) (Damaged d b) k e = one_choice (damage_number b <? damage_n
 one_of Silence Silence k e = in_first (same_both Silence k e)
 
 -- a character is taken, unless the other tap has another
-same_choice : (c d : ℕ) (t : Bool) (k : Heard) → (c =? d) ≡ t → (if t then both (Character c) else differ) ≡ both k → (k ≡ Character c) × (k ≡ Character d)
-unfolding if◌then◌else◌
+same_choice : (c d : ℕ) (t : Bool) (k : Heard) → (c =? d) ≡ t → (when t then both (Character c) else differ) ≡ both k → (k ≡ Character c) × (k ≡ Character d)
+unfolding when◌then◌else◌
 same_choice c d true k h e = (same_both (Character c) k e, same_both (Character c) k e ∙ ap Character (eqb-true c d h))
 same_choice c d false k h e = absurd (both_not k (sym e))
 
@@ -77,8 +77,8 @@ not_silent c e = let z : ◌≡◌ {A = ℕ} 0 1 = cc in omega arith
 not_silent_hurt : (c : ℕ) (kind : Damage) → Damaged c kind ≡ Silence → ⊥
 not_silent_hurt c kind e = let z : ◌≡◌ {A = ℕ} 0 1 = cc in omega arith
 
-choice_silent : (t : Bool) (c d : ℕ) (a b : Damage) → (if t then both (Damaged d b) else both (Damaged c a)) ≡ both Silence → ⊥
-unfolding if◌then◌else◌
+choice_silent : (t : Bool) (c d : ℕ) (a b : Damage) → (when t then both (Damaged d b) else both (Damaged c a)) ≡ both Silence → ⊥
+unfolding when◌then◌else◌
 choice_silent true c d a b e = not_silent_hurt d b (sym (same_both (Damaged d b) Silence e))
 choice_silent false c d a b e = not_silent_hurt c a (sym (same_both (Damaged c a) Silence e))
 
@@ -92,8 +92,8 @@ both_silent (Damaged c a) Silence e = absurd (not_silent_hurt c a (sym (same_bot
 both_silent (Damaged c a) (Damaged d b) e = absurd (choice_silent (damage_number b <? damage_number a) c d a b e)
 
 -- two different characters
-two_choice : (c d : ℕ) (t : Bool) → (c =? d) ≡ t → (if t then both (Character c) else differ) ≡ differ → c ≡ d → ⊥
-unfolding if◌then◌else◌
+two_choice : (c d : ℕ) (t : Bool) → (c =? d) ≡ t → (when t then both (Character c) else differ) ≡ differ → c ≡ d → ⊥
+unfolding when◌then◌else◌
 two_choice c d true h e = absurd (both_not (Character c) e)
 two_choice c d false h e = eqb-false c d h
 
@@ -128,7 +128,7 @@ heards (differ ∷ zs) = Silence ∷ heards zs
 
 -- a joined tick is read back as what it is
 read_back : (h : Heard) (zs : List Together) → ticks_of (recorded (both h ∷ zs)) ≡ h ∷ ticks_of (recorded zs)
-unfolding ticks_of recorded if◌then◌else◌
+unfolding ticks_of recorded when◌then◌else◌
 read_back Silence zs = refl
 read_back (Character c) zs = refl
 read_back (Damaged c kind) zs = ap (λ (h : Heard). h ∷ ticks_of (recorded zs)) (hears_kind c kind)
@@ -199,7 +199,7 @@ silent_where_both first second room j t = record {
 
 -- a joined tick has bytes of a recording
 good_bytes : (h : Heard) (zs : List Together) → bad_recording (recorded (both h ∷ zs)) ≡ bad_recording (recorded zs)
-unfolding bad_recording recorded if◌then◌else◌
+unfolding bad_recording recorded when◌then◌else◌
 good_bytes Silence zs = refl
 good_bytes (Character c) zs = refl
 good_bytes (Damaged c Parity) zs = refl

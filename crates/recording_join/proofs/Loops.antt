@@ -7,7 +7,7 @@ use mathlib.Core.Bool.{Bool, true, false}
 use mathlib.Core.List.{List, [], ◌∷◌, ◌++◌}
 use lib.ListN.{length, drop, set, get_or, length-set}
 use borrow.Author.Tests.{eq-eqb, ne_eqb, eqb-true, eqb-false}
-use Rattle.base.specs.Choice.{if◌then◌else◌, ◌=?◌, ◌<?◌}
+use Rattle.base.specs.Choice.{when◌then◌else◌, ◌=?◌, ◌<?◌}
 use Rattle.base.specs.Store.{stored}
 use Rattle.base.proofs.Choices.{if_is_true, if_is_false}
 use Rattle.line.specs.declared.Damage.{Damage}
@@ -34,8 +34,8 @@ pub data Told (t : Bool) (z : Together) : Type 0 where
   alike : t ≡ false → (z ≡ differ → ⊥) → Told t z
   unlike : t ≡ true → z ≡ differ → Told t z
 
-pub choice_not : (t : Bool) (g h : Heard) → (if t then both g else both h) ≡ differ → ⊥
-unfolding if◌then◌else◌
+pub choice_not : (t : Bool) (g h : Heard) → (when t then both g else both h) ≡ differ → ⊥
+unfolding when◌then◌else◌
 choice_not true g h e = both_not g e
 choice_not false g h e = both_not h e
 
@@ -50,7 +50,7 @@ module _ (x c y d v w : ℕ) (vx : v % 256 ≡ x) (vc : v / 256 ≡ c) (wy : w %
       if_is_true (v % 256 =? 32) _ _ (eq-eqb (v % 256) 32 (vx ∙ e))
       ∙ if_is_false (w % 256 =? 32) _ _ (ne_eqb (w % 256) 32 (λ e. h (sym wy ∙ e)))
 
-  two_sound : x ≡ 32 → y ≡ 32 → differs v w ≡ (if v =? w then false else true)
+  two_sound : x ≡ 32 → y ≡ 32 → differs v w ≡ (when v =? w then false else true)
   unfolding differs
   two_sound e f =
       if_is_true (v % 256 =? 32) _ _ (eq-eqb (v % 256) 32 (vx ∙ e))
@@ -199,9 +199,9 @@ pub joining_begun : (first second before : List ℕ) (ticks : ℕ) → ticks ≡
 joining_begun first second before ticks e l p q h n = record { taps = both_begun first second ticks e l p q; room = h; lent = refl; quiet = n; stores = refl }
 
 -- the tick that is taken, by its two bytes
-taken_bytes : (x c y d v w u : ℕ) (t : Bool) → t ≡ takes_second x y → v % 256 ≡ x → v / 256 ≡ c → w % 256 ≡ y → w / 256 ≡ d → v < 65536 → w < 65536 → u ≡ (if t then w else v)
-    → (if takes_second x y then y ∷ d ∷ [] else x ∷ c ∷ []) ≡ u % 256 ∷ u / 256 % 256 ∷ []
-unfolding if◌then◌else◌
+taken_bytes : (x c y d v w u : ℕ) (t : Bool) → t ≡ takes_second x y → v % 256 ≡ x → v / 256 ≡ c → w % 256 ≡ y → w / 256 ≡ d → v < 65536 → w < 65536 → u ≡ (when t then w else v)
+    → (when takes_second x y then y ∷ d ∷ [] else x ∷ c ∷ []) ≡ u % 256 ∷ u / 256 % 256 ∷ []
+unfolding when◌then◌else◌
 taken_bytes x c y d v w u true e vx vc wy wd hv hw f =
     if_is_true (takes_second x y) _ _ (sym e)
     ∙ ap₂ (λ (a b : ℕ). a ∷ b ∷ []) (sym wy ∙ ap (λ (n : ℕ). n % 256) (sym f)) (omega arith)
@@ -221,7 +221,7 @@ not_here : (t : ℕ) (z : Together) (xs : List Together) → difference_from t (
 not_here t z xs e f = let k : ◌≡◌ {A = ℕ} 0 1 = cc (is_here t z xs f) in omega arith
 
 pub joining_more : (first second before : List ℕ) (ticks : ℕ) (out : List ℕ) (t v w u : ℕ) → Joining first second before ticks out t → t < ticks → TickAt first t v → TickAt second t w
-    → u ≡ (if takes_second (v % 256) (w % 256) then w else v) → Joining first second before ticks (set (set out (2 * t) (u % 256)) (2 * t + 1) (u / 256 % 256)) (t + 1)
+    → u ≡ (when takes_second (v % 256) (w % 256) then w else v) → Joining first second before ticks (set (set out (2 * t) (u % 256)) (2 * t + 1) (u / 256 % 256)) (t + 1)
 joining_more first second before ticks out t v w u j h p q e = record {
   taps = both_more first second ticks t j.taps h;
   room = simp length-set j.room;

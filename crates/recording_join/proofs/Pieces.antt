@@ -6,7 +6,7 @@ use mathlib.Core.Bool.{Bool, true, false}
 use mathlib.Core.List.{List, [], ◌∷◌, ◌++◌, append-nil, append_assoc}
 use lib.ListN.{length, length-append}
 use borrow.Author.Tests.{eq-eqb, ne_eqb, eqb-true, eqb-false, le-ltb}
-use Rattle.base.specs.Choice.{if◌then◌else◌, ◌=?◌, ◌<?◌}
+use Rattle.base.specs.Choice.{when◌then◌else◌, ◌=?◌, ◌<?◌}
 use Rattle.base.specs.Refusal.{number}
 use Rattle.base.specs.declared.Refusal.{Refusal}
 use Rattle.base.specs.declared.Refusal.TheVariants.{BadRecording, UnequalTaps}
@@ -59,24 +59,24 @@ length_together (h ∷ hs) (g ∷ gs) e = omega (arith, length_together hs gs (o
 -- ---- the answer by three facts: whether a tap is bad, whether the lengths are unequal, and the first difference
 
 abbrev either : Bool → Bool → Bool
-either a b = if a then true else b
+either a b = when a then true else b
 
 abbrev answer_by : Bool → Bool → Difference → JoinAnswer
-answer_by bad unequal d = if bad then Refused BadRecording else if unequal then Refused UnequalTaps else by_difference d
+answer_by bad unequal d = when bad then Refused BadRecording else when unequal then Refused UnequalTaps else by_difference d
 
 abbrev bad : List ℕ → List ℕ → Bool
 bad first second = either (bad_recording first) (bad_recording second)
 
 abbrev unequal : List ℕ → List ℕ → Bool
-unequal first second = if length first =? length second then false else true
+unequal first second = when length first =? length second then false else true
 
 -- an answer with room enough
 abbrev answer_of : List ℕ → List ℕ → JoinAnswer
 answer_of first second = join_answer first second (length first)
 
 by_tests : (a b e : Bool) (x : JoinAnswer) (d : Difference) → x ≡ by_difference d
-    → (if a then Refused BadRecording else if b then Refused BadRecording else if e then x else Refused UnequalTaps) ≡ answer_by (either a b) (if e then false else true) d
-unfolding if◌then◌else◌
+    → (when a then Refused BadRecording else when b then Refused BadRecording else when e then x else Refused UnequalTaps) ≡ answer_by (either a b) (when e then false else true) d
+unfolding when◌then◌else◌
 by_tests true b e x d k = refl
 by_tests false true e x d k = refl
 by_tests false false true x d k = k
@@ -94,14 +94,14 @@ later n Nowhere = Nowhere
 later n (InTick t) = InTick (n + t)
 
 bad_stays : (n : ℕ) (y : JoinAnswer) → pieced n (Refused BadRecording) y ≡ Refused BadRecording
-unfolding pieced if◌then◌else◌
+unfolding pieced when◌then◌else◌
 bad_stays n Joined = refl
 bad_stays n (Refused why) = refl
 bad_stays n (Differ t) = refl
 
 by_parts : (n : ℕ) (p u : Bool) (d : Difference) (q v : Bool) (e : Difference)
     → pieced n (answer_by p u d) (answer_by q v e) ≡ answer_by (either p q) (either u v) (or_else d (later n e))
-unfolding pieced if◌then◌else◌
+unfolding pieced when◌then◌else◌
 by_parts n true u d q v e = bad_stays n (answer_by q v e)
 by_parts n false true d true v e = refl
 by_parts n false true d false true e = refl
@@ -117,7 +117,7 @@ by_parts n false false (InTick s) false false Nowhere = refl
 by_parts n false false (InTick s) false false (InTick t) = refl
 
 either_four : (a b c d : Bool) → either (either a c) (either b d) ≡ either (either a b) (either c d)
-unfolding if◌then◌else◌
+unfolding when◌then◌else◌
 either_four true b c d = refl
 either_four false true true d = refl
 either_four false false true d = refl
@@ -142,7 +142,7 @@ unfolding bad_recording
 bad_none = refl
 
 none_joined : answer_of [] [] ≡ Joined
-unfolding bad_recording ticks_of all_together difference_from if◌then◌else◌
+unfolding bad_recording ticks_of all_together difference_from when◌then◌else◌
 none_joined = refl
 
 joined_none : joined_of [] [] ≡ []
@@ -154,7 +154,7 @@ unfolding ticks_of all_together difference_from
 no_difference_none = refl
 
 either_none : (a : Bool) → a ≡ either a false
-unfolding if◌then◌else◌
+unfolding when◌then◌else◌
 either_none true = refl
 either_none false = refl
 
@@ -164,11 +164,11 @@ or_nowhere n (InTick t) = refl
 
 -- where the lengths are unequal no difference is asked for
 not_asked : (b u : Bool) (d e : Difference) → u ≡ true → answer_by b u d ≡ answer_by b u e
-not_asked b u d e k = ap (λ (x : JoinAnswer). if b then Refused BadRecording else x) (if_is_true u _ _ k ∙ sym (if_is_true u _ _ k))
+not_asked b u d e k = ap (λ (x : JoinAnswer). when b then Refused BadRecording else x) (if_is_true u _ _ k ∙ sym (if_is_true u _ _ k))
 
 -- two lengths
 abbrev apart : ℕ → ℕ → Bool
-apart m n = if m =? n then false else true
+apart m n = when m =? n then false else true
 
 apart_no : (m n : ℕ) → m ≡ n → apart m n ≡ false
 apart_no m n e = if_is_true (m =? n) false true (eq-eqb m n e)
@@ -385,7 +385,7 @@ module _ (n : ℕ) (earlier later r : JoinAnswer) where
   unfolding within64 pieced
   then_refused why e f k = pieced_case n earlier later Joined (Refused why) r e f k
 
-  pub then_differ : (t u : ℕ) → earlier ≡ Joined → later ≡ Differ t → r ≡ Differ u → u ≡ (if largest_tick <? n + t then largest_tick else n + t) → Is
+  pub then_differ : (t u : ℕ) → earlier ≡ Joined → later ≡ Differ t → r ≡ Differ u → u ≡ (when largest_tick <? n + t then largest_tick else n + t) → Is
   unfolding within64 pieced
   then_differ t u e f k h = pieced_case n earlier later Joined (Differ t) r e f (k ∙ ap Differ h)
 
@@ -423,7 +423,7 @@ refused_first n why other r e f k = if_equal (number why) 21 r why other (sym e 
 pub refused_later : (n : ℕ) (why other r : Refusal) → n ≡ number why → (n ≡ 21 → ⊥) → r ≡ other → r ≡ refused_by why other
 refused_later n why other r e f k = if_unequal (number why) 21 r why other (λ z. f (e ∙ z)) k
 
-pub sum_above : (a b r : ℕ) → largest_tick - a < b → r ≡ largest_tick → r ≡ (if largest_tick <? a + b then largest_tick else a + b)
+pub sum_above : (a b r : ℕ) → largest_tick - a < b → r ≡ largest_tick → r ≡ (when largest_tick <? a + b then largest_tick else a + b)
 sum_above a b r h k = if_below largest_tick (a + b) r largest_tick (a + b) (omega arith) k
 
 pub ruleset sums = (refl, refused_first, refused_later, sum_above)

@@ -5,7 +5,7 @@ use mathlib.Core.Path.{◌≡◌, refl, sym, ap, ap₂, subst, ◌∙◌}
 use mathlib.Core.Bool.{Bool, true, false}
 use mathlib.Core.List.{List, [], ◌∷◌}
 use borrow.Author.Tests.{eq-eqb, ne_eqb, eqb-true, eqb-false, le-ltb, lt-ltb, ltb-true, ltb-false}
-use Rattle.base.specs.Choice.{if◌then◌else◌, ◌=?◌, ◌<?◌}
+use Rattle.base.specs.Choice.{when◌then◌else◌, ◌=?◌, ◌<?◌}
 use Rattle.base.proofs.Choices.{if_is_true, if_is_false, true_false}
 use Rattle.line.specs.Heard.{damage_number, heard_of}
 use Rattle.line.specs.declared.Damage.{Damage}
@@ -47,7 +47,7 @@ takes_lower x y h k = if_is_false (y =? 0) _ _ (ne_eqb y 0 h) ∙ if_is_false (x
 -- the tick that is taken
 module _ (x c y d : ℕ) where
   abbrev Taken : Together → Type 0
-  Taken z = bytes_together z ≡ (if takes_second x y then y ∷ d ∷ [] else x ∷ c ∷ [])
+  Taken z = bytes_together z ≡ (when takes_second x y then y ∷ d ∷ [] else x ∷ c ∷ [])
 
   takes_first : (g : Good x c) → takes_second x y ≡ false → Taken (both (heard_as g))
   takes_first g e = bytes_of_lem g ∙ sym (if_is_false (takes_second x y) (y ∷ d ∷ []) (x ∷ c ∷ []) e)
@@ -94,7 +94,7 @@ module _ (x c y d : ℕ) where
   abbrev Both : Together
   Both = together (heard_of (x / 32) c) (heard_of (y / 32) d)
 
-  pub rule_is : tick_refused x c ≡ false → tick_refused y d ≡ false → (Both ≡ differ → ⊥) → bytes_together Both ≡ (if takes_second x y then y ∷ d ∷ [] else x ∷ c ∷ [])
+  pub rule_is : tick_refused x c ≡ false → tick_refused y d ≡ false → (Both ≡ differ → ⊥) → bytes_together Both ≡ (when takes_second x y then y ∷ d ∷ [] else x ∷ c ∷ [])
   rule_is p q n =
       let g : Good x c = good_tick x c p in
       let h : Good y d = good_tick y d q in

@@ -1,7 +1,7 @@
 -- To be believed: what the engine must do, or what is claimed of it.
 -- Document 02, item 10: "Two taps record the same pair from the same tick, and each misses characters. Join them."
 use Rattle.std.specs.Prelude.{ℕ, ◌+◌, ◌*◌, ◌≡◌, List, [], ◌∷◌, ◌++◌, length}
-use Rattle.base.specs.Choice.{if◌then◌else◌, ◌<?◌, ◌=?◌}
+use Rattle.base.specs.Choice.{when◌then◌else◌, ◌<?◌, ◌=?◌}
 use Rattle.base.specs.Refusal.{number}
 use Rattle.base.specs.Store.{stored}
 use Rattle.base.specs.declared.Refusal.TheVariants.{BadRecording, BufferShort, UnequalTaps, TapsDiffer}
@@ -30,10 +30,10 @@ together (Damaged c kind) (Character d) = both (Character d)
 together Silence (Damaged d kind) = both (Damaged d kind)
 together (Damaged c kind) Silence = both (Damaged c kind)
 -- "the lower kind over the higher, and the first tap's at equal kinds"
-together (Damaged c j) (Damaged d k) = if damage_number k <? damage_number j then both (Damaged d k) else both (Damaged c j)
+together (Damaged c j) (Damaged d k) = when damage_number k <? damage_number j then both (Damaged d k) else both (Damaged c j)
 together Silence Silence = both Silence
 -- "two different characters in one tick"
-together (Character c) (Character d) = if c =? d then both (Character c) else differ
+together (Character c) (Character d) = when c =? d then both (Character c) else differ
 
 -- tick by tick
 unfoldable pub all_together : List Heard → List Heard → List Together
@@ -77,10 +77,10 @@ by_difference (InTick t) = Differ t
 -- "After 21 for either recording, it refuses unequal lengths with 22, then a shorter output buffer with 15, then .."
 abbrev pub join_answer : List ℕ → List ℕ → ℕ → JoinAnswer
 join_answer first second room =
-    if bad_recording first then Refused BadRecording else
-    if bad_recording second then Refused BadRecording else
-    if length first =? length second then
-    (if room <? length first then Refused BufferShort else by_difference (difference_of first second))
+    when bad_recording first then Refused BadRecording else
+    when bad_recording second then Refused BadRecording else
+    when length first =? length second then
+    (when room <? length first then Refused BufferShort else by_difference (difference_of first second))
     else Refused UnequalTaps
 
 -- the buffer after the call: the joined recording at its front, or as it was

@@ -1,7 +1,7 @@
 -- To be believed: what the engine must do, or what is claimed of it.
 -- Document 02, item 10, for taps that are read in pieces, a piece of each at a time: the answer and the joined recording for the whole, made from those of the pieces.
 use Rattle.std.specs.Prelude.{ℕ, ◌+◌, ◌*◌, ◌<◌, ◌≡◌, List, [], ◌∷◌, ◌++◌, length}
-use Rattle.base.specs.Choice.{if◌then◌else◌, ◌<?◌, ◌=?◌}
+use Rattle.base.specs.Choice.{when◌then◌else◌, ◌<?◌, ◌=?◌}
 use Rattle.base.specs.Refusal.{number}
 use Rattle.base.specs.declared.Refusal.{Refusal}
 use Rattle.base.specs.declared.Refusal.TheVariants.{BadRecording}
@@ -11,7 +11,7 @@ use Rattle.recording_join.specs.declared.JoinAnswer.TheVariants.{Joined, Refused
 
 -- "After 21 for either recording, it refuses unequal lengths with 22": 21 comes first, whichever piece has it
 abbrev pub refused_by : Refusal → Refusal → Refusal
-refused_by earlier later = if number earlier =? number BadRecording then earlier else later
+refused_by earlier later = when number earlier =? number BadRecording then earlier else later
 
 -- the answer for n ticks and what follows them, made from the answers for each
 unfoldable pub pieced : ℕ → JoinAnswer → JoinAnswer → JoinAnswer
@@ -36,7 +36,7 @@ largest_tick = 18446744073709551615
 unfoldable pub within64 : JoinAnswer → JoinAnswer
 within64 Joined = Joined
 within64 (Refused why) = Refused why
-within64 (Differ t) = Differ (if largest_tick <? t then largest_tick else t)
+within64 (Differ t) = Differ (when largest_tick <? t then largest_tick else t)
 
 -- a piece of each tap
 pub record Piece : Type 0 where

@@ -2,7 +2,7 @@
 #![tactic(auto)]
 
 ghost use Rattle.std.specs.Prelude.{◌≡◌, ◌+◌, ◌/◌, ◌%◌, ◌≤◌, true, false, length};
-ghost use Rattle.base.specs.Choice.{if◌then◌else◌, ◌<?◌};
+ghost use Rattle.base.specs.Choice.{when◌then◌else◌, ◌<?◌};
 ghost use Rattle.base.specs.Store.{stored};
 ghost use Rattle.recording.specs.Form.{bad_recording};
 ghost use Rattle.recording_join.specs.Joining.{joined_of, difference_of, JoinIs};
@@ -41,7 +41,7 @@ fn takes_second(x: u16, y: u16) -> bool
 
 // Which of two ticks is taken, as one number each.
 fn taken(v: u16, w: u16) -> u16
-    ensures { result ≡ (if takes_second (v % 256) (w % 256) then w else v) }
+    ensures { result ≡ (when takes_second (v % 256) (w % 256) then w else v) }
 {
     if takes_second(v % 256, w % 256) {
         return w;
@@ -151,7 +151,7 @@ pub fn join(first: &[u8], second: &[u8], out: &mut [u8]) -> JoinAnswer
 
 // A sum, or the largest number of 64 bits where the sum is above that.
 fn sum_within(a: usize, b: usize) -> usize
-    ensures { result ≡ (if largest_tick <? a + b then largest_tick else a + b) }
+    ensures { result ≡ (when largest_tick <? a + b then largest_tick else a + b) }
 {
     if usize::MAX - a < b {
         return usize::MAX;

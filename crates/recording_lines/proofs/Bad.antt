@@ -5,7 +5,7 @@ use mathlib.Core.Bool.{Bool, true, false}
 use mathlib.Core.Path.{◌≡◌, refl, sym, ap, ◌∙◌}
 use mathlib.Core.List.{List, [], ◌∷◌, ◌++◌}
 use lib.ListN.{length, drop, get_or, length-drop}
-use Rattle.base.specs.Choice.{if◌then◌else◌}
+use Rattle.base.specs.Choice.{when◌then◌else◌}
 use Rattle.base.proofs.Choices.{if_is_true, if_is_false}
 use Rattle.recording.specs.Form.{tick_refused, bad_recording}
 use Rattle.recording.proofs.Runs.{two_more}
@@ -36,11 +36,11 @@ none t [] e = refl
 none t (a ∷ l) e = absurd (omega arith)
 
 module _ (recording : List ℕ) (ticks t : ℕ) (v : Looking recording ticks t) where
-  split : t < ticks → first_bad t (drop (2 * t) recording) ≡ (if tick_refused (get_or recording (2 * t) 0) (get_or recording (2 * t + 1) 0) then Tick t else first_bad (t + 1) (drop (2 * (t + 1)) recording))
+  split : t < ticks → first_bad t (drop (2 * t) recording) ≡ (when tick_refused (get_or recording (2 * t) 0) (get_or recording (2 * t + 1) 0) then Tick t else first_bad (t + 1) (drop (2 * (t + 1)) recording))
   unfolding first_bad
   split h =
       ap (first_bad t) (two_more recording (2 * t) (omega (arith, v.count)))
-      ∙ ap (λ (k : ℕ). if tick_refused (get_or recording (2 * t) 0) (get_or recording (2 * t + 1) 0) then Tick t else first_bad (t + 1) (drop k recording)) (next t)
+      ∙ ap (λ (k : ℕ). when tick_refused (get_or recording (2 * t) 0) (get_or recording (2 * t + 1) 0) then Tick t else first_bad (t + 1) (drop k recording)) (next t)
     where
       next : (t : ℕ) → 2 * t + 2 ≡ 2 * (t + 1)
       next t = omega arith
@@ -65,8 +65,8 @@ pub ruleset bads = (refl, looking_none, looking_more, bad_here, bad_odd, bad_non
 
 -- ---- theorems
 
-said_if : (t : ℕ) (r : Bool) (x : FirstBad) (b : Bool) → is_bad x ≡ b → is_bad (if r then Tick t else x) ≡ (if r then true else b)
-unfolding if◌then◌else◌
+said_if : (t : ℕ) (r : Bool) (x : FirstBad) (b : Bool) → is_bad x ≡ b → is_bad (when r then Tick t else x) ≡ (when r then true else b)
+unfolding when◌then◌else◌
 said_if t true x b e = refl
 said_if t false x b e = e
 
@@ -76,8 +76,8 @@ bad_said t [] = refl
 bad_said t (a ∷ []) = refl
 bad_said t (a ∷ b ∷ recording) = said_if t (tick_refused a b) (first_bad (t + 1) recording) (bad_recording recording) (bad_said (t + 1) recording)
 
-both_if : (t : ℕ) (r : Bool) (x y z : FirstBad) → x ≡ (if is_bad y then y else z) → (if r then Tick t else x) ≡ (if is_bad (if r then Tick t else y) then (if r then Tick t else y) else z)
-unfolding if◌then◌else◌
+both_if : (t : ℕ) (r : Bool) (x y z : FirstBad) → x ≡ (when is_bad y then y else z) → (when r then Tick t else x) ≡ (when is_bad (when r then Tick t else y) then (when r then Tick t else y) else z)
+unfolding when◌then◌else◌
 both_if t true x y z e = refl
 both_if t false x y z e = e
 
@@ -91,7 +91,7 @@ bad_in_pieces t n (a ∷ []) second e = absurd (omega arith)
 bad_in_pieces t zero (a ∷ b ∷ first) second e = absurd (omega arith)
 bad_in_pieces t (suc n) (a ∷ b ∷ first) second e =
     both_if t (tick_refused a b) (first_bad (t + 1) (first ++ second)) (first_bad (t + 1) first) (first_bad (t + suc n) second)
-    (bad_in_pieces (t + 1) n first second (omega arith) ∙ ap (λ (k : ℕ). if is_bad (first_bad (t + 1) first) then first_bad (t + 1) first else first_bad k second) (next t n))
+    (bad_in_pieces (t + 1) n first second (omega arith) ∙ ap (λ (k : ℕ). when is_bad (first_bad (t + 1) first) then first_bad (t + 1) first else first_bad k second) (next t n))
   where
     next : (t n : ℕ) → t + 1 + n ≡ t + suc n
     next t n = omega arith

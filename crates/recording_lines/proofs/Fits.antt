@@ -5,7 +5,7 @@ use mathlib.Core.Bool.{Bool, true, false}
 use mathlib.Core.Path.{◌≡◌, refl, sym, ap, ◌∙◌}
 use mathlib.Core.List.{List, [], ◌∷◌, ◌++◌}
 use lib.ListN.{length, take, length-append, length-take}
-use Rattle.base.specs.Choice.{if◌then◌else◌, ◌<?◌, ◌=?◌}
+use Rattle.base.specs.Choice.{when◌then◌else◌, ◌<?◌, ◌=?◌}
 use Rattle.base.specs.Store.{stored}
 use Rattle.base.proofs.Stores.{length_stored, stored_front}
 use Rattle.frame.specs.Limits.{most_data}
@@ -30,8 +30,8 @@ use Rattle.recording_lines.specs.Promises.{keep}
 
 -- ---- the bytes keep their number
 
-if_same : (t : Bool) (a b : List ℕ) (n : ℕ) → length a ≡ n → length b ≡ n → length (if t then a else b) ≡ n
-unfolding if◌then◌else◌
+if_same : (t : Bool) (a b : List ℕ) (n : ℕ) → length a ≡ n → length b ≡ n → length (when t then a else b) ≡ n
+unfolding when◌then◌else◌
 if_same true a b n p q = p
 if_same false a b n p q = q
 

@@ -1,7 +1,7 @@
 -- How the code stands for what is to be believed.
 -- What is claimed of the lines and of the first bad tick: a recording may be read in pieces of any size, and nothing is left out of an output that has room for it.
 use Rattle.std.specs.Prelude.{ℕ, ◌+◌, ◌*◌, ◌≤◌, Bool, ◌≡◌, List, [], ◌∷◌, ◌++◌, length, take}
-use Rattle.base.specs.Choice.{if◌then◌else◌}
+use Rattle.base.specs.Choice.{when◌then◌else◌}
 use Rattle.line.specs.declared.Heard.{Heard}
 use Rattle.recording.specs.Form.{ticks_of, bad_recording}
 use Rattle.recording_lines.specs.Bad.{first_bad, is_bad}
@@ -22,7 +22,7 @@ LinesInPieces = (n : ℕ) (k : Kept) (first second : List ℕ) → length first 
 abbrev pub BadInPieces : Type 0
 BadInPieces =
     (t n : ℕ) (first second : List ℕ) → length first ≡ 2 * n
-    → first_bad t (first ++ second) ≡ (if is_bad (first_bad t first) then first_bad t first else first_bad (t + n) second)
+    → first_bad t (first ++ second) ≡ (when is_bad (first_bad t first) then first_bad t first else first_bad (t + n) second)
 
 -- there is a first bad tick exactly where the recording is refused
 abbrev pub BadSaid : Type 0

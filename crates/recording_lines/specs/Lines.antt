@@ -1,7 +1,7 @@
 -- How the code stands for what is to be believed.
 -- What the program `frames` prints: a line for each frame and break that the tick reader finds (document 02, item 9), in the order of their ticks. `Kept` is what is passed on from one piece of a recording to the next.
 use Rattle.std.specs.Prelude.{ℕ, ◌+◌, Bool, true, false, List, [], ◌∷◌, ◌++◌, take}
-use Rattle.base.specs.Choice.{if◌then◌else◌, ◌<?◌, ◌=?◌}
+use Rattle.base.specs.Choice.{when◌then◌else◌, ◌<?◌, ◌=?◌}
 use Rattle.frame.specs.declared.Header.{Header}
 use Rattle.line.specs.Reader.{passing, taken, taken_data}
 use Rattle.line.specs.declared.Event.{Event}
@@ -46,7 +46,7 @@ whole_line first last w bytes =
 -- the line of a tick, by what the reader tells in it, where the list has an entry
 abbrev pub line_by : ℕ → ℕ → Event → List ℕ → List ℕ
 line_by first last Nothing bytes = []
-line_by first last PassedOver bytes = if last =? 0 then broken_line first last else []
+line_by first last PassedOver bytes = when last =? 0 then broken_line first last else []
 line_by first last Broken bytes = broken_line first last
 line_by first last (Frame w) bytes = whole_line first last w bytes
 line_by first last (Damaged w m) bytes = damaged_line first last
@@ -72,11 +72,11 @@ is_idle Check = false
 
 -- where the reader is before a frame, a frame or break that is told later begins in this tick at the earliest
 abbrev pub first_of : Progress → ℕ
-first_of p = if is_idle p.receiver.place then p.tick else p.first
+first_of p = when is_idle p.receiver.place then p.tick else p.first
 
 -- ticks are counted in 64 bits, and no file has more
 abbrev pub next_tick : ℕ → ℕ
-next_tick t = if t <? 18446744073709551615 then t + 1 else t
+next_tick t = when t <? 18446744073709551615 then t + 1 else t
 
 unfoldable pub stepped : Kept → Heard → Kept
 stepped k h = record {

@@ -9,7 +9,7 @@ use lib.ListN.{length, drop, get_or}
 use borrow.Author.Tests.{eq-eqb, ne_eqb, eqb-true, eqb-false, lt-ltb, le-ltb}
 use mir.Syntax.{w64}
 use mir.Val.{Fits}
-use Rattle.base.specs.Choice.{if◌then◌else◌, ◌=?◌, ◌<?◌}
+use Rattle.base.specs.Choice.{when◌then◌else◌, ◌=?◌, ◌<?◌}
 use Rattle.base.proofs.Choices.{if_is_true, if_is_false}
 use Rattle.frame.specs.Delimiter.{delimiter_of}
 use Rattle.frame.specs.Frame.{too_few}
@@ -147,11 +147,11 @@ earlier recording t u l m Cut h e v = e ∙ v
 
 -- ---- the check byte
 
-checked : (m : FrameDamage) (wrong : Bool) → m.check ≡ false → is_damaged (with_check m wrong) ≡ (if is_damaged m then true else wrong)
-unfolding if◌then◌else◌
+checked : (m : FrameDamage) (wrong : Bool) → m.check ≡ false → is_damaged (with_check m wrong) ≡ (when is_damaged m then true else wrong)
+unfolding when◌then◌else◌
 checked m wrong e = go m.parity m.overrun m.framing m.check e m.address wrong
   where
-    go : (p o f c : Bool) → c ≡ false → (a w : Bool) → (if p then true else if o then true else if f then true else if w then true else a) ≡ (if (if p then true else if o then true else if f then true else if c then true else a) then true else w)
+    go : (p o f c : Bool) → c ≡ false → (a w : Bool) → (when p then true else when o then true else when f then true else when w then true else a) ≡ (when (when p then true else when o then true else when f then true else when c then true else a) then true else w)
     go true o f c z a w = refl
     go false true f c z a w = refl
     go false false true c z a w = refl
@@ -162,20 +162,20 @@ checked m wrong e = go m.parity m.overrun m.framing m.check e m.address wrong
     go false false false false z false true = refl
     go false false false false z false false = refl
 
-adds_ended : (t : ℕ) (w : Whole) (m : FrameDamage) → adds t (ended w m) ≡ entry t (if is_damaged m then 2 else 1)
-unfolding if◌then◌else◌
+adds_ended : (t : ℕ) (w : Whole) (m : FrameDamage) → adds t (ended w m) ≡ entry t (when is_damaged m then 2 else 1)
+unfolding when◌then◌else◌
 adds_ended t w m = go (is_damaged m)
   where
-    go : (d : Bool) → adds t (if d then Event.Damaged w m else Frame w) ≡ entry t (if d then 2 else 1)
+    go : (d : Bool) → adds t (when d then Event.Damaged w m else Frame w) ≡ entry t (when d then 2 else 1)
     go true = refl
     go false = refl
 
-verdict_is : (d h : Bool) (sum : ℕ) → d ≡ (if h then true else (if sum =? 0 then false else true)) → ◌≡◌ {A = ℕ} (if d then 2 else 1) (verdict_of sum h)
-unfolding if◌then◌else◌
-verdict_is d true sum e = ap (λ (x : Bool). if x then 2 else 1) e
-verdict_is d false sum e = ap (λ (x : Bool). if x then 2 else 1) e ∙ go (sum =? 0)
+verdict_is : (d h : Bool) (sum : ℕ) → d ≡ (when h then true else (when sum =? 0 then false else true)) → ◌≡◌ {A = ℕ} (when d then 2 else 1) (verdict_of sum h)
+unfolding when◌then◌else◌
+verdict_is d true sum e = ap (λ (x : Bool). when x then 2 else 1) e
+verdict_is d false sum e = ap (λ (x : Bool). when x then 2 else 1) e ∙ go (sum =? 0)
   where
-    go : (z : Bool) → ◌≡◌ {A = ℕ} (if (if z then false else true) then 2 else 1) (if z then 1 else 2)
+    go : (z : Bool) → ◌≡◌ {A = ℕ} (when (when z then false else true) then 2 else 1) (when z then 1 else 2)
     go true = refl
     go false = refl
 
@@ -184,10 +184,10 @@ check_character : (t s c : ℕ) (b : Bool) (r : Receiver) → InTail 0 s b r →
 unfolding at_check
 check_character t s c b r i x e = (
   ap (λ (y : Taken). adds t y.event) e
-      ∙ adds_ended t (whole_of r) (with_check r.damage (if bit_xor r.sum c =? 0 then false else true))
-      ∙ ap (entry t) (verdict_is (is_damaged (with_check r.damage (if bit_xor r.sum c =? 0 then false else true))) b (bit_xor s c)
-      (checked r.damage (if bit_xor r.sum c =? 0 then false else true) i.inside.unchecked
-      ∙ ap₂ (λ (h : Bool) (n : ℕ). if h then true else (if bit_xor n c =? 0 then false else true)) i.inside.harmed i.inside.summed)),
+      ∙ adds_ended t (whole_of r) (with_check r.damage (when bit_xor r.sum c =? 0 then false else true))
+      ∙ ap (entry t) (verdict_is (is_damaged (with_check r.damage (when bit_xor r.sum c =? 0 then false else true))) b (bit_xor s c)
+      (checked r.damage (when bit_xor r.sum c =? 0 then false else true) i.inside.unchecked
+      ∙ ap₂ (λ (h : Bool) (n : ℕ). when h then true else (when bit_xor n c =? 0 then false else true)) i.inside.harmed i.inside.summed)),
   ap (λ (y : Taken). y.receiver) e,
 )
 
@@ -318,8 +318,8 @@ pub ruleset tails = (refl, tail_to, tail_broke, tail_over, run_positive)
 
 -- ---- the byte count
 
-at_least_two : (t : Bool) → 2 ≤ (if t then 6 else 2)
-unfolding if◌then◌else◌
+at_least_two : (t : Bool) → 2 ≤ (when t then 6 else 2)
+unfolding when◌then◌else◌
 at_least_two true = omega arith
 at_least_two false = omega arith
 
@@ -376,10 +376,10 @@ count_few recording u v frame s c b few o g k n h d q f z e = record {
 
 -- a byte count that is taken
 abbrev pub counted_place : ℕ → Place
-counted_place c = if c =? 0 then Check else Data 0
+counted_place c = when c =? 0 then Check else Data 0
 
-counted_choice : (r : Receiver) (c : ℕ) (t : Bool) → (if t then counted r c Check else counted r c (Data 0)) ≡ counted r c (if t then Check else Data 0)
-unfolding if◌then◌else◌
+counted_choice : (r : Receiver) (c : ℕ) (t : Bool) → (when t then counted r c Check else counted r c (Data 0)) ≡ counted r c (when t then Check else Data 0)
+unfolding when◌then◌else◌
 counted_choice r c true = refl
 counted_choice r c false = refl
 
@@ -494,8 +494,8 @@ pub ruleset heads = (refl, head_to, head_broke, head_over)
 abbrev pub begun_by : ℕ → ℕ → Bool → ℕ → Receiver
 begun_by c frame long expansion = (begins c (Is frame long expansion)).receiver
 
-pub begun_head : (c frame expansion n : ℕ) (long : Bool) → n ≡ (if long then 6 else 2) + expansion → InHead frame n c false (begun_by c frame long expansion)
-unfolding if◌then◌else◌
+pub begun_head : (c frame expansion n : ℕ) (long : Bool) → n ≡ (when long then 6 else 2) + expansion → InHead frame n c false (begun_by c frame long expansion)
+unfolding when◌then◌else◌
 begun_head c frame expansion n long e = record { place = at_first_place refl e; of_frame = refl; inside = record { summed = refl; harmed = refl; unchecked = refl; no_gap = refl } }
 
 begins_by : (c : ℕ) (d : Delimiter) → (c ≡ 255 → ⊥) → d ≡ delimiter_of c → taken (blank (Preamble 2)) (Character c) ≡ begins c d
@@ -504,7 +504,7 @@ begins_by c d n e = if_is_false (c =? 0xFF) _ _ (ne_eqb c 255 n) ∙ if_is_false
 
 -- 0xFF is no delimiter
 no_delimiter : delimiter_of 255 ≡ Not
-unfolding delimiter_of if◌then◌else◌
+unfolding delimiter_of when◌then◌else◌
 no_delimiter = refl
 
 pub delimiter_on : (c frame expansion : ℕ) (long : Bool) → delimiter_of c ≡ Is frame long expansion → taken (blank (Preamble 2)) (Character c) ≡ tells (begun_by c frame long expansion) Nothing
@@ -529,7 +529,7 @@ abbrev sound_number : (recording : List ℕ) (u v : ℕ) → TickIs recording u 
 sound_number recording u v k z h = record { number = v; tick = k; sounds = λ e. absurd (omega arith); within = h }
 
 pub delimiter_is : (recording : List ℕ) (u v c frame expansion n : ℕ) (two long : Bool) (d : Delimiter) (o : Outcome) → bad_recording recording ≡ false → TickIs recording u v → 2 * u + 2 ≤ length recording → v % 256 ≡ 32 → (v / 256 ≡ 255 → ⊥)
-    → two ≡ true → c ≡ v / 256 → d ≡ delimiter_of c → d ≡ Is frame long expansion → n ≡ (if long then 6 else 2) + expansion → HeadIs recording (u + 1) frame n c o → FrameIs recording u (in_preamble two) o
+    → two ≡ true → c ≡ v / 256 → d ≡ delimiter_of c → d ≡ Is frame long expansion → n ≡ (when long then 6 else 2) + expansion → HeadIs recording (u + 1) frame n c o → FrameIs recording u (in_preamble two) o
 delimiter_is recording u v c frame expansion n two long d o g k h z m t q e f l w = record {
   this = subst (λ (r : Receiver). OutcomeIs recording u (found_from recording u r) o) (sym (two_preambles two t))
       (earlier recording u (u + 1) (found_from recording u (blank (Preamble 2))) (found_from recording (u + 1) (begun_by (v / 256) frame long expansion)) o (omega arith)
@@ -565,12 +565,12 @@ pub record Preambling (recording : List ℕ) (from : ℕ) (r : Receiver) (ticks 
   pub same : found_from recording from r ≡ found_from recording t (in_preamble two)
 
 preamble_within : (two : Bool) → Within (in_preamble two)
-unfolding if◌then◌else◌
+unfolding when◌then◌else◌
 preamble_within true = record { inside = refl; no_gap = refl }
 preamble_within false = record { inside = refl; no_gap = refl }
 
 pub preamble_begun : (recording : List ℕ) (from ticks : ℕ) → 2 * from ≤ length recording → ticks ≡ length recording / 2 → Preambling recording from (blank (Preamble 1)) ticks from false
-unfolding if◌then◌else◌
+unfolding when◌then◌else◌
 preamble_begun recording from ticks h e = record { count = e; onward = omega arith; within = h; same = refl }
 
 pub preamble_resumed : (recording : List ℕ) (from ticks : ℕ) (before : Bool) → 2 * from ≤ length recording → ticks ≡ length recording / 2 → Preambling recording from (in_preamble before) ticks from before
@@ -582,13 +582,13 @@ unfolding taken at_preamble
 more_on n = if_is_true (255 =? 0xFF) _ _ (eq-eqb 255 255 refl)
 
 more_preamble : (v : ℕ) (two : Bool) → v % 256 ≡ 32 → v / 256 ≡ 255 → (h : Heard) → SoundAs v h → taken (in_preamble two) h ≡ tells (blank (Preamble 2)) Nothing
-unfolding if◌then◌else◌
+unfolding when◌then◌else◌
 more_preamble v true z n h (as_character k) = ap (λ (c : ℕ). taken (blank (Preamble 2)) (Character c)) n ∙ more_on 2
 more_preamble v false z n h (as_character k) = ap (λ (c : ℕ). taken (blank (Preamble 1)) (Character c)) n ∙ more_on 1
 more_preamble v two z n h (as_damaged kind k) = absurd (k z)
 
 preamble_hurt : (v : ℕ) (two : Bool) → (v % 256 ≡ 32 → ⊥) → (h : Heard) → SoundAs v h → taken (in_preamble two) h ≡ breaks
-unfolding taken if◌then◌else◌
+unfolding taken when◌then◌else◌
 preamble_hurt v two n h (as_character k) = absurd (n k)
 preamble_hurt v true n h (as_damaged kind k) = refl
 preamble_hurt v false n h (as_damaged kind k) = refl

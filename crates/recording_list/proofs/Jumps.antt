@@ -6,7 +6,7 @@ use mathlib.Core.Bool.{Bool, true, false}
 use mathlib.Core.List.{List, [], ◌∷◌, ◌++◌, append-nil, append_assoc}
 use lib.Bits.{bit_xor}
 use lib.ListN.{length, length-append}
-use Rattle.base.specs.Choice.{if◌then◌else◌, ◌=?◌, ◌<?◌}
+use Rattle.base.specs.Choice.{when◌then◌else◌, ◌=?◌, ◌<?◌}
 use Rattle.frame.specs.Delimiter.{delimiter_of}
 use Rattle.frame.specs.declared.Delimiter.TheVariants.{Is}
 use Rattle.line.specs.Gaps.{IsCharacter, is_sound, is_with_damage, GapsBefore, no_more, at_once, behind_silence, Gapped, from_first}

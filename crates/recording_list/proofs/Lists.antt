@@ -9,7 +9,7 @@ use borrow.Author.Tests.{eq-eqb, le-leb, lt-leb, leb-true, leb-false}
 use borrow.Rule.Slice.PartMut.{put_mid}
 use mir.Syntax.{w64}
 use mir.Val.{Fits}
-use Rattle.base.specs.Choice.{if◌then◌else◌, ◌=?◌, ◌<?◌, ◌≤?◌}
+use Rattle.base.specs.Choice.{when◌then◌else◌, ◌=?◌, ◌<?◌, ◌≤?◌}
 use Rattle.base.specs.Store.{stored}
 use Rattle.base.specs.declared.Refusal.{Refusal}
 use Rattle.base.specs.declared.Refusal.TheVariants as Refusal
@@ -86,11 +86,11 @@ pub put_part : (put : Bool) (n : ℕ) (out : List ℕ) → HasRoom put (9 * n + 
 put_part put n out h e = simp (length-take, length-drop) (omega (arith, h.room e))
 
 pub put_is : (put : Bool) (n u verdict : ℕ) (out zs ys : List ℕ) → put ≡ true → zs ≡ stored (take (length out - 9 * n) (drop (9 * n) out)) 0 (entry u verdict)
-    → ys ≡ put_mid (9 * n) (length out - 9 * n) out zs → ys ≡ (if put then stored out (9 * n) (entry u verdict) else out)
+    → ys ≡ put_mid (9 * n) (length out - 9 * n) out zs → ys ≡ (when put then stored out (9 * n) (entry u verdict) else out)
 put_is put n u verdict out zs ys e q f =
     f ∙ stored_part (9 * n) (length out - 9 * n) out zs (entry u verdict) q (room_behind (9 * n) (length out)) ∙ sym (if_is_true put (stored out (9 * n) (entry u verdict)) out e)
 
-pub put_not : (put : Bool) (out vs : List ℕ) → put ≡ false → out ≡ (if put then vs else out)
+pub put_not : (put : Bool) (out vs : List ℕ) → put ≡ false → out ≡ (when put then vs else out)
 put_not put out vs e = sym (if_is_false put vs out e)
 
 pub ruleset put_ifs = (refl, put_place, put_fits, put_part, put_is, put_not)
@@ -117,7 +117,7 @@ go_end : (recording : List ℕ) (from before : ℕ) (put : Bool) (lent : List �
 unfolding stored
 go_end recording from before put lent ticks out t n r g e k = record { number = omega (arith, k, g.left, ap length e); buffer = go put refl }
   where
-    go : (b : Bool) → put ≡ b → out ≡ (if put then stored lent (9 * before) (found_from recording from idle) else lent)
+    go : (b : Bool) → put ≡ b → out ≡ (when put then stored lent (9 * before) (found_from recording from idle) else lent)
     go true p = sym (ap (stored out (9 * n)) e) ∙ g.stores p ∙ sym (if_is_true put (stored lent (9 * before) (found_from recording from idle)) lent p)
     go false p = g.kept p ∙ sym (if_is_false put (stored lent (9 * before) (found_from recording from idle)) lent p)
 
@@ -156,7 +156,7 @@ module _ (recording : List ℕ) (from before : ℕ) (put : Bool) (lent : List �
     pub going_room : HasRoom put (9 * n + 9) out
     going_room = record { room = λ p. omega (arith, g.room p, told_length) }
 
-    pub going_more : (zs : List ℕ) → zs ≡ (if put then stored out (9 * n) (entry u verdict) else out) → Going recording from before put lent ticks zs next (n + 1)
+    pub going_more : (zs : List ℕ) → zs ≡ (when put then stored out (9 * n) (entry u verdict) else out) → Going recording from before put lent ticks zs next (n + 1)
     going_more zs q = record {
       count = g.count;
       within = told.within;
@@ -215,7 +215,7 @@ same_list put l m n before r after e v = subst (λ (k : List ℕ). EntriesAre pu
 pub all_none : (recording before : List ℕ) (put : Bool) (r : ℕ) → length recording < 2 → r ≡ 0 → EntriesAre put (listing_of recording) 0 before r before
 all_none recording before put r h e = same_list put [] (listing_of recording) 0 before r before (no_tick_zero recording h) (record { number = omega arith; buffer = go put refl })
   where
-    go : (b : Bool) → put ≡ b → before ≡ (if put then stored before 0 [] else before)
+    go : (b : Bool) → put ≡ b → before ≡ (when put then stored before 0 [] else before)
     go true p = stored_none before 0 ∙ sym (if_is_true put (stored before 0 []) before p)
     go false p = sym (if_is_false put (stored before 0 []) before p)
 
@@ -234,7 +234,7 @@ room_first recording out put v g k n h r = record {
 }
 
 module _ (recording before middle : List ℕ) (put : Bool) (v w : ℕ) (g : bad_recording recording ≡ false) (k : TickIs recording 0 v) (n : v ≡ 0 → ⊥) (h : 2 ≤ length recording) (l : LeftOut recording 1 passing w idle)
-    (e : middle ≡ (if put then stored before (9 * 0) (entry 0 0) else before)) where
+    (e : middle ≡ (when put then stored before (9 * 0) (entry 0 0) else before)) where
   two_parts : length (listing_of recording) ≡ 9 + length (found_from recording w idle)
   two_parts = omega (arith, ap length (sound_zero recording v w g k n h l), length-append (entry 0 0) (found_from recording w idle), entry_nine 0 0)
 
@@ -250,7 +250,7 @@ module _ (recording before middle : List ℕ) (put : Bool) (v w : ℕ) (g : bad_
       nine : 9 * 1 ≡ 0 + length (entry 0 0)
       nine = omega (arith, entry_nine 0 0)
 
-      go : (b : Bool) → put ≡ b → after ≡ (if put then stored before (9 * 0) (listing_of recording) else before)
+      go : (b : Bool) → put ≡ b → after ≡ (when put then stored before (9 * 0) (listing_of recording) else before)
       go true p =
           x.buffer ∙ if_is_true put (stored middle (9 * 1) (found_from recording w idle)) middle p
           ∙ ap₂ (λ (b : List ℕ) (i : ℕ). stored b i (found_from recording w idle)) (put_first p) nine

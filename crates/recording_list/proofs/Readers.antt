@@ -8,7 +8,7 @@ use mathlib.Core.List.{List, [], ◌∷◌, ◌++◌}
 use lib.Bits.{bit_xor}
 use lib.ListN.{length, drop, get_or}
 use borrow.Author.Tests.{eq-eqb, ne_eqb, eqb-true, eqb-false, lt-ltb, le-ltb, ltb-true, ltb-false}
-use Rattle.base.specs.Choice.{if◌then◌else◌, ◌=?◌, ◌<?◌}
+use Rattle.base.specs.Choice.{when◌then◌else◌, ◌=?◌, ◌<?◌}
 use Rattle.base.proofs.Choices.{if_is_true, if_is_false}
 use Rattle.frame.specs.declared.Header.{Header}
 use Rattle.line.specs.Gaps.{IsCharacter, is_sound, is_with_damage}
@@ -59,7 +59,7 @@ found_over recording t r h = ap (found t r) (ticks_over recording t h) ∙ found
 -- ---- what a tick has
 
 heard_none : (c : ℕ) → heard_of (0 % 256 / 32) c ≡ Silence
-unfolding if◌then◌else◌
+unfolding when◌then◌else◌
 heard_none c = refl
 
 pub silent_left : (recording : List ℕ) (t : ℕ) → SilentTick recording t → left_from recording t ≡ Silence ∷ left_from recording (t + 1)
@@ -136,10 +136,10 @@ harm_some b v e = if_is_false (v % 256 =? 32) b true (ne_eqb (v % 256) 32 e)
 
 -- damage marks the reader, and the character is then taken as another
 harmed_address : (m : FrameDamage) → is_damaged (address_damaged m) ≡ true
-unfolding if◌then◌else◌
+unfolding when◌then◌else◌
 harmed_address m = go m.parity m.overrun m.framing m.check
   where
-    go : (p o f c : Bool) → (if p then true else if o then true else if f then true else if c then true else true) ≡ true
+    go : (p o f c : Bool) → (when p then true else when o then true else when f then true else when c then true else true) ≡ true
     go true o f c = refl
     go false true f c = refl
     go false false true c = refl
@@ -147,16 +147,16 @@ harmed_address m = go m.parity m.overrun m.framing m.check
     go false false false false = refl
 
 harmed_kind : (kind : Damage) (m : FrameDamage) → is_damaged (kind_damaged kind m) ≡ true
-unfolding if◌then◌else◌
+unfolding when◌then◌else◌
 harmed_kind Parity m = refl
 harmed_kind Overrun m = go m.parity
   where
-    go : (p : Bool) → (if p then true else true) ≡ true
+    go : (p : Bool) → (when p then true else true) ≡ true
     go true = refl
     go false = refl
 harmed_kind Framing m = go m.parity m.overrun
   where
-    go : (p o : Bool) → (if p then true else if o then true else true) ≡ true
+    go : (p o : Bool) → (when p then true else when o then true else true) ≡ true
     go true o = refl
     go false true = refl
     go false false = refl
@@ -194,8 +194,8 @@ head_behind frame n s c b r h v f e = go (r.expansion =? 0) refl
         let some : r.expansion ≡ 0 → ⊥ = eqb-false r.expansion 0 z in
         head_next frame n s c b r h (behind_address r) v f (at_expansion_place r.expansion (if_is_false (r.expansion =? 0) Command (Expansion r.expansion) z) (omega arith) (omega arith))
 
-by_choice : (frame n s : ℕ) (b : Bool) (t : Bool) (x y : Taken) → (t ≡ true → HeadStep frame n s b x) → (t ≡ false → HeadStep frame n s b y) → HeadStep frame n s b (if t then x else y)
-unfolding if◌then◌else◌
+by_choice : (frame n s : ℕ) (b : Bool) (t : Bool) (x y : Taken) → (t ≡ true → HeadStep frame n s b x) → (t ≡ false → HeadStep frame n s b y) → HeadStep frame n s b (when t then x else y)
+unfolding when◌then◌else◌
 by_choice frame n s b true x y p q = p refl
 by_choice frame n s b false x y p q = q refl
 
@@ -280,8 +280,8 @@ pub record TailStep (n s : ℕ) (b : Bool) (t : Taken) : Type 0 where
 tail_next : (n s c : ℕ) (b : Bool) (r : Receiver) (place : Place) → Inside s b r → TailPlace (next r r.header place c).receiver n → TailStep n (bit_xor s c) b (next r r.header place c)
 tail_next n s c b r place v p = record { reader = (next r r.header place c).receiver; is = refl; still = record { place = p; inside = inside_next s c b r r.header place v } }
 
-tail_choice : (n s : ℕ) (b : Bool) (t : Bool) (x y : Taken) → (t ≡ true → TailStep n s b x) → (t ≡ false → TailStep n s b y) → TailStep n s b (if t then x else y)
-unfolding if◌then◌else◌
+tail_choice : (n s : ℕ) (b : Bool) (t : Bool) (x y : Taken) → (t ≡ true → TailStep n s b x) → (t ≡ false → TailStep n s b y) → TailStep n s b (when t then x else y)
+unfolding when◌then◌else◌
 tail_choice n s b true x y p q = p refl
 tail_choice n s b false x y p q = q refl
 

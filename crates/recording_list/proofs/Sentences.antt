@@ -4,14 +4,14 @@ use native.Mathlib.Omega.{arith}
 use mathlib.Core.Path.{◌≡◌, refl}
 use mathlib.Core.List.{[]}
 use borrow.Author.Tests.{ne_eqb}
-use Rattle.base.specs.Choice.{if◌then◌else◌, ◌=?◌}
+use Rattle.base.specs.Choice.{when◌then◌else◌, ◌=?◌}
 use Rattle.base.proofs.Choices.{if_is_false}
 use Rattle.line.specs.declared.Event.TheVariants.{PassedOver}
 use Rattle.recording_list.specs.Listing.{entry, adds}
 
 -- at the reader's start: a broken frame
 pub start_adds : adds 0 PassedOver ≡ entry 0 0
-unfolding if◌then◌else◌
+unfolding when◌then◌else◌
 start_adds = refl
 
 -- later: none

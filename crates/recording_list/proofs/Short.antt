@@ -5,7 +5,7 @@ use mathlib.Core.Path.{◌≡◌, refl, sym, ap, ap₂, subst, ◌∙◌}
 use mathlib.Core.Bool.{Bool, true, false}
 use mathlib.Core.List.{List, [], ◌∷◌, ◌++◌}
 use lib.ListN.{length, length-append}
-use Rattle.base.specs.Choice.{if◌then◌else◌, ◌=?◌, ◌<?◌}
+use Rattle.base.specs.Choice.{when◌then◌else◌, ◌=?◌, ◌<?◌}
 use Rattle.base.proofs.Choices.{true_false}
 use Rattle.frame.specs.Delimiter.{delimiter_of}
 use Rattle.frame.specs.Frame.{too_few}
@@ -42,16 +42,16 @@ data Led (x : Taken) : Type 0 where
   breaks_off : x ≡ breaks → Led x
   ends : (w : Whole) (m : FrameDamage) → x ≡ tells idle (ended w m) → Led x
 
-led_if : (t : Bool) (a b : Taken) → Led a → Led b → Led (if t then a else b)
-unfolding if◌then◌else◌
+led_if : (t : Bool) (a b : Taken) → Led a → Led b → Led (when t then a else b)
+unfolding when◌then◌else◌
 led_if true a b p q = p
 led_if false a b p q = q
 
 led_next : (r : Receiver) (h : Header) (place : Place) (c : ℕ) → inside_frame place ≡ true → Led (next r h place c)
 led_next r h place c i = goes_on refl (record { inside = i; no_gap = refl })
 
-inside_choice : (t : Bool) (n : ℕ) → inside_frame (if t then Command else Expansion n) ≡ true
-unfolding if◌then◌else◌
+inside_choice : (t : Bool) (n : ℕ) → inside_frame (when t then Command else Expansion n) ≡ true
+unfolding when◌then◌else◌
 inside_choice true n = refl
 inside_choice false n = refl
 
@@ -124,10 +124,10 @@ passed_or (Data n) x p q f = ended_by x (q (inside_other (Data n) refl)) f
 passed_or Check x p q f = ended_by x (q (inside_other Check refl)) f
 
 silent_ended : (r : Receiver) → ends_frame (silence r).event ≡ false
-unfolding if◌then◌else◌ silent_inside
+unfolding when◌then◌else◌ silent_inside
 silent_ended r = go (inside_frame r.place) r.gap
   where
-    go : (i g : Bool) → ends_frame (if i then (if g then tells idle Broken else tells (gapped r) Nothing) else tells idle Nothing).event ≡ false
+    go : (i g : Bool) → ends_frame (when i then (when g then tells idle Broken else tells (gapped r) Nothing) else tells idle Nothing).event ≡ false
     go true true = refl
     go true false = refl
     go false g = refl
@@ -159,10 +159,10 @@ unfolding entry
 entry_nine t verdict = refl
 
 ended_nine : (t : ℕ) (w : Whole) (m : FrameDamage) → length (adds t (ended w m)) ≡ 9
-unfolding if◌then◌else◌
+unfolding when◌then◌else◌
 ended_nine t w m = go (is_damaged m)
   where
-    go : (d : Bool) → length (adds t (if d then Event.Damaged w m else Frame w)) ≡ 9
+    go : (d : Bool) → length (adds t (when d then Event.Damaged w m else Frame w)) ≡ 9
     go true = entry_nine t 2
     go false = entry_nine t 1
 
@@ -189,8 +189,8 @@ spent_inside t x (ends w m e) = record {
   less = omega arith;
 }
 
-idle_choice : (t : ℕ) (b : Bool) → Spent t (if b then tells (blank (Preamble 1)) Nothing else breaks) 1
-unfolding if◌then◌else◌
+idle_choice : (t : ℕ) (b : Bool) → Spent t (when b then tells (blank (Preamble 1)) Nothing else breaks) 1
+unfolding when◌then◌else◌
 idle_choice t true = spent_goes t 1 (tells (blank (Preamble 1)) Nothing) (omega arith) refl (record { inside = refl; no_gap = refl })
 idle_choice t false = spent_breaks t 1 breaks (omega arith) refl
 
@@ -286,8 +286,8 @@ record Nines (l : List ℕ) : Type 0 where
   entries : ℕ
   is : length l ≡ 9 * entries
 
-choice_nines : (b : Bool) (t : ℕ) → Nines (if b then entry t 0 else [])
-unfolding if◌then◌else◌
+choice_nines : (b : Bool) (t : ℕ) → Nines (when b then entry t 0 else [])
+unfolding when◌then◌else◌
 choice_nines true t = record { entries = 1; is = entry_nine t 0 }
 choice_nines false t = record { entries = 0; is = refl }
 

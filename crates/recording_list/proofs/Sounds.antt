@@ -7,7 +7,7 @@ use mathlib.Core.List.{List}
 use lib.Bits.{bit_xor, bit_or, bit_and, or_add_and, and_le_l, and_le_r, xor_add_and, xor_shr}
 use lib.ListN.{length}
 use borrow.Author.Tests.{eq-eqb, eqb-true}
-use Rattle.base.specs.Choice.{if◌then◌else◌, ◌=?◌}
+use Rattle.base.specs.Choice.{when◌then◌else◌, ◌=?◌}
 use Rattle.base.proofs.Choices.{if_is_true}
 use Rattle.recording.specs.Recording.{TickIs}
 use Rattle.recording_list.specs.Reading.{SoundTick, at_once, harmed_by, Walk, no_character, one_more, StillSound, PlainIs, RunIs}

@@ -8,7 +8,7 @@ use lib.Bits.{bit_xor, bit_or}
 use lib.ListN.{length, drop, get_or}
 use mir.Syntax.{w64}
 use mir.Val.{Fits}
-use Rattle.base.specs.Choice.{if◌then◌else◌, ◌=?◌}
+use Rattle.base.specs.Choice.{when◌then◌else◌, ◌=?◌}
 use Rattle.base.proofs.Choices.{if_is_true, if_is_false}
 use Rattle.recording.specs.Recording.{TickIs}
 use Rattle.recording_list.specs.Reading.{SilentTick, SoundTick, Reaches, at_once, behind_silence, NextAt, TwoSilent, NoMore, no_tick, last_silent, NextIs, harmed_by, Walk, no_character, one_more, WalkTo, WalkOver, RunIs}
@@ -110,10 +110,10 @@ walking_all recording from need s b t count sum harm r w h f =
 pub ruleset walks = (refl, next_within, next_fits, walking_none, walking_more, walking_broke, walking_over, walking_all)
 
 -- a choice and a sum
-pub sum_of : (t : Bool) (a b c x : ℕ) → t ≡ true → x ≡ a + c → x ≡ (if t then a else b) + c
+pub sum_of : (t : Bool) (a b c x : ℕ) → t ≡ true → x ≡ a + c → x ≡ (when t then a else b) + c
 sum_of t a b c x e p = p ∙ ap (λ (n : ℕ). n + c) (sym (if_is_true t a b e))
 
-pub sum_else : (t : Bool) (a b c x : ℕ) → t ≡ false → x ≡ b + c → x ≡ (if t then a else b) + c
+pub sum_else : (t : Bool) (a b c x : ℕ) → t ≡ false → x ≡ b + c → x ≡ (when t then a else b) + c
 sum_else t a b c x e p = p ∙ ap (λ (n : ℕ). n + c) (sym (if_is_false t a b e))
 
 pub ruleset sums = (refl, sum_of, sum_else)

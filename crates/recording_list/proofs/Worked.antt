@@ -3,7 +3,7 @@ use Prim.Native.Nat.{ℕ}
 use mathlib.Core.Path.{◌≡◌, refl}
 use mathlib.Core.List.{List, [], ◌∷◌, ◌++◌}
 use lib.Bits.{bit_xor}
-use Rattle.base.specs.Choice.{if◌then◌else◌}
+use Rattle.base.specs.Choice.{when◌then◌else◌}
 use Rattle.frame.specs.Delimiter.{delimiter_of}
 use Rattle.line.specs.Reader.{taken, at_idle, at_preamble, at_first, at_address, at_expansion, at_command, at_count, at_data, at_check, silent_inside}
 use Rattle.recording.specs.Form.{ticks_of}
@@ -15,25 +15,25 @@ stx_ticks = 32 ∷ 255 ∷ 32 ∷ 255 ∷ 32 ∷ 2 ∷ 32 ∷ 128 ∷ 32 ∷ 0 �
 
 -- it starts in tick 1, behind a silent tick, and ends in tick 7
 pub whole_listed : listing_of (0 ∷ 0 ∷ stx_ticks) ≡ entry 7 1
-unfolding found ticks_of entry taken at_idle at_preamble at_first at_command at_count at_check silent_inside delimiter_of if◌then◌else◌ bit_xor
+unfolding found ticks_of entry taken at_idle at_preamble at_first at_command at_count at_check silent_inside delimiter_of when◌then◌else◌ bit_xor
 whole_listed = refl
 
 -- with a silent tick inside it ends a tick later
 pub gap_listed : listing_of (0 ∷ 0 ∷ 32 ∷ 255 ∷ 0 ∷ 0 ∷ 32 ∷ 255 ∷ 32 ∷ 2 ∷ 32 ∷ 128 ∷ 32 ∷ 0 ∷ 32 ∷ 0 ∷ 32 ∷ 130 ∷ []) ≡ entry 8 1
-unfolding found ticks_of entry taken at_idle at_preamble at_first at_command at_count at_check silent_inside delimiter_of if◌then◌else◌ bit_xor
+unfolding found ticks_of entry taken at_idle at_preamble at_first at_command at_count at_check silent_inside delimiter_of when◌then◌else◌ bit_xor
 gap_listed = refl
 
 -- two silent ticks in a row break it
 pub two_break : listing_of (0 ∷ 0 ∷ 32 ∷ 255 ∷ 0 ∷ 0 ∷ 0 ∷ 0 ∷ 32 ∷ 255 ∷ []) ≡ entry 3 0
-unfolding found ticks_of entry taken at_idle at_preamble silent_inside if◌then◌else◌
+unfolding found ticks_of entry taken at_idle at_preamble silent_inside when◌then◌else◌
 two_break = refl
 
 -- from tick 0 on no frame may start: one entry, and the characters behind it add none
 pub start_listed : listing_of stx_ticks ≡ entry 0 0
-unfolding found ticks_of entry taken if◌then◌else◌
+unfolding found ticks_of entry taken when◌then◌else◌
 start_listed = refl
 
 -- behind a character that breaks, characters are passed over: no start there either
 pub no_start_behind : listing_of (0 ∷ 0 ∷ 32 ∷ 7 ∷ 32 ∷ 255 ∷ 32 ∷ 255 ∷ 32 ∷ 2 ∷ []) ≡ entry 1 0
-unfolding found ticks_of entry taken at_idle silent_inside if◌then◌else◌
+unfolding found ticks_of entry taken at_idle silent_inside when◌then◌else◌
 no_start_behind = refl

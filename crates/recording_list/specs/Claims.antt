@@ -2,7 +2,7 @@
 -- What is claimed of the list of Listing: where a frame ends, how long the list is at most, and that a recording may be listed in pieces.
 use Rattle.std.specs.Prelude.{ℕ, zero, suc, ◌+◌, ◌*◌, ◌/◌, ◌≤◌, Bool, true, false, ◌≡◌, List, [], ◌∷◌, ◌++◌, length}
 use Rattle.std.specs.Int.Bits.{bit_xor}
-use Rattle.base.specs.Choice.{if◌then◌else◌, ◌=?◌}
+use Rattle.base.specs.Choice.{when◌then◌else◌, ◌=?◌}
 use Rattle.frame.specs.Delimiter.{delimiter_of}
 use Rattle.frame.specs.Frame.{too_few}
 use Rattle.frame.specs.declared.Delimiter.TheVariants.{Is}
@@ -76,7 +76,7 @@ pub record Complete (preambles d : ℕ) (head : List Heard) (c : ℕ) (tail : Li
   pub expansion : ℕ
   pub two : 2 ≤ preambles
   pub delimiter : delimiter_of d ≡ Is frame long expansion
-  pub head_length : length head ≡ (if long then 6 else 2) + expansion
+  pub head_length : length head ≡ (when long then 6 else 2) + expansion
   pub enough : too_few frame c ≡ false
   pub tail_length : length tail ≡ c + 1
 
@@ -109,8 +109,8 @@ hurt_from b (h ∷ hs) = hurt_from (hurt_by b h) hs
 -- "A frame is damaged if it is whole but a character in it is damaged or its check byte is wrong": 2, else 1
 abbrev pub frame_verdict : ℕ → List Heard → ℕ → List Heard → ℕ
 frame_verdict d head c tail =
-    if hurt_from (hurt_from false head) tail then 2 else
-    if sum_from (bit_xor (sum_from d head) c) tail =? 0 then 1 else
+    when hurt_from (hurt_from false head) tail then 2 else
+    when sum_from (bit_xor (sum_from d head) c) tail =? 0 then 1 else
     2
 
 -- the list up to tick e is the list of what stands before the frame's start, then the entry of e; and the recording's list begins with it

@@ -1,7 +1,7 @@
 -- To be believed: what the engine must do, or what is claimed of it.
 -- Document 02, item 9: "On every recording it must list the frames and breaks that the tick reader finds, at the same ticks". The tick reader is `taken` in crates/line/specs/Reader.antt.
 use Rattle.std.specs.Prelude.{ℕ, ◌+◌, ◌/◌, ◌%◌, ◌^◌, ◌≡◌, List, [], ◌∷◌, ◌++◌, length}
-use Rattle.base.specs.Choice.{if◌then◌else◌, ◌<?◌, ◌=?◌}
+use Rattle.base.specs.Choice.{when◌then◌else◌, ◌<?◌, ◌=?◌}
 use Rattle.base.specs.Refusal.{number, Called, accepted, refused}
 use Rattle.base.specs.Store.{stored}
 use Rattle.base.specs.declared.Refusal.TheVariants.{BadRecording, BufferShort}
@@ -27,7 +27,7 @@ entry t verdict = tick_bytes t ++ (verdict ∷ [])
 -- what a tick adds to the list, by what the tick reader tells in it. "Characters passed over behind a break add none"; those at the reader's start, which only tick 0 can begin, are "a broken frame from the first of them on" (document 01)
 abbrev pub adds : ℕ → Event → List ℕ
 adds t Nothing = []
-adds t PassedOver = if t =? 0 then entry t 0 else []
+adds t PassedOver = when t =? 0 then entry t 0 else []
 adds t Broken = entry t 0
 adds t (Frame w) = entry t 1
 adds t (Damaged w m) = entry t 2
@@ -47,8 +47,8 @@ listing_of recording = list_of (ticks_of recording)
 -- "It refuses an odd length or another value with 21, then a buffer too short with 15."
 abbrev pub list_answer : List ℕ → ℕ → Listed
 list_answer recording room =
-    if bad_recording recording then Refused BadRecording else
-    if room <? length (listing_of recording) then Refused BufferShort else
+    when bad_recording recording then Refused BadRecording else
+    when room <? length (listing_of recording) then Refused BufferShort else
     Entries (length (listing_of recording) / 9)
 
 -- the buffer after the call: the list at its front, or as it was

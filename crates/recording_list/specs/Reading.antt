@@ -2,7 +2,7 @@
 -- What the functions that jump from tick to tick promise, each in terms of what the tick reader finds from there on.
 use Rattle.std.specs.Prelude.{ℕ, ◌+◌, ◌-◌, ◌*◌, ◌/◌, ◌%◌, ◌≤◌, ◌<◌, ◌≡◌, Bool, true, false, List, [], ◌∷◌, ◌++◌, length, drop}
 use Rattle.std.specs.Int.Bits.{bit_xor}
-use Rattle.base.specs.Choice.{if◌then◌else◌, ◌=?◌, ◌≤?◌}
+use Rattle.base.specs.Choice.{when◌then◌else◌, ◌=?◌, ◌≤?◌}
 use Rattle.base.specs.Store.{stored}
 use Rattle.line.specs.Reader.{idle, passing, blank, is_damaged}
 use Rattle.line.specs.declared.Heard.{Heard}
@@ -73,7 +73,7 @@ NextIs recording t Over = NoMore recording t
 
 -- whether a character was damaged, after one more tick
 abbrev pub harmed_by : Bool → ℕ → Bool
-harmed_by harm v = if v % 256 =? 32 then harm else true
+harmed_by harm v = when v % 256 =? 32 then harm else true
 
 -- from tick t up to but not including tick u there are n characters, with at most one silent tick before each; sum and harm are brought up to date, starting from s and b
 pub data Walk (recording : List ℕ) (t s : ℕ) (b : Bool) : ℕ → ℕ → ℕ → Bool → Type 0 where
@@ -116,7 +116,7 @@ pub record PlainIs (recording : List ℕ) (t need s : ℕ) (p : Plain) : Type 0 
 
 -- n more characters lead to the byte count
 pub data HeadPlace (r : Receiver) (n : ℕ) : Type 0 where
-  at_first_place : r.place ≡ First → n ≡ (if r.header.long then 6 else 2) + r.expansion → HeadPlace r n
+  at_first_place : r.place ≡ First → n ≡ (when r.header.long then 6 else 2) + r.expansion → HeadPlace r n
   at_address_place : (k : ℕ) → r.place ≡ Address k → 1 ≤ k → n ≡ k + r.expansion + 1 → HeadPlace r n
   at_expansion_place : (k : ℕ) → r.place ≡ Expansion k → 1 ≤ k → n ≡ k + 1 → HeadPlace r n
   at_command_place : r.place ≡ Command → n ≡ 1 → HeadPlace r n
@@ -144,7 +144,7 @@ pub record InTail (n s : ℕ) (b : Bool) (r : Receiver) : Type 0 where
 
 -- at the last character: 1 whole, 2 damaged
 abbrev pub verdict_of : ℕ → Bool → ℕ
-verdict_of sum harm = if harm then 2 else if sum =? 0 then 1 else 2
+verdict_of sum harm = when harm then 2 else when sum =? 0 then 1 else 2
 
 -- ---- what became of a frame
 
@@ -174,7 +174,7 @@ pub record FrameIs (recording : List ℕ) (t : ℕ) (r : Receiver) (o : Outcome)
 
 -- in the preamble, after one 0xFF or after two
 abbrev pub in_preamble : Bool → Receiver
-in_preamble two = if two then blank (Preamble 2) else blank (Preamble 1)
+in_preamble two = when two then blank (Preamble 2) else blank (Preamble 1)
 
 -- a character of the preamble: another 0xFF, and the tick after it, or what became of the frame
 pub record MorePreamble (recording : List ℕ) (t : ℕ) (two : Bool) (u : ℕ) : Type 0 where
@@ -215,7 +215,7 @@ pub record HasRoom (put : Bool) (need : ℕ) (out : List ℕ) : Type 0 where
 -- entries after n others, put into the buffer or only counted; r is how many there are then
 pub record EntriesAre (put : Bool) (entries : List ℕ) (n : ℕ) (before : List ℕ) (r : ℕ) (after : List ℕ) : Type 0 where
   pub number : 9 * r ≡ 9 * n + length entries
-  pub buffer : after ≡ (if put then stored before (9 * n) entries else before)
+  pub buffer : after ≡ (when put then stored before (9 * n) entries else before)
 
 -- whether the buffer has room for the list; the buffer stays as it was
 pub record RoomIs (recording before : List ℕ) (r : Bool) (after : List ℕ) : Type 0 where

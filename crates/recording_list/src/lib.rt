@@ -3,7 +3,7 @@
 
 ghost use Rattle.std.specs.Prelude.{◌≡◌, true, false, ◌++◌, ◌+◌, ◌-◌, ◌*◌, ◌/◌, ◌%◌, ◌≤◌, ◌<◌, length};
 ghost use Rattle.std.specs.Int.Bits.{bit_xor};
-ghost use Rattle.base.specs.Choice.{if◌then◌else◌, ◌=?◌, ◌≤?◌};
+ghost use Rattle.base.specs.Choice.{when◌then◌else◌, ◌=?◌, ◌≤?◌};
 ghost use Rattle.base.specs.Store.{stored};
 ghost use Rattle.line.specs.Reader.{idle, passing, begins, blank};
 ghost use Rattle.recording.specs.Form.{bad_recording};
@@ -243,7 +243,7 @@ fn count_from(recording: &[u8], t: usize, frame: u8, sum: u8, harm: bool) -> Out
 
 // How many characters lie between delimiter and byte count.
 fn head_length(long: bool, expansion: u8) -> usize
-    ensures { result ≡ (if long then 6 else 2) + expansion }
+    ensures { result ≡ (when long then 6 else 2) + expansion }
 {
     if long {
         return 6 + (expansion as usize);
@@ -444,7 +444,7 @@ fn put_entry(part: &mut [u8], tick: usize, verdict: u8)
 // Puts an entry at the place of its number, where the list is put and not only counted.
 fn put_if(put: bool, out: &mut [u8], n: usize, tick: usize, verdict: u8)
     requires { HasRoom put (9 * n + 9) out.old }
-    ensures { out.new ≡ (if put then stored out.old (9 * n) (entry tick verdict) else out.old) }
+    ensures { out.new ≡ (when put then stored out.old (9 * n) (entry tick verdict) else out.old) }
 {
     if put {
         let place = 9 * n;

@@ -7,7 +7,7 @@ use mathlib.Core.List.{List, [], ◌∷◌}
 use mathlib.Core.Logic.{◌⊎◌, inl, inr}
 use lib.ListN.{length, get_or, take}
 use borrow.Author.Tests.{eq-eqb}
-use Rattle.base.specs.Choice.{if◌then◌else◌, ◌=?◌}
+use Rattle.base.specs.Choice.{when◌then◌else◌, ◌=?◌}
 use Rattle.base.proofs.Choices.{true_false, if_is_true}
 use Rattle.frame.specs.Delimiter.{stx, ack, back}
 use Rattle.frame.specs.declared.Header.{Header}
@@ -284,14 +284,14 @@ module _ (limit : ℕ) (low : 2 ≤ limit) (high : limit ≤ 255) (p : Profile) 
 data AllTurned : List DeviceSide → List DeviceStep → Type 0 where
   none_turned : AllTurned [] []
   turned_and : {x : DeviceSide} {s : DeviceStep} {xs : List DeviceSide} {ss : List DeviceStep} → SameDevice x.device s.side.device → s.side.device.burst ≡ x.device.burst
-      → (x.device.burst ≡ true → s.side.device.primary ≡ (if x.device.primary then false else true)) → AllTurned xs ss → AllTurned (x ∷ xs) (s ∷ ss)
+      → (x.device.burst ≡ true → s.side.device.primary ≡ (when x.device.primary then false else true)) → AllTurned xs ss → AllTurned (x ∷ xs) (s ∷ ss)
 
 -- those that do not burst have none
 quiet_turned : {R : DeviceSide → Type 0} {xs : List DeviceSide} {ss : List DeviceStep} → AllQuiet R xs ss → All (λ (x : DeviceSide). x.device.burst ≡ true → ⊥) xs → AllTurned xs ss
 quiet_turned no_more none = none_turned
 quiet_turned (quiet_and q a) (and f fs) = turned_and q.same q.same_burst (λ z. absurd (f z)) (quiet_turned a fs)
 
-each_turned : {burst : Bool} {noted : Noted} {next : Bool} {xs : List DeviceSide} {ss : List DeviceStep} → AllTurned xs ss → All (BurstIs burst noted next) xs → All (BurstIs burst noted (if next then false else true)) (sides ss)
+each_turned : {burst : Bool} {noted : Noted} {next : Bool} {xs : List DeviceSide} {ss : List DeviceStep} → AllTurned xs ss → All (BurstIs burst noted next) xs → All (BurstIs burst noted (when next then false else true)) (sides ss)
 unfolding sides
 each_turned none_turned none = none
 each_turned (turned_and same e n qs) (and b bs) =
@@ -300,7 +300,7 @@ each_turned (turned_and same e n qs) (and b bs) =
       burst_set = λ z. b.burst_set (sym e ∙ z);
       long_noted = λ z. b.long_noted (sym e ∙ z);
       unique_noted = λ z. b.unique_noted (sym e ∙ z) ∙ sym same.same_unique;
-      next_is = λ z. n (sym e ∙ z) ∙ ap (λ (k : Bool). if k then false else true) (b.next_is (sym e ∙ z));
+      next_is = λ z. n (sym e ∙ z) ∙ ap (λ (k : Bool). when k then false else true) (b.next_is (sym e ∙ z));
     })
     (each_turned qs bs)
 
@@ -310,7 +310,7 @@ some_turned (turned_and same e n qs) (this b) = this (e ∙ b)
 some_turned (turned_and same e n qs) (later b) = later (some_turned qs b)
 some_turned none_turned x4 = elim x4 [ ]
 
-agreed_turned : {burst : Bool} {noted : Noted} {next : Bool} {xs : List DeviceSide} {ss : List DeviceStep} → AllTurned xs ss → Agreed burst noted next xs → Agreed burst noted (if next then false else true) (sides ss)
+agreed_turned : {burst : Bool} {noted : Noted} {next : Bool} {xs : List DeviceSide} {ss : List DeviceStep} → AllTurned xs ss → Agreed burst noted next xs → Agreed burst noted (when next then false else true) (sides ss)
 agreed_turned a g = record { each = each_turned a g.each; one_bursts = λ z. some_turned a (g.one_bursts z) }
 
 record BackFollows (p : Profile) (u : ℕ) (next : Bool) (xs : List DeviceSide) (ss : List DeviceStep) : Type 0 where
@@ -327,7 +327,7 @@ record BackFollows (p : Profile) (u : ℕ) (next : Bool) (xs : List DeviceSide) 
 module _ (limit : ℕ) (low : 2 ≤ limit) (high : limit ≤ 255) (p : Profile) (some : 1 ≤ p.sto) (heard : Heard) (k : ℕ) (w : List ℕ) (message : Whole) (last : suc k ≡ length w) (u : ℕ) (next : Bool) where
   follows_here : (x : DeviceSide) (c : DeviceCall) {xs : List DeviceSide} {ss : List DeviceStep} → DeviceSpeaks p an_ack k w message u true x → x.device.primary ≡ next → AllQuiet (DeviceHears p idle u) xs ss
       → All (λ (x : DeviceSide). x.device.burst ≡ true → ⊥) xs → BackFollows p u next (x ∷ xs) (device_tick limit x heard c ∷ ss)
-  unfolding if◌then◌else◌
+  unfolding when◌then◌else◌
   follows_here x c {xs} {ss} s for a off = go s.place
     where
       go : DevicePlace an_ack k w x.device → BackFollows p u next (x ∷ xs) (device_tick limit x heard c ∷ ss)
@@ -388,8 +388,8 @@ module _ (limit : ℕ) (low : 2 ≤ limit) (high : limit ≤ 255) (p : Profile) 
 -- ---- the tick
 
 ack_timer : (p : Profile) (primary burst : Bool) (x : MasterSide) (h : Header) → x.master.profile ≡ p → x.master.primary ≡ primary → h.kind ≡ ack
-    → timer_after x.master.profile x.master.primary (ended_by x.master h) burst ≡ (if burst then slot_timer p primary 0 else (if itself primary h then timer p.rt2 else timer 1))
-unfolding if◌then◌else◌
+    → timer_after x.master.profile x.master.primary (ended_by x.master h) burst ≡ (when burst then slot_timer p primary 0 else (when itself primary h then timer p.rt2 else timer 1))
+unfolding when◌then◌else◌
 ack_timer p primary true x h a b e = ack_set_timer p primary x.master h a b e
 ack_timer p primary false x h a b e = ack_clear_timer p primary x.master h a b e
 
@@ -403,7 +403,7 @@ back_notes noted h u e l a nl na =
 
 -- the silent line behind an ACK: with BURST clear the master that it is not for comes first; with BURST set a BACK is due in the next tick
 pub data AckEnded (p : Profile) (e : ℕ) (burst next : Bool) (h : Header) (a b : MasterSide) (xs : List DeviceSide) : Type 0 where
-  ended_clear : burst ≡ false → NobodyAwaits a b → ClearLine p e a b xs → a.master.timer ≡ (if itself true h then timer p.rt2 else timer 1) → b.master.timer ≡ (if itself false h then timer p.rt2 else timer 1) → AckEnded p e burst next h a b xs
+  ended_clear : burst ≡ false → NobodyAwaits a b → ClearLine p e a b xs → a.master.timer ≡ (when itself true h then timer p.rt2 else timer 1) → b.master.timer ≡ (when itself false h then timer p.rt2 else timer 1) → AckEnded p e burst next h a b xs
   ended_set : burst ≡ true → NobodyAwaits a b → SetLine p 1 next a b xs → NoSlot a.master.timer → NoSlot b.master.timer → AckEnded p e burst next h a b xs
 
 pub data AckTick (p : Profile) (e : ℕ) (burst : Bool) (noted : Noted) (next : Bool) (k : ℕ) (w : List ℕ) (message : Whole) (u : ℕ) (on : Bool) (a b : MasterSide) (s t : MasterStep) (ss : List DeviceStep) : Type 0 where
@@ -412,13 +412,13 @@ pub data AckTick (p : Profile) (e : ℕ) (burst : Bool) (noted : Noted) (next : 
   ack_ends : suc k ≡ length w → on ≡ false → s.sent ≡ Silent → t.sent ≡ Silent → carried ss ≡ Silence
       → AckEnded p e (burst_after burst noted message.header) next message.header s.side t.side (sides ss) → WaitsOn a s → WaitsOn b t → AckTick p e burst noted next k w message u on a b s t ss
   back_follows_it : suc k ≡ length w → on ≡ true → (who : Noted) (w' : List ℕ) (message' : Whole) → s.sent ≡ Silent → t.sent ≡ Silent → carried ss ≡ Character (get_or w' 0 0)
-      → OneDeviceSends p a_back true who (if next then false else true) 0 w' message' u true s.side t.side (sides ss) → WaitsOn a s → WaitsOn b t → AckTick p e burst noted next k w message u on a b s t ss
+      → OneDeviceSends p a_back true who (when next then false else true) 0 w' message' u true s.side t.side (sides ss) → WaitsOn a s → WaitsOn b t → AckTick p e burst noted next k w message u on a b s t ss
 
 pub data BackTick (p : Profile) (burst : Bool) (noted : Noted) (next : Bool) (k : ℕ) (w : List ℕ) (message : Whole) (u : ℕ) (a b : MasterSide) (s t : MasterStep) (ss : List DeviceStep) : Type 0 where
   back_goes_on : suc k < length w → s.sent ≡ Silent → t.sent ≡ Silent → carried ss ≡ Character (get_or w (suc k) 0)
       → OneDeviceSends p a_back burst noted next (suc k) w message u true s.side t.side (sides ss) → WaitsOn a s → WaitsOn b t → BackTick p burst noted next k w message u a b s t ss
   back_ends : suc k ≡ length w → s.sent ≡ Silent → t.sent ≡ Silent → carried ss ≡ Silence → SetLine p p.rt2 next s.side t.side (sides ss)
-      → s.side.master.timer ≡ (if itself true message.header then slot_timer p true 0 else slot_timer p true 1) → t.side.master.timer ≡ (if itself false message.header then slot_timer p false 0 else slot_timer p false 1)
+      → s.side.master.timer ≡ (when itself true message.header then slot_timer p true 0 else slot_timer p true 1) → t.side.master.timer ≡ (when itself false message.header then slot_timer p false 0 else slot_timer p false 1)
       → NobodyAwaits s.side t.side → WaitsOn a s → WaitsOn b t → BackTick p burst noted next k w message u a b s t ss
 
 -- who sends what stays while the frame goes on
@@ -469,7 +469,7 @@ module _ (limit : ℕ) (low : 2 ≤ limit) (high : limit ≤ 255) (p : Profile) 
   AckTicks e on = AckTick p e burst noted next k w message u on a b (master_tick limit a heard ca) (master_tick limit b heard cb) (device_ticks limit heard xs cs)
 
   ack_off : (e : ℕ) → suc k ≡ length w → message.header.kind ≡ ack → OneDeviceSends p an_ack burst noted next k w message u false a b xs → AckTicks e false
-  unfolding if◌then◌else◌
+  unfolding when◌then◌else◌
   ack_off e last type o =
       let sp = spoken_of o.devices in
       let h = message.header in
@@ -500,13 +500,13 @@ module _ (limit : ℕ) (low : 2 ≤ limit) (high : limit ≤ 255) (p : Profile) 
       no_slot : {t : Timer} (primary : Bool) → t ≡ slot_timer p primary 0 → NoSlot t
       no_slot primary e = record { no_next = ap (λ (t : Timer). t.next) e; no_window = ap (λ (t : Timer). t.window) e }
 
-      by : (c : Bool) → MasterQuiet p true c who x → MasterQuiet p false c who y → x.master.timer ≡ (if c then slot_timer p true 0 else (if itself true h then timer p.rt2 else timer 1))
-          → y.master.timer ≡ (if c then slot_timer p false 0 else (if itself false h then timer p.rt2 else timer 1)) → NobodyAwaits x y → {zs : List DeviceSide} → All (DeviceQuiet p 0 h 1) zs → Distinct zs → Agreed c who next zs → AckEnded p e c next h x y zs
+      by : (c : Bool) → MasterQuiet p true c who x → MasterQuiet p false c who y → x.master.timer ≡ (when c then slot_timer p true 0 else (when itself true h then timer p.rt2 else timer 1))
+          → y.master.timer ≡ (when c then slot_timer p false 0 else (when itself false h then timer p.rt2 else timer 1)) → NobodyAwaits x y → {zs : List DeviceSide} → All (DeviceQuiet p 0 h 1) zs → Distinct zs → Agreed c who next zs → AckEnded p e c next h x y zs
       by true qa qb ta tb n qs d g = ended_set refl n (behind_ack_set p v who next h x y _ qa qb ta tb n qs d g) (no_slot true ta) (no_slot false tb)
       by false qa qb ta tb n qs d g = ended_clear refl n (behind_ack_clear p v e who next h h x y _ qa qb ta tb n qs d g) ta tb
 
   ack_on : (e : ℕ) → suc k ≡ length w → message.header.kind ≡ ack → OneDeviceSends p an_ack burst noted next k w message u true a b xs → AckTicks e true
-  unfolding if◌then◌else◌
+  unfolding when◌then◌else◌
   ack_on e last type o =
       let sp = spoken_of o.devices in
       let h = message.header in
@@ -526,15 +526,15 @@ module _ (limit : ℕ) (low : 2 ≤ limit) (high : limit ≤ 255) (p : Profile) 
         secondary = record { listens = eb.quiet.listens; receiver_is = eb.receiver_is ∙ nothing_read r.w; burst_is = eb.quiet.burst_is ∙ now; noted_is = eb.quiet.noted_is };
         devices = subst (λ (z : Receiver). OneOf (DeviceSpeaks p a_back 0 r.w r.message u true) (DeviceHears p z u) (sides (device_ticks limit heard xs cs))) (nothing_read r.w) (one_sides r.one);
         distinct = one_distinct r.one o.distinct;
-        agreed = subst (λ (c : Bool). Agreed c (noted_after who r.message.header) (if next then false else true) (sides (device_ticks limit heard xs cs))) (now ∙ sym (back_sets true who r.message.header r.type_is))
-            (subst (λ (n : Noted). Agreed (burst_after burst noted h) n (if next then false else true) (sides (device_ticks limit heard xs cs))) (sym (back_notes who r.message.header u r.type_is r.long_is r.address_is noted-u.1 noted-u.2))
+        agreed = subst (λ (c : Bool). Agreed c (noted_after who r.message.header) (when next then false else true) (sides (device_ticks limit heard xs cs))) (now ∙ sym (back_sets true who r.message.header r.type_is))
+            (subst (λ (n : Noted). Agreed (burst_after burst noted h) n (when next then false else true) (sides (device_ticks limit heard xs cs))) (sym (back_notes who r.message.header u r.type_is r.long_is r.address_is noted-u.1 noted-u.2))
             (agreed_turned r.turned o.agreed));
         frame_is = is_back r.type_is refl refl (r.for_is ∙ twice next);
         no_expansion = r.no_expansion;
       })
       ea.waits_on eb.waits_on
     where
-      twice : (z : Bool) → z ≡ (if (if z then false else true) then false else true)
+      twice : (z : Bool) → z ≡ (when (when z then false else true) then false else true)
       twice true = refl
       twice false = refl
 
@@ -553,7 +553,7 @@ module _ (limit : ℕ) (low : 2 ≤ limit) (high : limit ≤ 255) (p : Profile) 
   abbrev BackTicks : Type 0
   BackTicks = BackTick p burst noted next k w message u a b (master_tick limit a heard ca) (master_tick limit b heard cb) (device_ticks limit heard xs cs)
 
-  back_out : suc k ≡ length w → message.header.kind ≡ back → message.header.primary ≡ (if next then false else true) → OneDeviceSends p a_back burst noted next k w message u true a b xs → BackTicks
+  back_out : suc k ≡ length w → message.header.kind ≡ back → message.header.primary ≡ (when next then false else true) → OneDeviceSends p a_back burst noted next k w message u true a b xs → BackTicks
   back_out last type for o =
       let sp = spoken_of o.devices in
       let h = message.header in

@@ -5,7 +5,7 @@ use mathlib.Core.Path.{◌≡◌, refl}
 use mathlib.Core.Bool.{true}
 use mathlib.Core.List.{List, [], ◌∷◌, ◌++◌}
 use lib.ListN.{replicate, get_or}
-use Rattle.base.specs.Choice.{if◌then◌else◌}
+use Rattle.base.specs.Choice.{when◌then◌else◌}
 use Rattle.base.specs.Store.{stored}
 use Rattle.frame.specs.Check.{xor_from}
 use Rattle.frame.specs.Delimiter.{back, delimiter_of}
@@ -38,18 +38,18 @@ content_changed = ask 2 (P.content ∷ []) ∷ (replicate 18 quiet ++ (host_give
 
 -- what it gave last before the BACK's first character, the sixteenth from the last
 pub given_before : get_or (get_or (logs_behind 255 (no_contents one_device.devices) one_device content_changed) 0 (record { last = no_content; sent_with = [] })).sent_with 15 no_content ≡ content 3 (0 ∷ 0 ∷ [])
-unfolding logs_behind content_logs_after no_contents content_changed host_gives ask P.content turn_on short one_device quiet link_tick device_ticks sides carried master_tick device_tick requested requested_up_to master_takes master_sends device_takes device_sends answered content_given taken taken_data at_idle at_preamble at_first at_address at_expansion at_command at_count at_data at_check write_buffer write_answer frame_bytes preamble_bytes body_bytes protected_bytes header_bytes xor_from delimiter_of stored if◌then◌else◌
+unfolding logs_behind content_logs_after no_contents content_changed host_gives ask P.content turn_on short one_device quiet link_tick device_ticks sides carried master_tick device_tick requested requested_up_to master_takes master_sends device_takes device_sends answered content_given taken taken_data at_idle at_preamble at_first at_address at_expansion at_command at_count at_data at_check write_buffer write_answer frame_bytes preamble_bytes body_bytes protected_bytes header_bytes xor_from delimiter_of stored when◌then◌else◌
 given_before = refl
 
 -- and at all
 pub given_last : (get_or (logs_behind 255 (no_contents one_device.devices) one_device content_changed) 0 (record { last = no_content; sent_with = [] })).last ≡ content 9 (1 ∷ 2 ∷ [])
-unfolding logs_behind content_logs_after no_contents content_changed host_gives ask P.content turn_on short one_device quiet link_tick device_ticks sides carried master_tick device_tick requested requested_up_to master_takes master_sends device_takes device_sends answered content_given taken taken_data at_idle at_preamble at_first at_address at_expansion at_command at_count at_data at_check write_buffer write_answer frame_bytes preamble_bytes body_bytes protected_bytes header_bytes xor_from delimiter_of stored if◌then◌else◌
+unfolding logs_behind content_logs_after no_contents content_changed host_gives ask P.content turn_on short one_device quiet link_tick device_ticks sides carried master_tick device_tick requested requested_up_to master_takes master_sends device_takes device_sends answered content_given taken taken_data at_idle at_preamble at_first at_address at_expansion at_command at_count at_data at_check write_buffer write_answer frame_bytes preamble_bytes body_bytes protected_bytes header_bytes xor_from delimiter_of stored when◌then◌else◌
 given_last = refl
 
 -- in tick 51 the primary finds the BACK whole
 pub found_whole : found_by (link_behind 255 one_device content_changed).primary (link_behind 255 one_device content_changed).line
     ≡ Frame (record { header = record { kind = back; long = true; primary = true; burst = true; address = 2; command = 3 }; expansion = 0; count = 2 })
-unfolding link_behind content_changed host_gives ask P.content turn_on short one_device quiet link_tick device_ticks sides carried master_tick device_tick requested requested_up_to master_takes master_sends device_takes device_sends answered content_given taken taken_data at_idle at_preamble at_first at_address at_expansion at_command at_count at_data at_check write_buffer write_answer frame_bytes preamble_bytes body_bytes protected_bytes header_bytes xor_from delimiter_of stored if◌then◌else◌
+unfolding link_behind content_changed host_gives ask P.content turn_on short one_device quiet link_tick device_ticks sides carried master_tick device_tick requested requested_up_to master_takes master_sends device_takes device_sends answered content_given taken taken_data at_idle at_preamble at_first at_address at_expansion at_command at_count at_data at_check write_buffer write_answer frame_bytes preamble_bytes body_bytes protected_bytes header_bytes xor_from delimiter_of stored when◌then◌else◌
 found_whole = refl
 
 -- the run meets the premises

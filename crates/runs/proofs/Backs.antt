@@ -7,7 +7,7 @@ use mathlib.Core.List.{List, [], ◌∷◌}
 use mathlib.Core.Logic.{◌⊎◌, inl, inr}
 use lib.ListN.{length, take, get_or}
 use lib.Seq.{length-take-le}
-use Rattle.base.specs.Choice.{if◌then◌else◌}
+use Rattle.base.specs.Choice.{when◌then◌else◌}
 use Rattle.base.proofs.Choices.{true_false}
 use Rattle.frame.specs.Address.{largest_address}
 use Rattle.frame.specs.Delimiter.{stx, ack, back, is_type}
@@ -96,11 +96,11 @@ heard_event m (Heard.Damaged c kind) bytes w e = sym (character_event m _ (taken
 
 -- it hears, and its reader tells the frame
 found_event : (x : MasterSide) (heard : Heard) (w : Whole) → found_by x heard ≡ Frame w → (x.master.deaf ≡ false) × ((taken x.master.receiver heard).event ≡ Frame w)
-unfolding master_takes if◌then◌else◌
+unfolding master_takes when◌then◌else◌
 found_event x heard w e = go x.master.deaf refl e
   where
     by : Bool → MasterTaken
-    by b = if b then Rattle.turns.specs.Master.tells x.master Rattle.turns.specs.declared.MasterTold.MasterTold.Nothing Nothing else on_heard x.master heard (master_data x heard)
+    by b = when b then Rattle.turns.specs.Master.tells x.master Rattle.turns.specs.declared.MasterTold.MasterTold.Nothing Nothing else on_heard x.master heard (master_data x heard)
 
     go : (b : Bool) → x.master.deaf ≡ b → (by b).event ≡ Frame w → (x.master.deaf ≡ false) × ((taken x.master.receiver heard).event ≡ Frame w)
     go true q z = absurd (nothing_frame z)
@@ -152,11 +152,11 @@ module _ {f : List ℕ} {n : ℕ} {w v : List ℕ} {message other : Whole} (a : 
       (b.speaks.end (length w - 1) (last ∙ ap length same_bytes))))
 
 back_typed : is_type back ≡ true
-unfolding if◌then◌else◌
+unfolding when◌then◌else◌
 back_typed = refl
 
 unique_high : (n : ℕ) → n < 2 ^ 38 → n ≤ largest_address true
-unfolding if◌then◌else◌
+unfolding when◌then◌else◌
 unique_high n h = omega (arith, h)
 
 -- its BACK, of which k + 1 characters are out, carries what its host had given last at the first of them
@@ -467,7 +467,7 @@ module _ (limit : ℕ) (low : 2 ≤ limit) (high : limit ≤ 255) (p : Profile) 
       go : AckTick p 0 burst noted next k w message u on l.primary l.secondary (heard w k).for_primary (heard w k).for_secondary (heard w k).for_devices → Phase p (logs_by c (heard w k) gs) (link_after (heard w k))
       go (A.ack_goes_on below a b line m x y) = ack_sent burst noted next (suc k) w message u on (carries (heard w k) a b line) m
       go (A.ack_ends last off a b line m x y) = silent 0 (carries (heard w k) a b line) (ended m)
-      go (A.back_follows_it last z who w' message' a b line m x y) = begins (Character (get_or w k 0)) true who (if next then false else true) w' message' u (nots last) (carries (heard w k) a b line) m
+      go (A.back_follows_it last z who w' message' a b line m x y) = begins (Character (get_or w k 0)) true who (when next then false else true) w' message' u (nots last) (carries (heard w k) a b line) m
 
   -- ---- a BACK
 

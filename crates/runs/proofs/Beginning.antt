@@ -6,7 +6,7 @@ use mathlib.Core.Bool.{Bool, true, false}
 use mathlib.Core.List.{List, [], ◌∷◌}
 use lib.ListN.{length, get_or}
 use borrow.Author.Tests.{eqb-true}
-use Rattle.base.specs.Choice.{if◌then◌else◌, ◌=?◌}
+use Rattle.base.specs.Choice.{when◌then◌else◌, ◌=?◌}
 use Rattle.base.proofs.Choices.{true_false, went_then}
 use Rattle.frame.specs.Delimiter.{back}
 use Rattle.frame.specs.declared.Header.{Header}
@@ -61,11 +61,11 @@ pub record DeviceHears (p : Profile) (r : Receiver) (u : ℕ) (x : DeviceSide) :
 
 -- an STX is for one device at most
 own_once : (x y : DeviceSide) (h : Header) → Differ x y → is_own x.device h ≡ true → is_own y.device h ≡ true → ⊥
-unfolding if◌then◌else◌
+unfolding when◌then◌else◌
 own_once x y h d = go h.long
   where
-    go : (l : Bool) → (if l then x.device.unique =? h.address else (if x.device.polling =? h.address then h.command =? 0 else false)) ≡ true
-        → (if l then y.device.unique =? h.address else (if y.device.polling =? h.address then h.command =? 0 else false)) ≡ true → ⊥
+    go : (l : Bool) → (when l then x.device.unique =? h.address else (when x.device.polling =? h.address then h.command =? 0 else false)) ≡ true
+        → (when l then y.device.unique =? h.address else (when y.device.polling =? h.address then h.command =? 0 else false)) ≡ true → ⊥
     go true a b = d.unique_differs (eqb-true x.device.unique h.address a ∙ sym (eqb-true y.device.unique h.address b))
     go false a b =
         let pa = eqb-true x.device.polling h.address (went_then (x.device.polling =? h.address) (h.command =? 0) false true a (λ q. true_false (sym q))).0 in
@@ -112,7 +112,7 @@ pub record BeginsBack (p : Profile) (x : DeviceSide) (s : DeviceStep) : Type 0 w
   pub no_expansion : message.expansion ≡ 0
   pub bursts : x.device.burst ≡ true
   pub for_is : message.header.primary ≡ x.device.primary
-  pub primary_is : s.side.device.primary ≡ (if x.device.primary then false else true)
+  pub primary_is : s.side.device.primary ≡ (when x.device.primary then false else true)
 
 pub data DeviceDoes (p : Profile) (g : ℕ) (h : Header) (n : ℕ) (x : DeviceSide) (s : DeviceStep) : Type 0 where
   does_rest : StillQuiet p g h n x s → DeviceDoes p g h n x s
@@ -236,10 +236,10 @@ to_tag p h x s tag b = record { on_its_way = go b.speaks.place; to_tag = ap seek
 -- two that would answer are asked by one STX, which is for one device at most, or a command 11, which one host at most answers; two that would burst are both noted
 no_two_answers : (p : Profile) (g : ℕ) (h : Header) (n : ℕ) (x : DeviceSide) (s : DeviceStep) {xs : List DeviceSide} {ss : List DeviceStep} → BeginsAck p h x s → All (Differ x) xs → OneBegins p g h n (BeginsAck p h) xs ss
     → All (λ (y : DeviceSide). AnswersTag s.side → AnswersTag y → ⊥) (sides ss) → ⊥
-unfolding sides if◌then◌else◌
+unfolding sides when◌then◌else◌
 no_two_answers p g h n x s k (and {x = y} d ds) (begins_here {s = u} b a) (and t ts) = go (seeks_tag h) refl k.asked b.asked
   where
-    go : (tag : Bool) → seeks_tag h ≡ tag → (if tag then true else is_own x.device h) ≡ true → (if tag then true else is_own y.device h) ≡ true → ⊥
+    go : (tag : Bool) → seeks_tag h ≡ tag → (when tag then true else is_own x.device h) ≡ true → (when tag then true else is_own y.device h) ≡ true → ⊥
     go true q i j = t (to_tag p h x s q k) (to_tag p h y u q b)
     go false q i j = own_once x y h d i j
 no_two_answers p g h n x s k (and d ds) (begins_further q r) (and t ts) = no_two_answers p g h n x s k ds r ts

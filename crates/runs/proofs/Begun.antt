@@ -5,7 +5,7 @@ use mathlib.Core.Bool.{Bool, true, false}
 use mathlib.Core.List.{List}
 use mathlib.Core.Logic.{◌⊎◌, inl, inr, ⊎_elim}
 use borrow.Author.Tests.{eq-eqb, eqb-true, eqb-false}
-use Rattle.base.specs.Choice.{if◌then◌else◌, ◌=?◌}
+use Rattle.base.specs.Choice.{when◌then◌else◌, ◌=?◌}
 use Rattle.base.proofs.Choices.{true_false, if_is_true, if_is_false}
 use Rattle.frame.specs.Delimiter.{back}
 use Rattle.frame.specs.declared.Header.{Header}
@@ -117,7 +117,7 @@ names_long h = if_cases (λ (b : Bool). b ≡ true → h.long ≡ true) _ _ _ (�
 
 -- "The first after burst goes from off to on is for the primary": whom the next BACK is for behind an ACK's first character
 abbrev pub next_after : Bool → Bool → Bool
-next_after burst next = if burst then next else true
+next_after burst next = when burst then next else true
 
 module _ {p : Profile} {g : ℕ} {h : Header} {n : ℕ} {B : DeviceSide → DeviceStep → Type 0} {burst : Bool} {noted : Noted} {next : Bool} {xs : List DeviceSide} {ss : List DeviceStep} (o : OneBegins p g h n B xs ss) (apart : Distinct xs) (sole : Sole (sides ss)) (a : Agreed burst noted next xs) where
   abbrev pub x : DeviceSide
@@ -185,14 +185,14 @@ module _ {p : Profile} {g : ℕ} {h : Header} {n : ℕ} {B : DeviceSide → Devi
   -- behind an ACK
   pub ack_agreed : (request : Header) (c : Bool) → y.device.burst ≡ c → y.device.unique ≡ x.device.unique → y.device.primary ≡ first_for x.device → (names_device request ≡ true → request.address ≡ x.device.unique) → (names_device request ≡ false → c ≡ x.device.burst)
       → Agreed (burst_after burst noted (answer_header request c)) (noted_after noted (answer_header request c)) (next_after burst next) (sides ss)
-  unfolding if◌then◌else◌
+  unfolding when◌then◌else◌
   ack_agreed request c is same first address short = go c refl (names_device request) refl (is_noted noted (answer_header request c)) refl
     where
       was : Bool → Bool → Bool → Bool
-      was c l n = if c then true else (if l then (if n then false else burst) else burst)
+      was c l n = when c then true else (when l then (when n then false else burst) else burst)
 
       new : Bool → Bool → Noted
-      new c l = if c then (if l then record { long = request.long; address = request.address } else noted) else noted
+      new c l = when c then (when l then record { long = request.long; address = request.address } else noted) else noted
 
       on_is : (l : Bool) → c ≡ true → names_device request ≡ l → l ≡ false → burst ≡ true
       on_is l q r f = (before o a.each).burst_set (sym (short (r ∙ f)) ∙ q)

@@ -5,7 +5,7 @@ use mathlib.Core.Path.{◌≡◌, refl, sym, ap, subst}
 use mathlib.Core.Bool.{Bool, true, false}
 use mathlib.Core.List.{List, [], ◌∷◌}
 use lib.ListN.{length, drop, get_or}
-use Rattle.base.specs.Choice.{if◌then◌else◌}
+use Rattle.base.specs.Choice.{when◌then◌else◌}
 use Rattle.line.specs.declared.Damage.TheVariants.{Framing}
 use Rattle.line.specs.declared.Heard.TheVariants.{Silence, Character, Damaged}
 use Rattle.line.specs.declared.Profile.{Profile}
@@ -25,8 +25,9 @@ use Rattle.turns.proofs.Sending.{MasterPlace, inside, finished, MasterSpeaks}
 use Rattle.runs.proofs.Stx.{own_is}
 use Rattle.runs.proofs.NoTwoSend as N
 use Rattle.turns.proofs.Senders.{carries, one_sender, Plain, plain_silence, plain_character, carried_count, most}
-use Rattle.runs.proofs.NoTwoSend.{Phase, heard_tick, tick_is, phase_plain, phases_run}
+use Rattle.runs.proofs.NoTwoSend.{Phase, heard_tick, tick_is, phase_tick, phase_plain, phases_run}
 use Rattle.turns.proofs.Quiet.{clear}
+use Rattle.runs.proofs.SoundPairs.{phase_outside}
 use Rattle.runs.proofs.Kept as M
 use Rattle.runs.proofs.Kept.{Accepted}
 use Rattle.runs.proofs.KeptLink.{LinkKept, link_kept, settled_kept}
@@ -40,10 +41,8 @@ use Rattle.runs.proofs.OutOfStep.{nobody, BothSpeak}
 use Rattle.runs.proofs.Overlap as O
 use Rattle.runs.proofs.Overlap.{TailSends, TailTick, tail_tick, BothTick, both_tick}
 use Rattle.runs.proofs.NoBurst.{NoBurstIn, no_burst_fair}
-use Rattle.runs.proofs.LateTicks.{BothIn, AllWait, InTime, all_none, all_cons, Ends, no_frame, frame_and, sent_framed, Behind, Overlapping, has_ended, goes_on}
+use Rattle.runs.proofs.LateTicks.{BothIn, ReadyAfter, sent_ready, AllWait, InTime, all_none, all_cons, Ends, no_frame, frame_and, sent_framed, Behind, Overlapping, has_ended, goes_on}
 use Rattle.runs.proofs.FrameEnds.{ends_from, ends_run, framed_run}
-use Rattle.runs.proofs.Together.{ToldIn, together_run}
-use Rattle.runs.proofs.LateTold.{ToldNext, told_tick, overlap_told, tail_told}
 
 pub all_fair : {ss : List LinkStep} → EachTick NoBurstIn ss → EachTick Fair ss
 all_fair no_tick = no_tick
@@ -58,10 +57,19 @@ each_drop zero q = q
 each_drop (suc t) no_tick = no_tick
 each_drop (suc t) (tick_and f fs) = each_drop t fs
 
+-- ---- in step, no silent tick meets a reader inside a frame
+
+phases_ready : (limit : ℕ) → 2 ≤ limit → limit ≤ 255 → (p : Profile) → Valid p → (e : ℕ) (l : Link) (ticks : List Calls) → Phase p e l → EachTick Fair (run limit l ticks) → EachTick ReadyAfter (run limit l ticks)
+unfolding run
+phases_ready limit low high p v e l [] ph fs = no_tick
+phases_ready limit low high p v e l (c ∷ cs) ph (tick_and f fs) =
+    let next = phase_tick limit low high p v e l c ph f in
+    tick_and (phase_outside (link_after (link_tick limit l c)) next) (phases_ready limit low high p v (e - 1) (link_after (link_tick limit l c)) cs next fs)
+
 -- ---- who sends in a tick of the overlap
 
-pub both_in : (s : LinkStep) {c d : ℕ} → s.for_primary.sent ≡ Sent.Character c → s.for_secondary.sent ≡ Sent.Character d → carried s.for_devices ≡ Silence → ToldIn s → BothIn s
-both_in s a b c told = record { primary_sends = ap count a; secondary_sends = ap count b; no_device = omega (arith, carried_count s.for_devices (subst Plain (sym c) plain_silence), ap most c); told = told }
+pub both_in : (s : LinkStep) {c d : ℕ} → s.for_primary.sent ≡ Sent.Character c → s.for_secondary.sent ≡ Sent.Character d → carried s.for_devices ≡ Silence → BothIn s
+both_in s a b c = record { primary_sends = ap count a; secondary_sends = ap count b; no_device = omega (arith, carried_count s.for_devices (subst Plain (sym c) plain_silence), ap most c) }
 
 other_sends : (bit : Bool) (s : LinkStep) {c : ℕ} → (other_step bit s).sent ≡ Sent.Character c → 1 ≤ senders s
 other_sends true s e = omega (arith, ap count e)
@@ -86,16 +94,16 @@ module _ (limit : ℕ) (low : 2 ≤ limit) (high : limit ≤ 255) (p : Profile) 
   enter_wait l c cs k ph (tick_and f fs) = all_cons limit p retries (now_wait l c cs k ph (tick_and f fs)) (step_wait (link_after (link_tick limit l c)) cs (settled_kept (link_kept limit retries low high l c k)) ph fs)
 
   behind_none : Behind limit p retries []
-  behind_none = record { alone = no_tick; waits = all_none limit p retries; framed = no_frame; told = no_tick }
+  behind_none = record { alone = no_tick; waits = all_none limit p retries; framed = no_frame; ready = no_tick }
 
   -- from the tick on behind which the masters are in step
-  pub enter_behind : (l : Link) (c : Calls) (cs : List Calls) → LinkKept limit retries l → ToldNext limit l → Phase p 0 (link_after (link_tick limit l c)) → EachTick NoBurstIn (run limit l (c ∷ cs)) → Behind limit p retries (run limit l (c ∷ cs))
+  pub enter_behind : (l : Link) (c : Calls) (cs : List Calls) → LinkKept limit retries l → Phase p 0 (link_after (link_tick limit l c)) → EachTick NoBurstIn (run limit l (c ∷ cs)) → Behind limit p retries (run limit l (c ∷ cs))
   unfolding run
-  enter_behind l c cs kept told ph (tick_and f fs) = record {
+  enter_behind l c cs kept ph (tick_and f fs) = record {
     alone = tick_and (one_sender (link_tick limit l c) (phase_plain ph)) (phases_run limit low high p v 0 (link_after (link_tick limit l c)) cs ph (all_fair fs));
     waits = enter_wait l c cs kept ph (tick_and f fs);
     framed = frame_and (λ z o. ends_run limit low high p v 0 (link_after (link_tick limit l c)) cs ph (all_fair fs)) (framed_run limit low high p v 0 (link_after (link_tick limit l c)) cs ph (all_fair fs));
-    told = tick_and (told_tick limit l c told) (together_run limit low high p v 0 (link_after (link_tick limit l c)) cs ph (all_fair fs));
+    ready = tick_and (phase_outside (link_after (link_tick limit l c)) ph) (phases_ready limit low high p v 0 (link_after (link_tick limit l c)) cs ph (all_fair fs));
   }
 
   pub enter_ends : (l : Link) (c : Calls) (cs : List Calls) → Phase p 0 (link_after (link_tick limit l c)) → EachTick NoBurstIn (run limit l (c ∷ cs)) → Ends (run limit l (c ∷ cs))
@@ -106,7 +114,7 @@ module _ (limit : ℕ) (low : 2 ≤ limit) (high : limit ≤ 255) (p : Profile) 
 
   tail_of : (bit : Bool) (l : Link) (c : Calls) (k : ℕ) (w : List ℕ) (message : Whole) → TailSends p (not bit) bit k w message (other bit l) (waiter bit l) l.devices → l.line ≡ Character (get_or w k 0)
       → TailTick p (not bit) bit k w message (other bit l) (waiter bit l) (other_step bit (link_tick limit l c)) (waiter_step bit (link_tick limit l c)) (link_tick limit l c).for_devices
-  unfolding heard_tick if◌then◌else◌
+  unfolding heard_tick when◌then◌else◌
   tail_of true l c k w message o q =
       subst (λ (s : LinkStep). TailTick p false true k w message l.secondary l.primary s.for_secondary s.for_primary s.for_devices) (sym (tick_is limit l (Character (get_or w k 0)) c q))
       (tail_tick limit low high p v false true k w message l.secondary l.primary l.devices c.for_secondary c.for_primary c.for_devices o)
@@ -116,7 +124,7 @@ module _ (limit : ℕ) (low : 2 ≤ limit) (high : limit ≤ 255) (p : Profile) 
 
   tail_on : (bit : Bool) (s : LinkStep) {k : ℕ} {w : List ℕ} {message : Whole} → TailSends p (not bit) bit k w message (other_step bit s).side (waiter_step bit s).side (Rattle.turns.specs.Link.sides s.for_devices)
       → TailSends p (not bit) bit k w message (other bit (link_after s)) (waiter bit (link_after s)) (link_after s).devices
-  unfolding if◌then◌else◌
+  unfolding when◌then◌else◌
   tail_on true s o = o
   tail_on false s o = o
 
@@ -131,7 +139,7 @@ module _ (limit : ℕ) (low : 2 ≤ limit) (high : limit ≤ 255) (p : Profile) 
   tail_run : (bit : Bool) (n d k : ℕ) (w : List ℕ) (message : Whole) (l : Link) (ticks : List Calls) → LinkKept limit retries l → EachTick NoBurstIn (run limit l ticks) → d ≤ length ticks → l.line ≡ Character (get_or w k 0)
       → TailSends p (not bit) bit k w message (other bit l) (waiter bit l) l.devices → Pending (waiter bit l) → retries + 1 ≤ (other bit l).master.message.attempts + n
       → length w + (n * (limit + 29 + p.rt1s) + p.rt1s + p.sto + (limit + 29) + 2) ≤ d + suc k → BeginsWithin bit (d - 1) (run limit l ticks)
-  unfolding run if◌then◌else◌
+  unfolding run when◌then◌else◌
   tail_run bit n d k w message l [] kept off long q o pend tries r = absurd (omega (arith, tail_place o))
   tail_run bit n d k w message l (c ∷ cs) kept (tick_and f fs) long q o pend tries r =
       go (tail_of bit l c k w message o q) (λ e o' pend' tries'. tail_run bit n (d - 1) (suc k) w message (link_after (link_tick limit l c)) cs (settled_kept (link_kept limit retries low high l c kept)) fs (omega arith) e o' pend' tries' (omega arith))
@@ -201,16 +209,16 @@ module _ (limit : ℕ) (low : 2 ≤ limit) (high : limit ≤ 255) (p : Profile) 
   accepted_either false s ss {ch} e f false acc long = f acc long
 
   -- a tick of the tail, `bit` passing over it, in front of the rest
-  tail_front : (bit : Bool) (k : ℕ) (w : List ℕ) (message : Whole) (l : Link) (c : Calls) (cs : List Calls) {ch : ℕ} → LinkKept limit retries l → ToldNext limit l → EachTick NoBurstIn (run limit (link_after (link_tick limit l c)) cs)
+  tail_front : (bit : Bool) (k : ℕ) (w : List ℕ) (message : Whole) (l : Link) (c : Calls) (cs : List Calls) {ch : ℕ} → LinkKept limit retries l → EachTick NoBurstIn (run limit (link_after (link_tick limit l c)) cs)
       → (link_after (link_tick limit l c)).line ≡ Character (get_or w k 0)
       → (other_step bit (link_tick limit l c)).sent ≡ Sent.Character ch
       → TailSends p (not bit) bit k w message (other bit (link_after (link_tick limit l c))) (waiter bit (link_after (link_tick limit l c))) (link_after (link_tick limit l c)).devices
       → Behind limit p retries (run limit (link_after (link_tick limit l c)) cs) → Behind limit p retries (link_tick limit l c ∷ run limit (link_after (link_tick limit l c)) cs)
-  tail_front bit k w message l c cs kept told fs q a o b = record {
+  tail_front bit k w message l c cs kept fs q a o b = record {
     alone = tick_and (one_sender (link_tick limit l c) (subst Plain (sym q) (plain_character (get_or w k 0)))) b.alone;
     waits = all_cons limit p retries (accepted_either bit (link_tick limit l c) (run limit (link_after (link_tick limit l c)) cs) a (tail_now bit k w message l c cs kept fs q o)) b.waits;
     framed = sent_framed (other_sends bit (link_tick limit l c) a) b.framed;
-    told = tick_and (told_tick limit l c told) b.told;
+    ready = tick_and (sent_ready (link_tick limit l c) (other_sends bit (link_tick limit l c) a)) b.ready;
   }
 
   tail_behind : (bit : Bool) (k : ℕ) (w : List ℕ) (message : Whole) (l : Link) (ticks : List Calls) → LinkKept limit retries l → l.line ≡ Character (get_or w k 0)
@@ -230,8 +238,8 @@ module _ (limit : ℕ) (low : 2 ≤ limit) (high : limit ≤ 255) (p : Profile) 
       go (O.TailTick.goes_on m a b e o' t y) rec =
           let line = other_line bit s _ a b e in
           let on = tail_on bit s o' in
-          tail_front bit (suc k) w message l c cs kept (tail_told limit p l q o.devices) fs line a on (rec line on)
-      go (O.TailTick.ends m a b e x t y) rec = enter_behind l c cs kept (tail_told limit p l q o.devices) (N.silent (no_line bit s a b e) (clear (clear_after p v bit s x))) (tick_and f fs)
+          tail_front bit (suc k) w message l c cs kept fs line a on (rec line on)
+      go (O.TailTick.ends m a b e x t y) rec = enter_behind l c cs kept (N.silent (no_line bit s a b e) (clear (clear_after p v bit s x))) (tick_and f fs)
 
   -- ---- the overlap
 
@@ -245,7 +253,7 @@ module _ (limit : ℕ) (low : 2 ≤ limit) (high : limit ≤ 255) (p : Profile) 
   pub overlap_run : (k : ℕ) (w : List ℕ) (message : Whole) (w' : List ℕ) (message' : Whole) (l : Link) (ticks : List Calls) → LinkKept limit retries l → l.line ≡ Damaged 0x00 Framing
       → BothSpeak p k w message w' message' l.primary l.secondary l.devices → EachTick NoBurstIn (run limit l ticks)
       → Overlapping limit p retries k (run limit l ticks)
-  unfolding run heard_tick if◌then◌else◌
+  unfolding run heard_tick when◌then◌else◌
   overlap_run k w message w' message' l [] kept q o off = has_ended behind_none
   overlap_run k w message w' message' l (c ∷ cs) kept q o (tick_and f fs) =
       go (subst (λ (s : LinkStep). BothTick p k w message w' message' l.primary l.secondary s.for_primary s.for_secondary s.for_devices) (sym (tick_is limit l (Damaged 0x00 Framing) c q))
@@ -255,17 +263,14 @@ module _ (limit : ℕ) (low : 2 ≤ limit) (high : limit ≤ 255) (p : Profile) 
       kept' : LinkKept limit retries (link_after (link_tick limit l c))
       kept' = settled_kept (link_kept limit retries low high l c kept)
 
-      told : ToldNext limit l
-      told = overlap_told limit p l q o.devices
-
       go : BothTick p k w message w' message' l.primary l.secondary (link_tick limit l c).for_primary (link_tick limit l c).for_secondary (link_tick limit l c).for_devices
           → ((link_after (link_tick limit l c)).line ≡ Damaged 0x00 Framing → BothSpeak p (suc k) w message w' message' (link_after (link_tick limit l c)).primary (link_after (link_tick limit l c)).secondary (link_after (link_tick limit l c)).devices → Overlapping limit p retries (suc k) (run limit (link_after (link_tick limit l c)) cs))
           → Overlapping limit p retries k (run limit l (c ∷ cs))
-      go (O.both_go_on a b d o') rec = goes_on (both_in (link_tick limit l c) a b d (told_tick limit l c told)) (speaks_short kept'.primary o'.primary) (rec (carries (link_tick limit l c) a b d) o')
+      go (O.both_go_on a b d o') rec = goes_on (both_in (link_tick limit l c) a b d) (speaks_short kept'.primary o'.primary) (rec (carries (link_tick limit l c) a b d) o')
       go (O.primary_longer a b d o') rec =
           let e = carries (link_tick limit l c) a b d in
-          has_ended (tail_front false (suc k) w message l c cs kept told fs e a o' (tail_behind false (suc k) w message (link_after (link_tick limit l c)) cs kept' e o' fs))
+          has_ended (tail_front false (suc k) w message l c cs kept fs e a o' (tail_behind false (suc k) w message (link_after (link_tick limit l c)) cs kept' e o' fs))
       go (O.secondary_longer a b d o') rec =
           let e = carries (link_tick limit l c) a b d in
-          has_ended (tail_front true (suc k) w' message' l c cs kept told fs e b o' (tail_behind true (suc k) w' message' (link_after (link_tick limit l c)) cs kept' e o' fs))
-      go (O.both_end a b d x) rec = has_ended (enter_behind l c cs kept told (N.silent (carries (link_tick limit l c) a b d) (clear x)) (tick_and f fs))
+          has_ended (tail_front true (suc k) w' message' l c cs kept fs e b o' (tail_behind true (suc k) w' message' (link_after (link_tick limit l c)) cs kept' e o' fs))
+      go (O.both_end a b d x) rec = has_ended (enter_behind l c cs kept (N.silent (carries (link_tick limit l c) a b d) (clear x)) (tick_and f fs))

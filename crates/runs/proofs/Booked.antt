@@ -7,7 +7,7 @@ use mathlib.Core.List.{List, [], ◌∷◌, ◌++◌, append_assoc}
 use mathlib.Core.Logic.{◌⊎◌, inl, inr}
 use lib.ListN.{length, take, get_or, length-append}
 use lib.Seq.{take_at}
-use Rattle.base.specs.Choice.{if◌then◌else◌}
+use Rattle.base.specs.Choice.{when◌then◌else◌}
 use Rattle.base.specs.Store.{stored}
 use Rattle.base.proofs.Stores.{stored_front}
 use Rattle.frame.specs.Check.{exclusive_or}
@@ -194,7 +194,7 @@ speaks_owes limit high x heard c g deaf free o =
     (subst (λ (t : DeviceTaken). DeviceOwes (told_by t.told g) t.device x.frame) (sym e) o)
 
 pub speaker_free : (f : Frames) {k : ℕ} {w : List ℕ} {d : Device} → DevicePlace f k w d → (n : ℕ) → d.turn ≡ Asked n → ⊥
-unfolding if◌then◌else◌
+unfolding when◌then◌else◌
 speaker_free an_ack {k} (inside below t) n e = answers_asked (suc k) n (sym t ∙ e)
 speaker_free a_back {k} (inside below t) n e = bursts_asked (suc k) n (sym t ∙ e)
 speaker_free an_ack {d = d} (finished last t due) n e = go d.burst (sym t ∙ e)
@@ -206,13 +206,13 @@ speaker_free a_back (finished last t due) n e = listens_asked n (sym t ∙ e)
 
 -- nothing is owed by a device that sends its BACK
 pub back_owes : {k : ℕ} {w : List ℕ} {d : Device} {g : Ledger} {frame : List ℕ} → DevicePlace a_back k w d → DeviceOwes g d frame
-unfolding if◌then◌else◌
+unfolding when◌then◌else◌
 back_owes {k} (inside below t) = none_owed (λ n e. bursts_asked (suc k) n (sym t ∙ e)) (ap answering t)
 back_owes (finished last t due) = none_owed (λ n e. listens_asked n (sym t ∙ e)) (ap answering t)
 
 -- and behind the last character of its ACK
 pub finished_owes : {k : ℕ} {w : List ℕ} {d : Device} {g : Ledger} {frame : List ℕ} → suc k ≡ length w → DevicePlace an_ack k w d → DeviceOwes g d frame
-unfolding if◌then◌else◌
+unfolding when◌then◌else◌
 finished_owes last (inside below t) = absurd (omega arith)
 finished_owes {d = d} {g = g} {frame = frame} last (finished z t due) = go d.burst t
   where

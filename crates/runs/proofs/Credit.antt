@@ -6,7 +6,7 @@ use mathlib.Core.Bool.{Bool, true, false}
 use mathlib.Core.List.{List, [], ◌∷◌}
 use mathlib.Core.Logic.{◌⊎◌, inl, inr}
 use lib.ListN.{length, take, get_or}
-use Rattle.base.specs.Choice.{if◌then◌else◌}
+use Rattle.base.specs.Choice.{when◌then◌else◌}
 use Rattle.base.proofs.Choices.{true_false, if_is_true, if_is_false}
 use Rattle.frame.specs.Delimiter.{stx, ack, back}
 use Rattle.frame.specs.declared.Header.{Header}
@@ -542,11 +542,11 @@ module _ (limit : ℕ) (low : 2 ≤ limit) (high : limit ≤ 255) (p : Profile) 
 
     -- whose ACK it is, by its master bit
     asked_by_lem : (bit : Bool) (m : Master) (h : Header) {g : Ledger} (x : DeviceSide) → m.primary ≡ bit → to_itself m h ≡ true → h.primary ≡ x.device.request.primary → SenderOwes g x l.primary l.secondary → x.device.request ≡ (master_of bit l).master.message.header
-    unfolding if◌then◌else◌
+    unfolding when◌then◌else◌
     asked_by_lem true m h x e own same o = o.primary_asked (sym same ∙ sym (if_is_true m.primary h.primary _ e) ∙ own)
-    asked_by_lem false m h x e own same o = o.secondary_asked (sym same ∙ go h.primary (sym (if_is_false m.primary _ (if h.primary then false else true) e) ∙ own))
+    asked_by_lem false m h x e own same o = o.secondary_asked (sym same ∙ go h.primary (sym (if_is_false m.primary _ (when h.primary then false else true) e) ∙ own))
       where
-        go : (b : Bool) → (if b then false else true) ≡ true → b ≡ false
+        go : (b : Bool) → (when b then false else true) ≡ true → b ≡ false
         go true q = absurd (true_false (sym q))
         go false q = refl
 
@@ -631,7 +631,7 @@ module _ (limit : ℕ) (low : 2 ≤ limit) (high : limit ≤ 255) (p : Profile) 
             (hears_on_data l.primary c.for_primary w k (omega arith) o.primary.listens.hears o.primary.receiver_is ha)
             (hears_on_data l.secondary c.for_secondary w k (omega arith) o.secondary.listens.hears o.secondary.receiver_is hb))))
         go (A.ack_ends last off a b line m x y) = record { credited = reported last; next = in_silence 0 (carries s a b line) (ended (carries s a b line) m) (ends_owe last a b) }
-        go (A.back_follows_it last z who w' message' a b line m x y) = record { credited = reported last; next = in_back true who (if next then false else true) 0 w' message' u (carries s a b line) m (owe_ledgers (ends_owe last a b)) }
+        go (A.back_follows_it last z who w' message' a b line m x y) = record { credited = reported last; next = in_back true who (when next then false else true) 0 w' message' u (carries s a b line) m (owe_ledgers (ends_owe last a b)) }
 
 -- ---- the theorem
 
@@ -688,7 +688,7 @@ blank_ledgers [] = no_ledger
 blank_ledgers (x ∷ xs) = ledger_and (blank_ledgers xs)
 
 some_rt1 : (p : Profile) → Valid p → (primary : Bool) → 1 ≤ own_rt1 p primary
-unfolding if◌then◌else◌
+unfolding when◌then◌else◌
 some_rt1 p v true = omega (arith, v.rt2_short)
 some_rt1 p v false = omega (arith, v.rt2_short, v.secondary)
 

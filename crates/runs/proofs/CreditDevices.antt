@@ -6,7 +6,7 @@ use mathlib.Core.Bool.{Bool, true, false}
 use mathlib.Core.List.{List}
 use lib.ListN.{length}
 use Rattle.base.specs.Refusal.{Called, accepted, refused}
-use Rattle.base.specs.Choice.{if◌then◌else◌, ◌<?◌, ◌≤?◌, ◌=?◌}
+use Rattle.base.specs.Choice.{when◌then◌else◌, ◌<?◌, ◌≤?◌, ◌=?◌}
 use Rattle.base.specs.Store.{stored}
 use Rattle.base.proofs.Choices.{true_false, if_is_false}
 use Rattle.frame.specs.Delimiter.{stx, ack}
@@ -98,11 +98,11 @@ character_owes g d frame r (Damaged w m) f = absurd (f w m refl)
 module _ (g : Ledger) (d : Device) (frame : List ℕ) (o : DeviceOwes g d frame) where
   -- a silent tick: the turn is counted
   counted : (turn : Turn) → d.turn ≡ turn → (r : Receiver) (due : ℕ) → DeviceOwes g (device_with d r (waited turn) d.request d.wish d.length due) frame
-  unfolding if◌then◌else◌
+  unfolding when◌then◌else◌
   counted Listens e r due = none_owed (λ n q. listens_asked n q) refl
   counted (Asked k) e r due = go (k ≤? 1)
     where
-      go : (t : Bool) → DeviceOwes g (device_with d r (if t then Listens else Asked (k - 1)) d.request d.wish d.length due) frame
+      go : (t : Bool) → DeviceOwes g (device_with d r (when t then Listens else Asked (k - 1)) d.request d.wish d.length due) frame
       go true = none_owed (λ n q. listens_asked n q) refl
       go false = record { asked = λ n q. o.asked k e; gives = λ z. absurd (true_false (sym z)) }
   counted AnswerWaits e r due = record { asked = λ n q. absurd (begins_asked n q); gives = λ z. same_gives refl refl refl (o.gives (ap answering e)) }
@@ -128,11 +128,11 @@ module _ (g : Ledger) (d : Device) (frame : List ℕ) (o : DeviceOwes g d frame)
   heard_owes (Heard.Damaged c kind) f = character_owes g d frame _ (taken d.receiver (Heard.Damaged c kind)).event f
 
   pub takes_owes : (heard : Heard) → (d.deaf ≡ false → (w : Whole) (m : FrameDamage) → (taken d.receiver heard).event ≡ Damaged w m → ⊥) → DeviceOwes (told_by (device_takes d heard).told g) (device_takes d heard).device frame
-  unfolding device_takes if◌then◌else◌
+  unfolding device_takes when◌then◌else◌
   takes_owes heard f = go d.deaf refl
     where
       by : Bool → DeviceTaken
-      by b = if b then Rattle.turns.specs.Device.tells d DeviceTold.Nothing Nothing else on_heard d heard
+      by b = when b then Rattle.turns.specs.Device.tells d DeviceTold.Nothing Nothing else on_heard d heard
 
       go : (b : Bool) → d.deaf ≡ b → DeviceOwes (told_by (by b).told g) (by b).device frame
       go true q = o
@@ -149,7 +149,7 @@ hears_owes g d frame c hears f =
 
 module _ (g : Ledger) (d : Device) (frame bytes contents : List ℕ) (o : DeviceOwes g d frame) where
   after_ack : (burst : Bool) → ((n : ℕ) → behind_ack burst ≡ Asked n → ⊥) × (answering (behind_ack burst) ≡ false)
-  unfolding if◌then◌else◌
+  unfolding when◌then◌else◌
   after_ack true = (λ n q. follows_asked n q, refl)
   after_ack false = (λ n q. listens_asked n q, refl)
 
@@ -185,7 +185,7 @@ module _ (limit : ℕ) (high : limit ≤ 255) (g : Ledger) (d : Device) (frame b
   owes call s = DeviceOwes (called_by call s.result g) s.side.device s.side.frame
 
   answer_owes : (wish : Wish) (put : List ℕ) (turn : Turn) → d.turn ≡ turn → owes (gives_answer wish put) (answer_called (answered_by limit d wish (length put) turn) d (answer_frame d wish put frame) frame bytes contents t)
-  unfolding owes if◌then◌else◌
+  unfolding owes when◌then◌else◌
   answer_owes wish put Listens e = sent_owes g d frame bytes contents o t (CallResult.Refused 8)
   answer_owes wish put (Asked n) e = go (answer_view limit d wish (length put) n)
     where
@@ -220,7 +220,7 @@ module _ (limit : ℕ) (high : limit ≤ 255) (g : Ledger) (d : Device) (frame b
             };
           }
 
-      not_asked : (b : Bool) (k : ℕ) → (if b then AnswerWaits else Begins) ≡ Asked k → ⊥
+      not_asked : (b : Bool) (k : ℕ) → (when b then AnswerWaits else Begins) ≡ Asked k → ⊥
       not_asked true k q = accepted_asked k q
       not_asked false k q = begins_asked k q
 

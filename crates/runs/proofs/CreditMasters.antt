@@ -7,7 +7,7 @@ use mathlib.Core.List.{List, [], ◌∷◌, ◌++◌}
 use lib.ListN.{length, take, get_or}
 use borrow.Author.Tests.{leb-true}
 use Rattle.base.specs.Refusal.{Called, accepted, refused}
-use Rattle.base.specs.Choice.{if◌then◌else◌, ◌<?◌, ◌≤?◌, ◌=?◌}
+use Rattle.base.specs.Choice.{when◌then◌else◌, ◌<?◌, ◌≤?◌, ◌=?◌}
 use Rattle.base.proofs.Choices.{if_is_false}
 use Rattle.base.proofs.Stores.{length_stored}
 use Rattle.frame.specs.Address.{byte_at}
@@ -93,11 +93,11 @@ answered_same e = cc
 
 -- only at a frame that is the message's ACK
 frame_reports : (m : Master) (v : Whole) (bytes : List ℕ) (w : Whole) → (at_frame m v bytes).told ≡ Answered w → (v ≡ w) × (is_answer m v.header ≡ true)
-unfolding if◌then◌else◌ NotAnswered
+unfolding when◌then◌else◌ NotAnswered
 frame_reports m v bytes w e = go (answers_message m v.header) refl (byte_at bytes 0 / 128 =? 1) e
   where
     by : Bool → Bool → Ending
-    by b c = if b then (if c then at_break m else ends m.message (Answered v)) else at_break m
+    by b c = when b then (when c then at_break m else ends m.message (Answered v)) else at_break m
 
     go : (b : Bool) → answers_message m v.header ≡ b → (c : Bool) → (by b c).told ≡ Answered w → (v ≡ w) × (is_answer m v.header ≡ true)
     go true q true z = absurd (break_not m w z)
@@ -128,11 +128,11 @@ heard_reports m (Character c) bytes w e = character_reports m _ (taken m.receive
 heard_reports m (Heard.Damaged c kind) bytes w e = character_reports m _ (taken m.receiver (Heard.Damaged c kind)).event bytes w e
 
 takes_reports : (m : Master) (heard : Heard) (bytes : List ℕ) (w : Whole) → (master_takes m heard bytes).told ≡ Answered w → Reports m heard w
-unfolding master_takes if◌then◌else◌ NotAnswered
+unfolding master_takes when◌then◌else◌ NotAnswered
 takes_reports m heard bytes w e = go m.deaf refl e
   where
     by : Bool → MasterTaken
-    by b = if b then Rattle.turns.specs.Master.tells m MasterTold.Nothing Nothing else on_heard m heard bytes
+    by b = when b then Rattle.turns.specs.Master.tells m MasterTold.Nothing Nothing else on_heard m heard bytes
 
     go : (b : Bool) → m.deaf ≡ b → (by b).told ≡ Answered w → Reports m heard w
     go true q z = absurd (nothing_not w z)

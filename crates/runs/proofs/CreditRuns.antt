@@ -5,7 +5,7 @@ use mathlib.Core.Path.{◌≡◌, refl}
 use mathlib.Core.Bool.{true, false}
 use mathlib.Core.List.{List, [], ◌∷◌, ◌++◌}
 use lib.ListN.{replicate, take}
-use Rattle.base.specs.Choice.{if◌then◌else◌}
+use Rattle.base.specs.Choice.{when◌then◌else◌}
 use Rattle.base.specs.Store.{stored}
 use Rattle.frame.specs.Check.{xor_from}
 use Rattle.frame.specs.Delimiter.{stx, ack, delimiter_of}
@@ -68,17 +68,17 @@ answered_run = ask 2 [] ∷ (replicate 18 quiet ++ (answers (0 ∷ 0 ∷ 7 ∷ [
 
 -- before tick 36 the ledger holds what the host gave
 pub booked_answer : ledgers_behind booked_by 255 (blanks one_device.devices) one_device answered_run ≡ given asked (0 ∷ 0 ∷ 7 ∷ []) ∷ []
-unfolding ledgers_behind ledgers_after blanks closed answered_run answers ask short one_device quiet link_tick device_ticks sides carried master_tick device_tick requested requested_up_to master_takes master_sends device_takes device_sends answered content_given taken taken_data at_idle at_preamble at_first at_address at_expansion at_command at_count at_data at_check write_buffer write_answer frame_bytes preamble_bytes body_bytes protected_bytes header_bytes xor_from delimiter_of stored if◌then◌else◌
+unfolding ledgers_behind ledgers_after blanks closed answered_run answers ask short one_device quiet link_tick device_ticks sides carried master_tick device_tick requested requested_up_to master_takes master_sends device_takes device_sends answered content_given taken taken_data at_idle at_preamble at_first at_address at_expansion at_command at_count at_data at_check write_buffer write_answer frame_bytes preamble_bytes body_bytes protected_bytes header_bytes xor_from delimiter_of stored when◌then◌else◌
 booked_answer = refl
 
 -- and in it the primary reports its message as answered
 pub reported_answer : (link_tick 255 (link_behind 255 one_device answered_run) quiet).for_primary.told
     ≡ Answered (record { header = record { kind = ack; long = true; primary = true; burst = false; address = 2; command = 3 }; expansion = 0; count = 3 })
-unfolding link_behind answered_run answers ask short one_device quiet link_tick device_ticks sides carried master_tick device_tick requested requested_up_to master_takes master_sends device_takes device_sends answered content_given taken taken_data at_idle at_preamble at_first at_address at_expansion at_command at_count at_data at_check write_buffer write_answer frame_bytes preamble_bytes body_bytes protected_bytes header_bytes xor_from delimiter_of stored if◌then◌else◌
+unfolding link_behind answered_run answers ask short one_device quiet link_tick device_ticks sides carried master_tick device_tick requested requested_up_to master_takes master_sends device_takes device_sends answered content_given taken taken_data at_idle at_preamble at_first at_address at_expansion at_command at_count at_data at_check write_buffer write_answer frame_bytes preamble_bytes body_bytes protected_bytes header_bytes xor_from delimiter_of stored when◌then◌else◌
 reported_answer = refl
 
 pub reported_data : take 3 (link_tick 255 (link_behind 255 one_device answered_run) quiet).for_primary.side.bytes ≡ 0 ∷ 0 ∷ 7 ∷ []
-unfolding link_behind answered_run answers ask short one_device quiet link_tick device_ticks sides carried master_tick device_tick requested requested_up_to master_takes master_sends device_takes device_sends answered content_given taken taken_data at_idle at_preamble at_first at_address at_expansion at_command at_count at_data at_check write_buffer write_answer frame_bytes preamble_bytes body_bytes protected_bytes header_bytes xor_from delimiter_of stored if◌then◌else◌
+unfolding link_behind answered_run answers ask short one_device quiet link_tick device_ticks sides carried master_tick device_tick requested requested_up_to master_takes master_sends device_takes device_sends answered content_given taken taken_data at_idle at_preamble at_first at_address at_expansion at_command at_count at_data at_check write_buffer write_answer frame_bytes preamble_bytes body_bytes protected_bytes header_bytes xor_from delimiter_of stored when◌then◌else◌
 reported_data = refl
 
 -- the run meets the premises, so each report of it is credited
@@ -101,12 +101,12 @@ sent_again = ask 2 [] ∷ (replicate 18 quiet ++ (failing ∷ replicate 20 quiet
 
 -- while it goes out, ledgers that are closed at reports alone hold the answer to the first
 pub first_stands : ledgers_behind reports_close 255 (blanks one_device.devices) one_device sent_again ≡ given asked (0x80 ∷ 0 ∷ []) ∷ []
-unfolding ledgers_behind ledgers_after blanks closed sent_again failing answers ask short one_device quiet link_tick device_ticks sides carried master_tick device_tick requested requested_up_to master_takes master_sends device_takes device_sends answered content_given taken taken_data at_idle at_preamble at_first at_address at_expansion at_command at_count at_data at_check write_buffer write_answer frame_bytes preamble_bytes body_bytes protected_bytes header_bytes xor_from delimiter_of stored if◌then◌else◌
+unfolding ledgers_behind ledgers_after blanks closed sent_again failing answers ask short one_device quiet link_tick device_ticks sides carried master_tick device_tick requested requested_up_to master_takes master_sends device_takes device_sends answered content_given taken taken_data at_idle at_preamble at_first at_address at_expansion at_command at_count at_data at_check write_buffer write_answer frame_bytes preamble_bytes body_bytes protected_bytes header_bytes xor_from delimiter_of stored when◌then◌else◌
 first_stands = refl
 
 -- in the credit's ledgers nothing stands
 pub first_closed : ledgers_behind booked_by 255 (blanks one_device.devices) one_device sent_again ≡ blank ∷ []
-unfolding ledgers_behind ledgers_after blanks closed sent_again failing answers ask short one_device quiet link_tick device_ticks sides carried master_tick device_tick requested requested_up_to master_takes master_sends device_takes device_sends answered content_given taken taken_data at_idle at_preamble at_first at_address at_expansion at_command at_count at_data at_check write_buffer write_answer frame_bytes preamble_bytes body_bytes protected_bytes header_bytes xor_from delimiter_of stored if◌then◌else◌
+unfolding ledgers_behind ledgers_after blanks closed sent_again failing answers ask short one_device quiet link_tick device_ticks sides carried master_tick device_tick requested requested_up_to master_takes master_sends device_takes device_sends answered content_given taken taken_data at_idle at_preamble at_first at_address at_expansion at_command at_count at_data at_check write_buffer write_answer frame_bytes preamble_bytes body_bytes protected_bytes header_bytes xor_from delimiter_of stored when◌then◌else◌
 first_closed = refl
 
 -- ---- a message with the header of one that was given up
@@ -127,12 +127,12 @@ failed_run =
 
 -- in tick 134 it is given up
 pub given_up : (link_tick 255 (link_behind 255 one_device failed_run) quiet).for_primary.told ≡ GivenUp 4
-unfolding link_behind failed_run failing answers ask short one_device quiet link_tick device_ticks sides carried master_tick device_tick requested requested_up_to master_takes master_sends device_takes device_sends answered content_given taken taken_data at_idle at_preamble at_first at_address at_expansion at_command at_count at_data at_check write_buffer write_answer frame_bytes preamble_bytes body_bytes protected_bytes header_bytes xor_from delimiter_of stored if◌then◌else◌
+unfolding link_behind failed_run failing answers ask short one_device quiet link_tick device_ticks sides carried master_tick device_tick requested requested_up_to master_takes master_sends device_takes device_sends answered content_given taken taken_data at_idle at_preamble at_first at_address at_expansion at_command at_count at_data at_check write_buffer write_answer frame_bytes preamble_bytes body_bytes protected_bytes header_bytes xor_from delimiter_of stored when◌then◌else◌
 given_up = refl
 
 -- in tick 135 the host requests the same again, which is taken; its first STX goes out from tick 136 on
 pub asked_again : (link_tick 255 (link_behind 255 one_device (failed_run ++ (quiet ∷ []))) (ask 2 [])).for_primary.result ≡ CallResult.Taken
-unfolding link_behind failed_run failing answers ask short one_device quiet link_tick device_ticks sides carried master_tick device_tick requested requested_up_to master_takes master_sends device_takes device_sends answered content_given taken taken_data at_idle at_preamble at_first at_address at_expansion at_command at_count at_data at_check write_buffer write_answer frame_bytes preamble_bytes body_bytes protected_bytes header_bytes xor_from delimiter_of stored if◌then◌else◌
+unfolding link_behind failed_run failing answers ask short one_device quiet link_tick device_ticks sides carried master_tick device_tick requested requested_up_to master_takes master_sends device_takes device_sends answered content_given taken taken_data at_idle at_preamble at_first at_address at_expansion at_command at_count at_data at_check write_buffer write_answer frame_bytes preamble_bytes body_bytes protected_bytes header_bytes xor_from delimiter_of stored when◌then◌else◌
 asked_again = refl
 
 unfoldable pub taken_again : List Calls
@@ -140,10 +140,10 @@ taken_again = failed_run ++ (quiet ∷ (ask 2 [] ∷ []))
 
 -- before it goes out, ledgers that are closed where a master sends and at answers alone hold the old answer, with the new message's header
 pub stale_stands : ledgers_behind answers_close 255 (blanks one_device.devices) one_device taken_again ≡ given asked (0x80 ∷ 0 ∷ []) ∷ []
-unfolding ledgers_behind ledgers_after blanks closed taken_again failed_run failing answers ask short one_device quiet link_tick device_ticks sides carried master_tick device_tick requested requested_up_to master_takes master_sends device_takes device_sends answered content_given taken taken_data at_idle at_preamble at_first at_address at_expansion at_command at_count at_data at_check write_buffer write_answer frame_bytes preamble_bytes body_bytes protected_bytes header_bytes xor_from delimiter_of stored if◌then◌else◌
+unfolding ledgers_behind ledgers_after blanks closed taken_again failed_run failing answers ask short one_device quiet link_tick device_ticks sides carried master_tick device_tick requested requested_up_to master_takes master_sends device_takes device_sends answered content_given taken taken_data at_idle at_preamble at_first at_address at_expansion at_command at_count at_data at_check write_buffer write_answer frame_bytes preamble_bytes body_bytes protected_bytes header_bytes xor_from delimiter_of stored when◌then◌else◌
 stale_stands = refl
 
 -- in the credit's ledgers nothing stands
 pub stale_closed : ledgers_behind booked_by 255 (blanks one_device.devices) one_device taken_again ≡ blank ∷ []
-unfolding ledgers_behind ledgers_after blanks closed taken_again failed_run failing answers ask short one_device quiet link_tick device_ticks sides carried master_tick device_tick requested requested_up_to master_takes master_sends device_takes device_sends answered content_given taken taken_data at_idle at_preamble at_first at_address at_expansion at_command at_count at_data at_check write_buffer write_answer frame_bytes preamble_bytes body_bytes protected_bytes header_bytes xor_from delimiter_of stored if◌then◌else◌
+unfolding ledgers_behind ledgers_after blanks closed taken_again failed_run failing answers ask short one_device quiet link_tick device_ticks sides carried master_tick device_tick requested requested_up_to master_takes master_sends device_takes device_sends answered content_given taken taken_data at_idle at_preamble at_first at_address at_expansion at_command at_count at_data at_check write_buffer write_answer frame_bytes preamble_bytes body_bytes protected_bytes header_bytes xor_from delimiter_of stored when◌then◌else◌
 stale_closed = refl

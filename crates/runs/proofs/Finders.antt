@@ -4,7 +4,7 @@ use native.Mathlib.Omega.{arith}
 use mathlib.Core.Path.{◌≡◌, sym, subst}
 use mathlib.Core.Bool.{Bool, true}
 use mathlib.Core.List.{List, [], ◌∷◌}
-use Rattle.base.specs.Choice.{if◌then◌else◌}
+use Rattle.base.specs.Choice.{when◌then◌else◌}
 use Rattle.frame.specs.declared.Header.{Header}
 use Rattle.turns.specs.Party.{seeks_tag}
 use Rattle.turns.specs.Link.{DeviceCall, no_call, gives_answer, gives_content, DeviceSide, DeviceStep, LinkStep, Calls}
@@ -76,19 +76,19 @@ within_tick c s w =
     (within_sent s.for_secondary.sent (within_after c.for_devices s.for_devices (within_report s.for_primary.told (within_report s.for_secondary.told w))))
 
 pub finders_within : {gs fs : List Ledger} → Within gs fs → finders gs ≤ finders fs
-unfolding finders if◌then◌else◌
+unfolding finders when◌then◌else◌
 finders_within no_entry = omega arith
 finders_within (same_and w) = omega (arith, finders_within w)
 finders_within (closed_and w) = omega (arith, finders_within w)
 
 -- at the start
 pub no_finder : (xs : List DeviceSide) → finders (blanks xs) ≤ 1
-unfolding finders blanks if◌then◌else◌
+unfolding finders blanks when◌then◌else◌
 no_finder [] = omega arith
 no_finder (x ∷ xs) = omega (arith, no_finder xs)
 
 -- one whose answer is credited is a finder
 pub gave_found : {h : Header} {put : List ℕ} {xs : List DeviceSide} {gs : List Ledger} → seeks_tag h ≡ true → Gave h put xs gs → 1 ≤ finders gs
-unfolding finders if◌then◌else◌
-gave_found {h} tag (this_one {gs = gs} may) = subst (λ (b : Bool). 1 ≤ (if b then 1 else 0) + finders gs) (sym tag) (omega arith)
+unfolding finders when◌then◌else◌
+gave_found {h} tag (this_one {gs = gs} may) = subst (λ (b : Bool). 1 ≤ (when b then 1 else 0) + finders gs) (sym tag) (omega arith)
 gave_found tag (another g) = omega (arith, gave_found tag g)

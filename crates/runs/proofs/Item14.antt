@@ -23,9 +23,7 @@ use Rattle.runs.proofs.KeptLink.{LinkKept, fresh_kept}
 use Rattle.runs.proofs.Tags.{AllOwe, all_tick, sole}
 use Rattle.runs.proofs.NoBurst.{NoBurstIn}
 use Rattle.runs.proofs.Readers.{Beside, primary_heard, secondary_heard}
-use Rattle.runs.proofs.LateTicks.{LateTicks, BeginFrom, at_most_one, two_send, ClaimedIn, both_sent, frame_ended, in_time, framed_in, told_in_lem}
-use Rattle.runs.proofs.Together.{ToldIn}
-use Rattle.runs.proofs.LateTold.{started_told}
+use Rattle.runs.proofs.LateTicks.{LateTicks, BeginFrom, at_most_one, two_send, ClaimedIn, both_sent, frame_ended, in_time, framed_in}
 use Rattle.runs.proofs.NoneOn.{started_none, started_kept, started_owe}
 use Rattle.runs.proofs.Late.{common_start, every_late_run}
 
@@ -106,12 +104,8 @@ pub late_ticks_of : (limit : ℕ) → 2 ≤ limit → limit ≤ 255 → (p : Pro
 late_ticks_of limit low high p retries a b l ticks k =
     let v = valid p k.made in
     let kept : LinkKept limit retries l = record { primary = fresh_kept limit k.primary; secondary = fresh_kept limit k.secondary; devices = started_kept limit low p l.line k.devices } in
-    every_late_run limit low high p v retries a b l ticks kept k.primary k.secondary k.distinct (started_none limit low high p v l.line k.devices) (started_told limit p l k.devices)
+    every_late_run limit low high p v retries a b l ticks kept k.primary k.secondary k.distinct (started_none limit low high p v l.line k.devices)
     (both k.none_bursts (late_tag limit a b (blanks l.devices) l ticks (started_owe limit low high p v l.line k.devices) k.one_finds))
-
--- item 6's "each command 11" in these runs: in every tick all devices are told the same one, or none is told one
-pub late_told_together : (limit : ℕ) → 2 ≤ limit → limit ≤ 255 → (p : Profile) (retries a b : ℕ) (l : Link) (ticks : List Calls) → LatePremises limit p retries a b l ticks → EachTick ToldIn (late_run limit a b l ticks)
-late_told_together limit low high p retries a b l ticks k = told_in_lem (late_ticks_of limit low high p retries a b l ticks k)
 
 pub item_14 : (limit : ℕ) → 2 ≤ limit → limit ≤ 255 → Item14 limit
 item_14 limit low high p retries a b l ticks k = record {

@@ -7,7 +7,7 @@ use mathlib.Core.List.{List}
 use lib.ListN.{length}
 use borrow.Author.Tests.{ltb-false, lt-ltb, leb-false}
 use Rattle.base.specs.Refusal.{Called}
-use Rattle.base.specs.Choice.{if◌then◌else◌, ◌<?◌, ◌≤?◌}
+use Rattle.base.specs.Choice.{when◌then◌else◌, ◌<?◌, ◌≤?◌}
 use Rattle.base.specs.Store.{stored}
 use Rattle.base.proofs.Choices.{true_false, if_is_true}
 use Rattle.frame.specs.Frame.{frame_bytes, frame_length}
@@ -190,11 +190,11 @@ module _ (longest retries : ℕ) (m : Master) (frame : List ℕ) (k : MasterKept
       (record { kept = record { retries_is = k.retries_is; short = k.short; counted = λ z. some }; shut = λ z. absurd (awaiting_waiting _ z) })
 
   by_stage : (s : Stage) → m.message.stage ≡ s → MasterSettled longest retries (sends_by m frame s).master
-  unfolding if◌then◌else◌
+  unfolding when◌then◌else◌
   by_stage Free e = record { kept = record { retries_is = k.retries_is; short = k.short; counted = k.counted }; shut = λ z. absurd (free_waiting (sym e ∙ z)) }
   by_stage Waiting e = go (0 <? m.timer.window) refl
     where
-      go : (t : Bool) → (0 <? m.timer.window) ≡ t → MasterSettled longest retries (if t then sends_at m frame 0 (one_more m.retries m.message.attempts) else Rattle.turns.specs.Master.sends m false m.timer m.message m.receiver Sent.Silent).master
+      go : (t : Bool) → (0 <? m.timer.window) ≡ t → MasterSettled longest retries (when t then sends_at m frame 0 (one_more m.retries m.message.attempts) else Rattle.turns.specs.Master.sends m false m.timer m.message m.receiver Sent.Silent).master
       go true q = at 0 (one_more m.retries m.message.attempts) (one_more_some m.retries m.message.attempts)
       go false q = record { kept = record { retries_is = k.retries_is; short = k.short; counted = k.counted }; shut = λ z. omega (arith, ltb-false 0 m.timer.window q) }
   by_stage (Sending n) e = at n m.message.attempts (k.counted (ap begun e))

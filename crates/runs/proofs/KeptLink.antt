@@ -6,7 +6,7 @@ use mathlib.Core.Bool.{Bool}
 use mathlib.Core.List.{List, [], ◌∷◌}
 use lib.ListN.{length}
 use Rattle.base.specs.Refusal.{Called}
-use Rattle.base.specs.Choice.{if◌then◌else◌, ◌<?◌, ◌=?◌}
+use Rattle.base.specs.Choice.{when◌then◌else◌, ◌<?◌, ◌=?◌}
 use Rattle.base.specs.Store.{stored}
 use Rattle.base.proofs.Choices.{true_false}
 use Rattle.frame.specs.Delimiter.{stx}
@@ -44,7 +44,7 @@ pub record DeviceKept (limit : ℕ) (d : Device) : Type 0 where
   pub content_short : d.content.count ≤ limit
 
 module _ (limit : ℕ) (low : 2 ≤ limit) (d : Device) (k : DeviceKept limit d) where
-  if_kept : (t : Bool) (a b : DeviceTaken) → DeviceKept limit a.device → DeviceKept limit b.device → DeviceKept limit (if t then a else b).device
+  if_kept : (t : Bool) (a b : DeviceTaken) → DeviceKept limit a.device → DeviceKept limit b.device → DeviceKept limit (when t then a else b).device
   if_kept t a b p q = if_both (λ (x : DeviceTaken). DeviceKept limit x.device) t a b p q
 
   -- the frame and the content stay

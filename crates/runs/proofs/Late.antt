@@ -5,9 +5,9 @@ use mathlib.Core.Path.{◌≡◌, refl, sym, ap, subst, ◌∙◌}
 use mathlib.Core.Bool.{Bool, true, false}
 use mathlib.Core.List.{List, [], ◌∷◌}
 use lib.ListN.{get_or}
-use Rattle.base.specs.Choice.{if◌then◌else◌}
+use Rattle.base.specs.Choice.{when◌then◌else◌}
 use Rattle.base.proofs.Choices.{if_is_true, if_is_false}
-use Rattle.line.specs.Reader.{taken}
+use Rattle.line.specs.Reader.{passing, taken}
 use Rattle.line.specs.declared.Event.{Event}
 use Rattle.line.specs.declared.Event.TheVariants.{Nothing, PassedOver, Frame}
 use Rattle.line.specs.declared.Heard.{Heard}
@@ -30,6 +30,7 @@ use Rattle.runs.proofs.SilentTick as T
 use Rattle.runs.proofs.NoTwoSend as N
 use Rattle.turns.proofs.Senders.{carries, Plain, plain_silence, plain_character, one_sender, silent_none, none_line}
 use Rattle.runs.proofs.NoTwoSend.{Phase, heard_tick, tick_is}
+use Rattle.runs.proofs.SoundPairs.{quiet_devices, on_character_lem}
 use Rattle.turns.proofs.Fresh.{master_is, fresh_master_lem}
 use Rattle.runs.proofs.KeptLink.{LinkKept, link_kept, settled_kept}
 use Rattle.runs.proofs.Waits.{other, other_step, not}
@@ -39,11 +40,9 @@ use Rattle.runs.proofs.Passing.{MasterPasses, PassesOn, passes_on}
 use Rattle.runs.proofs.Idle.{free_tick}
 use Rattle.runs.proofs.NoBurst.{NoBurstIn, NoBurst, no_burst_silent, no_burst_stx, no_burst_ack, no_burst_fair}
 use Rattle.runs.proofs.Readers.{reading}
-use Rattle.runs.proofs.Together.{ToldIn}
-use Rattle.runs.proofs.LateTold.{ToldNext, told_tick, silent_told, one_told}
-use Rattle.runs.proofs.LateTicks.{SharedBy, no_end, Begun, LateTicks, ended, not_yet, in_step, overlaps}
+use Rattle.runs.proofs.LateTicks.{ReadyAfter, SharedBy, no_end, Begun, LateTicks, ended, not_yet, in_step, overlaps}
 use Rattle.runs.proofs.Behind.{both_in, enter_behind, enter_ends, overlap_run}
-use Rattle.runs.proofs.NoneOn.{NoneOn, none_tick, rests_none, first_line}
+use Rattle.runs.proofs.NoneOn.{NoneOn, rests_ready, none_tick, rests_none, first_line}
 use Rattle.runs.proofs.OneOn.{beside, OneOn, one_on, CameIn, BothOn, both_quiet, other_passes, both_on, any_step, fresh_came, passed_came}
 
 -- ---- where no frame is shared: one of the masters neither sends nor hears a frame
@@ -97,6 +96,21 @@ one_plain {p} {bit} {l} h = go h.phase
     go (no_burst_stx b next k w message q o) = subst Plain (sym q) (plain_character (get_or w k 0))
     go (no_burst_ack next k w message u q o) = subst Plain (sym q) (plain_character (get_or w k 0))
 
+-- ---- readers
+
+-- the other one's reader stands in no frame either
+one_ready : {p : Profile} (bit : Bool) (s : LinkStep) → OneOn p bit (link_after s) → Ready (other_step bit s).side.master.receiver → ReadyAfter s
+one_ready {p} bit s h r = go bit h.phase r
+  where
+    go : (b : Bool) → NoBurst p (beside b h.listener (link_after s)) → Ready (other_step b s).side.master.receiver → ReadyAfter s
+    go true (no_burst_silent e q o is) r = record { primary = λ z. o.primary.ready; secondary = λ z. r; devices = quiet_devices o.devices }
+    go false (no_burst_silent e q o is) r = record { primary = λ z. r; secondary = λ z. o.secondary.ready; devices = quiet_devices o.devices }
+    go b (no_burst_stx b' next k w message q o) r = on_character_lem (link_after s) q
+    go b (no_burst_ack next k w message u q o) r = on_character_lem (link_after s) q
+
+is_ready : {r : Receiver} → r ≡ passing → Ready r
+is_ready e = subst Ready (sym e) passing_ready
+
 -- ---- with both starts in tick 0 the run is that of the common start
 
 pub common_start : (limit : ℕ) (l : Link) (ticks : List Calls) → late_run limit 0 0 l ticks ≡ run limit l ticks
@@ -112,16 +126,16 @@ module _ (limit : ℕ) (low : 2 ≤ limit) (high : limit ≤ 255) (p : Profile) 
     late_ticks : LateTicks limit p retries 0 0 n ss
     begun : l.line ≡ Silence → Begun ss
 
-  yet : (s : LinkStep) (ss : List LinkStep) {n : ℕ} → NoTwoSend s → ToldIn s → (SharedBy s → ⊥) → Onward (senders s) (link_after s) ss → LateTicks limit p retries 0 0 n (s ∷ ss)
-  yet s ss one told unshared r = not_yet one told unshared (λ a b z. r.begun (none_line s z)) r.late_ticks
+  yet : (s : LinkStep) (ss : List LinkStep) {n : ℕ} → NoTwoSend s → ReadyAfter s → (SharedBy s → ⊥) → Onward (senders s) (link_after s) ss → LateTicks limit p retries 0 0 n (s ∷ ss)
+  yet s ss one ready unshared r = not_yet one ready unshared (λ a b z. r.begun (none_line s z)) r.late_ticks
 
   -- the other one has come in, or passes over a character
-  came : (bit : Bool) (s : LinkStep) (ss : List LinkStep) {n : ℕ} → ToldIn s → OneOn p bit (link_after s) → (other_step bit s).sent ≡ Silent → CameIn p (not bit) (other_step bit s).side
+  came : (bit : Bool) (s : LinkStep) (ss : List LinkStep) {n : ℕ} → OneOn p bit (link_after s) → (other_step bit s).sent ≡ Silent → CameIn p (not bit) (other_step bit s).side
       → (BothOn p (link_after s) → Onward (senders s) (link_after s) ss) → LateTicks limit p retries 0 0 n (s ∷ ss)
-  came bit s ss told one e x rec = yet s ss (one_sender s (one_plain one)) told (no_part bit s e (passes_unheard (one_plain one) x.passes)) (rec (both_on p v bit (link_after s) one (after_other bit s (CameIn p (not bit)) x)))
+  came bit s ss one e x rec = yet s ss (one_sender s (one_plain one)) (one_ready bit s one (is_ready x.passes.receiver_is)) (no_part bit s e (passes_unheard (one_plain one) x.passes)) (rec (both_on p v bit (link_after s) one (after_other bit s (CameIn p (not bit)) x)))
 
   other_passed : (bit : Bool) (l : Link) (c : Calls) {ch : ℕ} → l.line ≡ Character ch → MasterPasses p (not bit) nobody (other bit l) → PassesOn p (not bit) nobody (other bit l) (other_step bit (link_tick limit l c))
-  unfolding link_tick if◌then◌else◌
+  unfolding link_tick when◌then◌else◌
   other_passed true l c {ch} q x = subst (λ (z : Heard). PassesOn p false nobody l.secondary (master_tick limit l.secondary z c.for_secondary)) (sym q) (passes_on limit high p false nobody l.secondary ch c.for_secondary x)
   other_passed false l c {ch} q x = subst (λ (z : Heard). PassesOn p true nobody l.primary (master_tick limit l.primary z c.for_primary)) (sym q) (passes_on limit high p true nobody l.primary ch c.for_primary x)
 
@@ -137,7 +151,7 @@ module _ (limit : ℕ) (low : 2 ≤ limit) (high : limit ≤ 255) (p : Profile) 
       let s = link_tick limit l c in
       let t = other_passed bit l c q x in
       record {
-        late_ticks = came bit s (run limit (link_after s) cs) (told_tick limit l c (one_told limit p bit l h)) (one_ticks bit l c t.silent h f) t.silent (passed_came t) (λ b. both_run (link_after s) cs (senders s) (silent_none s) (settled_kept (link_kept limit retries low high l c kept)) b fs);
+        late_ticks = came bit s (run limit (link_after s) cs) (one_ticks bit l c t.silent h f) t.silent (passed_came t) (λ b. both_run (link_after s) cs (senders s) (silent_none s) (settled_kept (link_kept limit retries low high l c kept)) b fs);
         begun = λ e. absurd (character_silence (sym q ∙ e));
       }
   both_run l (c ∷ cs) n z kept (both_quiet q o) (tick_and f fs) =
@@ -151,11 +165,8 @@ module _ (limit : ℕ) (low : 2 ≤ limit) (high : limit ≤ 255) (p : Profile) 
       kept' : LinkKept limit retries (link_after (link_tick limit l c))
       kept' = settled_kept (link_kept limit retries low high l c kept)
 
-      told : ToldNext limit l
-      told = silent_told limit l q
-
       begins : Phase p 0 (link_after (link_tick limit l c)) → Onward n l (run limit l (c ∷ cs))
-      begins ph = record { late_ticks = in_step (enter_behind limit low high p v retries l c cs kept told ph (tick_and f fs)); begun = λ e o. enter_ends limit low high p v retries l c cs ph (tick_and f fs) }
+      begins ph = record { late_ticks = in_step (enter_behind limit low high p v retries l c cs kept ph (tick_and f fs)); begun = λ e o. enter_ends limit low high p v retries l c cs ph (tick_and f fs) }
 
       go : OutOfStepTick p l.primary l.secondary (link_tick limit l c).for_primary (link_tick limit l c).for_secondary (link_tick limit l c).for_devices
           → (BothOn p (link_after (link_tick limit l c)) → Onward (senders (link_tick limit l c)) (link_after (link_tick limit l c)) (run limit (link_after (link_tick limit l c)) cs)) → Onward n l (run limit l (c ∷ cs))
@@ -163,7 +174,7 @@ module _ (limit : ℕ) (low : 2 ≤ limit) (high : limit ≤ 255) (p : Profile) 
           let e = carries s a b d in
           record {
             late_ticks = yet s (run limit (link_after s) cs) (plain_tick s e plain_silence)
-                (told_tick limit l c told)
+                (record { primary = λ i. m.primary.ready; secondary = λ i. m.secondary.ready; devices = quiet_devices m.devices })
                 (no_part true s b (ready_unheard e m.secondary.listens m.secondary.ready)) (rec (both_quiet e m));
             begun = λ i o. absurd (omega (arith, o, silent_none s e));
           }
@@ -172,7 +183,7 @@ module _ (limit : ℕ) (low : 2 ≤ limit) (high : limit ≤ 255) (p : Profile) 
       go (alone (T.ack_begins w message u on a b d m ra rb)) rec = begins (N.ack_sent false nobody (next_after false true) 0 w message u on (carries s a b d) m)
       go (alone (T.back_begins i w message u a b d m ra rb)) rec = absurd (omega (arith, i))
       go (together w message w' message' a b d m) rec = record {
-        late_ticks = overlaps (z q) (both_in s a b d (told_tick limit l c told)) (overlap_run limit low high p v retries 0 w message w' message' (link_after s) cs kept' (carries s a b d) m fs);
+        late_ticks = overlaps (z q) (both_in s a b d) (overlap_run limit low high p v retries 0 w message w' message' (link_after s) cs kept' (carries s a b d) m fs);
         begun = λ i o. absurd (omega (arith, o, ap count a, ap count b));
       }
 
@@ -191,41 +202,44 @@ module _ (limit : ℕ) (low : 2 ≤ limit) (high : limit ≤ 255) (p : Profile) 
 
   -- ---- one master is on
 
+  start_ready : {primary : Bool} {x : MasterSide} → MasterStarts p primary retries x → Ready x.master.receiver
+  start_ready {primary} {x} m = is_ready (ap (λ (m : Master). m.receiver) (master_is p primary retries x.master m.starts))
+
   start_deaf : {primary : Bool} {x : MasterSide} → MasterStarts p primary retries x → x.master.deaf ≡ true
   start_deaf {primary} {x} m = ap (λ (m : Master). m.deaf) (master_is p primary retries x.master m.starts)
 
   -- the other one stays off
-  stays_off : (bit : Bool) (s : LinkStep) (ss : List LinkStep) (a b : ℕ) {n : ℕ} → ToldIn s → OneOn p bit (link_after s) → (other_step bit s).sent ≡ Silent → MasterStarts p (not bit) retries (other_step bit s).side → (a ≡ 0 → b ≡ 0 → ⊥)
+  stays_off : (bit : Bool) (s : LinkStep) (ss : List LinkStep) (a b : ℕ) {n : ℕ} → OneOn p bit (link_after s) → (other_step bit s).sent ≡ Silent → MasterStarts p (not bit) retries (other_step bit s).side → (a ≡ 0 → b ≡ 0 → ⊥)
       → LateTicks limit p retries (a - 1) (b - 1) (senders s) ss → LateTicks limit p retries a b n (s ∷ ss)
-  stays_off bit s ss a b told one e m f rest =
-      not_yet (one_sender s (one_plain one)) told
+  stays_off bit s ss a b one e m f rest =
+      not_yet (one_sender s (one_plain one)) (one_ready bit s one (start_ready m))
       (no_part bit s e (off_unheard (other_step bit s).side (link_after s).line (start_deaf m))) (λ x y. absurd (f x y)) rest
 
   primary_on : (b : ℕ) (l : Link) (ticks : List Calls) {n : ℕ} → LinkKept limit retries l → OneOn p true l → MasterStarts p false retries l.secondary → EachTick NoBurstIn (late_run limit 0 b l ticks)
       → LateTicks limit p retries 0 b n (late_run limit 0 b l ticks)
-  unfolding late_run late_tick if◌then◌else◌
+  unfolding late_run late_tick when◌then◌else◌
   primary_on b l [] kept h m off = ended
   primary_on zero l (c ∷ cs) kept h m (tick_and f fs) =
       let s = late_tick limit 0 0 l c in
       let t = fresh_master_lem limit high p false retries l.secondary l.line c.for_secondary m in
-      came true s (late_run limit 0 0 (link_after s) cs) (one_told limit p true l h c.for_devices) (one_on limit low high p v true l c s refl t.silent refl h f) t.silent (fresh_came t) (late_both s cs (late_kept 0 0 l c kept) fs)
+      came true s (late_run limit 0 0 (link_after s) cs) (one_on limit low high p v true l c s refl t.silent refl h f) t.silent (fresh_came t) (late_both s cs (late_kept 0 0 l c kept) fs)
   primary_on (suc b) l (c ∷ cs) kept h m (tick_and f fs) =
       let s = late_tick limit 0 (suc b) l c in
       let one = one_on limit low high p v true l c s refl refl refl h f in
-      stays_off true s (late_run limit 0 (suc b - 1) (link_after s) cs) 0 (suc b) (one_told limit p true l h c.for_devices) one refl m (λ x y. omega (arith, y)) (primary_on (suc b - 1) (link_after s) cs (late_kept 0 (suc b) l c kept) one m fs)
+      stays_off true s (late_run limit 0 (suc b - 1) (link_after s) cs) 0 (suc b) one refl m (λ x y. omega (arith, y)) (primary_on (suc b - 1) (link_after s) cs (late_kept 0 (suc b) l c kept) one m fs)
 
   secondary_on : (a : ℕ) (l : Link) (ticks : List Calls) {n : ℕ} → LinkKept limit retries l → OneOn p false l → MasterStarts p true retries l.primary → EachTick NoBurstIn (late_run limit a 0 l ticks)
       → LateTicks limit p retries a 0 n (late_run limit a 0 l ticks)
-  unfolding late_run late_tick if◌then◌else◌
+  unfolding late_run late_tick when◌then◌else◌
   secondary_on a l [] kept h m off = ended
   secondary_on zero l (c ∷ cs) kept h m (tick_and f fs) =
       let s = late_tick limit 0 0 l c in
       let t = fresh_master_lem limit high p true retries l.primary l.line c.for_primary m in
-      came false s (late_run limit 0 0 (link_after s) cs) (one_told limit p false l h c.for_devices) (one_on limit low high p v false l c s refl t.silent refl h f) t.silent (fresh_came t) (late_both s cs (late_kept 0 0 l c kept) fs)
+      came false s (late_run limit 0 0 (link_after s) cs) (one_on limit low high p v false l c s refl t.silent refl h f) t.silent (fresh_came t) (late_both s cs (late_kept 0 0 l c kept) fs)
   secondary_on (suc a) l (c ∷ cs) kept h m (tick_and f fs) =
       let s = late_tick limit (suc a) 0 l c in
       let one = one_on limit low high p v false l c s refl refl refl h f in
-      stays_off false s (late_run limit (suc a - 1) 0 (link_after s) cs) (suc a) 0 (one_told limit p false l h c.for_devices) one refl m (λ x y. omega (arith, x)) (secondary_on (suc a - 1) (link_after s) cs (late_kept (suc a) 0 l c kept) one m fs)
+      stays_off false s (late_run limit (suc a - 1) 0 (link_after s) cs) (suc a) 0 one refl m (λ x y. omega (arith, x)) (secondary_on (suc a - 1) (link_after s) cs (late_kept (suc a) 0 l c kept) one m fs)
 
   -- ---- no master is on
 
@@ -233,19 +247,19 @@ module _ (limit : ℕ) (low : 2 ≤ limit) (high : limit ≤ 255) (p : Profile) 
   free_start {primary} {x} s = ap (λ (m : Master). m.message.stage) (master_is p primary retries x.master s.starts)
 
   pub every_late_run : (a b : ℕ) (l : Link) (ticks : List Calls) {n : ℕ} → LinkKept limit retries l → MasterStarts p true retries l.primary → MasterStarts p false retries l.secondary → Distinct l.devices
-      → NoneOn limit p l.line l.devices → ToldNext limit l → EachTick NoBurstIn (late_run limit a b l ticks)
+      → NoneOn limit p l.line l.devices → EachTick NoBurstIn (late_run limit a b l ticks)
       → LateTicks limit p retries a b n (late_run limit a b l ticks)
-  unfolding late_run late_tick if◌then◌else◌
-  every_late_run a b l [] kept sa sb d z t off = ended
-  every_late_run (suc a) (suc b) l (c ∷ cs) kept sa sb d z t (tick_and f fs) =
+  unfolding late_run late_tick when◌then◌else◌
+  every_late_run a b l [] kept sa sb d z off = ended
+  every_late_run (suc a) (suc b) l (c ∷ cs) kept sa sb d z (tick_and f fs) =
       let s = late_tick limit (suc a) (suc b) l c in
       let q = none_tick limit p l.line c.for_devices z in
       let e = carries s refl refl (all_carried q) in
       not_yet {a = suc a} {b = suc b} (plain_tick s e plain_silence)
-      (t c.for_devices)
+      (record { primary = λ i. start_ready sa; secondary = λ i. start_ready sb; devices = rests_ready (all_sides q) })
       (no_part true s refl (off_unheard l.secondary (link_after s).line (start_deaf sb))) (λ x y. absurd (omega (arith, x)))
-      (every_late_run (suc a - 1) (suc b - 1) (link_after s) cs (late_kept (suc a) (suc b) l c kept) sa sb (all_distinct q d) (subst (λ (h : Heard). NoneOn limit p h (link_after s).devices) (sym e) (rests_none limit low high p v (all_sides q))) (silent_told limit (link_after s) e) fs)
-  every_late_run zero (suc b) l (c ∷ cs) kept sa sb d z t (tick_and f fs) =
+      (every_late_run (suc a - 1) (suc b - 1) (link_after s) cs (late_kept (suc a) (suc b) l c kept) sa sb (all_distinct q d) (subst (λ (h : Heard). NoneOn limit p h (link_after s).devices) (sym e) (rests_none limit low high p v (all_sides q))) fs)
+  every_late_run zero (suc b) l (c ∷ cs) kept sa sb d z (tick_and f fs) =
       let s = late_tick limit 0 (suc b) l c in
       let q = none_tick limit p l.line c.for_devices z in
       let fa = fresh_master_lem limit high p true retries l.primary l.line c.for_primary sa in
@@ -255,8 +269,8 @@ module _ (limit : ℕ) (low : 2 ≤ limit) (high : limit ≤ 255) (p : Profile) 
         phase = no_burst_silent p.rt1s (carries s fa.silent refl (all_carried q)) o (sym o.primary.noted_is ∙ fa.quiet.noted_is);
         free = (free_tick limit l.secondary l.line (free_start sb)).free;
       } in
-      stays_off true s (late_run limit 0 (suc b - 1) (link_after s) cs) 0 (suc b) (t c.for_devices) one refl sb (λ x y. omega (arith, y)) (primary_on (suc b - 1) (link_after s) cs (late_kept 0 (suc b) l c kept) one sb fs)
-  every_late_run (suc a) zero l (c ∷ cs) kept sa sb d z t (tick_and f fs) =
+      stays_off true s (late_run limit 0 (suc b - 1) (link_after s) cs) 0 (suc b) one refl sb (λ x y. omega (arith, y)) (primary_on (suc b - 1) (link_after s) cs (late_kept 0 (suc b) l c kept) one sb fs)
+  every_late_run (suc a) zero l (c ∷ cs) kept sa sb d z (tick_and f fs) =
       let s = late_tick limit (suc a) 0 l c in
       let q = none_tick limit p l.line c.for_devices z in
       let fb = fresh_master_lem limit high p false retries l.secondary l.line c.for_secondary sb in
@@ -266,13 +280,13 @@ module _ (limit : ℕ) (low : 2 ≤ limit) (high : limit ≤ 255) (p : Profile) 
         phase = no_burst_silent p.rt1s (carries s refl fb.silent (all_carried q)) o (sym o.secondary.noted_is ∙ fb.quiet.noted_is);
         free = (free_tick limit l.primary l.line (free_start sa)).free;
       } in
-      stays_off false s (late_run limit (suc a - 1) 0 (link_after s) cs) (suc a) 0 (t c.for_devices) one refl sa (λ x y. omega (arith, x)) (secondary_on (suc a - 1) (link_after s) cs (late_kept (suc a) 0 l c kept) one sa fs)
-  every_late_run zero zero l (c ∷ cs) kept sa sb d z t (tick_and f fs) =
+      stays_off false s (late_run limit (suc a - 1) 0 (link_after s) cs) (suc a) 0 one refl sa (λ x y. omega (arith, x)) (secondary_on (suc a - 1) (link_after s) cs (late_kept (suc a) 0 l c kept) one sa fs)
+  every_late_run zero zero l (c ∷ cs) kept sa sb d z (tick_and f fs) =
       let s = late_tick limit 0 0 l c in
       let q = none_tick limit p l.line c.for_devices z in
       let fa = fresh_master_lem limit high p true retries l.primary l.line c.for_primary sa in
       let fb = fresh_master_lem limit high p false retries l.secondary l.line c.for_secondary sb in
       let o = first_line limit high p v retries l.primary l.secondary l.line c.for_primary c.for_secondary sa sb d q in
       let e = carries s fa.silent fb.silent (all_carried q) in
-      yet s (late_run limit 0 0 (link_after s) cs) (plain_tick s e plain_silence) (t c.for_devices) (no_part true s fb.silent (ready_unheard e fb.quiet.listens fb.quiet.ready))
+      yet s (late_run limit 0 0 (link_after s) cs) (plain_tick s e plain_silence) (record { primary = λ i. fa.quiet.ready; secondary = λ i. fb.quiet.ready; devices = rests_ready (all_sides q) }) (no_part true s fb.silent (ready_unheard e fb.quiet.listens fb.quiet.ready))
       (late_both s cs (late_kept 0 0 l c kept) fs (both_quiet e (any_step o (sym o.primary.noted_is ∙ fa.quiet.noted_is))))

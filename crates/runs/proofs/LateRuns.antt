@@ -5,7 +5,7 @@ use mathlib.Core.Path.{◌≡◌, refl, sym, ap, subst, ◌∙◌}
 use mathlib.Core.Bool.{Bool, true, false}
 use mathlib.Core.List.{List, [], ◌∷◌, ◌++◌}
 use lib.ListN.{length, replicate, drop, length-drop}
-use Rattle.base.specs.Choice.{if◌then◌else◌}
+use Rattle.base.specs.Choice.{when◌then◌else◌}
 use Rattle.base.specs.Store.{stored}
 use Rattle.base.proofs.Choices.{true_false}
 use Rattle.frame.specs.Check.{xor_from}
@@ -63,36 +63,36 @@ late_lone_finds limit a b gs l (c ∷ cs) e =
 
 pub off : List DeviceSide → Bool
 off [] = true
-off (x ∷ xs) = if x.device.burst then false else off xs
+off (x ∷ xs) = when x.device.burst then false else off xs
 
 pub off_in : List LinkStep → Bool
 off_in [] = true
-off_in (s ∷ ss) = if off (sides s.for_devices) then off_in ss else false
+off_in (s ∷ ss) = when off (sides s.for_devices) then off_in ss else false
 
 all_off : (xs : List DeviceSide) → off xs ≡ true → All (λ (x : DeviceSide). x.device.burst ≡ true → ⊥) xs
-unfolding off if◌then◌else◌
+unfolding off when◌then◌else◌
 all_off [] e = none
 all_off (x ∷ xs) e = go x.device.burst refl e (λ q. all_off xs q)
   where
-    go : (b : Bool) → x.device.burst ≡ b → (if b then false else off xs) ≡ true → (off xs ≡ true → All (λ (y : DeviceSide). y.device.burst ≡ true → ⊥) xs) → All (λ (y : DeviceSide). y.device.burst ≡ true → ⊥) (x ∷ xs)
+    go : (b : Bool) → x.device.burst ≡ b → (when b then false else off xs) ≡ true → (off xs ≡ true → All (λ (y : DeviceSide). y.device.burst ≡ true → ⊥) xs) → All (λ (y : DeviceSide). y.device.burst ≡ true → ⊥) (x ∷ xs)
     go true q z rest = absurd (true_false (sym z))
     go false q z rest = and (λ on. true_false (sym on ∙ q)) (rest z)
 
 each_off : (ss : List LinkStep) → off_in ss ≡ true → EachTick NoneBurstsIn ss
-unfolding off_in if◌then◌else◌
+unfolding off_in when◌then◌else◌
 each_off [] e = no_tick
 each_off (s ∷ ss) e = go (off (sides s.for_devices)) refl e (λ q. each_off ss q)
   where
-    go : (b : Bool) → off (sides s.for_devices) ≡ b → (if b then off_in ss else false) ≡ true → (off_in ss ≡ true → EachTick NoneBurstsIn ss) → EachTick NoneBurstsIn (s ∷ ss)
+    go : (b : Bool) → off (sides s.for_devices) ≡ b → (when b then off_in ss else false) ≡ true → (off_in ss ≡ true → EachTick NoneBurstsIn ss) → EachTick NoneBurstsIn (s ∷ ss)
     go true q z rest = tick_and (all_off _ q) (rest z)
     go false q z rest = absurd (true_false (sym z))
 
 device_starts_lem : DeviceStarts short (record { device = fresh_device short 20 0 2; frame = replicate 284 0; bytes = replicate 255 0; contents = replicate 255 0 })
-unfolding if◌then◌else◌
+unfolding when◌then◌else◌
 device_starts_lem = record { preamble = 20; polling = 0; unique = 2; starts = refl; room = omega arith; content_room = omega arith }
 
 meets : (a b : ℕ) (ticks : List Calls) → off_in (late_run 2 a b link ticks) ≡ true → LatePremises 2 short 3 a b link ticks
-unfolding link blanks if◌then◌else◌
+unfolding link blanks when◌then◌else◌
 meets a b ticks e = record {
   made = short_taken;
   primary = record { starts = refl; room = omega arith };
@@ -113,11 +113,11 @@ equal = quiet ∷ (quiet ∷ (calls (request 20) (request 20) ∷ replicate 40 q
 
 -- both send in ticks 6 to 36, which is the longest overlap; the primary's retry begins in tick 41
 pub equal_run : (E.senders (late_run 2 2 0 link equal) ≡ replicate 6 0 ++ (replicate 31 3 ++ (replicate 4 0 ++ replicate 2 1))) × (off_in (late_run 2 2 0 link equal) ≡ true)
-unfolding off off_in equal E.senders E.devices_sent E.one short link request calls answers quiet late_run late_tick device_ticks sides carried master_tick device_tick requested requested_up_to master_takes master_sends device_takes device_sends answered content_given taken taken_data at_idle at_preamble at_first at_address at_expansion at_command at_count at_data at_check silent_inside write_buffer write_answer frame_bytes preamble_bytes body_bytes protected_bytes header_bytes xor_from delimiter_of stored if◌then◌else◌
+unfolding off off_in equal E.senders E.devices_sent E.one short link request calls answers quiet late_run late_tick device_ticks sides carried master_tick device_tick requested requested_up_to master_takes master_sends device_takes device_sends answered content_given taken taken_data at_idle at_preamble at_first at_address at_expansion at_command at_count at_data at_check silent_inside write_buffer write_answer frame_bytes preamble_bytes body_bytes protected_bytes header_bytes xor_from delimiter_of stored when◌then◌else◌
 equal_run = (refl, refl)
 
 pub equal_begins : BeginTogether (late_run 2 2 0 link equal) 6
-unfolding equal in_tick short link request calls answers quiet late_run late_tick device_ticks sides carried master_tick device_tick requested requested_up_to master_takes master_sends device_takes device_sends answered content_given taken taken_data at_idle at_preamble at_first at_address at_expansion at_command at_count at_data at_check silent_inside write_buffer write_answer frame_bytes preamble_bytes body_bytes protected_bytes header_bytes xor_from delimiter_of stored if◌then◌else◌
+unfolding equal in_tick short link request calls answers quiet late_run late_tick device_ticks sides carried master_tick device_tick requested requested_up_to master_takes master_sends device_takes device_sends answered content_given taken taken_data at_idle at_preamble at_first at_address at_expansion at_command at_count at_data at_check silent_inside write_buffer write_answer frame_bytes preamble_bytes body_bytes protected_bytes header_bytes xor_from delimiter_of stored when◌then◌else◌
 equal_begins = record { primary_sends = refl; secondary_sends = refl; primary_did_not = refl; secondary_did_not = refl }
 
 -- so they begin together in no other tick
@@ -131,7 +131,7 @@ unequal = quiet ∷ (quiet ∷ (calls (request 5) (request 7) ∷ replicate 30 q
 
 -- both send in ticks 6 to 21, the secondary alone to tick 23; the primary's retry begins RT1 behind that, in tick 28
 pub unequal_run : (E.senders (late_run 2 2 0 link unequal) ≡ replicate 6 0 ++ (replicate 16 3 ++ (replicate 2 2 ++ (replicate 4 0 ++ replicate 5 1)))) × (off_in (late_run 2 2 0 link unequal) ≡ true)
-unfolding off off_in unequal E.senders E.devices_sent E.one short link request calls answers quiet late_run late_tick device_ticks sides carried master_tick device_tick requested requested_up_to master_takes master_sends device_takes device_sends answered content_given taken taken_data at_idle at_preamble at_first at_address at_expansion at_command at_count at_data at_check silent_inside write_buffer write_answer frame_bytes preamble_bytes body_bytes protected_bytes header_bytes xor_from delimiter_of stored if◌then◌else◌
+unfolding off off_in unequal E.senders E.devices_sent E.one short link request calls answers quiet late_run late_tick device_ticks sides carried master_tick device_tick requested requested_up_to master_takes master_sends device_takes device_sends answered content_given taken taken_data at_idle at_preamble at_first at_address at_expansion at_command at_count at_data at_check silent_inside write_buffer write_answer frame_bytes preamble_bytes body_bytes protected_bytes header_bytes xor_from delimiter_of stored when◌then◌else◌
 unequal_run = (refl, refl)
 
 pub unequal_holds : LateStart 2 short 3 2 0 (late_run 2 2 0 link unequal)
@@ -148,7 +148,7 @@ fsk =
 
 -- both send in ticks 41 to 54; the retry goes out in ticks 88 to 101, the ACK in 103 to 121, and the secondary begins in tick 123
 pub fsk_run : E.senders (late_run 255 8 0 fresh fsk) ≡ replicate 41 0 ++ (replicate 14 3 ++ (replicate 33 0 ++ (replicate 14 1 ++ (0 ∷ (replicate 19 4 ++ (0 ∷ replicate 10 2))))))
-unfolding fsk fresh E.senders E.devices_sent E.one calls quiet late_run late_tick device_ticks sides carried master_tick device_tick requested requested_up_to master_takes master_sends device_takes device_sends answered content_given taken taken_data at_idle at_preamble at_first at_address at_expansion at_command at_count at_data at_check silent_inside write_buffer write_answer frame_bytes preamble_bytes body_bytes protected_bytes header_bytes xor_from delimiter_of stored if◌then◌else◌
+unfolding fsk fresh E.senders E.devices_sent E.one calls quiet late_run late_tick device_ticks sides carried master_tick device_tick requested requested_up_to master_takes master_sends device_takes device_sends answered content_given taken taken_data at_idle at_preamble at_first at_address at_expansion at_command at_count at_data at_check silent_inside write_buffer write_answer frame_bytes preamble_bytes body_bytes protected_bytes header_bytes xor_from delimiter_of stored when◌then◌else◌
 fsk_run = refl
 
 -- ---- starts during a frame; the primary starts in tick 0, is asked in it and sends in ticks 4 to 19
@@ -159,7 +159,7 @@ in_stx = calls (request 5) no_request ∷ (replicate 7 quiet ++ (calls no_reques
 
 -- it hears the ACK whole, in ticks 21 to 51, and begins in tick 53
 pub in_stx_run : (E.senders (late_run 2 0 8 link in_stx) ≡ replicate 4 0 ++ (replicate 16 1 ++ (0 ∷ (replicate 31 4 ++ (0 ∷ replicate 4 2))))) × (off_in (late_run 2 0 8 link in_stx) ≡ true)
-unfolding off off_in in_stx E.senders E.devices_sent E.one short link request calls answers quiet late_run late_tick device_ticks sides carried master_tick device_tick requested requested_up_to master_takes master_sends device_takes device_sends answered content_given taken taken_data at_idle at_preamble at_first at_address at_expansion at_command at_count at_data at_check silent_inside write_buffer write_answer frame_bytes preamble_bytes body_bytes protected_bytes header_bytes xor_from delimiter_of stored if◌then◌else◌
+unfolding off off_in in_stx E.senders E.devices_sent E.one short link request calls answers quiet late_run late_tick device_ticks sides carried master_tick device_tick requested requested_up_to master_takes master_sends device_takes device_sends answered content_given taken taken_data at_idle at_preamble at_first at_address at_expansion at_command at_count at_data at_check silent_inside write_buffer write_answer frame_bytes preamble_bytes body_bytes protected_bytes header_bytes xor_from delimiter_of stored when◌then◌else◌
 in_stx_run = (refl, refl)
 
 pub in_stx_holds : LateStart 2 short 3 0 8 (late_run 2 0 8 link in_stx)
@@ -174,7 +174,7 @@ unfolding older_device
 older_started = started_before refl (started_before refl (starts_now device_starts_lem) no_call) (gives_content 3 (0 ∷ 0 ∷ []))
 
 pub older_run : E.senders (late_run 2 0 8 (record { primary = link.primary; secondary = link.secondary; devices = older_device ∷ []; line = Silence }) in_stx) ≡ E.senders (late_run 2 0 8 link in_stx)
-unfolding in_stx older_device E.senders E.devices_sent E.one short link request calls answers quiet late_run late_tick device_ticks sides carried master_tick device_tick requested requested_up_to master_takes master_sends device_takes device_sends answered content_given taken taken_data at_idle at_preamble at_first at_address at_expansion at_command at_count at_data at_check silent_inside write_buffer write_answer frame_bytes preamble_bytes body_bytes protected_bytes header_bytes xor_from delimiter_of stored if◌then◌else◌
+unfolding in_stx older_device E.senders E.devices_sent E.one short link request calls answers quiet late_run late_tick device_ticks sides carried master_tick device_tick requested requested_up_to master_takes master_sends device_takes device_sends answered content_given taken taken_data at_idle at_preamble at_first at_address at_expansion at_command at_count at_data at_check silent_inside write_buffer write_answer frame_bytes preamble_bytes body_bytes protected_bytes header_bytes xor_from delimiter_of stored when◌then◌else◌
 older_run = refl
 
 -- the secondary starts in the middle of the ACK, in tick 30, and is asked then
@@ -183,7 +183,7 @@ in_ack = calls (request 5) no_request ∷ (replicate 19 quiet ++ (answers ∷ (r
 
 -- it passes over the ACK, and begins RT1 behind it, in tick 58
 pub in_ack_run : (E.senders (late_run 2 0 30 link in_ack) ≡ replicate 4 0 ++ (replicate 16 1 ++ (0 ∷ (replicate 31 4 ++ (replicate 6 0 ++ replicate 3 2))))) × (off_in (late_run 2 0 30 link in_ack) ≡ true)
-unfolding off off_in in_ack E.senders E.devices_sent E.one short link request calls answers quiet late_run late_tick device_ticks sides carried master_tick device_tick requested requested_up_to master_takes master_sends device_takes device_sends answered content_given taken taken_data at_idle at_preamble at_first at_address at_expansion at_command at_count at_data at_check silent_inside write_buffer write_answer frame_bytes preamble_bytes body_bytes protected_bytes header_bytes xor_from delimiter_of stored if◌then◌else◌
+unfolding off off_in in_ack E.senders E.devices_sent E.one short link request calls answers quiet late_run late_tick device_ticks sides carried master_tick device_tick requested requested_up_to master_takes master_sends device_takes device_sends answered content_given taken taken_data at_idle at_preamble at_first at_address at_expansion at_command at_count at_data at_check silent_inside write_buffer write_answer frame_bytes preamble_bytes body_bytes protected_bytes header_bytes xor_from delimiter_of stored when◌then◌else◌
 in_ack_run = (refl, refl)
 
 pub in_ack_holds : LateStart 2 short 3 0 30 (late_run 2 0 30 link in_ack)
@@ -255,7 +255,7 @@ claimed = quiet ∷ (quiet ∷ (calls (request 5) no_request ∷ (replicate 22 q
 -- the primary's STX goes out in ticks 6 to 21, and the secondary's request is taken
 claimed_run : (counts (late_run 2 2 0 link claimed) ≡ replicate 6 0 ++ (replicate 16 1 ++ drop 22 (counts (late_run 2 2 0 link claimed))))
     × (number_at (counts (late_run 2 2 0 link claimed)) 5 ≡ 0) × (number_at (counts (late_run 2 2 0 link claimed)) 22 ≡ 0) × (taken_in false (late_run 2 2 0 link claimed) 25 ≡ true) × (off_in (late_run 2 2 0 link claimed) ≡ true)
-unfolding claimed off off_in counts device_senders number_at taken_in is_taken short link request calls answers quiet late_run late_tick device_ticks sides carried master_tick device_tick requested requested_up_to master_takes master_sends device_takes device_sends answered content_given taken taken_data at_idle at_preamble at_first at_address at_expansion at_command at_count at_data at_check silent_inside write_buffer write_answer frame_bytes preamble_bytes body_bytes protected_bytes header_bytes xor_from delimiter_of stored if◌then◌else◌
+unfolding claimed off off_in counts device_senders number_at taken_in is_taken short link request calls answers quiet late_run late_tick device_ticks sides carried master_tick device_tick requested requested_up_to master_takes master_sends device_takes device_sends answered content_given taken taken_data at_idle at_preamble at_first at_address at_expansion at_command at_count at_data at_check silent_inside write_buffer write_answer frame_bytes preamble_bytes body_bytes protected_bytes header_bytes xor_from delimiter_of stored when◌then◌else◌
 claimed_run = (refl, refl, refl, refl, refl)
 
 claimed_long : length (late_run 2 2 0 link claimed) ≡ 216
@@ -319,7 +319,7 @@ pub early_run : (E.senders (late_run 2 0 37 link early)
     ++ (replicate 31 4
     ++ (0
     ∷ replicate 3 2))))))))))))))) × (off_in (late_run 2 0 37 link early) ≡ true)
-unfolding off off_in early E.senders E.devices_sent E.one short link request calls answers quiet late_run late_tick device_ticks sides carried master_tick device_tick requested requested_up_to master_takes master_sends device_takes device_sends answered content_given taken taken_data at_idle at_preamble at_first at_address at_expansion at_command at_count at_data at_check silent_inside write_buffer write_answer frame_bytes preamble_bytes body_bytes protected_bytes header_bytes xor_from delimiter_of stored if◌then◌else◌
+unfolding off off_in early E.senders E.devices_sent E.one short link request calls answers quiet late_run late_tick device_ticks sides carried master_tick device_tick requested requested_up_to master_takes master_sends device_takes device_sends answered content_given taken taken_data at_idle at_preamble at_first at_address at_expansion at_command at_count at_data at_check silent_inside write_buffer write_answer frame_bytes preamble_bytes body_bytes protected_bytes header_bytes xor_from delimiter_of stored when◌then◌else◌
 early_run = (refl, refl)
 
 pub early_holds : LateStart 2 short 3 0 37 (late_run 2 0 37 link early)
@@ -333,16 +333,16 @@ is_silent (Sent.Character c) = false
 silent_for : Bool → ℕ → List LinkStep → Bool
 silent_for bit zero ss = true
 silent_for bit (suc n) [] = true
-silent_for bit (suc n) (s ∷ ss) = if is_silent (master_in bit s).sent then silent_for bit n ss else false
+silent_for bit (suc n) (s ∷ ss) = when is_silent (master_in bit s).sent then silent_for bit n ss else false
 
 silent_late : (bit : Bool) (n : ℕ) (ss : List LinkStep) → silent_for bit (suc n) ss ≡ true → BeginsWithin bit n ss → ⊥
-unfolding silent_for is_silent if◌then◌else◌
-silent_late bit n (s ∷ ss) e (begins m c q) = true_false (sym e ∙ (λ i. if is_silent (q i) then silent_for bit n ss else false))
-silent_late bit (suc n) (s ∷ ss) e (waits q b) = silent_late bit n ss (sym (λ i. if is_silent (q i) then silent_for bit (suc n) ss else false) ∙ e) b
+unfolding silent_for is_silent when◌then◌else◌
+silent_late bit n (s ∷ ss) e (begins m c q) = true_false (sym e ∙ (λ i. when is_silent (q i) then silent_for bit n ss else false))
+silent_late bit (suc n) (s ∷ ss) e (waits q b) = silent_late bit n ss (sym (λ i. when is_silent (q i) then silent_for bit (suc n) ss else false) ∙ e) b
 silent_late bit n [] e x'' = elim x'' [ ]
 
 early_is : (taken_in false (late_run 2 0 37 link early) 37 ≡ true) × (silent_for false (suc (longest_wait 2 short 3)) (drop 37 (late_run 2 0 37 link early)) ≡ true)
-unfolding early taken_in is_taken silent_for is_silent short link request calls answers quiet late_run late_tick device_ticks sides carried master_tick device_tick requested requested_up_to master_takes master_sends device_takes device_sends answered content_given taken taken_data at_idle at_preamble at_first at_address at_expansion at_command at_count at_data at_check silent_inside write_buffer write_answer frame_bytes preamble_bytes body_bytes protected_bytes header_bytes xor_from delimiter_of stored if◌then◌else◌
+unfolding early taken_in is_taken silent_for is_silent short link request calls answers quiet late_run late_tick device_ticks sides carried master_tick device_tick requested requested_up_to master_takes master_sends device_takes device_sends answered content_given taken taken_data at_idle at_preamble at_first at_address at_expansion at_command at_count at_data at_check silent_inside write_buffer write_answer frame_bytes preamble_bytes body_bytes protected_bytes header_bytes xor_from delimiter_of stored when◌then◌else◌
 early_is = (refl, refl)
 
 pub early_accepted : TakenIn false (late_run 2 0 37 link early) 37

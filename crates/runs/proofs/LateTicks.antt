@@ -6,15 +6,18 @@ use mathlib.Core.Bool.{Bool, true, false}
 use mathlib.Core.List.{List, [], ◌∷◌}
 use lib.ListN.{length, drop}
 use Rattle.frame.specs.Limits.{longest_frame}
+use Rattle.line.specs.declared.Heard.TheVariants.{Silence}
 use Rattle.line.specs.declared.Profile.{Profile}
-use Rattle.turns.specs.Link.{LinkStep, link_after}
-use Rattle.turns.specs.Run.{count, device_senders, senders, EachTick, no_tick, tick_and, NoTwoSend}
+use Rattle.turns.specs.Link.{DeviceSide, LinkStep, link_after, sides}
+use Rattle.turns.specs.Run.{All, count, device_senders, senders, EachTick, no_tick, tick_and, NoTwoSend}
 use Rattle.turns.specs.Demand3.{master_in, AcceptedIn, BeginsWithin, longest_wait}
 use Rattle.turns.specs.Demand3 as D
 use Rattle.runs.specs.Late.{in_tick, master_sent_in, senders_in, BothSend, Shared}
 use Rattle.turns.specs.declared.Sent.{Sent}
+use Rattle.turns.proofs.Phases.{Ready}
+use Rattle.turns.proofs.Senders.{silent_none}
+use Rattle.runs.proofs.SoundPairs.{AllOutside}
 use Rattle.runs.proofs.Readers.{reading, told_in}
-use Rattle.runs.proofs.Together.{ToldIn}
 
 -- ---- what is said of a tick
 
@@ -23,8 +26,6 @@ pub record BothIn (s : LinkStep) : Type 0 where
   pub primary_sends : count s.for_primary.sent ≡ 1
   pub secondary_sends : count s.for_secondary.sent ≡ 1
   pub no_device : device_senders s.for_devices ≡ 0
-  -- all devices are told the same command 11, or none is told one
-  pub told : ToldIn s
 
 -- a frame ends that one master sent or hears whole and the other hears whole, by the masters' own readers
 abbrev pub SharedBy : LinkStep → Type 0
@@ -32,6 +33,20 @@ SharedBy s = Shared (count s.for_primary.sent) (count s.for_secondary.sent) (rea
 
 abbrev pub SharedIn : List LinkStep → ℕ → Type 0
 SharedIn steps t = Shared (master_sent_in true steps t) (master_sent_in false steps t) (told_in true steps t) (told_in false steps t)
+
+-- behind it, no reader stands inside a frame where the line is silent
+abbrev pub ReadyAfter : LinkStep → Type 0
+ReadyAfter s = AllOutside (link_after s).line s.for_primary.side s.for_secondary.side (sides s.for_devices)
+
+pub sent_ready : (s : LinkStep) → 1 ≤ senders s → ReadyAfter s
+sent_ready s z = record { primary = λ e. absurd (none e); secondary = λ e. absurd (none e); devices = each (sides s.for_devices) }
+  where
+    none : (link_after s).line ≡ Silence → ⊥
+    none e = omega (arith, z, silent_none s e)
+
+    each : (xs : List DeviceSide) → All (λ (x : DeviceSide). (link_after s).line ≡ Silence → Ready x.device.receiver) xs
+    each [] = All.none
+    each (x ∷ xs) = All.and (λ e. absurd (none e)) (each xs)
 
 -- ---- ends of frames
 
@@ -124,7 +139,7 @@ pub record Behind (limit : ℕ) (p : Profile) (retries : ℕ) (ss : List LinkSte
   pub alone : EachTick NoTwoSend ss
   pub waits : AllWait limit p retries ss
   pub framed : Framed ss
-  pub told : EachTick ToldIn ss
+  pub ready : EachTick ReadyAfter ss
 
 -- behind k + 1 ticks of the overlap
 pub data Overlapping (limit : ℕ) (p : Profile) (retries : ℕ) : ℕ → List LinkStep → Type 0 where
@@ -134,7 +149,7 @@ pub data Overlapping (limit : ℕ) (p : Profile) (retries : ℕ) : ℕ → List 
 -- the primary starts in a ticks, the secondary in b; n parties sent in the tick before
 pub data LateTicks (limit : ℕ) (p : Profile) (retries : ℕ) : ℕ → ℕ → ℕ → List LinkStep → Type 0 where
   ended : {a b n : ℕ} → LateTicks limit p retries a b n []
-  not_yet : {a b n : ℕ} {s : LinkStep} {ss : List LinkStep} → NoTwoSend s → ToldIn s → (SharedBy s → ⊥) → (a ≡ 0 → b ≡ 0 → senders s ≡ 0 → Begun ss) → LateTicks limit p retries (a - 1) (b - 1) (senders s) ss
+  not_yet : {a b n : ℕ} {s : LinkStep} {ss : List LinkStep} → NoTwoSend s → ReadyAfter s → (SharedBy s → ⊥) → (a ≡ 0 → b ≡ 0 → senders s ≡ 0 → Begun ss) → LateTicks limit p retries (a - 1) (b - 1) (senders s) ss
       → LateTicks limit p retries a b n (s ∷ ss)
   in_step : {a b n : ℕ} {ss : List LinkStep} → Behind limit p retries ss → LateTicks limit p retries a b n ss
   overlaps : {a b n : ℕ} {s : LinkStep} {ss : List LinkStep} → n ≡ 0 → BothIn s → Overlapping limit p retries 0 ss → LateTicks limit p retries a b n (s ∷ ss)
@@ -227,8 +242,8 @@ module _ {limit : ℕ} {p : Profile} {retries : ℕ} where
   pub two_send : {a b n : ℕ} {ss : List LinkStep} → LateTicks limit p retries a b n ss → (x y : ℕ) → x + y ≤ n → (t : ℕ) → 2 ≤ senders_in ss t → OverlapFrom limit x y ss t
   unfolding in_tick
   two_send ended x y few t z = absurd (omega (arith, z))
-  two_send (not_yet one told not begun c) x y few zero z = absurd (omega (arith, one, z))
-  two_send (not_yet {s = s} {ss} one told not begun c) x y few (suc t) z = let o = two_send c (count s.for_primary.sent) (count s.for_secondary.sent) (omega arith) t z in
+  two_send (not_yet one r not begun c) x y few zero z = absurd (omega (arith, one, z))
+  two_send (not_yet {s = s} {ss} one r not begun c) x y few (suc t) z = let o = two_send c (count s.for_primary.sent) (count s.for_secondary.sent) (omega arith) t z in
       record { first = suc o.first; begins = further o.first o.begins; from_first = omega (arith, o.from_first); since = later o.first o.since; in_a_frame = omega (arith, o.in_a_frame) }
     where
       later : (i : ℕ) → ((u : ℕ) → i ≤ u → u ≤ t → BothSend ss u) → (u : ℕ) → suc i ≤ u → u ≤ suc t → BothSend (s ∷ ss) u
@@ -252,7 +267,7 @@ module _ {limit : ℕ} {p : Profile} {retries : ℕ} where
     where
       none : (t : ℕ) → BeginFrom x y [] t → ⊥
       none t z = omega (arith, z.primary_sends)
-  at_most_one (not_yet {s = s} {ss} one told not begun c) x y = let o = at_most_one c (count s.for_primary.sent) (count s.for_secondary.sent) in record { at = suc o.at; is = by o }
+  at_most_one (not_yet {s = s} {ss} one r not begun c) x y = let o = at_most_one c (count s.for_primary.sent) (count s.for_secondary.sent) in record { at = suc o.at; is = by o }
     where
       by : (o : Only (count s.for_primary.sent) (count s.for_secondary.sent) ss) (t : ℕ) → BeginFrom x y (s ∷ ss) t → t ≡ suc o.at
       by o zero z = absurd (omega (arith, one, z.primary_sends, z.secondary_sends))
@@ -273,7 +288,7 @@ module _ {limit : ℕ} {p : Profile} {retries : ℕ} where
   pub in_time : {a b n : ℕ} {ss : List LinkStep} → LateTicks limit p retries a b n ss → (bit : Bool) (t : ℕ) (s : LinkStep) (after : List LinkStep) → drop t ss ≡ s ∷ after → ClaimedIn ss t → InTime limit p retries bit s after
   unfolding in_tick told_in
   in_time ended bit t s after q z = absurd (none_behind t q)
-  in_time (not_yet {s = h} {ss} one told not begun c) bit t s after q z = by t q z (λ i. in_time c bit i s after)
+  in_time (not_yet {s = h} {ss} one r not begun c) bit t s after q z = by t q z (λ i. in_time c bit i s after)
     where
       -- the tick in front is none of those
       nearer_claim : (t : ℕ) → ClaimedIn (h ∷ ss) (suc t) → ClaimedIn ss t
@@ -302,20 +317,20 @@ module _ {limit : ℕ} {p : Profile} {retries : ℕ} where
   pub framed_in : {a b n : ℕ} {ss : List LinkStep} → LateTicks limit p retries a b n ss → (u t : ℕ) → a ≤ u → b ≤ u → senders_in ss u ≡ 0 → senders_in ss (suc u) ≡ 1 → u < t → Ending ss t → SharedIn ss t
   unfolding in_tick told_in
   framed_in ended u t c d z o less e = absurd (omega (arith, e.in_the_run))
-  framed_in (not_yet one told not begun c) u zero d f z o less e = absurd (omega (arith, less))
-  framed_in (not_yet one told not begun c) zero (suc t) d f z o less e = ends_at (begun (omega (arith, d)) (omega (arith, f)) z o) t (nearer_ending e)
-  framed_in (not_yet one told not begun c) (suc u) (suc t) d f z o less e = framed_in c u t (omega (arith, d)) (omega (arith, f)) z o (omega (arith, less)) (nearer_ending e)
+  framed_in (not_yet one r not begun c) u zero d f z o less e = absurd (omega (arith, less))
+  framed_in (not_yet one r not begun c) zero (suc t) d f z o less e = ends_at (begun (omega (arith, d)) (omega (arith, f)) z o) t (nearer_ending e)
+  framed_in (not_yet one r not begun c) (suc u) (suc t) d f z o less e = framed_in c u t (omega (arith, d)) (omega (arith, f)) z o (omega (arith, less)) (nearer_ending e)
   framed_in (in_step b) u t c d z o less e = framed_at b.framed u t z o less e
   framed_in (overlaps n b q) u t c d z o less e = framed_at (sent_framed (omega (arith, b.primary_sends)) (overlapping_framed q)) u t z o less e
 
-  -- ---- what the devices are told
+  -- ---- readers
 
-  overlapping_told : {k : ℕ} {ss : List LinkStep} → Overlapping limit p retries k ss → EachTick ToldIn ss
-  overlapping_told (has_ended b) = b.told
-  overlapping_told (goes_on b less o) = tick_and b.told (overlapping_told o)
+  overlapping_ready : {k : ℕ} {ss : List LinkStep} → Overlapping limit p retries k ss → EachTick ReadyAfter ss
+  overlapping_ready (has_ended b) = b.ready
+  overlapping_ready (goes_on {s = s} b less o) = tick_and (sent_ready s (omega (arith, b.primary_sends))) (overlapping_ready o)
 
-  pub told_in_lem : {a b n : ℕ} {ss : List LinkStep} → LateTicks limit p retries a b n ss → EachTick ToldIn ss
-  told_in_lem ended = no_tick
-  told_in_lem (not_yet one told not begun c) = tick_and told (told_in_lem c)
-  told_in_lem (in_step b) = b.told
-  told_in_lem (overlaps n b o) = tick_and b.told (overlapping_told o)
+  pub ready_in : {a b n : ℕ} {ss : List LinkStep} → LateTicks limit p retries a b n ss → EachTick ReadyAfter ss
+  ready_in ended = no_tick
+  ready_in (not_yet one r not begun c) = tick_and r (ready_in c)
+  ready_in (in_step b) = b.ready
+  ready_in (overlaps {s = s} n b o) = tick_and (sent_ready s (omega (arith, b.primary_sends))) (overlapping_ready o)

@@ -9,7 +9,6 @@ pub mod Behind
 pub mod Booked
 pub mod NoBurst
 pub mod LateTicks
-pub mod LateTold
 pub mod Credit
 pub mod CreditDevices
 pub mod CreditMasters
@@ -53,4 +52,6 @@ pub mod WaitSides
 pub mod WaitSoon
 pub mod Waits
 pub mod SoundPairs
+pub mod SoundTicks
+pub mod SoundStarts
 pub mod SoundScenes

@@ -5,7 +5,7 @@ use mathlib.Core.Path.{◌≡◌, refl, sym, ap, subst, ◌∙◌}
 use mathlib.Core.Bool.{Bool, true, false}
 use mathlib.Core.List.{List}
 use lib.ListN.{get_or}
-use Rattle.base.specs.Choice.{if◌then◌else◌, ◌=?◌}
+use Rattle.base.specs.Choice.{when◌then◌else◌, ◌=?◌}
 use Rattle.base.proofs.Choices.{true_false}
 use Rattle.frame.specs.Delimiter.{ack, back}
 use Rattle.frame.specs.declared.Header.{Header}
@@ -80,14 +80,14 @@ sender_off {p = p} {f = f} {k = k} {w = w} {message = message} {u = u} true {R =
 
 -- an ACK that leaves BURST clear notes nobody
 same_noted : (noted : Noted) (h : Header) → burst_after false noted h ≡ false → noted_after noted h ≡ noted
-unfolding if◌then◌else◌
+unfolding when◌then◌else◌
 same_noted noted h e = go (h.kind =? back) (h.kind =? ack) h.burst (names_device h) refl refl refl refl
   where
     B : Bool → Bool → Bool → Bool → Bool
-    B a b c d = if a then true else if b then (if c then true else if d then (if Rattle.turns.specs.Master.is_noted noted h then false else false) else false) else false
+    B a b c d = when a then true else when b then (when c then true else when d then (when Rattle.turns.specs.Master.is_noted noted h then false else false) else false) else false
 
     M : Bool → Bool → Bool → Bool → Noted
-    M a b c d = if a then Rattle.turns.specs.Master.noted_from h else if b then (if c then (if d then Rattle.turns.specs.Master.noted_from h else noted) else noted) else noted
+    M a b c d = when a then Rattle.turns.specs.Master.noted_from h else when b then (when c then (when d then Rattle.turns.specs.Master.noted_from h else noted) else noted) else noted
 
     go : (a b c d : Bool) → (h.kind =? back) ≡ a → (h.kind =? ack) ≡ b → h.burst ≡ c → names_device h ≡ d → noted_after noted h ≡ noted
     go a b c d ea eb ec ed = (λ i. M (ea i) (eb i) (ec i) (ed i)) ∙ by a b c d ((λ i. B (sym ea i) (sym eb i) (sym ec i) (sym ed i)) ∙ e)
@@ -116,13 +116,13 @@ silence_noted limit small p primary burst noted x call q e = let m = master_sile
 -- the silent line behind an STX
 clear_noted : (p : Profile) (v : Valid p) (bit : Bool) (s : LinkStep) {next : Bool} {h : Header} (x : StxEnded p (not bit) bit false nobody next h (other_step bit s).side (waiter_step bit s).side (sides s.for_devices))
     → (clear_after p v bit s x).noted ≡ nobody
-unfolding if◌then◌else◌
+unfolding when◌then◌else◌
 clear_noted p v true s x = sym (clear_after p v true s x).primary.noted_is ∙ x.listener.noted_is
 clear_noted p v false s x = sym (clear_after p v false s x).primary.noted_is ∙ x.sender.noted_is
 
 module _ (limit : ℕ) (low : 2 ≤ limit) (high : limit ≤ 255) (p : Profile) (v : Valid p) (l : Link) (c : Calls) where
   behind_silence : (e : ℕ) (o : ClearLine p e l.primary l.secondary l.devices) → o.noted ≡ nobody → NoBurstIn (heard_tick limit l Silence c) → NoBurst p (link_after (heard_tick limit l Silence c))
-  unfolding heard_tick if◌then◌else◌
+  unfolding heard_tick when◌then◌else◌
   behind_silence e o is off =
       go (subst (λ (n : Noted). SilentTick p 0 false n true l.primary l.secondary s.for_primary s.for_secondary s.for_devices (ClearLine p (e - 1) s.for_primary.side s.for_secondary.side (sides s.for_devices))) is
       (clear_tick limit low high p v l.primary l.secondary l.devices c.for_primary c.for_secondary c.for_devices e o (no_burst_fair off)))

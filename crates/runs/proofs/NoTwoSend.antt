@@ -5,7 +5,7 @@ use mathlib.Core.Path.{◌≡◌, sym, ap, subst, ◌∙◌}
 use mathlib.Core.Bool.{Bool, true, false}
 use mathlib.Core.List.{List, [], ◌∷◌}
 use lib.ListN.{get_or}
-use Rattle.base.specs.Choice.{if◌then◌else◌}
+use Rattle.base.specs.Choice.{when◌then◌else◌}
 use Rattle.base.proofs.Choices.{true_false}
 use Rattle.frame.specs.declared.Header.{Header}
 use Rattle.line.specs.declared.Heard.{Heard}
@@ -48,7 +48,7 @@ pub data Phase (p : Profile) (e : ℕ) (l : Link) : Type 0 where
 
 -- behind an STX its sender awaits the ACK
 primary_awaits : (p : Profile) → Valid p → (e : ℕ) {burst : Bool} {noted : Noted} {next : Bool} {h : Header} {a b : MasterSide} {xs : List DeviceSide} → StxEnded p true false burst noted next h a b xs → Awaits p e burst next h p.sto a b
-unfolding if◌then◌else◌
+unfolding when◌then◌else◌
 primary_awaits p v e x = record {
   asked = record {
     by_primary = λ z q. omega (arith, x.sender_left, v.sto_short);
@@ -64,7 +64,7 @@ primary_awaits p v e x = record {
 }
 
 secondary_awaits : (p : Profile) → Valid p → (e : ℕ) {burst : Bool} {noted : Noted} {next : Bool} {h : Header} {a b : MasterSide} {xs : List DeviceSide} → StxEnded p false true burst noted next h b a xs → Awaits p e burst next h p.sto a b
-unfolding if◌then◌else◌
+unfolding when◌then◌else◌
 secondary_awaits p v e x = record {
   asked = record {
     by_primary = λ z q. absurd (true_false (sym q ∙ x.bit_is));
@@ -113,7 +113,7 @@ module _ (p : Profile) (v : Valid p) (e : ℕ) (s : LinkStep) where
   behind_set {n} {burst} {noted} {next} (T.primary_begins w message a b c o ra rb) = primary_sends burst noted next 0 w message (carries s a b c) o
   behind_set {n} {burst} {noted} {next} (T.secondary_begins w message a b c o ra rb) = secondary_sends burst noted next 0 w message (carries s a b c) o
   behind_set {n} {burst} {noted} {next} (T.ack_begins w message u on a b c o ra rb) = ack_sent burst noted (next_after burst next) 0 w message u on (carries s a b c) o
-  behind_set {n} {burst} {noted} {next} (T.back_begins z w message u a b c o ra rb) = back_sent burst noted (if next then false else true) 0 w message u (carries s a b c) o
+  behind_set {n} {burst} {noted} {next} (T.back_begins z w message u a b c o ra rb) = back_sent burst noted (when next then false else true) 0 w message u (carries s a b c) o
 
   behind_primary : {burst : Bool} {noted : Noted} {next : Bool} {k : ℕ} {w : List ℕ} {message : Whole} {a b : MasterSide} → StxTick p true false burst noted next k w message a b s.for_primary s.for_secondary s.for_devices → Phase p e (link_after s)
   behind_primary {burst} {noted} {next} {k} {w} {message} (X.goes_on m a b c o n y) = primary_sends burst noted next (suc k) w message (carries s a b c) o
@@ -130,7 +130,7 @@ module _ (p : Profile) (v : Valid p) (e : ℕ) (s : LinkStep) where
   behind_ack_lem : {burst : Bool} {noted : Noted} {next : Bool} {k : ℕ} {w : List ℕ} {message : Whole} {u : ℕ} {on : Bool} {a b : MasterSide} → AckTick p e burst noted next k w message u on a b s.for_primary s.for_secondary s.for_devices → Phase p e (link_after s)
   behind_ack_lem {burst} {noted} {next} {k} {w} {message} {u} {on} (A.ack_goes_on m a b c o x y) = ack_sent burst noted next (suc k) w message u on (carries s a b c) o
   behind_ack_lem (A.ack_ends m f a b c l x y) = behind_ended (carries s a b c) l
-  behind_ack_lem {next = next} {u = u} (A.back_follows_it m f who w message a b c o x y) = back_sent true who (if next then false else true) 0 w message u (carries s a b c) o
+  behind_ack_lem {next = next} {u = u} (A.back_follows_it m f who w message a b c o x y) = back_sent true who (when next then false else true) 0 w message u (carries s a b c) o
 
   behind_back : {burst : Bool} {noted : Noted} {next : Bool} {k : ℕ} {w : List ℕ} {message : Whole} {u : ℕ} {a b : MasterSide} → BackTick p burst noted next k w message u a b s.for_primary s.for_secondary s.for_devices → Phase p e (link_after s)
   behind_back {burst} {noted} {next} {k} {w} {message} {u} (A.back_goes_on m a b c o x y) = back_sent burst noted next (suc k) w message u (carries s a b c) o

@@ -20,7 +20,7 @@ use Rattle.runs.proofs.Fair.{answering}
 use Rattle.turns.proofs.Windows.{Valid}
 use Rattle.turns.proofs.Listening.{hand_listens}
 use Rattle.turns.proofs.Lists.{Quietly, AllQuiet, all_quiet, all_sides, all_distinct}
-use Rattle.turns.proofs.Phases.{Agreed, BurstIs, DeviceQuiet}
+use Rattle.turns.proofs.Phases.{Agreed, BurstIs, DeviceQuiet, Ready}
 use Rattle.runs.proofs.Beginning.{DeviceDoes, does_rest, does_answer, does_burst, device_does}
 use Rattle.turns.proofs.Quiet.{ClearLine, behind_break_clear}
 use Rattle.turns.proofs.Fresh.{device_is, fresh_device_lem, fresh_master_lem}
@@ -79,6 +79,10 @@ rests_none limit low high p v (and {x = x} r rs) = and (λ call. rests_on limit 
 
 pub none_tick : (limit : ℕ) (p : Profile) (line : Heard) {xs : List DeviceSide} (cs : List DeviceCall) → NoneOn limit p line xs → AllQuiet (Rests p) xs (device_ticks limit line xs cs)
 none_tick limit p line cs all = all_quiet limit line cs (λ x c q. q c) all
+
+pub rests_ready : {p : Profile} {heard : Heard} {xs : List DeviceSide} → All (Rests p) xs → All (λ (x : DeviceSide). heard ≡ Silence → Ready x.device.receiver) xs
+rests_ready none = none
+rests_ready (and r rs) = and (λ e. r.quiet.ready) (rests_ready rs)
 
 rests_agreed : {p : Profile} {xs : List DeviceSide} → All (Rests p) xs → Agreed false nobody true xs
 rests_agreed rs = record { each = each rs; one_bursts = λ z. absurd (true_false (sym z)) }

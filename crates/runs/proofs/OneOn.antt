@@ -5,7 +5,7 @@ use mathlib.Core.Path.{◌≡◌, sym, ap, subst, ◌∙◌}
 use mathlib.Core.Bool.{Bool, true, false}
 use mathlib.Core.List.{List}
 use lib.ListN.{get_or}
-use Rattle.base.specs.Choice.{if◌then◌else◌}
+use Rattle.base.specs.Choice.{when◌then◌else◌}
 use Rattle.line.specs.declared.Heard.TheVariants.{Silence, Character}
 use Rattle.line.specs.declared.Profile.{Profile}
 use Rattle.turns.specs.Link.{MasterCall, no_request, MasterSide, MasterStep, DeviceSide, DeviceStep, Link, LinkStep, Calls, master_tick, device_ticks, link_tick, link_after, sides, carried, joins}
@@ -103,7 +103,7 @@ any_step {p} {e} {a} {b} {xs} o is = record {
 
 -- the one that came in takes the place of the one that was asked nothing: its window opens RT1 from now, behind the time for an answer
 secondary_in : {p : Profile} → Valid p → {a g b : MasterSide} {xs : List DeviceSide} (o : OutOfStep p a g xs) → o.g ≤ p.sto → g.master.message.stage ≡ Free → CameIn p false b → OutOfStep p a b xs
-unfolding if◌then◌else◌
+unfolding when◌then◌else◌
 secondary_in v o short free x = record {
   g = o.g;
   h = o.h;
@@ -123,7 +123,7 @@ secondary_in v o short free x = record {
 }
 
 primary_in : {p : Profile} → Valid p → {a g b : MasterSide} {xs : List DeviceSide} (o : OutOfStep p g b xs) → o.g ≤ p.sto → g.master.message.stage ≡ Free → CameIn p true a → OutOfStep p a b xs
-unfolding if◌then◌else◌
+unfolding when◌then◌else◌
 primary_in v o short free x = record {
   g = o.g;
   h = o.h;
@@ -144,7 +144,7 @@ primary_in v o short free x = record {
 
 came_in : (p : Profile) → Valid p → (bit : Bool) (l : Link) (h : OneOn p bit l) {e : ℕ} (o : ClearLine p e (beside bit h.listener l).primary (beside bit h.listener l).secondary l.devices) → o.noted ≡ nobody
     → CameIn p (not bit) (other bit l) → OutOfStep p l.primary l.secondary l.devices
-unfolding if◌then◌else◌ any_step
+unfolding when◌then◌else◌ any_step
 came_in p v true l h o is x = secondary_in v (any_step o is) o.short h.free x
 came_in p v false l h o is x = primary_in v (any_step o is) o.short h.free x
 

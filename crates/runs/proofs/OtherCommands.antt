@@ -7,7 +7,7 @@ use mathlib.Core.List.{List, [], ◌∷◌}
 use lib.ListN.{length, get_or}
 use borrow.Author.Tests.{ne_eqb}
 use Rattle.base.specs.Refusal.{Called}
-use Rattle.base.specs.Choice.{if◌then◌else◌, ◌≤?◌, ◌=?◌, ◌<?◌, ◌outside◌to◌}
+use Rattle.base.specs.Choice.{when◌then◌else◌, ◌≤?◌, ◌=?◌, ◌<?◌, ◌outside◌to◌}
 use Rattle.frame.specs.Address.{byte_at, address_above}
 use Rattle.frame.specs.Frame.{frame_bytes}
 use Rattle.frame.specs.Limits.{fewest_preambles, most_preambles}
@@ -207,10 +207,10 @@ plain_found (is_told h) = refl
 plain_found (is_given h) = h
 
 none_found : {gs : List Ledger} → AllPlain gs → finders gs ≡ 0
-unfolding finders if◌then◌else◌
+unfolding finders when◌then◌else◌
 none_found none_more = refl
 none_found (plain_and {g} {gs} q qs) =
-    let not_it : ◌≡◌ {A = ℕ} (if found g then 1 else 0) 0 = ap (λ (b : Bool). if b then 1 else 0) (plain_found q) in
+    let not_it : ◌≡◌ {A = ℕ} (when found g then 1 else 0) 0 = ap (λ (b : Bool). when b then 1 else 0) (plain_found q) in
     omega (arith, not_it, none_found qs)
 
 blanks_plain : (xs : List DeviceSide) → AllPlain (blanks xs)

@@ -6,7 +6,7 @@ use mathlib.Core.Bool.{Bool, true, false}
 use mathlib.Core.List.{List}
 use mathlib.Core.Logic.{◌⊎◌, inl, inr}
 use lib.ListN.{length, get_or}
-use Rattle.base.specs.Choice.{if◌then◌else◌}
+use Rattle.base.specs.Choice.{when◌then◌else◌}
 use Rattle.base.proofs.Choices.{true_false}
 use Rattle.frame.specs.declared.Header.{Header}
 use Rattle.line.specs.Reader.{idle, passing}
@@ -44,7 +44,7 @@ pub record SpokeOut (p : Profile) (primary : Bool) (x : MasterSide) (step : Mast
   pub header_is : step.side.master.message.header ≡ x.master.message.header
 
 some_rt1 : (p : Profile) → Valid p → (primary : Bool) → 1 ≤ rt1_of p primary
-unfolding if◌then◌else◌
+unfolding when◌then◌else◌
 some_rt1 p v true = omega (arith, v.rt2_short)
 some_rt1 p v false = omega (arith, v.rt2_short, v.secondary)
 
@@ -144,7 +144,7 @@ pub both_tick : (limit : ℕ) → 2 ≤ limit → (high : limit ≤ 255) → (p 
     → (k : ℕ) (w : List ℕ) (message : Whole) (w' : List ℕ) (message' : Whole) (a b : MasterSide) (xs : List DeviceSide) (ca cb : MasterCall) (cs : List DeviceCall)
     → BothSpeak p k w message w' message' a b xs
     → BothTick p k w message w' message' a b (master_tick limit a (Damaged 0x00 Framing) ca) (master_tick limit b (Damaged 0x00 Framing) cb) (device_ticks limit (Damaged 0x00 Framing) xs cs)
-unfolding if◌then◌else◌
+unfolding when◌then◌else◌
 both_tick limit low high p v k w message w' message' a b xs ca cb cs o = go o.primary.place o.secondary.place
   where
     heard : Heard

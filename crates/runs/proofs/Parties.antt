@@ -6,7 +6,7 @@ use mathlib.Core.Bool.{Bool, true, false}
 use mathlib.Core.List.{List, [], ◌∷◌}
 use mathlib.Core.Logic.{◌⊎◌, inl, inr}
 use lib.ListN.{length}
-use Rattle.base.specs.Choice.{if◌then◌else◌}
+use Rattle.base.specs.Choice.{when◌then◌else◌}
 use Rattle.base.proofs.Choices.{true_false, if_is_true, if_is_false}
 use Rattle.line.specs.Gaps.{IsCharacter, is_sound, is_with_damage}
 use Rattle.line.specs.Reader.{passing, tells, taken}
@@ -39,7 +39,7 @@ pub record Party : Type 0 where
 
 -- its reader after the next tick, where it sends nothing in it
 abbrev pub reader_next : Party → Heard → Receiver
-reader_next v heard = (if v.deaf then tells v.reader Nothing else taken v.reader heard).receiver
+reader_next v heard = (when v.deaf then tells v.reader Nothing else taken v.reader heard).receiver
 
 -- it has sent a character
 pub record Spoke (u : Party) : Type 0 where

@@ -8,7 +8,7 @@ use lib.ListN.{length, drop}
 use lib.Seq.{drop-cons}
 use borrow.Author.Tests.{eq-eqb}
 use Rattle.base.specs.Refusal.{Called}
-use Rattle.base.specs.Choice.{if◌then◌else◌, ◌<?◌, ◌=?◌, ◌outside◌to◌}
+use Rattle.base.specs.Choice.{when◌then◌else◌, ◌<?◌, ◌=?◌, ◌outside◌to◌}
 use Rattle.base.proofs.Choices.{true_false, if_is_true, if_is_false}
 use Rattle.frame.specs.Delimiter.{stx}
 use Rattle.line.specs.Gaps.{IsCharacter, is_sound, is_with_damage}
@@ -210,8 +210,8 @@ module _ (limit : ℕ) (t : DeviceTaken) (frame bytes contents : List ℕ) (P : 
 -- ---- the tick
 
 -- what the device's reader makes of what it hears next
-takes_reader : (d : Device) (heard : Heard) → (device_takes d heard).device.receiver ≡ (if d.deaf then tells d.receiver Nothing else taken d.receiver heard).receiver
-unfolding device_takes if◌then◌else◌
+takes_reader : (d : Device) (heard : Heard) → (device_takes d heard).device.receiver ≡ (when d.deaf then tells d.receiver Nothing else taken d.receiver heard).receiver
+unfolding device_takes when◌then◌else◌
 takes_reader d heard = go d.deaf
   where
     on : (h : Heard) → (D.on_heard d h).device.receiver ≡ (taken d.receiver h).receiver
@@ -220,7 +220,7 @@ takes_reader d heard = go d.deaf
     on (Character c) = refl
     on (Damaged c kind) = refl
 
-    go : (b : Bool) → (if b then D.tells d DeviceTold.Nothing Nothing else D.on_heard d heard).device.receiver ≡ (if b then tells d.receiver Nothing else taken d.receiver heard).receiver
+    go : (b : Bool) → (when b then D.tells d DeviceTold.Nothing Nothing else D.on_heard d heard).device.receiver ≡ (when b then tells d.receiver Nothing else taken d.receiver heard).receiver
     go true = refl
     go false = on heard
 

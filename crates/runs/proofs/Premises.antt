@@ -6,7 +6,7 @@ use mathlib.Core.Bool.{Bool, true, false}
 use mathlib.Core.List.{List, [], ◌∷◌, ◌++◌}
 use lib.ListN.{length, replicate, drop}
 use Rattle.base.specs.Refusal.{accepted}
-use Rattle.base.specs.Choice.{if◌then◌else◌}
+use Rattle.base.specs.Choice.{when◌then◌else◌}
 use Rattle.base.specs.Store.{stored}
 use Rattle.frame.specs.Check.{xor_from}
 use Rattle.frame.specs.Delimiter.{delimiter_of}
@@ -34,11 +34,11 @@ use Rattle.runs.proofs.Wait.{run_length, wait}
 -- ---- the worked run meets them
 
 device_starts_lem : DeviceStarts fsk_profile (record { device = fresh_device fsk_profile 5 0 2; frame = replicate 284 0; bytes = replicate 255 0; contents = replicate 255 0 })
-unfolding if◌then◌else◌ replicate length
+unfolding when◌then◌else◌ replicate length
 device_starts_lem = record { preamble = 5; polling = 0; unique = 2; starts = refl; room = omega arith; content_room = omega arith }
 
 pub fresh_starts : Starts fsk_profile 3 fresh
-unfolding fresh if◌then◌else◌ replicate length
+unfolding fresh when◌then◌else◌ replicate length
 fresh_starts = record {
   primary = record { starts = refl; room = omega arith };
   secondary = record { starts = refl; room = omega arith };
@@ -68,11 +68,11 @@ lone limit l x (c ∷ cs) e =
 
 -- and of one host at most one answers
 pub finders_most : (gs : List Ledger) → finders gs ≤ length gs
-unfolding finders if◌then◌else◌
+unfolding finders when◌then◌else◌
 finders_most [] = omega arith
 finders_most (g ∷ gs) = go (found g) (finders_most gs)
   where
-    go : (b : Bool) → finders gs ≤ length gs → (if b then 1 else 0) + finders gs ≤ length (g ∷ gs)
+    go : (b : Bool) → finders gs ≤ length gs → (when b then 1 else 0) + finders gs ≤ length (g ∷ gs)
     go true e = omega arith
     go false e = omega arith
 
@@ -133,15 +133,15 @@ both_ask =
 
 -- the primary sends in ticks 4 to 17, the device its ACK and a BACK from tick 19 to 50, the secondary from tick 52 on
 pub both_go_out : E.senders (run 255 one_device both_ask) ≡ replicate 4 0 ++ (replicate 14 1 ++ (0 ∷ (replicate 32 4 ++ (0 ∷ replicate 14 2))))
-unfolding E.senders E.devices_sent E.one short one_device both_ask turn_on content quiet run link_tick device_ticks sides carried master_tick device_tick requested requested_up_to master_takes master_sends device_takes device_sends answered content_given taken taken_data at_idle at_preamble at_first at_address at_expansion at_command at_count at_data at_check write_buffer write_answer frame_bytes preamble_bytes body_bytes protected_bytes header_bytes xor_from delimiter_of stored if◌then◌else◌
+unfolding E.senders E.devices_sent E.one short one_device both_ask turn_on content quiet run link_tick device_ticks sides carried master_tick device_tick requested requested_up_to master_takes master_sends device_takes device_sends answered content_given taken taken_data at_idle at_preamble at_first at_address at_expansion at_command at_count at_data at_check write_buffer write_answer frame_bytes preamble_bytes body_bytes protected_bytes header_bytes xor_from delimiter_of stored when◌then◌else◌
 both_go_out = refl
 
 short_starts : DeviceStarts short (record { device = fresh_device short 5 0 2; frame = replicate 284 0; bytes = replicate 255 0; contents = replicate 255 0 })
-unfolding if◌then◌else◌ replicate length
+unfolding when◌then◌else◌ replicate length
 short_starts = record { preamble = 5; polling = 0; unique = 2; starts = refl; room = omega arith; content_room = omega arith }
 
 pub one_device_starts : Starts short 3 one_device
-unfolding one_device if◌then◌else◌ replicate length
+unfolding one_device when◌then◌else◌ replicate length
 one_device_starts = record {
   primary = record { starts = refl; room = omega arith };
   secondary = record { starts = refl; room = omega arith };
@@ -150,7 +150,7 @@ one_device_starts = record {
 }
 
 pub short_taken : profile_made short ≡ accepted short
-unfolding short if◌then◌else◌
+unfolding short when◌then◌else◌
 short_taken = refl
 
 pub one_device_alone : EachTick NoTwoSend (run 255 one_device both_ask)
@@ -171,7 +171,7 @@ asked_twice = record {
 }
 
 pub secondary_begins : BeginsWithin false (due_within 2 short 3 0 + longer_with_burst 2 short) (run 2 one_device (asked_twice ∷ rest))
-unfolding run rest asked_twice content quiet short one_device blanks link_tick master_tick requested requested_up_to master_takes master_sends if◌then◌else◌
+unfolding run rest asked_twice content quiet short one_device blanks link_tick master_tick requested requested_up_to master_takes master_sends when◌then◌else◌
 secondary_begins =
     (wait 2 (omega arith) (omega arith) short 3 one_device (asked_twice ∷ rest) (record { made = short_taken; starts = one_device_starts; one_bursts = lone 2 one_device _ (asked_twice ∷ rest) refl; one_finds = lone_finds 2 _ one_device (asked_twice ∷ rest) (omega arith) }) false 0 _ _ refl refl).1
     (omega (arith, run_length 2 (link_after (link_tick 2 one_device asked_twice)) rest))
@@ -196,7 +196,7 @@ counts (s ∷ ss) = senders s ∷ counts ss
 
 -- in tick 44 two send
 pub two_answer : counts (run 255 alike (asks ∷ (replicate 43 quiet ++ (both_reply ∷ [])))) ≡ replicate 33 0 ++ (replicate 10 1 ++ (0 ∷ 2 ∷ []))
-unfolding counts device_senders alike both_reply asks quiet run link_tick device_ticks sides carried master_tick device_tick requested requested_up_to master_takes master_sends device_takes device_sends answered content_given taken taken_data at_idle at_preamble at_first at_address at_expansion at_command at_count at_data at_check write_buffer write_answer frame_bytes preamble_bytes body_bytes protected_bytes header_bytes xor_from delimiter_of stored if◌then◌else◌
+unfolding counts device_senders alike both_reply asks quiet run link_tick device_ticks sides carried master_tick device_tick requested requested_up_to master_takes master_sends device_takes device_sends answered content_given taken taken_data at_idle at_preamble at_first at_address at_expansion at_command at_count at_data at_check write_buffer write_answer frame_bytes preamble_bytes body_bytes protected_bytes header_bytes xor_from delimiter_of stored when◌then◌else◌
 two_answer = refl
 
 -- ---- two devices burst: behind an STX that nobody answers both begin a BACK
@@ -226,5 +226,5 @@ both_burst =
 
 -- in tick 154 two send
 pub two_burst : drop 150 (counts (run 255 two_devices both_burst)) ≡ 0 ∷ 0 ∷ 0 ∷ 0 ∷ 2 ∷ []
-unfolding counts device_senders short two_devices ask turn_on content both_burst quiet run link_tick device_ticks sides carried master_tick device_tick requested requested_up_to master_takes master_sends device_takes device_sends answered content_given taken taken_data at_idle at_preamble at_first at_address at_expansion at_command at_count at_data at_check write_buffer write_answer frame_bytes preamble_bytes body_bytes protected_bytes header_bytes xor_from delimiter_of stored if◌then◌else◌
+unfolding counts device_senders short two_devices ask turn_on content both_burst quiet run link_tick device_ticks sides carried master_tick device_tick requested requested_up_to master_takes master_sends device_takes device_sends answered content_given taken taken_data at_idle at_preamble at_first at_address at_expansion at_command at_count at_data at_check write_buffer write_answer frame_bytes preamble_bytes body_bytes protected_bytes header_bytes xor_from delimiter_of stored when◌then◌else◌
 two_burst = refl

@@ -5,7 +5,7 @@ use mathlib.Core.Path.{◌≡◌, refl, ap, subst, ◌∙◌}
 use mathlib.Core.Bool.{Bool, true, false}
 use mathlib.Core.Logic.{◌⊎◌, inl, inr}
 use borrow.Author.Tests.{eqb-true, eqb-false}
-use Rattle.base.specs.Choice.{if◌then◌else◌, ◌=?◌}
+use Rattle.base.specs.Choice.{when◌then◌else◌, ◌=?◌}
 use Rattle.line.specs.declared.Profile.{Profile}
 use Rattle.turns.specs.Master.{opened}
 use Rattle.turns.specs.Link.{MasterSide, MasterStep}
@@ -51,13 +51,13 @@ pending_left q = ap left q.stage_is
 module _ (p : Profile) (v : Valid p) {primary : Bool} {noted : Noted} {x : MasterSide} {s : MasterStep} where
   -- BURST clear: the window of a message that waits on does not open in this tick
   pub clear_rests : MasterQuiet p primary false noted x → 1 ≤ x.master.timer.next → Pending x → MasterRests x s → (2 ≤ x.master.timer.next) × (s.side.master.timer.next ≡ x.master.timer.next - 1)
-  unfolding if◌then◌else◌
+  unfolding when◌then◌else◌
   clear_rests q runs w r =
       go (x.master.timer.next =? 1) refl
       (r.counts_on w.stage_is ∙ clear_timer p x q.listens.is_it.profile_is q.burst_is) (r.shut (r.waits_on w.stage_is).0)
     where
       go : (t : Bool) → (x.master.timer.next =? 1) ≡ t
-          → s.side.master.timer ≡ (if t then opened p else record { next = x.master.timer.next - 1; window = x.master.timer.window - 1; quiet = 0 }) → s.side.master.timer.window ≡ 0
+          → s.side.master.timer ≡ (when t then opened p else record { next = x.master.timer.next - 1; window = x.master.timer.window - 1; quiet = 0 }) → s.side.master.timer.window ≡ 0
           → (2 ≤ x.master.timer.next) × (s.side.master.timer.next ≡ x.master.timer.next - 1)
       go true e z shut = absurd (omega (arith, shut, v.some_hold, ap (λ (t : Timer). t.window) z))
       go false e z shut = (more x.master.timer.next (eqb-false x.master.timer.next 1 e) runs, ap (λ (t : Timer). t.next) z)
@@ -69,24 +69,24 @@ module _ (p : Profile) (v : Valid p) {primary : Bool} {noted : Noted} {x : Maste
 
   -- one that begins has a window in this tick
   pub begins_clear : MasterQuiet p primary false noted x → MasterTries x s → (x.master.timer.next ≡ 1) ⊎ (2 ≤ x.master.timer.window)
-  unfolding if◌then◌else◌
+  unfolding when◌then◌else◌
   begins_clear q r =
       go (x.master.timer.next =? 1) refl (subst (λ (t : Timer). 0 < t.window) (clear_timer p x q.listens.is_it.profile_is q.burst_is) r.in_window)
     where
-      go : (t : Bool) → (x.master.timer.next =? 1) ≡ t → 0 < (if t then opened p else record { next = x.master.timer.next - 1; window = x.master.timer.window - 1; quiet = 0 }).window
+      go : (t : Bool) → (x.master.timer.next =? 1) ≡ t → 0 < (when t then opened p else record { next = x.master.timer.next - 1; window = x.master.timer.window - 1; quiet = 0 }).window
           → (x.master.timer.next ≡ 1) ⊎ (2 ≤ x.master.timer.window)
       go true e z = inl (eqb-true x.master.timer.next 1 e)
       go false e z = inr (omega arith)
 
   -- BURST set
   pub set_rests : MasterQuiet p primary true noted x → 1 < x.master.timer.quiet → Pending x → MasterRests x s → (x.master.timer.next ≡ 1 → ⊥) × (s.side.master.timer.next ≡ x.master.timer.next - 1)
-  unfolding if◌then◌else◌
+  unfolding when◌then◌else◌
   set_rests q l w r =
       go (x.master.timer.next =? 1) refl
       (r.counts_on w.stage_is ∙ set_timer p x q.listens.is_it.profile_is q.burst_is l) (r.shut (r.waits_on w.stage_is).0)
     where
       go : (t : Bool) → (x.master.timer.next =? 1) ≡ t
-          → s.side.master.timer ≡ (if t then record { next = 0; window = p.hold; quiet = x.master.timer.quiet - 1 } else record { next = x.master.timer.next - 1; window = x.master.timer.window - 1; quiet = x.master.timer.quiet - 1 })
+          → s.side.master.timer ≡ (when t then record { next = 0; window = p.hold; quiet = x.master.timer.quiet - 1 } else record { next = x.master.timer.next - 1; window = x.master.timer.window - 1; quiet = x.master.timer.quiet - 1 })
           → s.side.master.timer.window ≡ 0 → (x.master.timer.next ≡ 1 → ⊥) × (s.side.master.timer.next ≡ x.master.timer.next - 1)
       go true e z shut = absurd (omega (arith, shut, v.some_hold, ap (λ (t : Timer). t.window) z))
       go false e z shut = (eqb-false x.master.timer.next 1 e, ap (λ (t : Timer). t.next) z)
@@ -97,12 +97,12 @@ module _ (p : Profile) (v : Valid p) {primary : Bool} {noted : Noted} {x : Maste
       counted_burst p x.master.timer s.side.master.timer (r.next_is ∙ ap (λ (t : Timer). t.next) e) (subst (λ (t : Timer). s.side.master.timer.window ≤ t.window) e r.window_is)
 
   pub begins_set : MasterQuiet p primary true noted x → 1 < x.master.timer.quiet → MasterTries x s → (x.master.timer.next ≡ 1) ⊎ (2 ≤ x.master.timer.window)
-  unfolding if◌then◌else◌
+  unfolding when◌then◌else◌
   begins_set q l r =
       go (x.master.timer.next =? 1) refl (subst (λ (t : Timer). 0 < t.window) (set_timer p x q.listens.is_it.profile_is q.burst_is l) r.in_window)
     where
       by : Bool → Timer
-      by t = if t then record { next = 0; window = p.hold; quiet = x.master.timer.quiet - 1 } else record { next = x.master.timer.next - 1; window = x.master.timer.window - 1; quiet = x.master.timer.quiet - 1 }
+      by t = when t then record { next = 0; window = p.hold; quiet = x.master.timer.quiet - 1 } else record { next = x.master.timer.next - 1; window = x.master.timer.window - 1; quiet = x.master.timer.quiet - 1 }
 
       go : (t : Bool) → (x.master.timer.next =? 1) ≡ t → 0 < (by t).window
           → (x.master.timer.next ≡ 1) ⊎ (2 ≤ x.master.timer.window)

@@ -6,7 +6,7 @@ use mathlib.Core.Bool.{Bool, true, false}
 use mathlib.Core.List.{List, [], ◌∷◌}
 use lib.ListN.{length}
 use Rattle.base.specs.Refusal.{Called}
-use Rattle.base.specs.Choice.{if◌then◌else◌, ◌<?◌}
+use Rattle.base.specs.Choice.{when◌then◌else◌, ◌<?◌}
 use Rattle.base.specs.Store.{stored}
 use Rattle.base.proofs.Choices.{if_is_true, if_is_false}
 use Rattle.frame.specs.Frame.{frame_bytes}
@@ -37,7 +37,7 @@ use Rattle.turns.proofs.Silent.{counts_reads}
 
 -- what its reader makes of what it hears next
 abbrev pub reading : MasterSide → Heard → Taken
-reading x heard = if x.master.deaf then tells x.master.receiver Nothing else taken x.master.receiver heard
+reading x heard = when x.master.deaf then tells x.master.receiver Nothing else taken x.master.receiver heard
 
 -- ---- a tick
 
@@ -66,10 +66,10 @@ on_heard_lem m (Character c) bytes = on_character_lem m _ (taken m.receiver (Cha
 on_heard_lem m (Heard.Damaged c kind) bytes = on_character_lem m _ (taken m.receiver (Heard.Damaged c kind)).event bytes
 
 takes_reader : (x : MasterSide) (heard : Heard) (bytes : List ℕ) → HasReader (reading x heard).receiver (master_takes x.master heard bytes)
-unfolding master_takes if◌then◌else◌
+unfolding master_takes when◌then◌else◌
 takes_reader x heard bytes = go x.master.deaf
   where
-    go : (b : Bool) → (if b then Rattle.turns.specs.Master.tells x.master MasterTold.Nothing Nothing else on_heard x.master heard bytes).master.receiver ≡ (if b then tells x.master.receiver Nothing else taken x.master.receiver heard).receiver
+    go : (b : Bool) → (when b then Rattle.turns.specs.Master.tells x.master MasterTold.Nothing Nothing else on_heard x.master heard bytes).master.receiver ≡ (when b then tells x.master.receiver Nothing else taken x.master.receiver heard).receiver
     go true = refl
     go false = on_heard_lem x.master heard bytes
 

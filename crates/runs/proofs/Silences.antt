@@ -6,7 +6,7 @@ use mathlib.Core.Bool.{Bool, true, false}
 use mathlib.Core.List.{List}
 use mathlib.Core.Logic.{◌⊎◌, inl, inr}
 use borrow.Author.Tests.{ne_eqb}
-use Rattle.base.specs.Choice.{if◌then◌else◌, ◌=?◌}
+use Rattle.base.specs.Choice.{when◌then◌else◌, ◌=?◌}
 use Rattle.base.proofs.Choices.{true_false, if_is_true, if_is_false}
 use Rattle.frame.specs.declared.Header.{Header}
 use Rattle.line.specs.declared.Heard.TheVariants.{Silence}
@@ -61,11 +61,11 @@ record SetCounts (p : Profile) (t u : Timer) : Type 0 where
   quiet_is : u.quiet ≡ t.quiet - 1
 
 count_quiet : (p : Profile) (t : Timer) → (count_burst p t).quiet ≡ t.quiet - 1
-unfolding if◌then◌else◌
+unfolding when◌then◌else◌
 count_quiet p t = go (t.next =? 1)
   where
     by : Bool → Timer
-    by b = if b then record { next = 0; window = p.hold; quiet = t.quiet - 1 } else record { next = t.next - 1; window = t.window - 1; quiet = t.quiet - 1 }
+    by b = when b then record { next = 0; window = p.hold; quiet = t.quiet - 1 } else record { next = t.next - 1; window = t.window - 1; quiet = t.quiet - 1 }
 
     go : (b : Bool) → (by b).quiet ≡ t.quiet - 1
     go true = refl

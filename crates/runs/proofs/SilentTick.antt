@@ -7,7 +7,7 @@ use mathlib.Core.List.{List}
 use mathlib.Core.Logic.{◌⊎◌, inl, inr}
 use lib.ListN.{get_or, take}
 use borrow.Author.Tests.{eqb-true}
-use Rattle.base.specs.Choice.{if◌then◌else◌}
+use Rattle.base.specs.Choice.{when◌then◌else◌}
 use Rattle.base.proofs.Choices.{true_false, if_is_true}
 use Rattle.frame.specs.Delimiter.{ack, back}
 use Rattle.frame.specs.declared.Header.{Header}
@@ -44,7 +44,7 @@ use Rattle.runs.proofs.Stx.{OneMasterSends, WaitsOn}
 -- what a device sends: an ACK, which the master with its bit awaits, or a BACK, for the master that the next one is not for. `burst` is the masters' BURST, `on` the sender's burst.
 pub data FrameIs (on burst next : Bool) (h : Header) (a b : MasterSide) : Frames → Type 0 where
   is_ack : h.kind ≡ ack → (h.primary ≡ true → 1 ≤ left a.master.message.stage) → (h.primary ≡ false → 1 ≤ left b.master.message.stage) → FrameIs on burst next h a b an_ack
-  is_back : h.kind ≡ back → on ≡ true → burst ≡ true → h.primary ≡ (if next then false else true) → FrameIs on burst next h a b a_back
+  is_back : h.kind ≡ back → on ≡ true → burst ≡ true → h.primary ≡ (when next then false else true) → FrameIs on burst next h a b a_back
 
 -- a device sends, behind k + 1 characters of its frame w; `burst` and `noted` are the masters' before it
 pub record OneDeviceSends (p : Profile) (f : Frames) (burst : Bool) (noted : Noted) (next : Bool) (k : ℕ) (w : List ℕ) (message : Whole) (u : ℕ) (on : Bool) (a b : MasterSide) (xs : List DeviceSide) : Type 0 where
@@ -85,7 +85,7 @@ pub data SilentTick (p : Profile) (n : ℕ) (burst : Bool) (noted : Noted) (next
   ack_begins : (w : List ℕ) (message : Whole) (u : ℕ) (on : Bool) → s.sent ≡ Silent → t.sent ≡ Silent → carried ss ≡ Character (get_or w 0 0)
       → OneDeviceSends p an_ack burst noted (next_after burst next) 0 w message u on s.side t.side (sides ss) → MasterRests a s → MasterRests b t → SilentTick p n burst noted next a b s t ss L
   back_begins : n ≡ 1 → (w : List ℕ) (message : Whole) (u : ℕ) → s.sent ≡ Silent → t.sent ≡ Silent → carried ss ≡ Character (get_or w 0 0)
-      → OneDeviceSends p a_back burst noted (if next then false else true) 0 w message u true s.side t.side (sides ss) → MasterRests a s → MasterRests b t → SilentTick p n burst noted next a b s t ss L
+      → OneDeviceSends p a_back burst noted (when next then false else true) 0 w message u true s.side t.side (sides ss) → MasterRests a s → MasterRests b t → SilentTick p n burst noted next a b s t ss L
 
 -- before its first character nothing of a frame was heard
 pub nothing_read : (w : List ℕ) → idle ≡ reader_after idle (take 0 w)
@@ -200,10 +200,10 @@ module _ {p : Profile} {g : ℕ} {h : Header} {n : ℕ} where
   }
 
 own_long : (d : Device) (h : Header) → may_answer d h ≡ true → names_device h ≡ true → h.address ≡ d.unique
-unfolding if◌then◌else◌
+unfolding when◌then◌else◌
 own_long d h = go (seeks_tag h)
   where
-    go : (t : Bool) → (if t then true else is_own d h) ≡ true → (if t then false else h.long) ≡ true → h.address ≡ d.unique
+    go : (t : Bool) → (when t then true else is_own d h) ≡ true → (when t then false else h.long) ≡ true → h.address ≡ d.unique
     go true o l = absurd (true_false (sym l))
     go false o l = sym (eqb-true d.unique h.address (sym (if_is_true h.long _ _ l) ∙ o))
 
@@ -234,7 +234,7 @@ module _ (p : Profile) (g : ℕ) (h : Header) (n : ℕ) (burst : Bool) (noted : 
 
   burst_begins : s.sent ≡ Silent → t.sent ≡ Silent → ((w : List ℕ) → MasterHears p true burst noted (reader_after idle (take 0 w)) s.side) → ((w : List ℕ) → MasterHears p false burst noted (reader_after idle (take 0 w)) t.side)
       → n ≡ 1 → MasterRests a s → MasterRests b t → OneBegins p g h n (BeginsBack p) xs ss → SilentTick p n burst noted next a b s t ss L
-  unfolding if◌then◌else◌
+  unfolding when◌then◌else◌
   burst_begins ea eb ha hb due ra rb o =
       let k = (picked o).it in
       let one : OneLoud (DeviceSpeaks p a_back 0 k.w k.message (picked o).x.device.unique true) (DeviceHears p (reader_after idle (take 0 k.w)) (picked o).x.device.unique) (get_or k.w 0 0) xs ss =
@@ -247,13 +247,13 @@ module _ (p : Profile) (g : ℕ) (h : Header) (n : ℕ) (burst : Bool) (noted : 
         secondary = hb k.w;
         devices = one_sides one;
         distinct = one_distinct one distinct;
-        agreed = back_agreed o distinct sole agreed k.message.header (if next then false else true) k.type_is k.long_is (k.address_is ∙ sym k.same.same_unique) k.speaks.burst_is (k.primary_is ∙ ap (λ (z : Bool). if z then false else true) was);
+        agreed = back_agreed o distinct sole agreed k.message.header (when next then false else true) k.type_is k.long_is (k.address_is ∙ sym k.same.same_unique) k.speaks.burst_is (k.primary_is ∙ ap (λ (z : Bool). when z then false else true) was);
         frame_is = is_back k.type_is refl (it.burst_set k.bursts) (k.for_is ∙ was ∙ twice next);
         no_expansion = k.no_expansion;
       })
       ra rb
     where
-      twice : (z : Bool) → z ≡ (if (if z then false else true) then false else true)
+      twice : (z : Bool) → z ≡ (when (when z then false else true) then false else true)
       twice true = refl
       twice false = refl
 

@@ -3,7 +3,7 @@ use native.Mathlib.Omega.{arith}
 use mathlib.Core.Path.{◌≡◌, refl}
 use mathlib.Core.List.{List, [], ◌∷◌, ◌++◌}
 use lib.ListN.{replicate, drop}
-use Rattle.base.specs.Choice.{if◌then◌else◌}
+use Rattle.base.specs.Choice.{when◌then◌else◌}
 use Rattle.base.specs.Store.{stored}
 use Rattle.frame.specs.Check.{xor_from}
 use Rattle.frame.specs.Delimiter.{delimiter_of}
@@ -22,7 +22,7 @@ use Rattle.runs.specs.SoundPair.{run01}
 use Rattle.runs.specs.LateSoundPair.{late_run01}
 use Rattle.runs.proofs.Premises.{short, short_taken, ask, turn_on, content, alike, both_reply, counts, two_devices, both_burst}
 use Rattle.runs.proofs.TagRuns.{starts_at, two_starts}
-use Rattle.runs.proofs.LateSound.{late_sound_from_starts, all_now, sound_from_starts}
+use Rattle.runs.proofs.SoundStarts.{late_sound_from_starts, all_now, sound_from_starts}
 
 -- ---- two devices with one polling address
 
@@ -31,11 +31,11 @@ both_answer = asks ∷ (replicate 43 quiet ++ (both_reply ∷ replicate 14 quiet
 
 -- the STX in ticks 33 to 42; both send their ACKs in ticks 44 to 55
 pub shared_address_two : counts (run 255 alike both_answer) ≡ replicate 33 0 ++ (replicate 10 1 ++ (0 ∷ (replicate 12 2 ++ replicate 3 0)))
-unfolding counts device_senders alike both_answer both_reply asks quiet run link_tick device_ticks sides carried master_tick device_tick requested requested_up_to master_takes master_sends device_takes device_sends answered content_given taken taken_data at_idle at_preamble at_first at_address at_expansion at_command at_count at_data at_check write_buffer write_answer frame_bytes preamble_bytes body_bytes protected_bytes header_bytes xor_from delimiter_of stored if◌then◌else◌
+unfolding counts device_senders alike both_answer both_reply asks quiet run link_tick device_ticks sides carried master_tick device_tick requested requested_up_to master_takes master_sends device_takes device_sends answered content_given taken taken_data at_idle at_preamble at_first at_address at_expansion at_command at_count at_data at_check write_buffer write_answer frame_bytes preamble_bytes body_bytes protected_bytes header_bytes xor_from delimiter_of stored when◌then◌else◌
 shared_address_two = refl
 
 pub shared_address_sound : run 255 alike both_answer ≡ run01 255 alike both_answer
-unfolding alike if◌then◌else◌
+unfolding alike when◌then◌else◌
 shared_address_sound =
     sound_from_starts 255 (omega arith) (omega arith) fsk_profile 3 alike both_answer fsk_taken (record { starts = refl; room = omega arith }) (record { starts = refl; room = omega arith })
     (and (starts_at fsk_profile 0 2 refl) (and (starts_at fsk_profile 0 3 refl) none))
@@ -48,7 +48,7 @@ two_bursting_sound = sound_from_starts 255 (omega arith) (omega arith) short 3 t
 -- ---- the same where the secondary starts in tick 7, in the middle of the STX of ticks 4 to 17
 
 pub late_bursting_two : drop 150 (counts (late_run 255 0 7 two_devices both_burst)) ≡ 0 ∷ 0 ∷ 0 ∷ 0 ∷ 2 ∷ []
-unfolding counts device_senders short two_devices ask turn_on content both_burst quiet late_run late_tick device_ticks sides carried master_tick device_tick requested requested_up_to master_takes master_sends device_takes device_sends answered content_given taken taken_data at_idle at_preamble at_first at_address at_expansion at_command at_count at_data at_check write_buffer write_answer frame_bytes preamble_bytes body_bytes protected_bytes header_bytes xor_from delimiter_of stored if◌then◌else◌
+unfolding counts device_senders short two_devices ask turn_on content both_burst quiet late_run late_tick device_ticks sides carried master_tick device_tick requested requested_up_to master_takes master_sends device_takes device_sends answered content_given taken taken_data at_idle at_preamble at_first at_address at_expansion at_command at_count at_data at_check write_buffer write_answer frame_bytes preamble_bytes body_bytes protected_bytes header_bytes xor_from delimiter_of stored when◌then◌else◌
 late_bursting_two = refl
 
 pub late_bursting_sound : late_run 255 0 7 two_devices both_burst ≡ late_run01 255 0 7 two_devices both_burst

@@ -5,7 +5,7 @@ use mathlib.Core.Path.{◌≡◌, refl, sym, ap, subst, ◌∙◌}
 use mathlib.Core.Bool.{Bool, true, false}
 use mathlib.Core.List.{List}
 use lib.ListN.{length, get_or, take}
-use Rattle.base.specs.Choice.{if◌then◌else◌, ◌=?◌}
+use Rattle.base.specs.Choice.{when◌then◌else◌, ◌=?◌}
 use Rattle.base.proofs.Choices.{if_is_false}
 use Rattle.frame.specs.Delimiter.{stx, ack}
 use Rattle.frame.specs.declared.Header.{Header}
@@ -80,10 +80,10 @@ pub record OneMasterSends (p : Profile) (primary other burst : Bool) (noted : No
 
 -- RT1 of the primary or of the secondary
 abbrev pub rt1_of : Profile → Bool → ℕ
-rt1_of p primary = if primary then p.rt1p else p.rt1s
+rt1_of p primary = when primary then p.rt1p else p.rt1s
 
 pub own_is : (p : Profile) (primary : Bool) (m : Master) → m.profile ≡ p → m.primary ≡ primary → own_rt1 m.profile m.primary ≡ rt1_of p primary
-own_is p primary m a b = λ i. if b i then (a i).rt1p else (a i).rt1s
+own_is p primary m a b = λ i. when b i then (a i).rt1p else (a i).rt1s
 
 -- both masters behind the STX: the sender awaits its ACK for RT1
 pub record StxEnded (p : Profile) (primary other burst : Bool) (noted : Noted) (next : Bool) (h : Header) (x y : MasterSide) (xs : List DeviceSide) : Type 0 where
@@ -113,7 +113,7 @@ pub data StxTick (p : Profile) (primary other burst : Bool) (noted : Noted) (nex
 pub stx_tick : (limit : ℕ) (low : 2 ≤ limit) (high : limit ≤ 255) (p : Profile) → Valid p → (primary other burst : Bool) (noted : Noted) (next : Bool) (k : ℕ) (w : List ℕ) (message : Whole) (x y : MasterSide) (xs : List DeviceSide)
     (cx cy : MasterCall) (cs : List DeviceCall) → OneMasterSends p primary other burst noted next k w message x y xs
     → StxTick p primary other burst noted next k w message x y (master_tick limit x (Character (get_or w k 0)) cx) (master_tick limit y (Character (get_or w k 0)) cy) (device_ticks limit (Character (get_or w k 0)) xs cs)
-unfolding if◌then◌else◌
+unfolding when◌then◌else◌
 stx_tick limit low high p v primary other burst noted next k w message x y xs cx cy cs o = go o.speaks.place
   where
     heard : Heard
@@ -125,7 +125,7 @@ stx_tick limit low high p v primary other burst noted next k w message x y xs cx
     own : own_rt1 x.master.profile x.master.primary ≡ rt1_of p primary
     own = own_is p primary x.master o.speaks.is_it.profile_is o.speaks.is_it.primary_is
 
-    some : (b : Bool) → 1 ≤ (if b then p.rt1p else p.rt1s)
+    some : (b : Bool) → 1 ≤ (when b then p.rt1p else p.rt1s)
     some true = omega (arith, v.rt2_short)
     some false = omega (arith, v.rt2_short, v.secondary)
 

@@ -7,7 +7,7 @@ use mathlib.Core.List.{List, [], ◌∷◌, ◌++◌}
 use lib.ListN.{replicate, drop}
 use borrow.Author.Tests.{leb-true}
 use Rattle.base.specs.Refusal.{accepted}
-use Rattle.base.specs.Choice.{if◌then◌else◌, ◌≤?◌}
+use Rattle.base.specs.Choice.{when◌then◌else◌, ◌≤?◌}
 use Rattle.base.specs.Store.{stored}
 use Rattle.base.proofs.Choices.{true_false, went_then}
 use Rattle.frame.specs.Check.{xor_from}
@@ -70,7 +70,7 @@ finds gs (c ∷ cs) (s ∷ ss) = finders (ledgers_after c.for_devices s.for_devi
 -- how many devices burst
 unfoldable pub bursting : List DeviceSide → ℕ
 bursting [] = 0
-bursting (x ∷ xs) = (if x.device.burst then 1 else 0) + bursting xs
+bursting (x ∷ xs) = (when x.device.burst then 1 else 0) + bursting xs
 
 unfoldable pub bursts : List LinkStep → List ℕ
 bursts [] = []
@@ -80,7 +80,7 @@ bursts (s ∷ ss) = bursting (sides s.for_devices) ∷ bursts ss
 
 unfoldable pub few : List ℕ → Bool
 few [] = true
-few (n ∷ ns) = if n ≤? 1 then few ns else false
+few (n ∷ ns) = when n ≤? 1 then few ns else false
 
 few_and : (n : ℕ) (ns : List ℕ) → few (n ∷ ns) ≡ true → (n ≤ 1) × (few ns ≡ true)
 unfolding few
@@ -95,16 +95,16 @@ few_find limit gs l (c ∷ cs) e =
     L.tick_and t.0 (few_find limit next (link_after (link_tick limit l c)) cs t.1)
 
 none_burst : (xs : List DeviceSide) {Q : Type 0} → bursting xs ≤ 0 → All (λ (y : DeviceSide). Q → y.device.burst ≡ true → ⊥) xs
-unfolding bursting if◌then◌else◌
+unfolding bursting when◌then◌else◌
 none_burst [] e = none
 none_burst (x ∷ xs) {Q} e = go x.device.burst refl e (λ q. none_burst xs q)
   where
-    go : (b : Bool) → x.device.burst ≡ b → (if b then 1 else 0) + bursting xs ≤ 0 → (bursting xs ≤ 0 → All (λ (y : DeviceSide). Q → y.device.burst ≡ true → ⊥) xs) → All (λ (y : DeviceSide). Q → y.device.burst ≡ true → ⊥) (x ∷ xs)
+    go : (b : Bool) → x.device.burst ≡ b → (when b then 1 else 0) + bursting xs ≤ 0 → (bursting xs ≤ 0 → All (λ (y : DeviceSide). Q → y.device.burst ≡ true → ⊥) xs) → All (λ (y : DeviceSide). Q → y.device.burst ≡ true → ⊥) (x ∷ xs)
     go true q e rest = absurd (omega arith)
     go false q e rest = and (λ u t. true_false (sym t ∙ q)) (rest (omega arith))
 
 few_sole : (xs : List DeviceSide) → bursting xs ≤ 1 → Sole xs
-unfolding bursting if◌then◌else◌
+unfolding bursting when◌then◌else◌
 few_sole [] e = no_one
 few_sole (x ∷ xs) e = go x.device.burst refl e (λ q. few_sole xs q) (λ q. none_burst xs q)
   where
@@ -112,7 +112,7 @@ few_sole (x ∷ xs) e = go x.device.burst refl e (λ q. few_sole xs q) (λ q. no
     other [] q = none
     other (y ∷ ys) q = and (λ t u. true_false (sym t ∙ q)) (other ys q)
 
-    go : (b : Bool) → x.device.burst ≡ b → (if b then 1 else 0) + bursting xs ≤ 1 → (bursting xs ≤ 1 → Sole xs) → (bursting xs ≤ 0 → All (λ (y : DeviceSide). x.device.burst ≡ true → y.device.burst ≡ true → ⊥) xs) → Sole (x ∷ xs)
+    go : (b : Bool) → x.device.burst ≡ b → (when b then 1 else 0) + bursting xs ≤ 1 → (bursting xs ≤ 1 → Sole xs) → (bursting xs ≤ 0 → All (λ (y : DeviceSide). x.device.burst ≡ true → y.device.burst ≡ true → ⊥) xs) → Sole (x ∷ xs)
     go true q e rest alone = sole_and (alone (omega arith)) (rest (omega arith))
     go false q e rest alone = sole_and (other xs q) (rest (omega arith))
 
@@ -137,22 +137,22 @@ one_answers = seek ∷ (replicate 18 quiet ++ (second_answers ∷ replicate 17 q
 
 -- both are told it in tick 18, behind the STX of ticks 4 to 17
 pub both_told : hosts_told (run 255 two_devices one_answers) ≡ replicate 18 0 ++ (2 ∷ replicate 18 0)
-unfolding hosts_told told_in_lem told_request one_answers second_answers seek short two_devices quiet run link_tick device_ticks sides carried master_tick device_tick requested requested_up_to master_takes master_sends device_takes device_sends answered content_given taken taken_data at_idle at_preamble at_first at_address at_expansion at_command at_count at_data at_check write_buffer write_answer frame_bytes preamble_bytes body_bytes protected_bytes header_bytes xor_from delimiter_of stored if◌then◌else◌
+unfolding hosts_told told_in_lem told_request one_answers second_answers seek short two_devices quiet run link_tick device_ticks sides carried master_tick device_tick requested requested_up_to master_takes master_sends device_takes device_sends answered content_given taken taken_data at_idle at_preamble at_first at_address at_expansion at_command at_count at_data at_check write_buffer write_answer frame_bytes preamble_bytes body_bytes protected_bytes header_bytes xor_from delimiter_of stored when◌then◌else◌
 both_told = refl
 
 -- and in tick 21 where the primary starts, and is asked, in tick 3
 pub both_told_late : hosts_told (late_run 255 3 0 two_devices (replicate 3 quiet ++ (seek ∷ replicate 20 quiet))) ≡ replicate 21 0 ++ (2 ∷ replicate 2 0)
-unfolding hosts_told told_in_lem told_request seek short two_devices quiet late_run late_tick device_ticks sides carried master_tick device_tick requested requested_up_to master_takes master_sends device_takes device_sends answered content_given taken taken_data at_idle at_preamble at_first at_address at_expansion at_command at_count at_data at_check write_buffer write_answer frame_bytes preamble_bytes body_bytes protected_bytes header_bytes xor_from delimiter_of stored if◌then◌else◌
+unfolding hosts_told told_in_lem told_request seek short two_devices quiet late_run late_tick device_ticks sides carried master_tick device_tick requested requested_up_to master_takes master_sends device_takes device_sends answered content_given taken taken_data at_idle at_preamble at_first at_address at_expansion at_command at_count at_data at_check write_buffer write_answer frame_bytes preamble_bytes body_bytes protected_bytes header_bytes xor_from delimiter_of stored when◌then◌else◌
 both_told_late = refl
 
 -- one sends its ACK, in ticks 19 to 34
 pub one_found : E.senders (run 255 two_devices one_answers) ≡ replicate 4 0 ++ (replicate 14 1 ++ (0 ∷ (replicate 16 4 ++ (0 ∷ 0 ∷ []))))
-unfolding E.senders E.devices_sent E.one one_answers second_answers seek short two_devices quiet run link_tick device_ticks sides carried master_tick device_tick requested requested_up_to master_takes master_sends device_takes device_sends answered content_given taken taken_data at_idle at_preamble at_first at_address at_expansion at_command at_count at_data at_check write_buffer write_answer frame_bytes preamble_bytes body_bytes protected_bytes header_bytes xor_from delimiter_of stored if◌then◌else◌
+unfolding E.senders E.devices_sent E.one one_answers second_answers seek short two_devices quiet run link_tick device_ticks sides carried master_tick device_tick requested requested_up_to master_takes master_sends device_takes device_sends answered content_given taken taken_data at_idle at_preamble at_first at_address at_expansion at_command at_count at_data at_check write_buffer write_answer frame_bytes preamble_bytes body_bytes protected_bytes header_bytes xor_from delimiter_of stored when◌then◌else◌
 one_found = refl
 
 -- and the primary reports its message as answered in tick 35
 pub one_reported : reports (run 255 two_devices one_answers) ≡ replicate 35 0 ++ (1 ∷ 0 ∷ [])
-unfolding reports reported one_answers second_answers seek short two_devices quiet run link_tick device_ticks sides carried master_tick device_tick requested requested_up_to master_takes master_sends device_takes device_sends answered content_given taken taken_data at_idle at_preamble at_first at_address at_expansion at_command at_count at_data at_check write_buffer write_answer frame_bytes preamble_bytes body_bytes protected_bytes header_bytes xor_from delimiter_of stored if◌then◌else◌
+unfolding reports reported one_answers second_answers seek short two_devices quiet run link_tick device_ticks sides carried master_tick device_tick requested requested_up_to master_takes master_sends device_takes device_sends answered content_given taken taken_data at_idle at_preamble at_first at_address at_expansion at_command at_count at_data at_check write_buffer write_answer frame_bytes preamble_bytes body_bytes protected_bytes header_bytes xor_from delimiter_of stored when◌then◌else◌
 one_reported = refl
 
 abbrev pub device_at : Profile → ℕ → ℕ → DeviceSide
@@ -165,7 +165,7 @@ differ : Differ (device_at short 0 2) (device_at short 1 3)
 differ = record { polling_differs = λ e. omega (arith, e); unique_differs = λ e. omega (arith, e) }
 
 pub two_starts : Starts short 3 two_devices
-unfolding two_devices if◌then◌else◌
+unfolding two_devices when◌then◌else◌
 two_starts = record {
   primary = record { starts = refl; room = omega arith };
   secondary = record { starts = refl; room = omega arith };
@@ -175,7 +175,7 @@ two_starts = record {
 
 -- all premises are met, so that demand 3 speaks of this run
 pub one_meets : Premises 255 short 3 two_devices one_answers
-unfolding few finds finders ledgers_after blanks bursts bursting one_answers second_answers seek short two_devices quiet run link_tick device_ticks sides carried master_tick device_tick requested requested_up_to master_takes master_sends device_takes device_sends answered content_given taken taken_data at_idle at_preamble at_first at_address at_expansion at_command at_count at_data at_check write_buffer write_answer frame_bytes preamble_bytes body_bytes protected_bytes header_bytes xor_from delimiter_of stored if◌then◌else◌
+unfolding few finds finders ledgers_after blanks bursts bursting one_answers second_answers seek short two_devices quiet run link_tick device_ticks sides carried master_tick device_tick requested requested_up_to master_takes master_sends device_takes device_sends answered content_given taken taken_data at_idle at_preamble at_first at_address at_expansion at_command at_count at_data at_check write_buffer write_answer frame_bytes preamble_bytes body_bytes protected_bytes header_bytes xor_from delimiter_of stored when◌then◌else◌
 one_meets = record {
   made = short_taken;
   starts = two_starts;
@@ -205,16 +205,16 @@ burster_answers =
 
 -- the STX in ticks 70 to 83; the ACK in ticks 85 to 100, and directly behind it the BACK
 pub back_behind : drop 69 (E.senders (run 255 two_devices burster_answers)) ≡ 0 ∷ (replicate 14 1 ++ (0 ∷ (replicate 32 4 ++ (0 ∷ 0 ∷ []))))
-unfolding E.senders E.devices_sent E.one burster_answers first_answers seek ask content turn_on short two_devices quiet run link_tick device_ticks sides carried master_tick device_tick requested requested_up_to master_takes master_sends device_takes device_sends answered content_given taken taken_data at_idle at_preamble at_first at_address at_expansion at_command at_count at_data at_check write_buffer write_answer frame_bytes preamble_bytes body_bytes protected_bytes header_bytes xor_from delimiter_of stored if◌then◌else◌
+unfolding E.senders E.devices_sent E.one burster_answers first_answers seek ask content turn_on short two_devices quiet run link_tick device_ticks sides carried master_tick device_tick requested requested_up_to master_takes master_sends device_takes device_sends answered content_given taken taken_data at_idle at_preamble at_first at_address at_expansion at_command at_count at_data at_check write_buffer write_answer frame_bytes preamble_bytes body_bytes protected_bytes header_bytes xor_from delimiter_of stored when◌then◌else◌
 back_behind = refl
 
 -- the primary reports it as answered in tick 101
 pub burster_reported : drop 84 (reports (run 255 two_devices burster_answers)) ≡ replicate 17 0 ++ (1 ∷ replicate 17 0)
-unfolding reports reported burster_answers first_answers seek ask content turn_on short two_devices quiet run link_tick device_ticks sides carried master_tick device_tick requested requested_up_to master_takes master_sends device_takes device_sends answered content_given taken taken_data at_idle at_preamble at_first at_address at_expansion at_command at_count at_data at_check write_buffer write_answer frame_bytes preamble_bytes body_bytes protected_bytes header_bytes xor_from delimiter_of stored if◌then◌else◌
+unfolding reports reported burster_answers first_answers seek ask content turn_on short two_devices quiet run link_tick device_ticks sides carried master_tick device_tick requested requested_up_to master_takes master_sends device_takes device_sends answered content_given taken taken_data at_idle at_preamble at_first at_address at_expansion at_command at_count at_data at_check write_buffer write_answer frame_bytes preamble_bytes body_bytes protected_bytes header_bytes xor_from delimiter_of stored when◌then◌else◌
 burster_reported = refl
 
 pub burster_meets : Premises 255 short 3 two_devices burster_answers
-unfolding few finds finders ledgers_after blanks bursts bursting burster_answers first_answers seek ask content turn_on short two_devices quiet run link_tick device_ticks sides carried master_tick device_tick requested requested_up_to master_takes master_sends device_takes device_sends answered content_given taken taken_data at_idle at_preamble at_first at_address at_expansion at_command at_count at_data at_check write_buffer write_answer frame_bytes preamble_bytes body_bytes protected_bytes header_bytes xor_from delimiter_of stored if◌then◌else◌
+unfolding few finds finders ledgers_after blanks bursts bursting burster_answers first_answers seek ask content turn_on short two_devices quiet run link_tick device_ticks sides carried master_tick device_tick requested requested_up_to master_takes master_sends device_takes device_sends answered content_given taken taken_data at_idle at_preamble at_first at_address at_expansion at_command at_count at_data at_check write_buffer write_answer frame_bytes preamble_bytes body_bytes protected_bytes header_bytes xor_from delimiter_of stored when◌then◌else◌
 burster_meets = record {
   made = short_taken;
   starts = two_starts;
@@ -229,10 +229,10 @@ two_answer = seek ∷ (replicate 18 quiet ++ (both_reply ∷ []))
 
 -- the premise does not hold of tick 19
 pub two_find : finds (blanks two_devices.devices) two_answer (run 255 two_devices two_answer) ≡ replicate 19 0 ++ (2 ∷ [])
-unfolding finds finders ledgers_after blanks two_answer seek short two_devices both_reply quiet run link_tick device_ticks sides carried master_tick device_tick requested requested_up_to master_takes master_sends device_takes device_sends answered content_given taken taken_data at_idle at_preamble at_first at_address at_expansion at_command at_count at_data at_check write_buffer write_answer frame_bytes preamble_bytes body_bytes protected_bytes header_bytes xor_from delimiter_of stored if◌then◌else◌
+unfolding finds finders ledgers_after blanks two_answer seek short two_devices both_reply quiet run link_tick device_ticks sides carried master_tick device_tick requested requested_up_to master_takes master_sends device_takes device_sends answered content_given taken taken_data at_idle at_preamble at_first at_address at_expansion at_command at_count at_data at_check write_buffer write_answer frame_bytes preamble_bytes body_bytes protected_bytes header_bytes xor_from delimiter_of stored when◌then◌else◌
 two_find = refl
 
 -- and two send in it
 pub two_send : counts (run 255 two_devices two_answer) ≡ replicate 4 0 ++ (replicate 14 1 ++ (0 ∷ 2 ∷ []))
-unfolding counts device_senders two_answer seek short two_devices both_reply quiet run link_tick device_ticks sides carried master_tick device_tick requested requested_up_to master_takes master_sends device_takes device_sends answered content_given taken taken_data at_idle at_preamble at_first at_address at_expansion at_command at_count at_data at_check write_buffer write_answer frame_bytes preamble_bytes body_bytes protected_bytes header_bytes xor_from delimiter_of stored if◌then◌else◌
+unfolding counts device_senders two_answer seek short two_devices both_reply quiet run link_tick device_ticks sides carried master_tick device_tick requested requested_up_to master_takes master_sends device_takes device_sends answered content_given taken taken_data at_idle at_preamble at_first at_address at_expansion at_command at_count at_data at_check write_buffer write_answer frame_bytes preamble_bytes body_bytes protected_bytes header_bytes xor_from delimiter_of stored when◌then◌else◌
 two_send = refl

@@ -6,7 +6,7 @@ use mathlib.Core.Bool.{Bool, true, false}
 use mathlib.Core.List.{List, [], ◌∷◌}
 use lib.ListN.{length}
 use Rattle.base.specs.Refusal.{Called, accepted, refused}
-use Rattle.base.specs.Choice.{if◌then◌else◌, ◌<?◌, ◌≤?◌, ◌=?◌}
+use Rattle.base.specs.Choice.{when◌then◌else◌, ◌<?◌, ◌≤?◌, ◌=?◌}
 use Rattle.base.proofs.Choices.{true_false}
 use Rattle.frame.specs.Delimiter.{stx}
 use Rattle.line.specs.Reader.{taken, inside_frame}
@@ -55,8 +55,8 @@ nothing s f e = record { asked = λ n q. absurd (f n q); gives = λ z. absurd (t
 -- ---- what was heard
 
 -- an error answer is never to a broadcast
-own_of : (a b c o : Bool) → (if a then (if b then (if c then false else o) else false) else false) ≡ true → o ≡ true
-unfolding if◌then◌else◌
+own_of : (a b c o : Bool) → (when a then (when b then (when c then false else o) else false) else false) ≡ true → o ≡ true
+unfolding when◌then◌else◌
 own_of true true true o e = absurd (true_false (sym e))
 own_of true true false o e = e
 own_of true false c o e = absurd (true_false (sym e))
@@ -86,11 +86,11 @@ module _ (g : Ledger) (d : Device) (some : 1 ≤ d.unique) (r : Receiver) where
 
 module _ (g : Ledger) (d : Device) (o : Owes g d) where
   counted : (turn : Turn) → d.turn ≡ turn → (r : Receiver) (due : ℕ) → Owes g (device_with d r (waited turn) d.request d.wish d.length due)
-  unfolding if◌then◌else◌
+  unfolding when◌then◌else◌
   counted Listens e r due = nothing o.some (λ n q. listens_asked n q) refl
   counted (Asked k) e r due = go (k ≤? 1)
     where
-      go : (t : Bool) → Owes g (device_with d r (if t then Listens else Asked (k - 1)) d.request d.wish d.length due)
+      go : (t : Bool) → Owes g (device_with d r (when t then Listens else Asked (k - 1)) d.request d.wish d.length due)
       go true = nothing o.some (λ n q. listens_asked n q) refl
       go false = record { asked = λ n q. o.asked k e; gives = λ z. absurd (true_false (sym z)); some = o.some }
   counted AnswerWaits e r due = record { asked = λ n q. absurd (begins_asked n q); gives = λ z. o.gives (ap answering e); some = o.some }
@@ -123,7 +123,7 @@ module _ (g : Ledger) (d : Device) (o : Owes g d) where
 
 module _ (g : Ledger) (d : Device) (o : Owes g d) (frame bytes contents : List ℕ) where
   after_ack : (burst : Bool) → ((n : ℕ) → behind_ack burst ≡ Asked n → ⊥) × (answering (behind_ack burst) ≡ false)
-  unfolding if◌then◌else◌
+  unfolding when◌then◌else◌
   after_ack true = (λ n q. follows_asked n q, refl)
   after_ack false = (λ n q. listens_asked n q, refl)
 
@@ -151,14 +151,14 @@ module _ (g : Ledger) (d : Device) (o : Owes g d) (frame bytes contents : List �
 module _ (limit : ℕ) (g : Ledger) (d : Device) (o : Owes g d) (frame bytes contents : List ℕ) (t : DeviceTold) where
   answer_owes : (wish : Wish) (put : List ℕ) (turn : Turn) → d.turn ≡ turn
       → let s = answer_called (answered_by limit d wish (length put) turn) d (answer_frame d wish put frame) frame bytes contents t in Owes (called_by (gives_answer wish put) s.result g) s.side.device
-  unfolding if◌then◌else◌
+  unfolding when◌then◌else◌
   answer_owes wish put Listens e = sent g d o frame bytes contents t (CallResult.Refused 8)
   answer_owes wish put (Asked n) e = go (answer_view limit d wish (length put) n)
     where
       by : Called Device → Type 0
       by c = Owes (called_by (gives_answer wish put) (answer_called c d (answer_frame d wish put frame) frame bytes contents t).result g) (answer_called c d (answer_frame d wish put frame) frame bytes contents t).side.device
 
-      not_asked : (b : Bool) (k : ℕ) → (if b then AnswerWaits else Begins) ≡ Asked k → ⊥
+      not_asked : (b : Bool) (k : ℕ) → (when b then AnswerWaits else Begins) ≡ Asked k → ⊥
       not_asked true k q = accepted_asked k q
       not_asked false k q = begins_asked k q
 
@@ -233,16 +233,16 @@ all_tick limit heard (c ∷ cs) (owe_and {x = x} o os) = owe_and (device_owes li
 
 -- one that answers is a finder
 none_else : {gs : List Ledger} {xs : List DeviceSide} → AllOwe gs xs → finders gs ≤ 0 → {Q : Type 0} → All (λ (y : DeviceSide). Q → AnswersTag y → ⊥) xs
-unfolding finders if◌then◌else◌
+unfolding finders when◌then◌else◌
 none_else no_more z = none
 none_else (owe_and {g} {x} {gs} {xs} o os) z {Q} = go (found g) refl (λ k. none_else os k) z
   where
-    go : (b : Bool) → found g ≡ b → (finders gs ≤ 0 → All (λ (y : DeviceSide). Q → AnswersTag y → ⊥) xs) → (if b then 1 else 0) + finders gs ≤ 0 → All (λ (y : DeviceSide). Q → AnswersTag y → ⊥) (x ∷ xs)
+    go : (b : Bool) → found g ≡ b → (finders gs ≤ 0 → All (λ (y : DeviceSide). Q → AnswersTag y → ⊥) xs) → (when b then 1 else 0) + finders gs ≤ 0 → All (λ (y : DeviceSide). Q → AnswersTag y → ⊥) (x ∷ xs)
     go true e rest q = absurd (omega arith)
     go false e rest q = and (λ u a. true_false (sym (o.gives a.on_its_way a.to_tag) ∙ e)) (rest (omega arith))
 
 pub sole : {gs : List Ledger} {xs : List DeviceSide} → AllOwe gs xs → finders gs ≤ 1 → SoleTag xs
-unfolding finders if◌then◌else◌
+unfolding finders when◌then◌else◌
 sole no_more z = no_tag
 sole (owe_and {g} {x} {gs} {xs} o os) z = go (found g) refl (λ k. sole os k) z
   where
@@ -250,7 +250,7 @@ sole (owe_and {g} {x} {gs} {xs} o os) z = go (found g) refl (λ k. sole os k) z
     not_it [] f = none
     not_it (y ∷ ys) f = and (λ a b. f a) (not_it ys f)
 
-    go : (b : Bool) → found g ≡ b → (finders gs ≤ 1 → SoleTag xs) → (if b then 1 else 0) + finders gs ≤ 1 → SoleTag (x ∷ xs)
+    go : (b : Bool) → found g ≡ b → (finders gs ≤ 1 → SoleTag xs) → (when b then 1 else 0) + finders gs ≤ 1 → SoleTag (x ∷ xs)
     go true e rest q = tag_and (none_else os (omega arith)) (rest (omega arith))
     go false e rest q = tag_and (not_it xs (λ a. true_false (sym (o.gives a.on_its_way a.to_tag) ∙ e))) (rest (omega arith))
 

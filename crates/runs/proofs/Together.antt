@@ -64,15 +64,12 @@ pub data ToldTogether (ss : List DeviceStep) : Type 0 where
   all_told : (w : Whole) → seeks_tag w.header ≡ true → EachTold (λ (t : DeviceTold). t ≡ Request w) ss → ToldTogether ss
   none_told : EachTold NoTag ss → ToldTogether ss
 
-abbrev pub ToldIn : LinkStep → Type 0
-ToldIn s = ToldTogether s.for_devices
-
 -- ---- a device by itself
 
 no_request : NoTag DeviceTold.Nothing
 no_request w e = absurd (let z : ◌≡◌ {A = ℕ} 0 1 = cc in omega arith)
 
-pub is_nothing : {t : DeviceTold} → t ≡ DeviceTold.Nothing → NoTag t
+is_nothing : {t : DeviceTold} → t ≡ DeviceTold.Nothing → NoTag t
 is_nothing e = subst NoTag (sym e) no_request
 
 same_request : (v w : Whole) → Request v ≡ Request w → v ≡ w
@@ -99,7 +96,7 @@ tick_told limit x heard (gives_content command put) = go (content_given limit (d
     go (refused why) = refl
 
 module _ (d : Device) where
-  pub deaf_told : (heard : Heard) → d.deaf ≡ true → NoTag (device_takes d heard).told
+  deaf_told : (heard : Heard) → d.deaf ≡ true → NoTag (device_takes d heard).told
   deaf_told heard e = is_nothing (ap (λ (t : DeviceTaken). t.told) (takes_nothing d heard e))
 
   nobody_told : DeviceTaken → Type 0
@@ -109,7 +106,7 @@ module _ (d : Device) where
   unfolding nobody_told
   silence_told r = if_both nobody_told (inside_frame d.receiver.place) _ _ (if_both nobody_told d.receiver.gap _ _ no_request no_request) no_request
 
-  pub hears_silence : NoTag (device_takes d Silence).told
+  hears_silence : NoTag (device_takes d Silence).told
   unfolding device_takes nobody_told
   hears_silence = if_both nobody_told d.deaf _ _ no_request (silence_told (taken d.receiver Silence).receiver)
 
@@ -141,7 +138,7 @@ module _ (d : Device) where
 -- ---- all devices
 
 module _ (limit : ℕ) (heard : Heard) where
-  pub each_told : {P : DeviceTold → Type 0} {Q : DeviceSide → Type 0} {xs : List DeviceSide} (cs : List DeviceCall) → ((x : DeviceSide) → Q x → P (device_takes x.device heard).told) → All Q xs → EachTold P (device_ticks limit heard xs cs)
+  each_told : {P : DeviceTold → Type 0} {Q : DeviceSide → Type 0} {xs : List DeviceSide} (cs : List DeviceCall) → ((x : DeviceSide) → Q x → P (device_takes x.device heard).told) → All Q xs → EachTold P (device_ticks limit heard xs cs)
   unfolding device_ticks
   each_told cs f none = no_device
   each_told {P} [] f (and {x = x} q qs) = told_and (subst P (sym (tick_told limit x heard no_call)) (f x q)) (each_told [] f qs)
@@ -177,7 +174,7 @@ module _ (limit : ℕ) (p : Profile) (w : List ℕ) (message : Whole) (k : ℕ) 
   stx_untold (inl below) tag hs = each_told limit (Character (get_or w k 0)) cs (mid_told below) hs
   stx_untold (inr last) tag hs = each_told limit (Character (get_or w k 0)) cs (λ x h. subst NoTag (sym (end_told last x h)) (other_told x.device message tag)) hs
 
-  pub stx_together : (suc k < length w) ⊎ (suc k ≡ length w) → message.header.kind ≡ stx → message.expansion ≡ 0 → {xs : List DeviceSide} → All (DeviceHears p (reader_after idle (take k w)) u) xs → ToldTogether (device_ticks limit (Character (get_or w k 0)) xs cs)
+  stx_together : (suc k < length w) ⊎ (suc k ≡ length w) → message.header.kind ≡ stx → message.expansion ≡ 0 → {xs : List DeviceSide} → All (DeviceHears p (reader_after idle (take k w)) u) xs → ToldTogether (device_ticks limit (Character (get_or w k 0)) xs cs)
   unfolding Hears
   stx_together (inl below) type none_more hs = none_told (each_told limit (Character (get_or w k 0)) cs (mid_told below) hs)
   stx_together (inr last) type none_more {xs} hs = go (seeks_tag message.header) refl
@@ -206,23 +203,23 @@ pub is_not_stx : {on burst next : Bool} {h : Header} {a b : MasterSide} {f : Fra
 is_not_stx {h = h} (is_ack e pa pb) = ap (λ (n : ℕ). n =? stx) e
 is_not_stx {h = h} (is_back e on set turn) = ap (λ (n : ℕ). n =? stx) e
 
-phase_together : (limit : ℕ) (p : Profile) (e : ℕ) (l : Link) (c : Calls) → Phase p e l → ToldIn (link_tick limit l c)
+phase_together : (limit : ℕ) (p : Profile) (e : ℕ) (l : Link) (c : Calls) → Phase p e l → ToldTogether (link_tick limit l c).for_devices
 unfolding heard_tick
-phase_together limit p e l c (silent q o) = subst ToldIn (sym (tick_is limit l Silence c q)) (none_told (silence_untold limit l.devices c.for_devices))
+phase_together limit p e l c (silent q o) = subst (λ (s : LinkStep). ToldTogether s.for_devices) (sym (tick_is limit l Silence c q)) (none_told (silence_untold limit l.devices c.for_devices))
 phase_together limit p e l c (primary_sends burst noted next k w message q o) =
-    subst ToldIn (sym (tick_is limit l (Character (get_or w k 0)) c q))
+    subst (λ (s : LinkStep). ToldTogether s.for_devices) (sym (tick_is limit l (Character (get_or w k 0)) c q))
     (stx_together limit p w message k o.speaks.held.speaks 0 c.for_devices (master_place o.speaks.place) o.speaks.type_is o.speaks.no_expansion o.devices)
 phase_together limit p e l c (secondary_sends burst noted next k w message q o) =
-    subst ToldIn (sym (tick_is limit l (Character (get_or w k 0)) c q))
+    subst (λ (s : LinkStep). ToldTogether s.for_devices) (sym (tick_is limit l (Character (get_or w k 0)) c q))
     (stx_together limit p w message k o.speaks.held.speaks 0 c.for_devices (master_place o.speaks.place) o.speaks.type_is o.speaks.no_expansion o.devices)
 phase_together limit p e l c (ack_sent burst noted next k w message u on q o) =
-    subst ToldIn (sym (tick_is limit l (Character (get_or w k 0)) c q))
+    subst (λ (s : LinkStep). ToldTogether s.for_devices) (sym (tick_is limit l (Character (get_or w k 0)) c q))
     (none_told (device_untold limit p w message k (spoken_of o.devices) u c.for_devices an_ack on (is_not_stx o.frame_is) o.devices))
 phase_together limit p e l c (back_sent burst noted next k w message u q o) =
-    subst ToldIn (sym (tick_is limit l (Character (get_or w k 0)) c q))
+    subst (λ (s : LinkStep). ToldTogether s.for_devices) (sym (tick_is limit l (Character (get_or w k 0)) c q))
     (none_told (device_untold limit p w message k (spoken_of o.devices) u c.for_devices a_back true (is_not_stx o.frame_is) o.devices))
 
-pub together_run : (limit : ℕ) → 2 ≤ limit → limit ≤ 255 → (p : Profile) → Valid p → (e : ℕ) (l : Link) (ticks : List Calls) → Phase p e l → EachTick Fair (run limit l ticks) → EachTick ToldIn (run limit l ticks)
+together_run : (limit : ℕ) → 2 ≤ limit → limit ≤ 255 → (p : Profile) → Valid p → (e : ℕ) (l : Link) (ticks : List Calls) → Phase p e l → EachTick Fair (run limit l ticks) → EachTick (λ (s : LinkStep). ToldTogether s.for_devices) (run limit l ticks)
 unfolding run
 together_run limit low high p v e l [] q b = no_tick
 together_run limit low high p v e l (c ∷ cs) q (tick_and b bs) =
@@ -233,12 +230,12 @@ fresh_deaf : {p : Profile} {xs : List DeviceSide} → All (DeviceStarts p) xs �
 fresh_deaf none = none
 fresh_deaf {p} (and {x = x} s ss) = and (ap (λ (d : Device). d.deaf) (device_is p s.preamble s.polling s.unique x.device s.starts).is) (fresh_deaf ss)
 
-pub told_together : (limit : ℕ) → 2 ≤ limit → limit ≤ 255 → (p : Profile) (retries : ℕ) (l : Link) (ticks : List Calls) → Premises limit p retries l ticks → EachTick ToldIn (run limit l ticks)
+pub told_together : (limit : ℕ) → 2 ≤ limit → limit ≤ 255 → (p : Profile) (retries : ℕ) (l : Link) (ticks : List Calls) → Premises limit p retries l ticks → EachTick (λ (s : LinkStep). ToldTogether s.for_devices) (run limit l ticks)
 unfolding run link_tick
 told_together limit low high p retries l [] k = no_tick
 told_together limit low high p retries l (c ∷ cs) k = go (fair_run limit p retries l (c ∷ cs) k)
   where
-    go : EachTick Fair (run limit l (c ∷ cs)) → EachTick ToldIn (run limit l (c ∷ cs))
+    go : EachTick Fair (run limit l (c ∷ cs)) → EachTick (λ (s : LinkStep). ToldTogether s.for_devices) (run limit l (c ∷ cs))
     go (tick_and b bs) =
         tick_and (none_told (each_told limit l.line c.for_devices (λ x e. deaf_told x.device l.line e) (fresh_deaf k.starts.devices)))
         (together_run limit low high p (valid p k.made) p.rt1s (link_after (link_tick limit l c)) cs (phase_first limit low high p (valid p k.made) retries l c k.starts) bs)

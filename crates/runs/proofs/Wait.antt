@@ -6,7 +6,7 @@ use mathlib.Core.Bool.{Bool, true, false}
 use mathlib.Core.List.{List, [], ◌∷◌}
 use mathlib.Core.Logic.{◌⊎◌, inl, inr}
 use lib.ListN.{length, drop, get_or}
-use Rattle.base.specs.Choice.{if◌then◌else◌}
+use Rattle.base.specs.Choice.{when◌then◌else◌}
 use Rattle.base.proofs.Choices.{true_false}
 use Rattle.line.specs.declared.Heard.TheVariants.{Silence, Character}
 use Rattle.line.specs.declared.Profile.{Profile}
@@ -352,7 +352,7 @@ module _ (limit : ℕ) (low : 2 ≤ limit) (high : limit ≤ 255) (p : Profile) 
         go (finished last t y z) = omega (arith, pending_left q, z, own_is p primary (waiter bit l).master o.speaks.is_it.profile_is o.speaks.is_it.primary_is, (some_rt1 p v primary).0)
 
 enter : (limit : ℕ) (low : 2 ≤ limit) (high : limit ≤ 255) (p : Profile) (v : Valid p) (retries : ℕ) (bit : Bool) (e : ℕ) (l : Link) → LinkSettled limit retries l → Pending (waiter bit l) → Phase p e l → Entered limit low high p v retries bit e l
-unfolding if◌then◌else◌
+unfolding when◌then◌else◌
 enter limit low high p v retries bit e l kept q (N.silent line (clear m)) = on_clear limit low high p v retries bit e l kept q line m
 enter limit low high p v retries bit e l kept q (N.silent line (set n next m)) = on_set limit low high p v retries bit e l kept q n next line m
 enter limit low high p v retries true e l kept q (N.primary_sends burst noted next k w message line o) = absurd (not_sending limit low high p v retries true e l kept q o)

@@ -6,7 +6,7 @@ use mathlib.Core.Bool.{Bool, true, false}
 use mathlib.Core.List.{List}
 use mathlib.Core.Logic.{◌⊎◌, inl, inr}
 use lib.ListN.{length, get_or}
-use Rattle.base.specs.Choice.{if◌then◌else◌}
+use Rattle.base.specs.Choice.{when◌then◌else◌}
 use Rattle.base.proofs.Choices.{true_false}
 use Rattle.line.specs.declared.Heard.TheVariants.{Silence, Character}
 use Rattle.line.specs.declared.Profile.{Profile}
@@ -39,7 +39,7 @@ module _ (limit : ℕ) (low : 2 ≤ limit) (high : limit ≤ 255) (p : Profile) 
   pub set_step : (n : ℕ) (next : Bool) (d : ℕ) → Fair (heard_tick limit l Silence c) → LinkSettled limit retries (link_after (heard_tick limit l Silence c)) → (k : SetLine p n next l.primary l.secondary l.devices) → Pending (waiter bit l)
       → SetRank p (limit + 29) (is_own bit next) n (waiter bit l).master.timer (other bit l).master.timer (left (other bit l).master.message.stage) d
       → Next bit (heard_tick limit l Silence c) (λ (m : Link). Soon p bit (d - 1) m ⊎ Burst p (limit + 29) bit (d - 1) m)
-  unfolding heard_tick if◌then◌else◌
+  unfolding heard_tick when◌then◌else◌
   set_step n next d sole kept k q r =
       go (silent_view p n true k.noted next bit l quiet _ (set_tick limit low high p v l.primary l.secondary l.devices c.for_primary c.for_secondary c.for_devices n next k sole))
     where

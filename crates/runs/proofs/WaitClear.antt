@@ -6,7 +6,7 @@ use mathlib.Core.Bool.{Bool, true, false}
 use mathlib.Core.List.{List}
 use mathlib.Core.Logic.{◌⊎◌, inl, inr}
 use lib.ListN.{length, get_or}
-use Rattle.base.specs.Choice.{if◌then◌else◌}
+use Rattle.base.specs.Choice.{when◌then◌else◌}
 use Rattle.line.specs.declared.Heard.TheVariants.{Silence, Character}
 use Rattle.line.specs.declared.Profile.{Profile}
 use Rattle.line.specs.declared.Whole.{Whole}
@@ -42,7 +42,7 @@ module _ (limit : ℕ) (low : 2 ≤ limit) (high : limit ≤ 255) (p : Profile) 
   pub clear_step : (e d : ℕ) → Fair (heard_tick limit l Silence c) → LinkKept limit retries l → LinkSettled limit retries (link_after (heard_tick limit l Silence c)) → (k : ClearLine p e l.primary l.secondary l.devices) → Pending (waiter bit l)
       → ClearRank p (limit + 29) retries (waiter bit l).master.timer (other bit l).master.timer (left (other bit l).master.message.stage) (other bit l).master.message.attempts d
       → Next bit (heard_tick limit l Silence c) (λ (m : Link). (Soon p bit (d - 1) m ⊎ Clear p (limit + 29) retries bit (d - 1) m) ⊎ Burst p (limit + 29) bit (d - 1 + burst_gain p (limit + 29)) m)
-  unfolding heard_tick if◌then◌else◌
+  unfolding heard_tick when◌then◌else◌
   clear_step e d sole was kept k q r = go (silent_view p 0 false k.noted true bit l quiet _ (clear_tick limit low high p v l.primary l.secondary l.devices c.for_primary c.for_secondary c.for_devices e k sole))
     where
       co : ClearOf p e bit (waiter bit l) (other bit l)
@@ -121,7 +121,7 @@ module _ (limit : ℕ) (low : 2 ≤ limit) (high : limit ≤ 255) (p : Profile) 
   pub stx_clear_step : (noted : Noted) (next : Bool) (k : ℕ) (w : List ℕ) (message : Whole) (d : ℕ) → OneMasterSends p (not bit) bit false noted next k w message (other bit l) (waiter bit l) l.devices → Pending (waiter bit l)
       → (n : ℕ) → retries + 1 ≤ (other bit l).master.message.attempts + n → length w + (n * (limit + 29 + p.rt1s) + p.rt1s + p.sto + (limit + 29) + 2) ≤ d + suc k
       → Next bit (heard_tick limit l (Character (get_or w k 0)) c) (λ (m : Link). (Soon p bit (d - 1) m ⊎ Clear p (limit + 29) retries bit (d - 1) m) ⊎ Burst p (limit + 29) bit (d - 1 + burst_gain p (limit + 29)) m)
-  unfolding if◌then◌else◌
+  unfolding when◌then◌else◌
   stx_clear_step noted next k w message d o q n tries r = go (stx_of limit low high p v bit l c false noted next k w message o)
     where
       s : LinkStep

@@ -6,7 +6,7 @@ use mathlib.Core.Bool.{Bool, true, false}
 use mathlib.Core.List.{List}
 use mathlib.Core.Logic.{◌⊎◌, inr}
 use lib.ListN.{length, get_or}
-use Rattle.base.specs.Choice.{if◌then◌else◌}
+use Rattle.base.specs.Choice.{when◌then◌else◌}
 use Rattle.base.proofs.Choices.{true_false}
 use Rattle.line.specs.declared.Heard.TheVariants.{Silence, Character}
 use Rattle.line.specs.declared.Profile.{Profile}
@@ -43,7 +43,7 @@ module _ (limit : ℕ) (low : 2 ≤ limit) (high : limit ≤ 255) (p : Profile) 
   -- the other master's STX
   pub stx_step : (noted : Noted) (next : Bool) (k : ℕ) (w : List ℕ) (message : Whole) (d : ℕ) → OneMasterSends p (not bit) bit true noted next k w message (other bit l) (waiter bit l) l.devices → Pending (waiter bit l)
       → length w + burst_stx p (limit + 29) ≤ d + suc k → Next bit (heard_tick limit l (Character (get_or w k 0)) c) (λ (m : Link). Soon p bit (d - 1) m ⊎ Burst p (limit + 29) bit (d - 1) m)
-  unfolding if◌then◌else◌
+  unfolding when◌then◌else◌
   stx_step noted next k w message d o q r = go (stx_of limit low high p v bit l c true noted next k w message o)
     where
       s : LinkStep
@@ -63,7 +63,7 @@ module _ (limit : ℕ) (low : 2 ≤ limit) (high : limit ≤ 255) (p : Profile) 
       → OneDeviceSends p an_ack burst noted next k w message u on l.primary l.secondary l.devices → burst_after burst noted message.header ≡ true → Pending (waiter bit l)
       → (is_own bit next ≡ true → length w + 2 + (limit + 29) + own_back p (limit + 29) ≤ d + suc k) → length w + 2 + (limit + 29) + 2 ≤ d + suc k
       → Next bit (heard_tick limit l (Character (get_or w k 0)) c) (λ (m : Link). Soon p bit (d - 1) m ⊎ Burst p (limit + 29) bit (d - 1) m)
-  unfolding heard_tick if◌then◌else◌
+  unfolding heard_tick when◌then◌else◌
   ack_burst_step burst noted next k w message u on d kept o set q own any =
       go (ack_tick limit low high p v burst noted next k w message u l.primary l.secondary l.devices c.for_primary c.for_secondary c.for_devices 0 on o)
     where
@@ -102,7 +102,7 @@ module _ (limit : ℕ) (low : 2 ≤ limit) (high : limit ≤ 255) (p : Profile) 
   pub back_step : (burst : Bool) (noted : Noted) (next : Bool) (k : ℕ) (w : List ℕ) (message : Whole) (u d : ℕ) → OneDeviceSends p a_back burst noted next k w message u true l.primary l.secondary l.devices → Pending (waiter bit l)
       → (is_own bit next ≡ false → length w + own_back p (limit + 29) ≤ d + suc k) → length w + 2 ≤ d + suc k
       → Next bit (heard_tick limit l (Character (get_or w k 0)) c) (λ (m : Link). Soon p bit (d - 1) m ⊎ Burst p (limit + 29) bit (d - 1) m)
-  unfolding heard_tick if◌then◌else◌
+  unfolding heard_tick when◌then◌else◌
   back_step burst noted next k w message u d o q own any =
       go (back_tick limit low high p v burst noted next k w message u l.primary l.secondary l.devices c.for_primary c.for_secondary c.for_devices o)
     where
@@ -114,7 +114,7 @@ module _ (limit : ℕ) (low : 2 ≤ limit) (high : limit ≤ 255) (p : Profile) 
 
       -- the master that it was not for has the next window
       behind : (z y h : Bool) → bit ≡ z → next ≡ y → h ≡ not y → suc k ≡ length w → NobodyAwaits s.for_primary.side s.for_secondary.side
-          → s.for_primary.side.master.timer ≡ (if h then slot_timer p true 0 else slot_timer p true 1) → s.for_secondary.side.master.timer ≡ (if (if h then false else true) then slot_timer p false 0 else slot_timer p false 1)
+          → s.for_primary.side.master.timer ≡ (when h then slot_timer p true 0 else slot_timer p true 1) → s.for_secondary.side.master.timer ≡ (when (when h then false else true) then slot_timer p false 0 else slot_timer p false 1)
           → (is_own z y ≡ false → length w + own_back p (limit + 29) ≤ d + suc k)
           → SetRank p (limit + 29) (is_own z y) p.rt2 (waiter z (link_after s)).master.timer (other z (link_after s)).master.timer (left (other z (link_after s)).master.message.stage) (d - 1)
       behind true true false bz ny e last n ta tb r = K.SetRank.slot_now (ap (λ (t : Timer). t.next) ta) (omega arith)

@@ -5,7 +5,7 @@ use mathlib.Core.Path.{◌≡◌, refl, sym, ap, ◌∙◌}
 use mathlib.Core.Bool.{Bool, true, false}
 use mathlib.Core.List.{List}
 use lib.ListN.{length, get_or}
-use Rattle.base.specs.Choice.{if◌then◌else◌}
+use Rattle.base.specs.Choice.{when◌then◌else◌}
 use Rattle.base.proofs.Choices.{true_false}
 use Rattle.frame.specs.declared.Header.{Header}
 use Rattle.line.specs.declared.Heard.TheVariants.{Silence, Character}
@@ -69,12 +69,12 @@ no_line false s a b d = carries s a b d
 
 -- whose BACK is next, by the masters' bits
 pub own_other : (bit next : Bool) → next ≡ not bit → is_own bit next ≡ false
-unfolding if◌then◌else◌
+unfolding when◌then◌else◌
 own_other true next e = e
 own_other false next e = ap not e
 
 pub own_turned : (bit next : Bool) → is_own bit (not next) ≡ not (is_own bit next)
-unfolding if◌then◌else◌
+unfolding when◌then◌else◌
 own_turned true next = refl
 own_turned false next = refl
 
@@ -91,7 +91,7 @@ burst_gain p f = 4 * f + p.rt1s + 2 * p.rt2
 -- the length of the other master's STX
 pub stx_length : (limit retries : ℕ) (p : Profile) (bit : Bool) {burst : Bool} {noted : Noted} {next : Bool} {k : ℕ} {w : List ℕ} {message : Whole} (m : Link) → LinkSettled limit retries m
     → OneMasterSends p (not bit) bit burst noted next k w message (other bit m) (waiter bit m) m.devices → length w ≤ limit + 29
-unfolding if◌then◌else◌
+unfolding when◌then◌else◌
 stx_length limit retries p true m kept o = omega (arith, o.speaks.held.sized, kept.secondary.kept.short)
 stx_length limit retries p false m kept o = omega (arith, o.speaks.held.sized, kept.primary.kept.short)
 
@@ -99,7 +99,7 @@ stx_length limit retries p false m kept o = omega (arith, o.speaks.held.sized, k
 pub stx_of : (limit : ℕ) → 2 ≤ limit → limit ≤ 255 → (p : Profile) → Valid p → (bit : Bool) (l : Link) (c : Calls) (burst : Bool) (noted : Noted) (next : Bool) (k : ℕ) (w : List ℕ) (message : Whole)
     → OneMasterSends p (not bit) bit burst noted next k w message (other bit l) (waiter bit l) l.devices
     → StxTick p (not bit) bit burst noted next k w message (other bit l) (waiter bit l) (other_step bit (heard_tick limit l (Character (get_or w k 0)) c)) (waiter_step bit (heard_tick limit l (Character (get_or w k 0)) c)) (heard_tick limit l (Character (get_or w k 0)) c).for_devices
-unfolding heard_tick if◌then◌else◌
+unfolding heard_tick when◌then◌else◌
 stx_of limit low high p v true l c burst noted next k w message o =
     stx_tick limit low high p v false true burst noted next k w message l.secondary l.primary l.devices c.for_secondary c.for_primary c.for_devices o
 stx_of limit low high p v false l c burst noted next k w message o =
@@ -108,25 +108,25 @@ stx_of limit low high p v false l c burst noted next k w message o =
 -- the silent line behind it
 pub set_after : (p : Profile) → Valid p → (bit : Bool) (s : LinkStep) {noted : Noted} {next : Bool} {h : Header} → StxEnded p (not bit) bit true noted next h (other_step bit s).side (waiter_step bit s).side (sides s.for_devices)
     → SetLine p p.rt1p next (link_after s).primary (link_after s).secondary (link_after s).devices
-unfolding if◌then◌else◌
+unfolding when◌then◌else◌
 set_after p v true s x = secondary_set p v 0 x
 set_after p v false s x = primary_set p v 0 x
 
 pub clear_after : (p : Profile) → Valid p → (bit : Bool) (s : LinkStep) {noted : Noted} {next : Bool} {h : Header} → StxEnded p (not bit) bit false noted next h (other_step bit s).side (waiter_step bit s).side (sides s.for_devices)
     → ClearLine p 0 (link_after s).primary (link_after s).secondary (link_after s).devices
-unfolding if◌then◌else◌
+unfolding when◌then◌else◌
 clear_after p v true s x = secondary_clear p v 0 x
 clear_after p v false s x = primary_clear p v 0 x
 
 -- RT1 is some ticks, and no more than the secondary's
 pub some_rt1 : (p : Profile) → Valid p → (bit : Bool) → (1 ≤ rt1_of p bit) × (rt1_of p bit ≤ p.rt1s)
-unfolding if◌then◌else◌
+unfolding when◌then◌else◌
 some_rt1 p v true = (omega (arith, v.rt2_short), omega (arith, v.secondary))
 some_rt1 p v false = (omega (arith, v.rt2_short, v.secondary), omega arith)
 
 -- the other master still sends
 pub sends_on : (bit : Bool) (s : LinkStep) {p : Profile} {burst : Bool} {noted : Noted} {next : Bool} {k : ℕ} {w : List ℕ} {message : Whole} → OneMasterSends p (not bit) bit burst noted next k w message (other_step bit s).side (waiter_step bit s).side (sides s.for_devices)
     → OneMasterSends p (not bit) bit burst noted next k w message (other bit (link_after s)) (waiter bit (link_after s)) (link_after s).devices
-unfolding if◌then◌else◌
+unfolding when◌then◌else◌
 sends_on true s o = o
 sends_on false s o = o

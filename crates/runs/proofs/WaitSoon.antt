@@ -5,7 +5,7 @@ use mathlib.Core.Path.{◌≡◌, sym, ap, subst, ◌∙◌}
 use mathlib.Core.Bool.{Bool, true, false}
 use mathlib.Core.List.{List}
 use lib.ListN.{length, get_or}
-use Rattle.base.specs.Choice.{if◌then◌else◌}
+use Rattle.base.specs.Choice.{when◌then◌else◌}
 use Rattle.base.proofs.Choices.{true_false}
 use Rattle.line.specs.declared.Heard.TheVariants.{Silence, Character}
 use Rattle.line.specs.declared.Profile.{Profile}
@@ -62,15 +62,15 @@ module _ (limit : ℕ) (low : 2 ≤ limit) (high : limit ≤ 255) (p : Profile) 
 
   pub ack_step : (burst : Bool) (noted : Noted) (next : Bool) (k : ℕ) (w : List ℕ) (message : Whole) (u d : ℕ) → OneDeviceSends p an_ack burst noted next k w message u false l.primary l.secondary l.devices
       → burst_after burst noted message.header ≡ false → message.header.primary ≡ not bit → Pending (waiter bit l) → length w + 2 ≤ d + suc k → Next bit (heard_tick limit l (Character (get_or w k 0)) c) (Soon p bit (d - 1))
-  unfolding heard_tick if◌then◌else◌
+  unfolding heard_tick when◌then◌else◌
   ack_step burst noted next k w message u d o off for q r =
       go (ack_tick limit low high p v burst noted next k w message u l.primary l.secondary l.devices c.for_primary c.for_secondary c.for_devices 0 false o)
     where
       s : LinkStep
       s = heard w k
 
-      first : (b bit' : Bool) → b ≡ not bit' → NobodyAwaits s.for_primary.side s.for_secondary.side → s.for_primary.side.master.timer ≡ (if b then timer p.rt2 else timer 1)
-          → s.for_secondary.side.master.timer ≡ (if (if b then false else true) then timer p.rt2 else timer 1) → 2 ≤ d
+      first : (b bit' : Bool) → b ≡ not bit' → NobodyAwaits s.for_primary.side s.for_secondary.side → s.for_primary.side.master.timer ≡ (when b then timer p.rt2 else timer 1)
+          → s.for_secondary.side.master.timer ≡ (when (when b then false else true) then timer p.rt2 else timer 1) → 2 ≤ d
           → First (waiter bit' (link_after s)).master.timer (other bit' (link_after s)).master.timer (left (other bit' (link_after s)).master.message.stage) (d - 1)
       first false true e n ta tb z = record {
         soon = omega (arith, ap (λ (t : Timer). t.next) ta);

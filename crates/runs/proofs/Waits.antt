@@ -5,7 +5,7 @@ use mathlib.Core.Path.{◌≡◌, refl, ap}
 use mathlib.Core.Bool.{Bool, true, false}
 use mathlib.Core.List.{List}
 use lib.ListN.{length, get_or}
-use Rattle.base.specs.Choice.{if◌then◌else◌}
+use Rattle.base.specs.Choice.{when◌then◌else◌}
 use Rattle.frame.specs.declared.Header.{Header}
 use Rattle.line.specs.declared.Heard.TheVariants.{Silence, Character}
 use Rattle.line.specs.declared.Profile.{Profile}
@@ -53,11 +53,11 @@ other_step false s = s.for_primary
 
 -- the other master's bit
 abbrev pub not : Bool → Bool
-not bit = if bit then false else true
+not bit = when bit then false else true
 
 -- a BACK is for the master that waits
 abbrev pub is_own : Bool → Bool → Bool
-is_own bit next = if bit then next else not next
+is_own bit next = when bit then next else not next
 
 -- ---- the silent line, said of the two
 
@@ -71,7 +71,7 @@ pub record ClearOf (p : Profile) (e : ℕ) (bit : Bool) (x y : MasterSide) : Typ
   pub near : left x.master.message.stage ≡ 0 → left y.master.message.stage ≡ 0 → x.master.timer.next ≤ 2 * p.rt2 + e
 
 pub clear_of : (p : Profile) (e : ℕ) (bit : Bool) (l : Link) → ClearLine p e l.primary l.secondary l.devices → ClearOf p e bit (waiter bit l) (other bit l)
-unfolding if◌then◌else◌
+unfolding when◌then◌else◌
 clear_of p e true l c = record {
   noted = c.noted;
   waiter_quiet = c.primary;
@@ -114,7 +114,7 @@ slots (W.OneSlot.first_shut e f s) = let q = slot_next s in (omega arith, omega 
 slots (W.OneSlot.second_shut e f s) = let q = slot_next s in (q.0, q.1, omega arith, omega arith)
 
 pub set_of : (p : Profile) (n : ℕ) (next bit : Bool) (l : Link) → SetLine p n next l.primary l.secondary l.devices → SetOf p n next bit (waiter bit l) (other bit l)
-unfolding if◌then◌else◌
+unfolding when◌then◌else◌
 set_of p n next true l c =
     let s = slots c.slot in
     record {
@@ -162,7 +162,7 @@ pub data SilentView (p : Profile) (n : ℕ) (burst : Bool) (noted : Noted) (next
       → MasterRests (waiter bit l) (waiter_step bit s) → MasterRests (other bit l) (other_step bit s) → SilentView p n burst noted next bit l s L
 
 pub silent_view : (p : Profile) (n : ℕ) (burst : Bool) (noted : Noted) (next bit : Bool) (l : Link) (s : LinkStep) (L : Type 0) → SilentTick p n burst noted next l.primary l.secondary s.for_primary s.for_secondary s.for_devices L → SilentView p n burst noted next bit l s L
-unfolding if◌then◌else◌
+unfolding when◌then◌else◌
 silent_view p n burst noted next true l s L (T.still_silent a b c k ra rb) = stays a (carries s a b c) k ra rb
 silent_view p n burst noted next true l s L (T.primary_begins w message a b c o ra rb) = begins (get_or w 0 0) a
 silent_view p n burst noted next true l s L (T.secondary_begins w message a b c o ra rb) = other_begins w message a (carries s a b c) o ra rb
@@ -176,7 +176,7 @@ silent_view p n burst noted next false l s L (T.back_begins z w message u a b c 
 
 -- an ACK is not for a master that waits: the other one awaits it
 pub answer_for : (bit : Bool) (l : Link) {on burst next : Bool} {h : Header} → FrameIs on burst next h l.primary l.secondary an_ack → Pending (waiter bit l) → (h.primary ≡ not bit) × (1 ≤ left (other bit l).master.message.stage)
-unfolding if◌then◌else◌
+unfolding when◌then◌else◌
 answer_for bit l {h = h} (is_ack type pa pb) q = go bit h.primary refl q
   where
     go : (b z : Bool) → h.primary ≡ z → Pending (waiter b l) → (h.primary ≡ not b) × (1 ≤ left (other b l).master.message.stage)

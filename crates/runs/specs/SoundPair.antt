@@ -1,7 +1,7 @@
 -- To be believed: what the engine must do, or what is claimed of it.
 -- Document 02, item 1: "Senders still leave no gap, so turns on a sound pair are those of document 01." Document 01's silent tick is written out for a reader, a master and a device, and with it document 01's run; from the parties' starts alone the two runs are equal.
 use Rattle.std.specs.Prelude.{ℕ, ◌≡◌, true, false, List, [], ◌∷◌}
-use Rattle.base.specs.Choice.{if◌then◌else◌}
+use Rattle.base.specs.Choice.{when◌then◌else◌}
 use Rattle.base.specs.Refusal.{accepted}
 use Rattle.line.specs.Profile.{profile_made}
 use Rattle.line.specs.Reader.{idle, inside_frame, tells}
@@ -29,18 +29,18 @@ use Rattle.turns.specs.declared.DeviceTold.{DeviceTold}
 
 -- a reader; `master_reads_01` and `device_reads_01` in proofs/SoundPairs say that the reader of each party below is this one
 abbrev pub silence01 : Receiver → Taken
-silence01 r = if inside_frame r.place then tells idle Broken else tells idle Nothing
+silence01 r = when inside_frame r.place then tells idle Broken else tells idle Nothing
 
 -- a master: the frame that the tick breaks, then the count. The silent tick that breaks a frame is the first that the timer after it counts.
 abbrev pub master_silence01 : Master → MasterTaken
 master_silence01 m =
-    if inside_frame m.receiver.place then M.counts (after_break m idle Broken).master (after_break m idle Broken).told Broken
+    when inside_frame m.receiver.place then M.counts (after_break m idle Broken).master (after_break m idle Broken).told Broken
     else M.counts (M.master_with m idle m.burst m.noted m.timer m.message) MasterTold.Nothing Nothing
 
 -- a device: "after RT1 primary behind anything else"
 abbrev pub device_silence01 : Device → DeviceTaken
 device_silence01 d =
-    if inside_frame d.receiver.place then D.counts d idle (D.due_after d.profile (D.ended_by Broken)) Broken
+    when inside_frame d.receiver.place then D.counts d idle (D.due_after d.profile (D.ended_by Broken)) Broken
     else D.counts d idle d.due Nothing
 
 -- ---- document 01's tick of each party: everything heard but silence is taken as it is now, and so are the host's call and what is sent
@@ -51,7 +51,7 @@ master_hears01 m (Character c) bytes = M.on_heard m (Character c) bytes
 master_hears01 m (Damaged c kind) bytes = M.on_heard m (Damaged c kind) bytes
 
 unfoldable pub master_takes01 : Master → Heard → List ℕ → MasterTaken
-master_takes01 m heard bytes = if m.deaf then M.tells m MasterTold.Nothing Nothing else master_hears01 m heard bytes
+master_takes01 m heard bytes = when m.deaf then M.tells m MasterTold.Nothing Nothing else master_hears01 m heard bytes
 
 unfoldable pub master_tick01 : ℕ → MasterSide → Heard → MasterCall → MasterStep
 master_tick01 limit x heard call = master_calls limit (master_takes01 x.master heard (master_data x heard)) call x.frame (master_data x heard)
@@ -62,7 +62,7 @@ device_hears01 d (Character c) = D.on_heard d (Character c)
 device_hears01 d (Damaged c kind) = D.on_heard d (Damaged c kind)
 
 unfoldable pub device_takes01 : Device → Heard → DeviceTaken
-device_takes01 d heard = if d.deaf then D.tells d DeviceTold.Nothing Nothing else device_hears01 d heard
+device_takes01 d heard = when d.deaf then D.tells d DeviceTold.Nothing Nothing else device_hears01 d heard
 
 unfoldable pub device_tick01 : ℕ → DeviceSide → Heard → DeviceCall → DeviceStep
 device_tick01 limit x heard call =

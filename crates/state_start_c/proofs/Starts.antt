@@ -5,7 +5,7 @@ use mathlib.Core.List.{List}
 use mathlib.Core.Path.{◌≡◌, refl, sym, ap, subst, ◌∙◌}
 use Rattle.base.specs.Lent.{Lent, after}
 use Rattle.base.specs.declared.Refusal.{Refusal}
-use Rattle.base.specs.Choice.{if◌then◌else◌, ◌outside◌to◌}
+use Rattle.base.specs.Choice.{when◌then◌else◌, ◌outside◌to◌}
 use Rattle.base.proofs.Choices.{if_is_true, if_is_false, inside_high}
 use Rattle.frame.specs.Limits.{fewest_answered, most_data}
 use native.Mathlib.Omega.{arith}

@@ -2,7 +2,7 @@
 -- The starts. For a master or a device: the profile that the start is given, and what the start leaves where it is accepted and where it is refused.
 use Rattle.std.specs.Prelude.{ℕ, Bool, List, ◌≡◌}
 use Rattle.base.specs.Lent.{Lent, before, after}
-use Rattle.base.specs.Choice.{if◌then◌else◌, ◌outside◌to◌}
+use Rattle.base.specs.Choice.{when◌then◌else◌, ◌outside◌to◌}
 use Rattle.base.specs.Refusal.{Called, accepted, refused}
 use Rattle.frame.specs.Limits.{fewest_answered, most_data}
 use Rattle.line.specs.Profile.{profile_made}
@@ -45,7 +45,7 @@ UnpackedIs unpacked (refused why) after = Unit {0}
 
 -- document 02, item 12: "a start with a length outside 2 to 255 with 9", beside the refusals of document 01, of which the lowest applies
 abbrev pub limited : {A : Type 0} → ℕ → Called A → Called A
-limited limit (accepted fresh) = if limit outside fewest_answered to most_data then refused 9 else accepted fresh
+limited limit (accepted fresh) = when limit outside fewest_answered to most_data then refused 9 else accepted fresh
 limited limit (refused why) = refused why
 
 -- its limit stands in the words

@@ -4,7 +4,7 @@ use native.Mathlib.Nat.{mod-eq_of_lt}
 use native.Mathlib.Omega.{arith}
 use mathlib.Core.Bool.{Bool, true, false}
 use mathlib.Core.Path.{◌≡◌, refl, sym, ap, subst, ◌∙◌}
-use Rattle.base.specs.Choice.{if◌then◌else◌, ◌=?◌}
+use Rattle.base.specs.Choice.{when◌then◌else◌, ◌=?◌}
 use Rattle.frame.specs.declared.Header.{Header}
 use Rattle.line.specs.declared.FrameDamage.{FrameDamage}
 use Rattle.line.specs.declared.Place.{Place}
@@ -52,7 +52,7 @@ profile_kept p f = λ i. record {
 }
 
 pub place_kept : (p : Place) → PlaceFits p → place_of (place_word p) ≡ p
-unfolding if◌then◌else◌
+unfolding when◌then◌else◌
 place_kept Passing f = refl
 place_kept Idle f = refl
 place_kept (Preamble n) f = case_kept place_by 8 2 n (omega arith) f

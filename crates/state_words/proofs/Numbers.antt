@@ -3,7 +3,7 @@ use Prim.Native.Nat.{ℕ}
 use mathlib.Core.List.{List, ◌∷◌}
 use mathlib.Core.Path.{◌≡◌, refl, sym, ap, ◌∙◌}
 use Rattle.line.specs.declared.Event.{Event}
-use Rattle.base.specs.Choice.{if◌then◌else◌}
+use Rattle.base.specs.Choice.{when◌then◌else◌}
 use Rattle.line.specs.Reader.{no_damage}
 use Rattle.line.specs.declared.FrameDamage.{FrameDamage}
 use Rattle.line.specs.declared.Whole.{Whole}
@@ -30,7 +30,7 @@ whole_kept sent told attempts event w m f = λ i. record {
 
 -- what a tick tells is what its numbers tell
 pub event_kept : (sent told attempts : ℕ) (event : Event) → EventFits event → event_at (tick_numbers sent told attempts event) ≡ event
-unfolding if◌then◌else◌
+unfolding when◌then◌else◌
 event_kept sent told attempts Event.Nothing f = refl
 event_kept sent told attempts Event.PassedOver f = refl
 event_kept sent told attempts Event.Broken f = refl

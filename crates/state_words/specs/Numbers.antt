@@ -1,7 +1,7 @@
 -- How the code stands for what is to be believed.
 -- What is told of a tick, as 17 numbers for every party, in the order of the C header's `enum nengapiko_result`: what is sent, what is told and the attempts, then what the reader found.
 use Rattle.std.specs.Prelude.{ℕ, ◌+◌, List, [], ◌∷◌, ◌++◌}
-use Rattle.base.specs.Choice.{if◌then◌else◌, ◌=?◌}
+use Rattle.base.specs.Choice.{when◌then◌else◌, ◌=?◌}
 use Rattle.line.specs.Reader.{no_damage}
 use Rattle.line.specs.Told.{event_number}
 use Rattle.line.specs.declared.Event.{Event}
@@ -58,10 +58,10 @@ whole_at numbers = record {
 
 abbrev pub event_by : ℕ → Whole → FrameDamage → Event
 event_by event w m =
-    if event =? event_number PassedOver then PassedOver else
-    if event =? event_number Broken then Broken else
-    if event =? event_number (Frame w) then Frame w else
-    if event =? event_number (Damaged w m) then Damaged w m else
+    when event =? event_number PassedOver then PassedOver else
+    when event =? event_number Broken then Broken else
+    when event =? event_number (Frame w) then Frame w else
+    when event =? event_number (Damaged w m) then Damaged w m else
     Nothing
 
 abbrev pub event_at : List ℕ → Event

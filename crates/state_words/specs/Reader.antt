@@ -1,7 +1,7 @@
 -- How the code stands for what is to be believed.
 -- A header, a profile and what the tick reader holds, as words.
 use Rattle.std.specs.Prelude.{ℕ, ◌+◌, ◌*◌, ◌/◌, ◌%◌, ◌^◌, List, [], ◌∷◌, ◌++◌}
-use Rattle.base.specs.Choice.{if◌then◌else◌, ◌=?◌}
+use Rattle.base.specs.Choice.{when◌then◌else◌, ◌=?◌}
 use Rattle.frame.specs.declared.Header.{Header}
 use Rattle.line.specs.declared.FrameDamage.{FrameDamage}
 use Rattle.line.specs.declared.Place.{Place}
@@ -56,15 +56,15 @@ place_word Check = 9
 -- the numbers 10 to 15 stand for the place with number 0
 abbrev pub place_by : ℕ → ℕ → Place
 place_by number n =
-    if number =? 1 then Idle else
-    if number =? 2 then Preamble n else
-    if number =? 3 then First else
-    if number =? 4 then Address n else
-    if number =? 5 then Expansion n else
-    if number =? 6 then Command else
-    if number =? 7 then Count else
-    if number =? 8 then Data n else
-    if number =? 9 then Check else
+    when number =? 1 then Idle else
+    when number =? 2 then Preamble n else
+    when number =? 3 then First else
+    when number =? 4 then Address n else
+    when number =? 5 then Expansion n else
+    when number =? 6 then Command else
+    when number =? 7 then Count else
+    when number =? 8 then Data n else
+    when number =? 9 then Check else
     Passing
 
 abbrev pub place_of : ℕ → Place

@@ -8,7 +8,7 @@ use mathlib.Core.Bool.{Bool, true, false}
 use mathlib.Core.List.{List, [], ◌∷◌, ◌++◌}
 use lib.ListN.{length, take, get_or, set, length-set, length-take}
 use lib.Seq.{take_all}
-use Rattle.base.specs.Choice.{if◌then◌else◌, ◌<?◌}
+use Rattle.base.specs.Choice.{when◌then◌else◌, ◌<?◌}
 use Rattle.base.specs.Store.{stored}
 use Rattle.base.proofs.Choices.{if_below, if_not_below}
 use Rattle.base.proofs.Stores.{take_more}
@@ -42,10 +42,10 @@ put_full b before at h = record { out = if_not_below at (length before) (out_of 
 
 -- the buffer keeps its length
 length_byte : (o : Out) (b : ℕ) → length (put_byte o b).bytes ≡ length o.bytes
-unfolding put_byte if◌then◌else◌
+unfolding put_byte when◌then◌else◌
 length_byte o b = go (o.at <? length o.bytes)
   where
-    go : (t : Bool) → length (if t then out_of (set o.bytes o.at b) (o.at + 1) else o).bytes ≡ length o.bytes
+    go : (t : Bool) → length (when t then out_of (set o.bytes o.at b) (o.at + 1) else o).bytes ≡ length o.bytes
     go true = length-set o.bytes o.at b
     go false = refl
 

@@ -1,7 +1,7 @@
 -- How the code stands for what is to be believed.
 -- Numbers as text, for the programs that print.
 use Rattle.std.specs.Prelude.{ℕ, ◌+◌, ◌*◌, ◌/◌, ◌%◌, Bool, false, List, [], ◌∷◌, ◌++◌}
-use Rattle.base.specs.Choice.{if◌then◌else◌, ◌<?◌}
+use Rattle.base.specs.Choice.{when◌then◌else◌, ◌<?◌}
 use Rattle.texts.specs.Decimal.{decimal_of}
 
 -- a number in decimal; one of 64 bits has at most 20 digits
@@ -10,11 +10,11 @@ decimal n = decimal_of 20 n
 
 -- 1 for a flag that is set
 abbrev pub bit_of : Bool → ℕ
-bit_of on = if on then 1 else 0
+bit_of on = when on then 1 else 0
 
 -- a hexadecimal digit: 0 to 9, then A to F or a to f
 abbrev pub digit_of : Bool → ℕ → ℕ
-digit_of capital n = if n <? 10 then 48 + n else (if capital then 55 + n else 87 + n)
+digit_of capital n = when n <? 10 then 48 + n else (when capital then 55 + n else 87 + n)
 
 -- a byte in hexadecimal, two digits
 abbrev pub hexadecimal : Bool → ℕ → List ℕ
@@ -27,7 +27,7 @@ spaced (byte ∷ bytes) = 32 ∷ (hexadecimal false byte ++ spaced bytes)
 
 -- the value of a hexadecimal digit, 0 to 9 or a to f
 abbrev pub value_of : ℕ → ℕ
-value_of c = if c <? 97 then c % 16 else c % 16 + 9
+value_of c = when c <? 97 then c % 16 else c % 16 + 9
 
 -- the byte of two such digits
 abbrev pub byte_of : ℕ → ℕ → ℕ

@@ -1,7 +1,7 @@
 -- How the code stands for what is to be believed.
 -- Text that is put into a lent output buffer, byte after byte. What does not fit is left out.
 use Rattle.std.specs.Prelude.{ℕ, ◌+◌, List, [], ◌∷◌, ◌≡◌, length, set}
-use Rattle.base.specs.Choice.{if◌then◌else◌, ◌<?◌}
+use Rattle.base.specs.Choice.{when◌then◌else◌, ◌<?◌}
 
 -- the buffer, and the place of the next byte
 pub record Out : Type 0 where
@@ -13,7 +13,7 @@ out_of bytes at = record { bytes = bytes; at = at }
 
 -- a byte is stored if there is room for it
 unfoldable pub put_byte : Out → ℕ → Out
-put_byte o b = if o.at <? length o.bytes then out_of (set o.bytes o.at b) (o.at + 1) else o
+put_byte o b = when o.at <? length o.bytes then out_of (set o.bytes o.at b) (o.at + 1) else o
 
 unfoldable pub put : Out → List ℕ → Out
 put o [] = o

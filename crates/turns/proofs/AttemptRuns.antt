@@ -4,7 +4,7 @@ use mathlib.Core.Path.{◌≡◌, refl}
 use mathlib.Core.Bool.{true}
 use mathlib.Core.List.{List, [], ◌∷◌, ◌++◌}
 use lib.ListN.{replicate}
-use Rattle.base.specs.Choice.{if◌then◌else◌}
+use Rattle.base.specs.Choice.{when◌then◌else◌}
 use Rattle.base.specs.Store.{stored}
 use Rattle.frame.specs.Check.{xor_from}
 use Rattle.frame.specs.Delimiter.{delimiter_of}
@@ -36,7 +36,7 @@ master_reports limit x (i ∷ is) = told_then (master_tick limit x i.heard i.cal
 pub first_stx_sent : master_sents 255 primary (asks ∷ replicate 42 (hears Silence))
     ≡ replicate 33 Silent
     ++ (Character 0xFF ∷ Character 0xFF ∷ Character 0xFF ∷ Character 0xFF ∷ Character 0xFF ∷ Character 0x02 ∷ Character 0x80 ∷ Character 0x00 ∷ Character 0x00 ∷ Character 0x82 ∷ [])
-unfolding primary hears asks master_sents master_tick requested requested_up_to master_takes master_sends taken taken_data silent_inside at_idle frame_bytes preamble_bytes body_bytes protected_bytes header_bytes xor_from delimiter_of stored if◌then◌else◌
+unfolding primary hears asks master_sents master_tick requested requested_up_to master_takes master_sends taken taken_data silent_inside at_idle frame_bytes preamble_bytes body_bytes protected_bytes header_bytes xor_from delimiter_of stored when◌then◌else◌
 first_stx_sent = refl
 
 unfoldable pub stx_then : List ℕ → List ℕ
@@ -46,11 +46,11 @@ unfoldable pub unanswered : List MasterInput
 unanswered = asks ∷ replicate 209 (hears Silence)
 
 pub sent_four_times : marks (master_sents 255 primary unanswered) ≡ stx_then (stx_then (stx_then (stx_then (replicate 38 0))))
-unfolding stx_then unanswered marks primary hears asks master_sents master_tick requested requested_up_to master_takes master_sends taken taken_data silent_inside at_idle frame_bytes preamble_bytes body_bytes protected_bytes header_bytes xor_from delimiter_of stored if◌then◌else◌
+unfolding stx_then unanswered marks primary hears asks master_sents master_tick requested requested_up_to master_takes master_sends taken taken_data silent_inside at_idle frame_bytes preamble_bytes body_bytes protected_bytes header_bytes xor_from delimiter_of stored when◌then◌else◌
 sent_four_times = refl
 
 pub given_up_after_four : master_reports 255 primary unanswered ≡ GivenUp 4 ∷ []
-unfolding unanswered master_reports primary hears asks master_tick requested requested_up_to master_takes master_sends taken taken_data silent_inside at_idle frame_bytes preamble_bytes body_bytes protected_bytes header_bytes xor_from delimiter_of stored if◌then◌else◌
+unfolding unanswered master_reports primary hears asks master_tick requested requested_up_to master_takes master_sends taken taken_data silent_inside at_idle frame_bytes preamble_bytes body_bytes protected_bytes header_bytes xor_from delimiter_of stored when◌then◌else◌
 given_up_after_four = refl
 
 -- ---- a broadcast, of 14 characters
@@ -59,9 +59,9 @@ unfoldable pub broadcast : List MasterInput
 broadcast = record { heard = Silence; call = requests (record { preamble = 5; revision = 7; long = true; address = 0; command = 3 }) [] } ∷ replicate 89 (hears Silence)
 
 pub sent_once : marks (master_sents 255 primary broadcast) ≡ replicate 33 0 ++ (replicate 14 1 ++ replicate 43 0)
-unfolding broadcast marks primary hears master_sents master_tick requested requested_up_to master_takes master_sends taken taken_data silent_inside at_idle frame_bytes preamble_bytes body_bytes protected_bytes header_bytes xor_from delimiter_of stored if◌then◌else◌
+unfolding broadcast marks primary hears master_sents master_tick requested requested_up_to master_takes master_sends taken taken_data silent_inside at_idle frame_bytes preamble_bytes body_bytes protected_bytes header_bytes xor_from delimiter_of stored when◌then◌else◌
 sent_once = refl
 
 pub reported_sent : master_reports 255 primary broadcast ≡ BroadcastSent ∷ []
-unfolding broadcast master_reports primary hears master_tick requested requested_up_to master_takes master_sends taken taken_data silent_inside at_idle frame_bytes preamble_bytes body_bytes protected_bytes header_bytes xor_from delimiter_of stored if◌then◌else◌
+unfolding broadcast master_reports primary hears master_tick requested requested_up_to master_takes master_sends taken taken_data silent_inside at_idle frame_bytes preamble_bytes body_bytes protected_bytes header_bytes xor_from delimiter_of stored when◌then◌else◌
 reported_sent = refl

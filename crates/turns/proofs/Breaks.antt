@@ -6,8 +6,8 @@ use mathlib.Core.Bool.{Bool, true, false}
 use mathlib.Core.List.{List}
 use mathlib.Core.Logic.{◌⊎◌, inl, inr}
 use borrow.Author.Tests.{le-leb, ne_eqb}
-use Rattle.base.specs.Choice.{if◌then◌else◌, ◌=?◌, ◌≤?◌}
-use Rattle.base.proofs.Choices.{if_is_true, if_is_false}
+use Rattle.base.specs.Choice.{when◌then◌else◌, ◌=?◌, ◌≤?◌}
+use Rattle.base.proofs.Choices.{true_false, if_is_true, if_is_false}
 use Rattle.line.specs.Gaps.{IsCharacter, is_sound, is_with_damage}
 use Rattle.line.specs.Reader.{idle, gapped, taken}
 use Rattle.line.specs.declared.Event.{Event}
@@ -20,7 +20,7 @@ use Rattle.line.specs.declared.Taken.{Taken}
 use Rattle.line.proofs.Ticks.{Inside, gapped_takes}
 use Rattle.turns.specs.Master as M
 use Rattle.turns.specs.Party.{is_broadcast}
-use Rattle.turns.specs.Master.{Ending, own_rt1, quiet_time, at_break, if_awaiting, rt1_ends, timer_counted, burst_counted, after_break, master_takes}
+use Rattle.turns.specs.Master.{Ending, own_rt1, quiet_time, has_message, at_break, if_awaiting, rt1_ends, timer_counted, burst_counted, after_break, master_takes}
 use Rattle.turns.specs.Device as D
 use Rattle.turns.specs.Device.{back_due, broken_due, device_takes}
 use Rattle.turns.specs.Gaps.{ToSend, message_waits, retry_left, behind_break}
@@ -159,7 +159,7 @@ opens {m} c (set on q n w) = ap (λ (x : Timer). x.window) (c.timer_is ∙ if_is
 
 -- ---- the second silent tick, of a master
 
-pub record Waits (k : ℕ) (m : Master) : Type 0 where
+pub record RestsFor (k : ℕ) (m : Master) : Type 0 where
   pub hears : m.deaf ≡ false
   pub idle_is : m.receiver ≡ idle
   pub awaits_none : FreeOrWaiting m.message.stage
@@ -190,22 +190,22 @@ retries_now m (retry_left n e b r) =
     ∙ ap (λ (z : Ending). z.message.stage) (if_is_false (is_broadcast m.message.header) _ _ b ∙ if_is_true (m.message.attempts ≤? m.retries) _ _ (le-leb m.message.attempts m.retries r))
 
 break_left : (m : Master) → Left (behind_break m) (after_break m idle Broken).master
-unfolding if◌then◌else◌
+unfolding when◌then◌else◌
 break_left m = go m.burst refl
   where
-    go : (b : Bool) → m.burst ≡ b → Left (if b then quiet_time m.profile m.primary else own_rt1 m.profile m.primary) (M.master_with m idle m.burst m.noted (M.timer_after m.profile m.primary M.broken b) (if_awaiting m.message.stage m.message (at_break m)).message)
+    go : (b : Bool) → m.burst ≡ b → Left (when b then quiet_time m.profile m.primary else own_rt1 m.profile m.primary) (M.master_with m idle m.burst m.noted (M.timer_after m.profile m.primary M.broken b) (if_awaiting m.message.stage m.message (at_break m)).message)
     go true e = set e refl refl refl
     go false e = clear e refl refl
 
 -- "both then count": two silent ticks less are left
 pub record Broke (k : ℕ) (m t : Master) : Type 0 where
-  pub waits : Waits k t
+  pub waits : RestsFor k t
   pub to_send : ToSend m → ToSend t
 
-pub both_count : (k : ℕ) (m : Master) (bytes : List ℕ) → m.deaf ≡ false → Inside m.receiver.place → m.receiver.gap ≡ true → Still m.message.stage → 1 ≤ m.profile.hold → behind_break m ≡ suc (suc (suc k))
+pub both_count_at_rest : (k : ℕ) (m : Master) (bytes : List ℕ) → m.deaf ≡ false → Inside m.receiver.place → m.receiver.gap ≡ true → Still m.message.stage → 1 ≤ m.profile.hold → behind_break m ≡ suc (suc (suc k))
     → Broke (suc k) m (master_takes m Silence bytes).master
 unfolding master_takes
-both_count k m bytes hears inside second still hold e =
+both_count_at_rest k m bytes hears inside second still hold e =
     let takes = if_is_false m.deaf _ _ hears ∙ master_second m inside second in
     let b : Master = (after_break m idle Broken).master in
     let told : MasterTold = (after_break m idle Broken).told in
@@ -226,6 +226,30 @@ both_count k m bytes hears inside second still hold e =
       };
       to_send = λ d. message_waits (stage ∙ retries_now m d);
     })
+
+-- a message that waits, or whose retry is due: it waits, and two silent ticks less are left
+pub record Waits (k : ℕ) (m : Master) : Type 0 where
+  pub hears : m.deaf ≡ false
+  pub idle_is : m.receiver ≡ idle
+  pub stage_is : m.message.stage ≡ Waiting
+  pub some_hold : 1 ≤ m.profile.hold
+  pub left : Left k m
+
+pub to_still : {m : Master} → ToSend m → Still m.message.stage
+to_still (message_waits e) = subst Still (sym e) is_waiting
+to_still (retry_left n e b r) = subst Still (sym e) (is_awaiting n)
+
+-- a message that is not awaited waits
+pub it_waits : {m : Master} → FreeOrWaiting m.message.stage → ToSend m → m.message.stage ≡ Waiting
+it_waits v (message_waits e) = e
+it_waits (inl f) (retry_left n e b r) = absurd (true_false (sym (ap has_message e) ∙ ap has_message f))
+it_waits (inr f) (retry_left n e b r) = f
+
+pub both_count : (k : ℕ) (m : Master) (bytes : List ℕ) → m.deaf ≡ false → Inside m.receiver.place → m.receiver.gap ≡ true → ToSend m → 1 ≤ m.profile.hold → behind_break m ≡ suc (suc (suc k)) → Waits (suc k) (master_takes m Silence bytes).master
+both_count k m bytes hears inside second due hold e =
+    let b : Broke (suc k) m (master_takes m Silence bytes).master = both_count_at_rest k m bytes hears inside second (to_still due) hold e in
+    let w = b.waits in
+    record { hears = w.hears; idle_is = w.idle_is; stage_is = it_waits w.awaits_none (b.to_send due); some_hold = w.some_hold; left = w.left }
 
 -- ---- and of a bursting device
 

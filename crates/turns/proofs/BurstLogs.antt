@@ -8,7 +8,7 @@ use mathlib.Core.Logic.{◌⊎◌, inl, inr}
 use lib.ListN.{length}
 use borrow.Author.Tests.{leb-false, eqb-true}
 use Rattle.base.specs.Refusal.{Called}
-use Rattle.base.specs.Choice.{if◌then◌else◌, ◌<?◌, ◌≤?◌, ◌=?◌}
+use Rattle.base.specs.Choice.{when◌then◌else◌, ◌<?◌, ◌≤?◌, ◌=?◌}
 use Rattle.base.specs.Store.{stored}
 use Rattle.frame.specs.Delimiter.{stx, ack}
 use Rattle.line.specs.Reader.{taken, inside_frame}
@@ -71,11 +71,11 @@ record Logged (p : Profile) (on : Bool) (pending : Wished) (d : Device) : Type 0
 module _ (p : Profile) (v : Valid p) (on : Bool) (pending : Wished) (d : Device) (l : Logged p on pending d) (r : Rests d.turn) where
   -- a silent tick
   waited_turned : (turn : Turn) → d.turn ≡ turn → (due : ℕ) → Turned p pending d.wish d.due turn → Turned p pending d.wish due (waited turn)
-  unfolding Turned if◌then◌else◌
+  unfolding Turned when◌then◌else◌
   waited_turned Listens e due t = t
   waited_turned (Asked n) e due t = go (n ≤? 1) refl
     where
-      go : (b : Bool) → (n ≤? 1) ≡ b → Turned p pending d.wish due (if b then Listens else Asked (n - 1))
+      go : (b : Bool) → (n ≤? 1) ≡ b → Turned p pending d.wish due (when b then Listens else Asked (n - 1))
       go true q = t.0
       go false q = (t.0, omega (arith, t.1), λ z. absurd (omega (arith, t.1, leb-false n 1 q)))
   waited_turned AnswerWaits e due t = t.0
@@ -97,11 +97,11 @@ module _ (p : Profile) (v : Valid p) (on : Bool) (pending : Wished) (d : Device)
   due_free (Bursts n) e t due f one = t
 
   counts_logged : (x : Receiver) (due : ℕ) (event : Event) → (due ≡ d.due) ⊎ (p.rt1p ≤ due + 1) → Logged p on pending (counts d x due event).device
-  unfolding if◌then◌else◌ Turned
+  unfolding when◌then◌else◌ Turned
   counts_logged x due event f = go d.burst refl (due =? 1) refl
     where
       by : Bool → Bool → Device
-      by b e = device_with d x (if (if b then e else false) then Follows else waited d.turn) d.request d.wish d.length (due - 1)
+      by b e = device_with d x (when (when b then e else false) then Follows else waited d.turn) d.request d.wish d.length (due - 1)
 
       go : (b : Bool) → d.burst ≡ b → (e : Bool) → (due =? 1) ≡ e → Logged p on pending (by b e)
       go true q true z = record { profile_is = l.profile_is; on_is = l.on_is; turned = due_free d.turn refl l.turned due f (eqb-true due 1 z) }
@@ -148,11 +148,11 @@ module _ (p : Profile) (v : Valid p) (on : Bool) (pending : Wished) (d : Device)
   heard_logged (Character c) = character_logged _ (taken d.receiver (Character c)).event
   heard_logged (Heard.Damaged c kind) = character_logged _ (taken d.receiver (Heard.Damaged c kind)).event
 
-  takes_logged : (heard : Heard) → Logged p on (if d.deaf then pending else dropped_by heard pending) (device_takes d heard).device
-  unfolding device_takes if◌then◌else◌
+  takes_logged : (heard : Heard) → Logged p on (when d.deaf then pending else dropped_by heard pending) (device_takes d heard).device
+  unfolding device_takes when◌then◌else◌
   takes_logged heard = go d.deaf
     where
-      go : (b : Bool) → Logged p on (if b then pending else dropped_by heard pending) (if b then Rattle.turns.specs.Device.tells d DeviceTold.Nothing Nothing else on_heard d heard).device
+      go : (b : Bool) → Logged p on (when b then pending else dropped_by heard pending) (when b then Rattle.turns.specs.Device.tells d DeviceTold.Nothing Nothing else on_heard d heard).device
       go true = l
       go false = heard_logged heard
 
@@ -190,7 +190,7 @@ module _ (p : Profile) (on : Bool) (pending : Wished) (d : Device) (l : Logged p
   quiet e = (ap (λ (w : Wished). (effective on w).on) e, ap (λ (w : Wished). (effective on w).pending) e)
 
   behind_ack_lem : (b : Bool) → (behind_ack b ≡ Begins → ⊥) × (Turned p no_wish d.wish 0 (behind_ack b))
-  unfolding if◌then◌else◌ Turned
+  unfolding when◌then◌else◌ Turned
   behind_ack_lem true = (follows_begins, refl)
   behind_ack_lem false = (listens_begins, refl)
 
@@ -237,7 +237,7 @@ module _ (limit : ℕ) (p : Profile) (on : Bool) (pending : Wished) (d : Device)
   Calls c s = Settled p (sent_with s.sent on (wished_by c s.result pending)) s.side.device
 
   answer_logged : (wish : Wish) (put : List ℕ) (turn : Turn) → d.turn ≡ turn → Calls (gives_answer wish put) (answer_called (answered_by limit d wish (length put) turn) d (answer_frame d wish put frame) frame bytes contents told)
-  unfolding Calls Turned if◌then◌else◌
+  unfolding Calls Turned when◌then◌else◌
   answer_logged wish put Listens e = sent_logged p on pending d l frame bytes contents told (CallResult.Refused 8)
   answer_logged wish put (Asked n) e = go (answer_view limit d wish (length put) n)
     where
@@ -247,7 +247,7 @@ module _ (limit : ℕ) (p : Profile) (on : Bool) (pending : Wished) (d : Device)
       was : Turned p pending d.wish d.due (Asked n)
       was = subst (Turned p pending d.wish d.due) e l.turned
 
-      next : (b : Bool) → (n =? d.profile.sto) ≡ b → Turned p (wishes wish) wish d.due (if b then AnswerWaits else Begins)
+      next : (b : Bool) → (n =? d.profile.sto) ≡ b → Turned p (wishes wish) wish d.due (when b then AnswerWaits else Begins)
       next true q = (by_host refl, was.2 (eqb-true n d.profile.sto q ∙ ap (λ (z : Profile). z.sto) l.profile_is))
       next false q = by_host refl
 
@@ -281,7 +281,7 @@ unfolding device_tick answered Calls
 tick_logged limit p v g x heard call s = by call
   where
     w : Wished
-    w = if x.device.deaf then g.pending else dropped_by heard g.pending
+    w = when x.device.deaf then g.pending else dropped_by heard g.pending
 
     t : DeviceTaken
     t = device_takes x.device heard

@@ -5,7 +5,7 @@ use mathlib.Core.Bool.{Bool, true, false}
 use mathlib.Core.List.{List}
 use lib.ListN.{length}
 use Rattle.base.specs.Refusal.{Called}
-use Rattle.base.specs.Choice.{if◌then◌else◌, ◌<?◌}
+use Rattle.base.specs.Choice.{when◌then◌else◌, ◌<?◌}
 use Rattle.base.specs.Store.{stored}
 use Rattle.frame.specs.Address.{byte_at}
 use Rattle.frame.specs.declared.Header.{Header}
@@ -28,8 +28,8 @@ use Rattle.turns.specs.declared.Wish.{Wish}
 
 -- ---- what was heard leaves it
 
-pub if_both : {A : Type 0} (P : A → Type 0) (t : Bool) (a b : A) → P a → P b → P (if t then a else b)
-unfolding if◌then◌else◌
+pub if_both : {A : Type 0} (P : A → Type 0) (t : Bool) (a b : A) → P a → P b → P (when t then a else b)
+unfolding when◌then◌else◌
 if_both P true a b p q = p
 if_both P false a b p q = q
 

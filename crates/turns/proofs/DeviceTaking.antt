@@ -6,7 +6,7 @@ use mathlib.Core.Bool.{Bool, true, false}
 use mathlib.Core.List.{List}
 use lib.ListN.{length}
 use borrow.Author.Tests.{leb-false, eqb-true, eqb-false}
-use Rattle.base.specs.Choice.{if◌then◌else◌, ◌≤?◌, ◌=?◌}
+use Rattle.base.specs.Choice.{when◌then◌else◌, ◌≤?◌, ◌=?◌}
 use Rattle.base.proofs.Choices.{true_false, if_is_true, if_is_false}
 use Rattle.frame.specs.Delimiter.{stx}
 use Rattle.frame.specs.declared.Header.{Header}
@@ -236,7 +236,7 @@ module _ (frame contents : List ℕ) (d : Device) (hears : d.deaf ≡ false) (ha
           })
       counted not_due (is_asked n q some o) = subst (λ (turn : Turn). After (on turn (d.due - 1))) (sym (ap waited q)) (left (n ≤? 1) refl)
         where
-          left : (t : Bool) → (n ≤? 1) ≡ t → After (on (if n ≤? 1 then Listens else Asked (n - 1)) (d.due - 1))
+          left : (t : Bool) → (n ≤? 1) ≡ t → After (on (when n ≤? 1 then Listens else Asked (n - 1)) (d.due - 1))
           left true r =
               subst (λ (turn : Turn). After (on turn (d.due - 1))) (sym (if_is_true (n ≤? 1) Listens (Asked (n - 1)) r))
               (record {

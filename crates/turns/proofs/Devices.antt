@@ -8,7 +8,7 @@ use lib.ListN.{length, get_or, take}
 use lib.Seq.{length-take-le}
 use borrow.Author.Tests.{ltb-false, le-ltb, eq-eqb, eqb-true}
 use Rattle.base.specs.Refusal.{Called, accepted, refused}
-use Rattle.base.specs.Choice.{if◌then◌else◌, ◌<?◌, ◌=?◌}
+use Rattle.base.specs.Choice.{when◌then◌else◌, ◌<?◌, ◌=?◌}
 use Rattle.base.specs.Store.{stored}
 use Rattle.base.proofs.Choices.{true_false, went_then, if_is_true, if_is_false}
 use Rattle.base.proofs.Stores.{length_stored}
@@ -133,7 +133,7 @@ pub data Goes (d : Device) (step : DeviceStep) : Type 0 where
       → (names_device d.request ≡ false → burst ≡ d.burst) → (d.turn ≡ Listens → ⊥) → (d.turn ≡ Asked d.profile.sto → ⊥) → (d.turn ≡ Follows → ⊥) → Goes d step
   -- it begins its BACK
   bursts : (b : Begun d step Bursts d.burst) (command : ℕ) → d.turn ≡ Follows → b.message.header ≡ back_for d command
-      → step.side.device.primary ≡ (if d.primary then false else true) → Goes d step
+      → step.side.device.primary ≡ (when d.primary then false else true) → Goes d step
 
 -- ---- the host's call
 
@@ -177,19 +177,19 @@ pub data Turned (d : Device) (frame : List ℕ) : Type 0 where
 
 -- an ACK or BACK of at least 2 data bytes can be written
 pub device_enough : (frame count : ℕ) → 2 ≤ count → too_few frame count ≡ false
-unfolding if◌then◌else◌
+unfolding when◌then◌else◌
 device_enough frame count h = go (frame =? ack) (frame =? back)
   where
     few : (count <? 2) ≡ false
     few = le-ltb count 2 h
 
-    go : (s t : Bool) → (if (if s then true else t) then count <? 2 else false) ≡ false
+    go : (s t : Bool) → (when (when s then true else t) then count <? 2 else false) ≡ false
     go true t = few
     go false true = few
     go false false = refl
 
 back_fits : (d : Device) (frame contents : List ℕ) → Sound d frame contents → d.content.given ≡ true → Fits d.preamble (back_header d) (length (take d.content.count contents))
-unfolding if◌then◌else◌
+unfolding when◌then◌else◌
 back_fits d frame contents s given =
     let long : length (take d.content.count contents) ≡ d.content.count = length-take-le d.content.count contents (omega (arith, s.content_high, s.contents_room)) in
     record {
@@ -222,12 +222,12 @@ turn_of e burst primary = record {
 
 -- whose request it is depends on the addresses alone
 pub own_kept : {d e : Device} (h : Header) → SameDevice d e → may_answer d h ≡ true → may_answer e h ≡ true
-own_kept h sd o = (λ i. if seeks_tag h then true else if h.long then sd.same_unique i =? h.address else (if sd.same_polling i =? h.address then h.command =? 0 else false)) ∙ o
+own_kept h sd o = (λ i. when seeks_tag h then true else when h.long then sd.same_unique i =? h.address else (when sd.same_polling i =? h.address then h.command =? 0 else false)) ∙ o
 
 -- and so of the request in hand
 pub own_same : {d e : Device} → SameDevice d e → e.request ≡ d.request → may_answer e e.request ≡ true → may_answer d d.request ≡ true
 own_same {d} {e} same r o =
-    (λ i. if seeks_tag (sym r i) then true else if (sym r i).long then sym same.same_unique i =? (sym r i).address else (if sym same.same_polling i =? (sym r i).address then (sym r i).command =? 0 else false)) ∙ o
+    (λ i. when seeks_tag (sym r i) then true else when (sym r i).long then sym same.same_unique i =? (sym r i).address else (when sym same.same_polling i =? (sym r i).address then (sym r i).command =? 0 else false)) ∙ o
 
 module _ (d e : Device) (frame bytes contents : List ℕ) (told : DeviceTold) (result : CallResult) (after : AfterCall d e) (s : Sound e frame contents) where
   abbrev Step : DeviceStep
@@ -369,7 +369,7 @@ module _ (d e : Device) (frame bytes contents : List ℕ) (told : DeviceTold) (r
       long = omega (arith, held.sized, held.speaks.long)
 
       next_for : Bool
-      next_for = if e.primary then false else true
+      next_for = when e.primary then false else true
 
       go : (t : Bool) → (0 + 1 <? back_length e) ≡ t → Goes d (by Follows)
       go true r =
@@ -405,7 +405,7 @@ module _ (d e : Device) (frame bytes contents : List ℕ) (told : DeviceTold) (r
           e.content.command
           (after.follows_same q)
           (λ i. record { kind = back; long = true; primary = after.same_primary i; burst = true; address = after.same.same_unique i; command = e.content.command })
-          (ap (λ (b : Bool). if b then false else true) after.same_primary))
+          (ap (λ (b : Bool). when b then false else true) after.same_primary))
       go false r = absurd (omega (arith, ltb-false (0 + 1) (back_length e) r))
 
   turned_goes : Turned e frame → Goes d Step
@@ -417,26 +417,26 @@ module _ (d e : Device) (frame bytes contents : List ℕ) (told : DeviceTold) (r
 
 -- a request for this device has one of its addresses, and command 11 by broadcast address 0
 pub own_address : (d : Device) (frame contents : List ℕ) (h : Header) → Sound d frame contents → may_answer d h ≡ true → h.address ≤ largest_address h.long
-unfolding if◌then◌else◌
+unfolding when◌then◌else◌
 own_address d frame contents h s own = tag (seeks_tag h) refl own
   where
-    go : (l : Bool) → (if l then d.unique =? h.address else (if d.polling =? h.address then h.command =? 0 else false)) ≡ true → h.address ≤ (if l then 2 ^ 38 - 1 else 63)
+    go : (l : Bool) → (when l then d.unique =? h.address else (when d.polling =? h.address then h.command =? 0 else false)) ≡ true → h.address ≤ (when l then 2 ^ 38 - 1 else 63)
     go true o = omega (arith, eqb-true d.unique h.address o, s.unique_high)
     go false o = omega (arith, eqb-true d.polling h.address (went_then (d.polling =? h.address) (h.command =? 0) false true o (λ q. true_false (sym q))).0, s.polling_high)
 
-    tag : (t : Bool) → seeks_tag h ≡ t → (if t then true else is_own d h) ≡ true → h.address ≤ largest_address h.long
+    tag : (t : Bool) → seeks_tag h ≡ t → (when t then true else is_own d h) ≡ true → h.address ≤ largest_address h.long
     tag true q o = omega (arith, tag_zero h q)
     tag false q o = go h.long o
 
 -- an answer that does not carry the device's unique address has no wish
 own_short : (d : Device) (h : Header) → may_answer d h ≡ true → names_device h ≡ false → has_no_wish h ≡ true
-unfolding if◌then◌else◌
+unfolding when◌then◌else◌
 own_short d h own short = go (seeks_tag h) refl own short
   where
-    go : (t : Bool) → seeks_tag h ≡ t → (if t then true else is_own d h) ≡ true → (if t then false else h.long) ≡ false → has_no_wish h ≡ true
+    go : (t : Bool) → seeks_tag h ≡ t → (when t then true else is_own d h) ≡ true → (when t then false else h.long) ≡ false → has_no_wish h ≡ true
     go true q o l = if_cases (λ (b : Bool). b ≡ true) (h.command =? 0) true (seeks_tag h) (λ z. refl) (λ z. q)
     go false q o l =
-        let p = sym (if_is_false h.long (d.unique =? h.address) (if d.polling =? h.address then h.command =? 0 else false) l) ∙ o in
+        let p = sym (if_is_false h.long (d.unique =? h.address) (when d.polling =? h.address then h.command =? 0 else false) l) ∙ o in
         if_is_true (h.command =? 0) _ _ (went_then (d.polling =? h.address) (h.command =? 0) false true p (λ q. true_false (sym q))).1
 
 -- a wish that is not refused: a short request's answer has none, and burst is turned on only with content
@@ -530,14 +530,14 @@ content_turned d c frame given (begins_now q p) =
 content_turned d c frame given (follows_now q on) = follows_now q on
 
 pub ack_typed : is_type ack ≡ true
-unfolding if◌then◌else◌
+unfolding when◌then◌else◌
 ack_typed = refl
 
 answers_follows : (d : Device) (n : ℕ) → answers_at d n ≡ Follows → ⊥
-unfolding if◌then◌else◌
+unfolding when◌then◌else◌
 answers_follows d n e = go (n =? d.profile.sto) e
   where
-    go : (t : Bool) → (if t then AnswerWaits else Begins) ≡ Follows → ⊥
+    go : (t : Bool) → (when t then AnswerWaits else Begins) ≡ Follows → ⊥
     go true q = let z : ◌≡◌ {A = ℕ} 0 1 = cc in omega arith
     go false q = let z : ◌≡◌ {A = ℕ} 0 1 = cc in omega arith
 

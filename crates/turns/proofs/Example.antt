@@ -4,7 +4,7 @@ use mathlib.Core.Path.{◌≡◌, refl}
 use mathlib.Core.Bool.{true, false}
 use mathlib.Core.List.{List, [], ◌∷◌, ◌++◌}
 use lib.ListN.{replicate}
-use Rattle.base.specs.Choice.{if◌then◌else◌}
+use Rattle.base.specs.Choice.{when◌then◌else◌}
 use Rattle.base.specs.Store.{stored}
 use Rattle.frame.specs.Check.{xor_from}
 use Rattle.frame.specs.Delimiter.{delimiter_of}
@@ -53,5 +53,5 @@ senders [] = []
 senders (s ∷ ss) = (one s.for_primary.sent 1 + one s.for_secondary.sent 2 + devices_sent s.for_devices) ∷ senders ss
 
 pub worked_run : senders (run 255 fresh ticks) ≡ replicate 33 0 ++ (replicate 10 1 ++ (0 ∷ (replicate 12 4 ++ replicate 4 0)))
-unfolding senders devices_sent one ticks replies asks quiet fresh run link_tick device_ticks sides carried master_tick device_tick requested requested_up_to master_takes master_sends device_takes device_sends answered content_given taken taken_data at_idle at_preamble at_first at_address at_expansion at_command at_count at_data at_check write_buffer write_answer frame_bytes preamble_bytes body_bytes protected_bytes header_bytes xor_from delimiter_of stored if◌then◌else◌
+unfolding senders devices_sent one ticks replies asks quiet fresh run link_tick device_ticks sides carried master_tick device_tick requested requested_up_to master_takes master_sends device_takes device_sends answered content_given taken taken_data at_idle at_preamble at_first at_address at_expansion at_command at_count at_data at_check write_buffer write_answer frame_bytes preamble_bytes body_bytes protected_bytes header_bytes xor_from delimiter_of stored when◌then◌else◌
 worked_run = refl

@@ -6,7 +6,7 @@ use mathlib.Core.Bool.{Bool, true, false}
 use mathlib.Core.List.{List}
 use borrow.Author.Tests.{leb-false, ltb-false, eqb-true}
 use Rattle.base.specs.Refusal.{Called, accepted, refused}
-use Rattle.base.specs.Choice.{if◌then◌else◌, ◌<?◌, ◌≤?◌, ◌=?◌, ◌outside◌to◌}
+use Rattle.base.specs.Choice.{when◌then◌else◌, ◌<?◌, ◌≤?◌, ◌=?◌, ◌outside◌to◌}
 use Rattle.base.proofs.Choices.{true_false, went_then, went_else, inside_low, inside_high}
 use Rattle.frame.specs.Address.{largest_address}
 use Rattle.line.specs.Profile.{value_refused, order_refused, profile_made}
@@ -44,7 +44,7 @@ got d (refused r) = d
 -- a profile that the check takes
 pub valid : (p : Profile) → profile_made p ≡ accepted p → Valid p
 valid p e =
-    let v = went_else (value_refused p) (refused 1) (if order_refused p then refused 1 else accepted p) (accepted p) e refused_accepted in
+    let v = went_else (value_refused p) (refused 1) (when order_refused p then refused 1 else accepted p) (accepted p) e refused_accepted in
     let o = went_else (order_refused p) (refused 1) (accepted p) (accepted p) v.1 refused_accepted in
     let v1 = went_else (p.sto outside 1 to 1000) true _ false v.0 true_false in
     let v2 = went_else (p.hold outside 1 to 1000) true _ false v1.1 true_false in
@@ -100,7 +100,7 @@ pub record FreshTick (p : Profile) (primary : Bool) (step : MasterStep) : Type 0
   pub gone : left step.side.master.message.stage ≡ 0
 
 pub fresh_master_lem : (limit : ℕ) → limit ≤ 255 → (p : Profile) (primary : Bool) (retries : ℕ) (x : MasterSide) (heard : Heard) (call : MasterCall) → MasterStarts p primary retries x → FreshTick p primary (master_tick limit x heard call)
-unfolding if◌then◌else◌
+unfolding when◌then◌else◌
 fresh_master_lem limit small p primary retries x heard call s =
     let e = master_is p primary retries x.master s.starts in
     let f = master_finished limit p primary x heard call small (record { profile_is = ap (λ (m : Master). m.profile) e; primary_is = ap (λ (m : Master). m.primary) e; room = s.room }) (ap (λ (m : Master). m.deaf) e)
@@ -120,7 +120,7 @@ fresh_master_lem limit small p primary retries x heard call s =
 
 pub fresh_device_lem : (limit : ℕ) → 2 ≤ limit → limit ≤ 255 → (p : Profile) → Valid p → (heard : Heard) (x : DeviceSide) (call : DeviceCall) → DeviceStarts p x
     → Quietly (DeviceQuiet p 0 no_header p.rt1p) x (device_tick limit x heard call)
-unfolding if◌then◌else◌
+unfolding when◌then◌else◌
 fresh_device_lem limit low high p v heard x call s =
     let n = device_is p s.preamble s.polling s.unique x.device s.starts in
     let e = n.is in

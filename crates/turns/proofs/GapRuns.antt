@@ -4,7 +4,7 @@ use mathlib.Core.Path.{◌≡◌, refl}
 use mathlib.Core.Bool.{true, false}
 use mathlib.Core.List.{List, [], ◌∷◌, ◌++◌}
 use lib.ListN.{replicate, take, drop}
-use Rattle.base.specs.Choice.{if◌then◌else◌}
+use Rattle.base.specs.Choice.{when◌then◌else◌}
 use Rattle.base.specs.Store.{stored}
 use Rattle.frame.specs.Check.{xor_from}
 use Rattle.frame.specs.Delimiter.{stx, ack, back, delimiter_of}
@@ -43,7 +43,7 @@ asks = record { heard = Silence; call = requests (record { preamble = 5; revisio
 
 -- it takes a lone 0xFF in tick 2, so T is 1: the STX begins in tick 1 + 33 + 1
 pub cut_clear : marks (master_sents 255 primary (asks ∷ hears Silence ∷ hears (Character 0xFF) ∷ replicate 43 (hears Silence))) ≡ replicate 35 0 ++ (replicate 10 1 ++ (0 ∷ []))
-unfolding marks primary hears asks master_sents master_tick requested requested_up_to master_takes master_sends taken taken_data silent_inside at_idle at_preamble at_first at_address at_expansion at_command at_count at_data at_check frame_bytes preamble_bytes body_bytes protected_bytes header_bytes xor_from delimiter_of stored if◌then◌else◌
+unfolding marks primary hears asks master_sents master_tick requested requested_up_to master_takes master_sends taken taken_data silent_inside at_idle at_preamble at_first at_address at_expansion at_command at_count at_data at_check frame_bytes preamble_bytes body_bytes protected_bytes header_bytes xor_from delimiter_of stored when◌then◌else◌
 cut_clear = refl
 
 -- behind tick 1 it is as the theorem asks
@@ -51,7 +51,7 @@ unfoldable pub waiting : MasterSide
 waiting = (master_tick 255 (master_tick 255 primary Silence asks.call).side Silence no_request).side
 
 pub waiting_cut : InsideFrame (Character 0xFF) waiting.master.deaf waiting.master.receiver × ToSend waiting.master
-unfolding waiting primary asks master_tick requested requested_up_to master_takes master_sends taken silent_inside at_idle stored if◌then◌else◌
+unfolding waiting primary asks master_tick requested requested_up_to master_takes master_sends taken silent_inside at_idle stored when◌then◌else◌
 waiting_cut = (record { hears = refl; character = is_sound; inside = refl }, message_waits refl)
 
 -- a free one, whose host asks so many ticks after the lone 0xFF
@@ -60,11 +60,11 @@ free_cut n m = hears Silence ∷ hears Silence ∷ hears (Character 0xFF) ∷ (r
 
 -- asked in tick 13, and in tick 35, in which the window opens: the STX begins in tick 35
 pub cut_free : marks (master_sents 255 primary (free_cut 10 32)) ≡ replicate 35 0 ++ (replicate 10 1 ++ (0 ∷ []))
-unfolding marks primary hears asks free_cut master_sents master_tick requested requested_up_to master_takes master_sends taken taken_data silent_inside at_idle at_preamble at_first at_address at_expansion at_command at_count at_data at_check frame_bytes preamble_bytes body_bytes protected_bytes header_bytes xor_from delimiter_of stored if◌then◌else◌
+unfolding marks primary hears asks free_cut master_sents master_tick requested requested_up_to master_takes master_sends taken taken_data silent_inside at_idle at_preamble at_first at_address at_expansion at_command at_count at_data at_check frame_bytes preamble_bytes body_bytes protected_bytes header_bytes xor_from delimiter_of stored when◌then◌else◌
 cut_free = refl
 
 pub cut_free_at_window : marks (master_sents 255 primary (free_cut 32 10)) ≡ replicate 35 0 ++ (replicate 10 1 ++ (0 ∷ []))
-unfolding marks primary hears asks free_cut master_sents master_tick requested requested_up_to master_takes master_sends taken taken_data silent_inside at_idle at_preamble at_first at_address at_expansion at_command at_count at_data at_check frame_bytes preamble_bytes body_bytes protected_bytes header_bytes xor_from delimiter_of stored if◌then◌else◌
+unfolding marks primary hears asks free_cut master_sents master_tick requested requested_up_to master_takes master_sends taken taken_data silent_inside at_idle at_preamble at_first at_address at_expansion at_command at_count at_data at_check frame_bytes preamble_bytes body_bytes protected_bytes header_bytes xor_from delimiter_of stored when◌then◌else◌
 cut_free_at_window = refl
 
 -- after tick 1 it is as the theorem asks, with a request that is taken in tick 4
@@ -72,7 +72,7 @@ unfoldable pub free : MasterSide
 free = (master_tick 255 (master_tick 255 primary Silence no_request).side Silence no_request).side
 
 pub free_cut_lem : (calls : List MasterCall) → InsideFrame (Character 0xFF) free.master.deaf free.master.receiver × ToBegin 255 free (Character 0xFF) no_request (no_request ∷ asks.call ∷ calls)
-unfolding free primary asks master_results master_silence master_tick requested requested_up_to master_takes master_sends taken silent_inside at_idle at_preamble stored if◌then◌else◌
+unfolding free primary asks master_results master_silence master_tick requested requested_up_to master_takes master_sends taken silent_inside at_idle at_preamble stored when◌then◌else◌
 free_cut_lem calls = (record { hears = refl; character = is_sound; inside = refl }, request_taken refl (later (later now)))
 
 -- a BACK for the primary, in ticks 2 to 17, sets BURST
@@ -85,7 +85,7 @@ a_back = frame_bytes 5 (record { kind = back; long = true; primary = true; burst
 
 -- the 0xFF comes in tick 18, so T is 17: the STX begins in tick 17 + 66 + 1
 pub cut_set : marks (master_sents 255 primary (asks ∷ hears Silence ∷ (each a_back ++ (hears (Character 0xFF) ∷ replicate 67 (hears Silence))))) ≡ replicate 84 0 ++ (1 ∷ 1 ∷ [])
-unfolding marks primary hears asks each a_back master_sents master_tick requested requested_up_to master_takes master_sends taken taken_data silent_inside at_idle at_preamble at_first at_address at_expansion at_command at_count at_data at_check frame_bytes preamble_bytes body_bytes protected_bytes header_bytes xor_from delimiter_of stored if◌then◌else◌
+unfolding marks primary hears asks each a_back master_sents master_tick requested requested_up_to master_takes master_sends taken taken_data silent_inside at_idle at_preamble at_first at_address at_expansion at_command at_count at_data at_check frame_bytes preamble_bytes body_bytes protected_bytes header_bytes xor_from delimiter_of stored when◌then◌else◌
 cut_set = refl
 
 -- ---- an ACK that a master awaits
@@ -109,15 +109,15 @@ dropped n = awaits (each (take 9 an_ack) ++ (replicate n (hears Silence) ++ each
 
 -- whole, it is told in tick 56; with one silent tick in it, one tick later; with two, not at all
 pub ack_whole : told primary (dropped 0) ≡ replicate 56 0 ++ (1 ∷ [])
-unfolding told primary hears asks awaits dropped each an_ack master_tick requested requested_up_to master_takes master_sends taken taken_data silent_inside at_idle at_preamble at_first at_address at_expansion at_command at_count at_data at_check frame_bytes preamble_bytes body_bytes protected_bytes header_bytes xor_from delimiter_of stored if◌then◌else◌
+unfolding told primary hears asks awaits dropped each an_ack master_tick requested requested_up_to master_takes master_sends taken taken_data silent_inside at_idle at_preamble at_first at_address at_expansion at_command at_count at_data at_check frame_bytes preamble_bytes body_bytes protected_bytes header_bytes xor_from delimiter_of stored when◌then◌else◌
 ack_whole = refl
 
 pub ack_with_gap : told primary (dropped 1) ≡ replicate 57 0 ++ (1 ∷ [])
-unfolding told primary hears asks awaits dropped each an_ack master_tick requested requested_up_to master_takes master_sends taken taken_data silent_inside at_idle at_preamble at_first at_address at_expansion at_command at_count at_data at_check frame_bytes preamble_bytes body_bytes protected_bytes header_bytes xor_from delimiter_of stored if◌then◌else◌
+unfolding told primary hears asks awaits dropped each an_ack master_tick requested requested_up_to master_takes master_sends taken taken_data silent_inside at_idle at_preamble at_first at_address at_expansion at_command at_count at_data at_check frame_bytes preamble_bytes body_bytes protected_bytes header_bytes xor_from delimiter_of stored when◌then◌else◌
 ack_with_gap = refl
 
 pub ack_broken : told primary (dropped 2) ≡ replicate 59 0
-unfolding told primary hears asks awaits dropped each an_ack master_tick requested requested_up_to master_takes master_sends taken taken_data silent_inside at_idle at_preamble at_first at_address at_expansion at_command at_count at_data at_check frame_bytes preamble_bytes body_bytes protected_bytes header_bytes xor_from delimiter_of stored if◌then◌else◌
+unfolding told primary hears asks awaits dropped each an_ack master_tick requested requested_up_to master_takes master_sends taken taken_data silent_inside at_idle at_preamble at_first at_address at_expansion at_command at_count at_data at_check frame_bytes preamble_bytes body_bytes protected_bytes header_bytes xor_from delimiter_of stored when◌then◌else◌
 ack_broken = refl
 
 -- ---- a master whose message a break ends, and which is asked after it
@@ -130,7 +130,7 @@ broadcast_cut =
 
 -- reported as sent in tick 51; the request of tick 60 begins in tick 48 + 33 + 1
 pub cut_broadcast : (told primary broadcast_cut ≡ replicate 51 0 ++ (3 ∷ replicate 40 0)) × (marks (master_sents 255 primary broadcast_cut) ≡ replicate 33 0 ++ (replicate 14 1 ++ (replicate 35 0 ++ replicate 10 1)))
-unfolding marks told primary hears asks broadcast_cut master_sents master_tick requested requested_up_to master_takes master_sends taken taken_data silent_inside at_idle at_preamble at_first at_address at_expansion at_command at_count at_data at_check frame_bytes preamble_bytes body_bytes protected_bytes header_bytes xor_from delimiter_of stored if◌then◌else◌
+unfolding marks told primary hears asks broadcast_cut master_sents master_tick requested requested_up_to master_takes master_sends taken taken_data silent_inside at_idle at_preamble at_first at_address at_expansion at_command at_count at_data at_check frame_bytes preamble_bytes body_bytes protected_bytes header_bytes xor_from delimiter_of stored when◌then◌else◌
 cut_broadcast = (refl, refl)
 
 -- a message whose ACK is cut after its first character in each attempt, in ticks 45, 90, 135 and 180, so that T is 179 in the end
@@ -145,7 +145,7 @@ attempt = replicate 10 1 ++ replicate 35 0
 
 -- given up in tick 182; the request of tick 190 begins in tick 179 + 33 + 1
 pub cut_given_up : (told primary given_up_cut ≡ replicate 182 0 ++ (2 ∷ replicate 40 0)) × (marks (master_sents 255 primary given_up_cut) ≡ replicate 33 0 ++ (attempt ++ (attempt ++ (attempt ++ (attempt ++ replicate 10 1)))))
-unfolding marks told primary hears asks ack_cut given_up_cut attempt master_sents master_tick requested requested_up_to master_takes master_sends taken taken_data silent_inside at_idle at_preamble at_first at_address at_expansion at_command at_count at_data at_check frame_bytes preamble_bytes body_bytes protected_bytes header_bytes xor_from delimiter_of stored if◌then◌else◌
+unfolding marks told primary hears asks ack_cut given_up_cut attempt master_sents master_tick requested requested_up_to master_takes master_sends taken taken_data silent_inside at_idle at_preamble at_first at_address at_expansion at_command at_count at_data at_check frame_bytes preamble_bytes body_bytes protected_bytes header_bytes xor_from delimiter_of stored when◌then◌else◌
 cut_given_up = (refl, refl)
 
 -- ---- a device, FSK: RT1 primary 33
@@ -168,5 +168,5 @@ a_request = frame_bytes 5 (record { kind = stx; long = true; primary = true; bur
 pub cut_bursting : marks (device_sents 255 device
     (record { heard = Silence; call = gives_content 3 (0 ∷ 0 ∷ []) } ∷ takes Silence ∷ (each_taken a_request ++ (record { heard = Silence; call = gives_answer On (0 ∷ 0 ∷ []) } ∷ (replicate 33 (takes Silence) ++ (takes (Character 0xFF) ∷ replicate 34 (takes Silence)))))))
     ≡ replicate 16 0 ++ (replicate 32 1 ++ (replicate 35 0 ++ (1 ∷ 1 ∷ [])))
-unfolding marks device takes each_taken a_request device_sents device_tick device_takes device_sends answered content_given taken taken_data silent_inside at_idle at_preamble at_first at_address at_expansion at_command at_count at_data at_check write_buffer write_answer frame_bytes preamble_bytes body_bytes protected_bytes header_bytes xor_from delimiter_of stored if◌then◌else◌
+unfolding marks device takes each_taken a_request device_sents device_tick device_takes device_sends answered content_given taken taken_data silent_inside at_idle at_preamble at_first at_address at_expansion at_command at_count at_data at_check write_buffer write_answer frame_bytes preamble_bytes body_bytes protected_bytes header_bytes xor_from delimiter_of stored when◌then◌else◌
 cut_bursting = refl

@@ -8,7 +8,7 @@ use mathlib.Core.Logic.{◌⊎◌, inl, inr}
 use lib.ListN.{length}
 use borrow.Author.Tests.{lt-ltb}
 use Rattle.base.specs.Refusal.{Called, accepted, refused}
-use Rattle.base.specs.Choice.{if◌then◌else◌, ◌<?◌, ◌=?◌, ◌outside◌to◌}
+use Rattle.base.specs.Choice.{when◌then◌else◌, ◌<?◌, ◌=?◌, ◌outside◌to◌}
 use Rattle.base.specs.Store.{stored}
 use Rattle.base.proofs.Choices.{true_false, if_is_true, if_is_false}
 use Rattle.frame.specs.Address.{byte_at, address_above}
@@ -52,7 +52,7 @@ use Rattle.turns.specs.declared.DeviceTaken.{DeviceTaken}
 use Rattle.turns.specs.declared.DeviceSent.{DeviceSent}
 use Rattle.turns.proofs.Bursting.{if_both}
 use Rattle.turns.proofs.Masters.{Still, is_free, is_waiting, is_awaiting, if_cases, resting, with_message}
-use Rattle.turns.proofs.Breaks.{master_gapped, master_as_if, device_gapped, device_as_if, master_still, device_still, FreeOrWaiting, Left, clear, set, shut, Counted, counted, one_less, opens, Waits, Broke, both_count, DueIn, counts_due, both_count_due}
+use Rattle.turns.proofs.Breaks.{master_gapped, master_as_if, device_gapped, device_as_if, master_still, device_still, FreeOrWaiting, Left, clear, set, shut, Counted, counted, one_less, opens, RestsFor, Broke, both_count_at_rest, DueIn, counts_due, both_count_due, to_still, it_waits}
 use Rattle.turns.proofs.Devices.{ContentView, is_refused, is_taken, content_view}
 use Rattle.turns.proofs.Fresh.{valid}
 use Rattle.turns.proofs.Windows.{Valid}
@@ -181,12 +181,6 @@ taken_last : {n : ℕ} {r : CallResult} {rs : List CallResult} → n ≡ 0 → T
 taken_last e now = refl
 taken_last e (later w) = absurd (omega arith)
 
--- a message that is not awaited waits
-it_waits : {m : Master} → FreeOrWaiting m.message.stage → ToSend m → m.message.stage ≡ Waiting
-it_waits v (message_waits e) = e
-it_waits (inl f) (retry_left n e b r) = absurd (true_false (sym (ap has_message e) ∙ ap has_message f))
-it_waits (inr f) (retry_left n e b r) = f
-
 -- ---- behind the break
 
 -- a silent tick
@@ -229,7 +223,7 @@ speaks limit x heard call ss w =
     not_taken result n (inr e) = absurd (n e)
 
 -- to the window
-runs : (limit k : ℕ) (x : MasterSide) (calls : List MasterCall) → suc k ≤ length calls → Waits (suc k) x.master → Coming k x.master (master_results limit x (master_silence calls)) → BeginsAfter k (master_sents limit x (master_silence calls))
+runs : (limit k : ℕ) (x : MasterSide) (calls : List MasterCall) → suc k ≤ length calls → RestsFor (suc k) x.master → Coming k x.master (master_results limit x (master_silence calls)) → BeginsAfter k (master_sents limit x (master_silence calls))
 unfolding master_sents master_results master_silence
 runs limit k x [] few w d = absurd (omega arith)
 runs limit zero x (c ∷ cs) few w d = speaks limit x Silence c _ (omega (arith, opens is w.left, w.some_hold)) (by d)
@@ -245,7 +239,7 @@ runs limit (suc k) x (c ∷ cs) few w d =
     let none : FreeOrWaiting t.message.stage = subst FreeOrWaiting (sym is.same_stage) w.awaits_none in
     let s = rests limit x Silence c t refl (none_still none) (shut left) in
     one_silent s.is_silent
-    (runs limit k _ cs (omega arith) (subst (Waits (suc k)) (sym s.after_is)
+    (runs limit k _ cs (omega arith) (subst (RestsFor (suc k)) (sym s.after_is)
     (record { hears = refl; idle_is = is.same_receiver ∙ w.idle_is; awaits_none = none_awaited_on s none; some_hold = subst (λ (p : Profile). 1 ≤ p.hold) (sym is.same_profile) w.some_hold; left = same_left refl refl left }))
     (coming_after s (coming_on s _ refl (counted_on d))))
   where
@@ -313,10 +307,6 @@ at_least_three m v =
 from_three : (n : ℕ) → 3 ≤ n → (k : ℕ) × (n ≡ suc (suc (suc k)))
 from_three n h = (n - 3, omega arith)
 
-to_still : {m : Master} → ToSend m → Still m.message.stage
-to_still (message_waits e) = subst Still (sym e) is_waiting
-to_still (retry_left n e b r) = subst Still (sym e) (is_awaiting n)
-
 pub master_begins_behind_break : (limit : ℕ) → MasterBeginsBehindBreak limit
 unfolding master_sents master_results master_silence
 master_begins_behind_break limit x last call calls made cut due long =
@@ -379,7 +369,7 @@ master_begins_behind_break limit x last call calls made cut due long =
 
         after : Broke (suc k) (resting u b.message) z
         after = subst (λ (n : Master). Broke (suc k) (resting u b.message) (master_takes n Silence (master_data w Silence)).master) (sym b.after_is)
-            (both_count k (resting u b.message) (master_data w Silence) refl within.inside refl (still_on b (still_on a (still_of due))) (valid m.profile made).some_hold e)
+            (both_count_at_rest k (resting u b.message) (master_data w Silence) refl within.inside refl (still_on b (still_on a (still_of due))) (valid m.profile made).some_hold e)
 
         broken_on : {n : ℕ} {rs : List CallResult} → Coming n (resting u b.message) rs → Coming n z rs
         broken_on (inl q) = inl (after.to_send q)
@@ -388,8 +378,8 @@ master_begins_behind_break limit x last call calls made cut due long =
         s : Rests z (master_tick limit w Silence f)
         s = rests limit w Silence f z refl (none_still after.waits.awaits_none) (shut after.waits.left)
 
-        waits_on : Waits (suc k) (master_tick limit w Silence f).side.master
-        waits_on = subst (Waits (suc k)) (sym s.after_is)
+        waits_on : RestsFor (suc k) (master_tick limit w Silence f).side.master
+        waits_on = subst (RestsFor (suc k)) (sym s.after_is)
             (record { hears = refl; idle_is = after.waits.idle_is; awaits_none = none_awaited_on s after.waits.awaits_none; some_hold = after.waits.some_hold; left = same_left refl refl after.waits.left })
 
 -- a message in hand, or its retry
@@ -442,7 +432,7 @@ module _ (limit : ℕ) (y : MasterSide) (within : Within y.master.receiver) (l :
   as_if_no_gap : (next : Heard) (call : MasterCall) → IsCharacter next → master_tick limit gap_side next call ≡ master_tick limit y next call
   unfolding master_tick gap_side
   as_if_no_gap next call n =
-      let same : master_data gap_side next ≡ master_data y next = ap (λ (b : List ℕ). if y.master.deaf then y.bytes else b) (data_as_if y.master.receiver next y.bytes) in
+      let same : master_data gap_side next ≡ master_data y next = ap (λ (b : List ℕ). when y.master.deaf then y.bytes else b) (data_as_if y.master.receiver next y.bytes) in
       (λ i. master_calls limit (master_takes (master_gapped y.master) next (same i)) call y.frame (same i))
       ∙ ap (λ (u : MasterTaken). master_calls limit u call y.frame (master_data y next)) (master_as_if y.master next (master_data y next) l.hears n)
 
@@ -637,7 +627,7 @@ module _ (limit : ℕ) (y : DeviceSide) (within : Within y.device.receiver) (hea
   unfolding device_tick gap_device
   device_as_if_no_gap next call n =
       let d = y.device in
-      let same : device_data gap_device next ≡ device_data y next = ap (λ (b : List ℕ). if d.deaf then y.bytes else b) (data_as_if d.receiver next y.bytes) in
+      let same : device_data gap_device next ≡ device_data y next = ap (λ (b : List ℕ). when d.deaf then y.bytes else b) (data_as_if d.receiver next y.bytes) in
       let takes = device_as_if d next hears n in
       (λ i. device_calls limit (takes i) call (error_frame (device_gapped d) (takes i).event y.frame) (same i) y.contents)
       ∙ ap (λ (f : List ℕ). device_calls limit (device_takes d next) call f (device_data y next) y.contents) (error_as_if d (device_takes d next).event y.frame)

@@ -3,7 +3,7 @@ use Prim.Native.Nat.{ℕ, ◌-◌, ◌^◌}
 use mathlib.Core.Path.{◌≡◌, refl}
 use mathlib.Core.Bool.{Bool, true, false}
 use mathlib.Core.List.{List, [], ◌∷◌}
-use Rattle.base.specs.Choice.{if◌then◌else◌}
+use Rattle.base.specs.Choice.{when◌then◌else◌}
 use Rattle.frame.specs.Delimiter.{stx}
 use Rattle.frame.specs.declared.Header.{Header}
 use Rattle.line.specs.Profile.{fsk_profile}
@@ -26,7 +26,7 @@ abbrev pub starts_with : ℕ → Outcome
 starts_with retries = outcome (master_starts fsk_profile true retries)
 
 pub master_starts_lem : starts_with 2 ∷ starts_with 3 ∷ starts_with 15 ∷ starts_with 16 ∷ [] ≡ refuses 2 ∷ taken ∷ taken ∷ refuses 2 ∷ []
-unfolding if◌then◌else◌
+unfolding when◌then◌else◌
 master_starts_lem = refl
 
 -- ---- master request: 3, 4, 5, 6 and 7
@@ -54,7 +54,7 @@ Requests =
     (ask busy 4 false 64 254 256 ∷ ask busy 5 false 64 254 256 ∷ ask busy 5 false 63 254 256 ∷ ask busy 5 false 63 0 256 ∷ [] ≡ refuses 3 ∷ refuses 4 ∷ refuses 5 ∷ refuses 6 ∷ [])
 
 pub requests : Requests
-unfolding requested requested_up_to if◌then◌else◌
+unfolding requested requested_up_to when◌then◌else◌
 requests = (refl, refl, refl, refl, refl)
 
 -- ---- device start: "3; 4, also for unique address 0"
@@ -69,7 +69,7 @@ Devices =
     (at 4 64 0 ∷ [] ≡ refuses 3 ∷ [])
 
 pub device_starts_lem : Devices
-unfolding if◌then◌else◌
+unfolding when◌then◌else◌
 device_starts_lem = (refl, refl, refl)
 
 -- ---- device answer: 8, 9 and 10
@@ -102,7 +102,7 @@ Answers =
     (give fresh On 1 ∷ give (asked fresh false 0 0) On 1 ∷ [] ≡ refuses 8 ∷ refuses 9 ∷ [])
 
 pub answers : Answers
-unfolding answered if◌then◌else◌
+unfolding answered when◌then◌else◌
 answers = (refl, refl, refl, refl, refl)
 
 -- ---- burst content: "5 for command 254; 9"
@@ -116,5 +116,5 @@ Contents =
     (content 3 1 ∷ content 3 2 ∷ content 3 255 ∷ content 3 256 ∷ [] ≡ refuses 9 ∷ taken ∷ taken ∷ refuses 9 ∷ [])
 
 pub contents : Contents
-unfolding content_given if◌then◌else◌
+unfolding content_given when◌then◌else◌
 contents = (refl, refl)

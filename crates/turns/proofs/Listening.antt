@@ -7,7 +7,7 @@ use mathlib.Core.List.{List}
 use mathlib.Core.Logic.{◌⊎◌}
 use lib.ListN.{length, get_or, take}
 use Rattle.base.specs.Refusal.{Called, accepted, refused}
-use Rattle.base.specs.Choice.{if◌then◌else◌}
+use Rattle.base.specs.Choice.{when◌then◌else◌}
 use Rattle.base.proofs.Stores.{length_stored}
 use Rattle.frame.specs.Delimiter.{stx}
 use Rattle.frame.specs.Frame.{frame_bytes}
@@ -396,7 +396,7 @@ pub record FollowsOn (x : DeviceSide) (step : DeviceStep) : Type 0 where
   pub begun : D.Begun x.device step Bursts x.device.burst
   pub command : ℕ
   pub header_is : begun.message.header ≡ D.back_for x.device command
-  pub primary_is : step.side.device.primary ≡ (if x.device.primary then false else true)
+  pub primary_is : step.side.device.primary ≡ (when x.device.primary then false else true)
 
 pub device_follows : (limit : ℕ) (x : DeviceSide) (heard : Heard) (call : DeviceCall) → 2 ≤ limit → limit ≤ 255 → 1 ≤ x.device.profile.sto → x.device.deaf ≡ true
     → Sound x.device x.frame x.contents → x.device.turn ≡ Follows → x.device.burst ≡ true → FollowsOn x (device_tick limit x heard call)
@@ -516,7 +516,7 @@ module _ (limit : ℕ) (low : 2 ≤ limit) (high : limit ≤ 255) (p : Profile) 
     begins_answer : (t : Device) (burst : Bool) (b : D.Begun t step Answers burst) → SameDevice x.device t → t.burst ≡ x.device.burst → b.message.header ≡ answer_header x.device.request burst
         → may_answer x.device x.device.request ≡ true → (names_device x.device.request ≡ false → burst ≡ x.device.burst) → (x.device.turn ≡ Listens → ⊥) → step.side.device.request ≡ x.device.request → step.side.device.primary ≡ first_for x.device → DeviceSilent step
     begins_back : (t : Device) (b : D.Begun t step Bursts t.burst) (command : ℕ) → SameDevice x.device t → t.burst ≡ x.device.burst → t.primary ≡ x.device.primary
-        → x.device.burst ≡ true → x.device.due ≡ 1 → b.message.header ≡ D.back_for t command → step.side.device.primary ≡ (if x.device.primary then false else true) → DeviceSilent step
+        → x.device.burst ≡ true → x.device.due ≡ 1 → b.message.header ≡ D.back_for t command → step.side.device.primary ≡ (when x.device.primary then false else true) → DeviceSilent step
 
   pub device_silence : Ready x.device.receiver → DeviceSilent (device_tick limit x Silence call)
   unfolding Ready
@@ -540,7 +540,7 @@ module _ (limit : ℕ) (low : 2 ≤ limit) (high : limit ≤ 255) (p : Profile) 
       by_turn : DT.SilentTurn x.device (device_takes x.device Silence) → D.Goes t step → DeviceSilent step
       by_turn (DT.back_is_due on one f) (D.rests sd sil deaf rec bur pri due req less hand sound nb) = absurd (nb f)
       by_turn (DT.back_is_due on one f) (D.answers burst primary b hd req own short nl nf nb) = absurd (nb f)
-      by_turn (DT.back_is_due on one f) (D.bursts b command g hd pr) = begins_back t b command same took.took.same_burst took.took.same_primary on one hd (pr ∙ ap (λ (b : Bool). if b then false else true) took.took.same_primary)
+      by_turn (DT.back_is_due on one f) (D.bursts b command g hd pr) = begins_back t b command same took.took.same_burst took.took.same_primary on one hd (pr ∙ ap (λ (b : Bool). when b then false else true) took.took.same_primary)
       by_turn (DT.counts_on nd due req nf less ll) (D.rests sd sil deaf rec bur pri due' req' less' hand sound nb) =
           stays_quiet
           (record { profile_is = sd.same_profile ∙ same.same_profile ∙ l.profile_is; hears = deaf; hand = hand; sound = sound })

@@ -9,7 +9,7 @@ use lib.ListN.{length, get_or, take}
 use lib.Seq.{get_or-take}
 use borrow.Author.Tests.{ltb-true, ltb-false, le-leb, leb-false}
 use Rattle.base.specs.Refusal.{Called, accepted, refused}
-use Rattle.base.specs.Choice.{if◌then◌else◌, ◌<?◌, ◌≤?◌, ◌outside◌to◌}
+use Rattle.base.specs.Choice.{when◌then◌else◌, ◌<?◌, ◌≤?◌, ◌outside◌to◌}
 use Rattle.base.specs.Store.{stored}
 use Rattle.base.proofs.Choices.{true_false, inside_low, inside_high, if_is_true, if_is_false}
 use Rattle.base.proofs.Stores.{stored_front}
@@ -118,10 +118,10 @@ pub record Counts (m : Master) (g : Message) : Type 0 where
   pub from : (m.message.stage ≡ Waiting) ⊎ (m.message.stage ≡ Free)
 
 pub one_more_some : (retries n : ℕ) → 1 ≤ one_more retries n
-unfolding if◌then◌else◌
+unfolding when◌then◌else◌
 one_more_some retries n = go (n ≤? retries) refl
   where
-    go : (t : Bool) → (n ≤? retries) ≡ t → 1 ≤ (if t then n + 1 else n)
+    go : (t : Bool) → (n ≤? retries) ≡ t → 1 ≤ (when t then n + 1 else n)
     go true e = omega arith
     go false e = omega (arith, leb-false n retries e)
 
@@ -138,8 +138,8 @@ pub data Goes (m : Master) (step : MasterStep) : Type 0 where
       → 0 < m.timer.window → Counts m g → Goes m step
 
 -- what holds in each case of a choice holds of the choice
-pub if_cases : {A : Type 0} (P : A → Type 0) (t : Bool) (a b : A) → (t ≡ true → P a) → (t ≡ false → P b) → P (if t then a else b)
-unfolding if◌then◌else◌
+pub if_cases : {A : Type 0} (P : A → Type 0) (t : Bool) (a b : A) → (t ≡ true → P a) → (t ≡ false → P b) → P (when t then a else b)
+unfolding when◌then◌else◌
 if_cases P true a b f g = f refl
 if_cases P false a b f g = g refl
 
@@ -205,11 +205,11 @@ abbrev pub with_message : Master → Message → Master
 with_message m g = master_with m m.receiver m.burst m.noted m.timer g
 
 pub stx_enough : (count : ℕ) → too_few stx count ≡ false
-unfolding if◌then◌else◌
+unfolding when◌then◌else◌
 stx_enough count = refl
 
 pub stx_typed : is_type stx ≡ true
-unfolding if◌then◌else◌
+unfolding when◌then◌else◌
 stx_typed = refl
 
 -- a request is refused, or it can be written and the master had no message
@@ -219,7 +219,7 @@ pub data Asks (limit : ℕ) (m : Master) (q : Request) (count : ℕ) : Type 0 wh
 
 -- a smaller largest polling address is a smaller largest address
 pub largest_with_lem : (polling most : ℕ) (long : Bool) → polling ≤ most → largest_with polling long ≤ largest_with most long
-unfolding if◌then◌else◌
+unfolding when◌then◌else◌
 largest_with_lem polling most true h = omega arith
 largest_with_lem polling most false h = h
 

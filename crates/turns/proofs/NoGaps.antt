@@ -7,7 +7,7 @@ use mathlib.Core.List.{List, [], ◌∷◌}
 use lib.ListN.{length, get_or, drop, drop_of_length-le}
 use lib.Seq.{drop-cons}
 use borrow.Author.Tests.{leb-false}
-use Rattle.base.specs.Choice.{if◌then◌else◌, ◌≤?◌, ◌=?◌}
+use Rattle.base.specs.Choice.{when◌then◌else◌, ◌≤?◌, ◌=?◌}
 use Rattle.base.proofs.Choices.{true_false, if_is_true, if_is_false, went_then, went_else}
 use Rattle.frame.specs.Delimiter.{stx, ack}
 use Rattle.frame.specs.Frame.{frame_bytes}
@@ -426,7 +426,7 @@ module _ (limit : ℕ) (low : 2 ≤ limit) (high : limit ≤ 255) (p : Profile) 
 
   -- behind the last character: "A bursting device sends a BACK directly behind its own ACK"
   ready_behind : (f : Frames) (d : Device) (frame : List ℕ) (burst : Bool) → d.turn ≡ turn_behind f burst → d.burst ≡ burst → d.deaf ≡ true → Ready d frame
-  unfolding if◌then◌else◌
+  unfolding when◌then◌else◌
   ready_behind an_ack d frame true q b e = follows q b e
   ready_behind an_ack d frame false q b e = rests (nothing_in_hand q)
   ready_behind a_back d frame burst q b e = rests (nothing_in_hand q)
@@ -478,7 +478,7 @@ module _ (limit : ℕ) (low : 2 ≤ limit) (high : limit ≤ 255) (p : Profile) 
   device_run {left} {x} s (i ∷ is) = and_on (λ l t. device_run {left = l} {x = (device_tick limit x i.heard i.call).side} t is) (device_steps s i.heard i.call)
 
 fresh_sound : (p : Profile) (x : DeviceSide) → DeviceStarts p x → Sound x.device x.frame x.contents
-unfolding if◌then◌else◌
+unfolding when◌then◌else◌
 fresh_sound p x s =
     let n = device_is p s.preamble s.polling s.unique x.device s.starts in
     subst (λ (d : Device). Sound d x.frame x.contents) (sym n.is)

@@ -5,7 +5,7 @@ use mathlib.Core.Path.{◌≡◌, refl, sym, ap, ◌∙◌}
 use mathlib.Core.Bool.{Bool, true, false}
 use mathlib.Core.List.{List}
 use borrow.Author.Tests.{eq-eqb}
-use Rattle.base.specs.Choice.{if◌then◌else◌, ◌=?◌}
+use Rattle.base.specs.Choice.{when◌then◌else◌, ◌=?◌}
 use Rattle.base.proofs.Choices.{true_false, if_is_true, if_is_false}
 use Rattle.frame.specs.Delimiter.{stx, ack, back}
 use Rattle.frame.specs.declared.Header.{Header}
@@ -138,7 +138,7 @@ pub record Awaits (p : Profile) (e : ℕ) (burst next : Bool) (h : Header) (g : 
 
 pub behind_break_set : (p : Profile) → Valid p → (e : ℕ) (noted : Noted) (next : Bool) (h : Header) (g : ℕ) (a b : MasterSide) (xs : List DeviceSide) → g ≤ p.sto → MasterQuiet p true true noted a → MasterQuiet p false true noted b
     → a.master.timer ≡ break_timer p true true → b.master.timer ≡ break_timer p false true → Awaits p e true next h g a b → All (DeviceQuiet p g h p.rt1p) xs → Distinct xs → Agreed true noted next xs → SetLine p p.rt1p next a b xs
-unfolding if◌then◌else◌
+unfolding when◌then◌else◌
 behind_break_set p v e noted next h g a b xs short qa qb ta tb w qs d ag =
     let sa = no_slot a true ta in
     let sb = no_slot b false tb in
@@ -179,7 +179,7 @@ most k n f {m} z = go (native.Mathlib.Decide.dec_le 1 k)
 
 pub behind_break_clear : (p : Profile) → Valid p → (e : ℕ) (noted : Noted) (next : Bool) (h : Header) (g : ℕ) (a b : MasterSide) (xs : List DeviceSide) → g ≤ p.sto → MasterQuiet p true false noted a → MasterQuiet p false false noted b
     → a.master.timer ≡ break_timer p true false → b.master.timer ≡ break_timer p false false → Awaits p e false next h g a b → All (DeviceQuiet p g h p.rt1p) xs → Distinct xs → Agreed false noted next xs → ClearLine p e a b xs
-unfolding if◌then◌else◌
+unfolding when◌then◌else◌
 behind_break_clear p v e noted next h g a b xs short qa qb ta tb w qs d ag =
     let na : a.master.timer.next ≡ p.rt1p = ap (λ (t : Timer). t.next) ta in
     let nb : b.master.timer.next ≡ p.rt1s = ap (λ (t : Timer). t.next) tb in
@@ -210,46 +210,46 @@ behind_break_clear p v e noted next h g a b xs short qa qb ta tb w qs d ag =
 
 -- a frame's master bit is this master's
 abbrev pub itself : Bool → Header → Bool
-itself primary h = if primary then h.primary else (if h.primary then false else true)
+itself primary h = when primary then h.primary else (when h.primary then false else true)
 
 itself_is : (primary : Bool) (m : Master) (h : Header) → m.primary ≡ primary → to_itself m h ≡ itself primary h
-itself_is primary m h e = λ i. if e i then h.primary else (if h.primary then false else true)
+itself_is primary m h e = λ i. when e i then h.primary else (when h.primary then false else true)
 
 -- with BURST set: a timer n, or none, and the quiet time
 abbrev pub slot_timer : Profile → Bool → ℕ → Timer
 slot_timer p primary n = burst_timer p primary n
 
-ack_ended : (primary : Bool) (m : Master) (h : Header) → m.primary ≡ primary → h.kind ≡ ack → ended_by m h ≡ (if itself primary h then ack_to_itself else ack_to_other)
+ack_ended : (primary : Bool) (m : Master) (h : Header) → m.primary ≡ primary → h.kind ≡ ack → ended_by m h ≡ (when itself primary h then ack_to_itself else ack_to_other)
 ack_ended primary m h b e =
     if_is_false (h.kind =? back) _ _ (ap (λ (n : ℕ). n =? back) e) ∙ if_is_true (h.kind =? ack) _ _ (eq-eqb h.kind ack e)
-    ∙ ap (λ (t : Bool). if t then ack_to_itself else ack_to_other) (itself_is primary m h b)
+    ∙ ap (λ (t : Bool). when t then ack_to_itself else ack_to_other) (itself_is primary m h b)
 
 pub ack_clear_timer : (p : Profile) (primary : Bool) (m : Master) (h : Header) → m.profile ≡ p → m.primary ≡ primary → h.kind ≡ ack
-    → timer_after m.profile m.primary (ended_by m h) false ≡ (if itself primary h then timer p.rt2 else timer 1)
-unfolding if◌then◌else◌
+    → timer_after m.profile m.primary (ended_by m h) false ≡ (when itself primary h then timer p.rt2 else timer 1)
+unfolding when◌then◌else◌
 ack_clear_timer p primary m h a b e = (λ i. timer_after (a i) (b i) (ack_ended primary m h b e i) false) ∙ go (itself primary h)
   where
-    go : (t : Bool) → timer_after p primary (if t then ack_to_itself else ack_to_other) false ≡ (if t then timer p.rt2 else timer 1)
+    go : (t : Bool) → timer_after p primary (when t then ack_to_itself else ack_to_other) false ≡ (when t then timer p.rt2 else timer 1)
     go true = refl
     go false = refl
 
 pub ack_set_timer : (p : Profile) (primary : Bool) (m : Master) (h : Header) → m.profile ≡ p → m.primary ≡ primary → h.kind ≡ ack → timer_after m.profile m.primary (ended_by m h) true ≡ slot_timer p primary 0
-unfolding if◌then◌else◌
+unfolding when◌then◌else◌
 ack_set_timer p primary m h a b e = (λ i. timer_after (a i) (b i) (ack_ended primary m h b e i) true) ∙ go (itself primary h)
   where
-    go : (t : Bool) → timer_after p primary (if t then ack_to_itself else ack_to_other) true ≡ slot_timer p primary 0
+    go : (t : Bool) → timer_after p primary (when t then ack_to_itself else ack_to_other) true ≡ slot_timer p primary 0
     go true = refl
     go false = refl
 
 pub back_timer : (p : Profile) (primary : Bool) (m : Master) (h : Header) → m.profile ≡ p → m.primary ≡ primary → h.kind ≡ back
-    → timer_after m.profile m.primary (ended_by m h) true ≡ (if itself primary h then slot_timer p primary 0 else slot_timer p primary 1)
-unfolding if◌then◌else◌
+    → timer_after m.profile m.primary (ended_by m h) true ≡ (when itself primary h then slot_timer p primary 0 else slot_timer p primary 1)
+unfolding when◌then◌else◌
 back_timer p primary m h a b e = (λ i. timer_after (a i) (b i) (ended i) true) ∙ go (itself primary h)
   where
-    ended : ended_by m h ≡ (if itself primary h then back_to_itself else back_to_other)
-    ended = if_is_true (h.kind =? back) _ _ (eq-eqb h.kind back e) ∙ ap (λ (t : Bool). if t then back_to_itself else back_to_other) (itself_is primary m h b)
+    ended : ended_by m h ≡ (when itself primary h then back_to_itself else back_to_other)
+    ended = if_is_true (h.kind =? back) _ _ (eq-eqb h.kind back e) ∙ ap (λ (t : Bool). when t then back_to_itself else back_to_other) (itself_is primary m h b)
 
-    go : (t : Bool) → timer_after p primary (if t then back_to_itself else back_to_other) true ≡ (if t then slot_timer p primary 0 else slot_timer p primary 1)
+    go : (t : Bool) → timer_after p primary (when t then back_to_itself else back_to_other) true ≡ (when t then slot_timer p primary 0 else slot_timer p primary 1)
     go true = refl
     go false = refl
 
@@ -267,7 +267,7 @@ none_shut = record { shut = λ z. absurd (omega arith); later = λ z. absurd (om
 pub behind_ack_set : (p : Profile) → Valid p → (noted : Noted) (next : Bool) (k : Header) (a b : MasterSide) (xs : List DeviceSide) → MasterQuiet p true true noted a → MasterQuiet p false true noted b
     → a.master.timer ≡ slot_timer p true 0 → b.master.timer ≡ slot_timer p false 0 → NobodyAwaits a b
     → All (DeviceQuiet p 0 k 1) xs → Distinct xs → Agreed true noted next xs → SetLine p 1 next a b xs
-unfolding if◌then◌else◌
+unfolding when◌then◌else◌
 behind_ack_set p v noted next k a b xs qa qb ta tb n qs d g =
     let sa : NoSlot a.master.timer = record { no_next = ap (λ (t : Timer). t.next) ta; no_window = ap (λ (t : Timer). t.window) ta } in
     let sb : NoSlot b.master.timer = record { no_next = ap (λ (t : Timer). t.next) tb; no_window = ap (λ (t : Timer). t.window) tb } in
@@ -296,9 +296,9 @@ behind_ack_set p v noted next k a b xs qa qb ta tb n qs d g =
     }
 
 pub behind_ack_clear : (p : Profile) → Valid p → (e : ℕ) (noted : Noted) (next : Bool) (h k : Header) (a b : MasterSide) (xs : List DeviceSide) → MasterQuiet p true false noted a → MasterQuiet p false false noted b
-    → a.master.timer ≡ (if itself true h then timer p.rt2 else timer 1) → b.master.timer ≡ (if itself false h then timer p.rt2 else timer 1) → NobodyAwaits a b
+    → a.master.timer ≡ (when itself true h then timer p.rt2 else timer 1) → b.master.timer ≡ (when itself false h then timer p.rt2 else timer 1) → NobodyAwaits a b
     → All (DeviceQuiet p 0 k 1) xs → Distinct xs → Agreed false noted next xs → ClearLine p e a b xs
-unfolding if◌then◌else◌
+unfolding when◌then◌else◌
 behind_ack_clear p v e noted next h k a b xs qa qb ta tb n qs d g = go h.primary ta tb
   where
     gap : Gap p (p.rt2 - 1)
@@ -326,7 +326,7 @@ behind_ack_clear p v e noted next h k a b xs qa qb ta tb n qs d g = go h.primary
       near = λ x y. (omega arith, omega arith);
     }
 
-    go : (bit : Bool) → a.master.timer ≡ (if bit then timer p.rt2 else timer 1) → b.master.timer ≡ (if (if bit then false else true) then timer p.rt2 else timer 1) → ClearLine p e a b xs
+    go : (bit : Bool) → a.master.timer ≡ (when bit then timer p.rt2 else timer 1) → b.master.timer ≡ (when (when bit then false else true) then timer p.rt2 else timer 1) → ClearLine p e a b xs
     go true ta tb =
         by (secondary_first (p.rt2 - 1) gap
         (waiting (omega (arith, ap (λ (t : Timer). t.next) tb)) (omega (arith, v.hold_short, ap (λ (t : Timer). t.next) ta, ap (λ (t : Timer). t.next) tb)) (ap (λ (t : Timer). t.window) tb) (ap (λ (t : Timer). t.window) ta)))
@@ -336,10 +336,10 @@ behind_ack_clear p v e noted next h k a b xs qa qb ta tb n qs d g = go h.primary
         (waiting (omega (arith, ap (λ (t : Timer). t.next) ta)) (omega (arith, v.hold_short, ap (λ (t : Timer). t.next) ta, ap (λ (t : Timer). t.next) tb)) (ap (λ (t : Timer). t.window) ta) (ap (λ (t : Timer). t.window) tb)))
         (omega (arith, v.hold_short, ap (λ (t : Timer). t.next) ta)) (omega (arith, ap (λ (t : Timer). t.next) tb))
 
-pub behind_back : (p : Profile) → Valid p → (noted : Noted) (next : Bool) (h k : Header) (a b : MasterSide) (xs : List DeviceSide) → h.primary ≡ (if next then false else true) → MasterQuiet p true true noted a → MasterQuiet p false true noted b
-    → a.master.timer ≡ (if itself true h then slot_timer p true 0 else slot_timer p true 1) → b.master.timer ≡ (if itself false h then slot_timer p false 0 else slot_timer p false 1) → NobodyAwaits a b
+pub behind_back : (p : Profile) → Valid p → (noted : Noted) (next : Bool) (h k : Header) (a b : MasterSide) (xs : List DeviceSide) → h.primary ≡ (when next then false else true) → MasterQuiet p true true noted a → MasterQuiet p false true noted b
+    → a.master.timer ≡ (when itself true h then slot_timer p true 0 else slot_timer p true 1) → b.master.timer ≡ (when itself false h then slot_timer p false 0 else slot_timer p false 1) → NobodyAwaits a b
     → All (DeviceQuiet p 0 k p.rt2) xs → Distinct xs → Agreed true noted next xs → SetLine p p.rt2 next a b xs
-unfolding if◌then◌else◌
+unfolding when◌then◌else◌
 behind_back p v noted next h k a b xs f qa qb ta tb n qs d g = go next h.primary f ta tb g
   where
     by : (next : Bool) → OneSlot p p.rt2 a.master.timer b.master.timer → (next ≡ false → NoSlot a.master.timer) → (next ≡ true → NoSlot b.master.timer) → a.master.timer.quiet ≡ 2 * p.rt1p → b.master.timer.quiet ≡ 2 * p.rt1p + p.rt2
@@ -371,7 +371,7 @@ behind_back p v noted next h k a b xs f qa qb ta tb n qs d g = go next h.primary
     no_slot : {t u : Timer} → t ≡ u → u.next ≡ 0 → u.window ≡ 0 → NoSlot t
     no_slot e x y = record { no_next = ap (λ (t : Timer). t.next) e ∙ x; no_window = ap (λ (t : Timer). t.window) e ∙ y }
 
-    go : (next bit : Bool) → bit ≡ (if next then false else true) → a.master.timer ≡ (if bit then slot_timer p true 0 else slot_timer p true 1) → b.master.timer ≡ (if (if bit then false else true) then slot_timer p false 0 else slot_timer p false 1)
+    go : (next bit : Bool) → bit ≡ (when next then false else true) → a.master.timer ≡ (when bit then slot_timer p true 0 else slot_timer p true 1) → b.master.timer ≡ (when (when bit then false else true) then slot_timer p false 0 else slot_timer p false 1)
         → Agreed true noted next xs → SetLine p p.rt2 next a b xs
     go false true f ta tb g =
         by false (OneSlot.first_shut (ap (λ (t : Timer). t.next) ta) (ap (λ (t : Timer). t.window) ta) (coming (ap (λ (t : Timer). t.next) tb) (ap (λ (t : Timer). t.window) tb) v.hold_short))

@@ -7,7 +7,7 @@ use mathlib.Core.List.{List}
 use mathlib.Core.Logic.{◌⊎◌, inl, inr}
 use lib.ListN.{length}
 use borrow.Author.Tests.{lt-ltb, le-ltb, eq-eqb, le-leb, lt-leb}
-use Rattle.base.specs.Choice.{if◌then◌else◌, ◌<?◌, ◌≤?◌, ◌=?◌, ◌outside◌to◌}
+use Rattle.base.specs.Choice.{when◌then◌else◌, ◌<?◌, ◌≤?◌, ◌=?◌, ◌outside◌to◌}
 use Rattle.base.specs.Refusal.{Called, refused}
 use Rattle.base.proofs.Choices.{if_is_true, if_is_false, inside_is}
 use Rattle.frame.specs.Limits.{fewest_preambles, most_preambles, largest_polling, reserved_command}
@@ -105,17 +105,17 @@ later_rule limit x heard q put low high of = polling_rule_told limit 63 x heard 
 
 -- For every largest polling address: a request of command 0 that nothing else speaks against is refused with 4 just where its address is above it.
 pub polling_rule : (polling limit : ℕ) (m : Master) (q : Request) (count : ℕ) → q.long ≡ false → q.command ≡ 0 → count ≤ limit → m.message.stage ≡ Free
-    → outcome (requested_up_to polling limit m q count) ≡ (if polling <? q.address then refuses 4 else taken)
-unfolding requested_up_to if◌then◌else◌
+    → outcome (requested_up_to polling limit m q count) ≡ (when polling <? q.address then refuses 4 else taken)
+unfolding requested_up_to when◌then◌else◌
 polling_rule polling limit m q count short zero few none_in_hand =
-    by (address_above polling (request_header m q)) refl ∙ ap (λ (long : Bool). if largest_with polling long <? q.address then refuses 4 else taken) short
+    by (address_above polling (request_header m q)) refl ∙ ap (λ (long : Bool). when largest_with polling long <? q.address then refuses 4 else taken) short
   where
     command_taken : command_refused q ≡ false
     command_taken =
-        ap (λ (c : ℕ). if c =? reserved_command then true else if q.long then false else (if c =? 0 then false else true)) zero
-        ∙ ap (λ (long : Bool). if long then false else false) short
+        ap (λ (c : ℕ). when c =? reserved_command then true else when q.long then false else (when c =? 0 then false else true)) zero
+        ∙ ap (λ (long : Bool). when long then false else false) short
 
-    by : (above : Bool) → address_above polling (request_header m q) ≡ above → outcome (requested_up_to polling limit m q count) ≡ (if above then refuses 4 else taken)
+    by : (above : Bool) → address_above polling (request_header m q) ≡ above → outcome (requested_up_to polling limit m q count) ≡ (when above then refuses 4 else taken)
     by true e = ap outcome (if_is_true (address_above polling (request_header m q)) _ _ e)
     by false e =
         ap outcome
@@ -128,10 +128,10 @@ module _ (limit : ℕ) (m : Master) (preamble address command count : ℕ) where
   long_request revision = record { preamble = preamble; revision = revision; long = true; address = address; command = command }
 
   for_any : (revision : ℕ) → 3 ≤ revision → revision ≤ 7
-      → requested limit m (long_request revision) count ≡ (if preamble outside fewest_preambles to most_preambles then refused 3 else requested_up_to 0 limit m (long_request 3) count)
-  unfolding requested requested_up_to if◌then◌else◌
+      → requested limit m (long_request revision) count ≡ (when preamble outside fewest_preambles to most_preambles then refused 3 else requested_up_to 0 limit m (long_request 3) count)
+  unfolding requested requested_up_to when◌then◌else◌
   for_any revision low high =
-      ap (λ (c : Called Master). if preamble outside fewest_preambles to most_preambles then refused 3 else c)
+      ap (λ (c : Called Master). when preamble outside fewest_preambles to most_preambles then refused 3 else c)
       (if_is_false (revision outside 3 to 7) (refused 17) (requested_up_to 0 limit m (long_request 3) count) (inside_is revision 3 7 low high))
 
   pub revision_long : (r s : ℕ) → 3 ≤ r → r ≤ 7 → 3 ≤ s → s ≤ 7 → requested limit m (long_request r) count ≡ requested limit m (long_request s) count

@@ -4,7 +4,7 @@ use mathlib.Core.Path.{◌≡◌, refl}
 use mathlib.Core.Bool.{Bool, true, false}
 use mathlib.Core.List.{List, [], ◌∷◌, ◌++◌}
 use lib.ListN.{replicate, drop}
-use Rattle.base.specs.Choice.{if◌then◌else◌}
+use Rattle.base.specs.Choice.{when◌then◌else◌}
 use Rattle.base.specs.Store.{stored}
 use Rattle.frame.specs.Check.{xor_from}
 use Rattle.frame.specs.Delimiter.{stx, ack, back, delimiter_of}
@@ -83,19 +83,19 @@ Behind =
     -- an STX: RT1 from tick 11
     (both (λ own. a_request) ≡ 44 ∷ 52 ∷ []) ×
     -- an ACK to the other master and a BACK with wrong check bytes: RT1 from tick 13 and from tick 17
-    (both (λ own. wrong (short_ack (if own then false else true) false)) ≡ 46 ∷ 54 ∷ []) ×
+    (both (λ own. wrong (short_ack (when own then false else true) false)) ≡ 46 ∷ 54 ∷ []) ×
     (both (λ own. wrong (a_back own)) ≡ 50 ∷ 58 ∷ []) ×
     -- a broken frame, 0xFF and 0x55 in ticks 1 and 2: RT1 from tick 3
     (both (λ own. 0xFF ∷ 0x55 ∷ []) ≡ 36 ∷ 44 ∷ []) ×
     -- an ACK to itself: RT2; to the other master: timer 1
     (both (λ own. short_ack own false) ≡ 21 ∷ 21 ∷ []) ×
-    (both (λ own. short_ack (if own then false else true) false) ≡ 14 ∷ 14 ∷ []) ×
+    (both (λ own. short_ack (when own then false else true) false) ≡ 14 ∷ 14 ∷ []) ×
     -- a BACK to the other master: timer 1; to itself: the quiet time, 66 and 74
-    (both (λ own. a_back (if own then false else true)) ≡ 18 ∷ 18 ∷ []) ×
+    (both (λ own. a_back (when own then false else true)) ≡ 18 ∷ 18 ∷ []) ×
     (both (λ own. a_back own) ≡ 83 ∷ 91 ∷ []) ×
     -- an ACK with the burst flag, to either: the quiet time
     (both (λ own. long_ack own true 3) ≡ 83 ∷ 91 ∷ []) ×
-    (both (λ own. long_ack (if own then false else true) true 3) ≡ 83 ∷ 91 ∷ []) ×
+    (both (λ own. long_ack (when own then false else true) true 3) ≡ 83 ∷ 91 ∷ []) ×
     (both (λ own. short_ack own true) ≡ 79 ∷ 87 ∷ []) ×
     -- behind a BACK of device 3, an ACK without the flag: of device 3, which clears BURST, and of device 4, which does not
     (both (λ own. a_back own ++ long_ack own false 3) ≡ 41 ∷ 41 ∷ []) ×
@@ -104,7 +104,7 @@ Behind =
     (both (λ own. short_ack own true ++ long_ack own false 1) ≡ 95 ∷ 103 ∷ [])
 
 pub behind : Behind
-unfolding wrong all_heard ticks_before begins_behind master_sents master_tick requested requested_up_to master_takes master_sends taken taken_data silent_inside at_idle at_preamble at_first at_address at_expansion at_command at_count at_data at_check frame_bytes preamble_bytes body_bytes protected_bytes header_bytes xor_from delimiter_of stored if◌then◌else◌
+unfolding wrong all_heard ticks_before begins_behind master_sents master_tick requested requested_up_to master_takes master_sends taken taken_data silent_inside at_idle at_preamble at_first at_address at_expansion at_command at_count at_data at_check frame_bytes preamble_bytes body_bytes protected_bytes header_bytes xor_from delimiter_of stored when◌then◌else◌
 behind = (refl, refl, refl, refl, refl, refl, refl, refl, refl, refl, refl, refl, refl, refl, refl)
 
 -- ---- a master: its windows and its attempts
@@ -115,7 +115,7 @@ begins_asked tick = ticks_before (master_sents 255 (master true) (replicate tick
 
 -- windows of HOLD ticks, 33 and 34, then again 2×RT2 ticks behind each other: 49 and 50, 65 and 66
 pub windows : begins_asked 33 ∷ begins_asked 34 ∷ begins_asked 35 ∷ begins_asked 48 ∷ begins_asked 50 ∷ begins_asked 51 ∷ begins_asked 66 ∷ [] ≡ 33 ∷ 34 ∷ 49 ∷ 49 ∷ 50 ∷ 65 ∷ 66 ∷ []
-unfolding ticks_before begins_asked master_sents master_tick requested requested_up_to master_takes master_sends taken taken_data silent_inside frame_bytes preamble_bytes body_bytes protected_bytes header_bytes xor_from stored if◌then◌else◌
+unfolding ticks_before begins_asked master_sents master_tick requested requested_up_to master_takes master_sends taken taken_data silent_inside frame_bytes preamble_bytes body_bytes protected_bytes header_bytes xor_from stored when◌then◌else◌
 windows = refl
 
 unfoldable pub each : List ℕ → List Sent
@@ -129,12 +129,12 @@ stx_0 = each (0xFF ∷ 0xFF ∷ 0xFF ∷ 0xFF ∷ 0xFF ∷ 0x02 ∷ 0x80 ∷ 0x0
 -- no answer, R 3: the STX goes out four times, each RT1 behind the one before, and not again
 pub four_attempts : master_sents 255 (master true) (asks ∷ replicate 299 (hears Silence))
     ≡ replicate 33 Silent ++ (stx_0 ++ (replicate 33 Silent ++ (stx_0 ++ (replicate 33 Silent ++ (stx_0 ++ (replicate 33 Silent ++ (stx_0 ++ replicate 128 Silent)))))))
-unfolding each master_sents master_tick requested requested_up_to master_takes master_sends taken taken_data silent_inside frame_bytes preamble_bytes body_bytes protected_bytes header_bytes xor_from stored if◌then◌else◌
+unfolding each master_sents master_tick requested requested_up_to master_takes master_sends taken taken_data silent_inside frame_bytes preamble_bytes body_bytes protected_bytes header_bytes xor_from stored when◌then◌else◌
 four_attempts = refl
 
 -- behind a BACK to the other master it begins in tick 18 with BURST set; without an answer RT1's end opens no window, and it tries again behind the quiet time
 pub quiet_runs_on : master_sents 255 (master true) (asks ∷ hears Silence ∷ (all_heard (a_back false) ++ replicate 86 (hears Silence))) ≡ replicate 18 Silent ++ (stx_0 ++ (replicate 66 Silent ++ stx_0))
-unfolding all_heard each master_sents master_tick requested requested_up_to master_takes master_sends taken taken_data silent_inside at_idle at_preamble at_first at_address at_expansion at_command at_count at_data at_check frame_bytes preamble_bytes body_bytes protected_bytes header_bytes xor_from delimiter_of stored if◌then◌else◌
+unfolding all_heard each master_sents master_tick requested requested_up_to master_takes master_sends taken taken_data silent_inside at_idle at_preamble at_first at_address at_expansion at_command at_count at_data at_check frame_bytes preamble_bytes body_bytes protected_bytes header_bytes xor_from delimiter_of stored when◌then◌else◌
 quiet_runs_on = refl
 
 -- what stands on the line from tick 44 on behind the STX of ticks 33 to 42: an ACK of 12 characters with this first data byte; RT2 behind it a failed attempt is repeated, an answered one is not
@@ -143,23 +143,23 @@ behind_status status =
     master_sents 255 (master true) (asks ∷ (replicate 44 (hears Silence) ++ (all_heard (frame_bytes 5 (record { kind = ack; long = false; primary = true; burst = false; address = 0; command = 0 }) (status ∷ 0 ∷ [])) ++ replicate 17 (hears Silence))))
 
 pub bit_seven : (behind_status 0x80 ≡ replicate 33 Silent ++ (stx_0 ++ (replicate 21 Silent ++ stx_0))) × (behind_status 0x7F ≡ replicate 33 Silent ++ (stx_0 ++ replicate 31 Silent))
-unfolding all_heard each behind_status master_sents master_tick requested requested_up_to master_takes master_sends taken taken_data silent_inside at_idle at_preamble at_first at_address at_expansion at_command at_count at_data at_check frame_bytes preamble_bytes body_bytes protected_bytes header_bytes xor_from delimiter_of stored if◌then◌else◌
+unfolding all_heard each behind_status master_sents master_tick requested requested_up_to master_takes master_sends taken taken_data silent_inside at_idle at_preamble at_first at_address at_expansion at_command at_count at_data at_check frame_bytes preamble_bytes body_bytes protected_bytes header_bytes xor_from delimiter_of stored when◌then◌else◌
 bit_seven = (refl, refl)
 
 -- characters of which the first is taken in tick 1, without a silent tick before, are passed over: a broken frame, RT1 behind it
 pub passed_over : ticks_before (master_sents 255 (master true) (asks ∷ (all_heard (short_ack false false) ++ replicate 40 (hears Silence)))) ≡ 45
-unfolding ticks_before all_heard master_sents master_tick requested requested_up_to master_takes master_sends taken taken_data silent_inside at_idle at_preamble at_first at_address at_expansion at_command at_count at_data at_check frame_bytes preamble_bytes body_bytes protected_bytes header_bytes xor_from delimiter_of stored if◌then◌else◌
+unfolding ticks_before all_heard master_sents master_tick requested requested_up_to master_takes master_sends taken taken_data silent_inside at_idle at_preamble at_first at_address at_expansion at_command at_count at_data at_check frame_bytes preamble_bytes body_bytes protected_bytes header_bytes xor_from delimiter_of stored when◌then◌else◌
 passed_over = refl
 
 -- behind the STX of ticks 33 to 42 a broken frame in ticks 44 and 45 fails the attempt, and RT1 behind it comes the next
 pub broken_fails : master_sents 255 (master true) (asks ∷ (replicate 44 (hears Silence) ++ (all_heard (0xFF ∷ 0x55 ∷ []) ++ replicate 42 (hears Silence)))) ≡ replicate 33 Silent ++ (stx_0 ++ (replicate 36 Silent ++ stx_0))
-unfolding all_heard each master_sents master_tick requested requested_up_to master_takes master_sends taken taken_data silent_inside at_idle at_preamble at_first at_address at_expansion at_command at_count at_data at_check frame_bytes preamble_bytes body_bytes protected_bytes header_bytes xor_from delimiter_of stored if◌then◌else◌
+unfolding all_heard each master_sents master_tick requested requested_up_to master_takes master_sends taken taken_data silent_inside at_idle at_preamble at_first at_address at_expansion at_command at_count at_data at_check frame_bytes preamble_bytes body_bytes protected_bytes header_bytes xor_from delimiter_of stored when◌then◌else◌
 broken_fails = refl
 
 -- a broadcast of command 3, 14 characters, is sent once
 pub broadcast_once : master_sents 255 (master true) (record { heard = Silence; call = requests (record { preamble = 5; revision = 7; long = true; address = 0; command = 3 }) [] } ∷ replicate 199 (hears Silence))
     ≡ replicate 33 Silent ++ (each (0xFF ∷ 0xFF ∷ 0xFF ∷ 0xFF ∷ 0xFF ∷ 0x82 ∷ 0x80 ∷ 0x00 ∷ 0x00 ∷ 0x00 ∷ 0x00 ∷ 0x03 ∷ 0x00 ∷ 0x01 ∷ []) ++ replicate 153 Silent)
-unfolding each master_sents master_tick requested requested_up_to master_takes master_sends taken taken_data silent_inside frame_bytes preamble_bytes body_bytes protected_bytes header_bytes xor_from stored if◌then◌else◌
+unfolding each master_sents master_tick requested requested_up_to master_takes master_sends taken taken_data silent_inside frame_bytes preamble_bytes body_bytes protected_bytes header_bytes xor_from stored when◌then◌else◌
 broadcast_once = refl
 
 -- ---- a device with polling address 0 and unique address 2: what it sends
@@ -198,7 +198,7 @@ Errors =
     (sent (all_taken (0x02 ∷ 0x80 ∷ 0x00 ∷ 0x00 ∷ 0x83 ∷ 0x55 ∷ []) ++ replicate 40 (takes Silence)) ≡ replicate 53 Silent)
 
 pub errors : Errors
-unfolding each all_taken device_sents device_tick device_takes device_sends taken taken_data silent_inside at_idle at_preamble at_first at_address at_expansion at_command at_count at_data at_check write_buffer write_answer frame_bytes preamble_bytes body_bytes protected_bytes header_bytes xor_from delimiter_of stored if◌then◌else◌
+unfolding each all_taken device_sents device_tick device_takes device_sends taken taken_data silent_inside at_idle at_preamble at_first at_address at_expansion at_command at_count at_data at_check write_buffer write_answer frame_bytes preamble_bytes body_bytes protected_bytes header_bytes xor_from delimiter_of stored when◌then◌else◌
 errors = (refl, refl, refl, refl, refl)
 
 -- M3's frame
@@ -229,7 +229,7 @@ Answers =
     ≡ replicate 12 Silent ++ (ack_0 ++ replicate 24 Silent))
 
 pub answers : Answers
-unfolding each all_taken device_sents device_tick device_takes device_sends answered taken taken_data silent_inside at_idle at_preamble at_first at_address at_expansion at_command at_count at_data at_check write_buffer write_answer frame_bytes preamble_bytes body_bytes protected_bytes header_bytes xor_from delimiter_of stored if◌then◌else◌
+unfolding each all_taken device_sents device_tick device_takes device_sends answered taken taken_data silent_inside at_idle at_preamble at_first at_address at_expansion at_command at_count at_data at_check write_buffer write_answer frame_bytes preamble_bytes body_bytes protected_bytes header_bytes xor_from delimiter_of stored when◌then◌else◌
 answers = (refl, refl, refl, refl, refl, refl, refl, refl)
 
 -- the content is given in tick 0, a request of command 3 for device 2 is taken in ticks 2 to 15, and the answer that turns burst on is given at T+2, in tick 16: an ACK of 16 characters, and a BACK directly behind it up to tick 47
@@ -251,7 +251,7 @@ pub bursts : device_sents 255 device
     (replicate 16 Silent ++
     (each (0xFF ∷ 0xFF ∷ 0xFF ∷ 0xFF ∷ 0xFF ∷ 0x86 ∷ 0x00 ∷ 0x00 ∷ 0x00 ∷ 0x00 ∷ 0x02 ∷ 0x03 ∷ 0x02 ∷ 0x00 ∷ 0x00 ∷ 0x85 ∷ []) ++
     replicate 80 Silent))))))
-unfolding each all_taken device_sents device_tick device_takes device_sends answered content_given taken taken_data silent_inside at_idle at_preamble at_first at_address at_expansion at_command at_count at_data at_check write_buffer write_answer frame_bytes preamble_bytes body_bytes protected_bytes header_bytes xor_from delimiter_of stored if◌then◌else◌
+unfolding each all_taken device_sents device_tick device_takes device_sends answered content_given taken taken_data silent_inside at_idle at_preamble at_first at_address at_expansion at_command at_count at_data at_check write_buffer write_answer frame_bytes preamble_bytes body_bytes protected_bytes header_bytes xor_from delimiter_of stored when◌then◌else◌
 bursts = refl
 
 -- the tick of its next BACK, where these bytes stand on the line from tick 49 on
@@ -260,7 +260,7 @@ next_back bytes = 48 + ticks_before (drop 48 (device_sents 255 device (turned_on
 
 -- nothing: RT2 behind tick 47. Another's ACK, of 12 characters: timer 1 behind tick 60. Behind tick 58 of an STX, tick 60 of a damaged ACK, tick 64 of another's BACK and tick 50 of a broken frame: RT1 primary
 pub due_backs : next_back [] ∷ next_back (short_ack true false) ∷ next_back a_request ∷ next_back (wrong (short_ack true false)) ∷ next_back (a_back true) ∷ next_back (0xFF ∷ 0x55 ∷ []) ∷ [] ≡ 56 ∷ 62 ∷ 92 ∷ 94 ∷ 98 ∷ 84 ∷ []
-unfolding wrong ticks_before next_back all_taken device_sents device_tick device_takes device_sends answered content_given taken taken_data silent_inside at_idle at_preamble at_first at_address at_expansion at_command at_count at_data at_check write_buffer write_answer frame_bytes preamble_bytes body_bytes protected_bytes header_bytes xor_from delimiter_of stored if◌then◌else◌
+unfolding wrong ticks_before next_back all_taken device_sents device_tick device_takes device_sends answered content_given taken taken_data silent_inside at_idle at_preamble at_first at_address at_expansion at_command at_count at_data at_check write_buffer write_answer frame_bytes preamble_bytes body_bytes protected_bytes header_bytes xor_from delimiter_of stored when◌then◌else◌
 due_backs = refl
 
 -- an answer at T+1, in tick 15, that turns burst on is lost with its request, which a character drops: the ACK to the next request has no burst flag, and no BACK follows
@@ -270,5 +270,5 @@ pub wish_lost : device_sents 255 device
     (record { heard = Character 0x03; call = gives_answer On (0 ∷ 0 ∷ []) } ∷ takes (Character 0x55) ∷ takes Silence ∷
     (replicate 5 (takes (Character 0xFF)) ++ (all_taken stx_bytes ++ (calls zeros ∷ replicate 60 (takes Silence)))))))
     ≡ replicate 28 Silent ++ (ack_0 ++ replicate 49 Silent)
-unfolding each all_taken device_sents device_tick device_takes device_sends answered content_given taken taken_data silent_inside at_idle at_preamble at_first at_address at_expansion at_command at_count at_data at_check write_buffer write_answer frame_bytes preamble_bytes body_bytes protected_bytes header_bytes xor_from delimiter_of stored if◌then◌else◌
+unfolding each all_taken device_sents device_tick device_takes device_sends answered content_given taken taken_data silent_inside at_idle at_preamble at_first at_address at_expansion at_command at_count at_data at_check write_buffer write_answer frame_bytes preamble_bytes body_bytes protected_bytes header_bytes xor_from delimiter_of stored when◌then◌else◌
 wish_lost = refl

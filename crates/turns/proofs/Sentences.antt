@@ -7,7 +7,7 @@ use mathlib.Core.List.{List}
 use lib.ListN.{length}
 use borrow.Author.Tests.{eq-eqb, eqb-true, le-ltb, ne_eqb}
 use Rattle.base.specs.Refusal.{Called, accepted, refused}
-use Rattle.base.specs.Choice.{if◌then◌else◌, ◌<?◌, ◌=?◌, ◌outside◌to◌}
+use Rattle.base.specs.Choice.{when◌then◌else◌, ◌<?◌, ◌=?◌, ◌outside◌to◌}
 use Rattle.base.proofs.Choices.{true_false, if_is_true, if_is_false, if_at_most, went_then, went_else, inside_low, inside_high, inside_is}
 use Rattle.frame.specs.Address.{byte_at, largest_with, address_above}
 use Rattle.frame.specs.Delimiter.{stx, ack, back}
@@ -97,7 +97,7 @@ Statuses =
     (error_status (record { parity = false; overrun = false; framing = false; check = true; address = false }) ≡ 0x88)
 
 pub statuses : Statuses
-unfolding if◌then◌else◌
+unfolding when◌then◌else◌
 statuses = (refl, refl, refl, refl)
 
 -- "with two data bytes, .. then 0"
@@ -146,7 +146,7 @@ QuietTimes =
     (quiet_time c8psk_profile false ≡ 98)
 
 pub quiet_times : QuietTimes
-unfolding if◌then◌else◌
+unfolding when◌then◌else◌
 quiet_times = (refl, refl, refl, refl)
 
 -- 0 is a timer that does not run: it opens no window, and no BACK is due
@@ -163,7 +163,7 @@ pub back_notes : (burst : Bool) (noted : Noted) (h : Header) → h.kind ≡ back
 back_notes burst noted h e = (if_is_true (h.kind =? back) true _ (eq-eqb h.kind back e), if_is_true (h.kind =? back) (noted_from h) _ (eq-eqb h.kind back e))
 
 module _ (noted : Noted) (h : Header) (type : h.kind ≡ ack) where
-  by_ack : {A : Type 0} (a b c : A) → (if h.kind =? back then a else (if h.kind =? ack then b else c)) ≡ b
+  by_ack : {A : Type 0} (a b c : A) → (when h.kind =? back then a else (when h.kind =? ack then b else c)) ≡ b
   by_ack a b c = if_is_false (h.kind =? back) a _ (ap (λ (n : ℕ). n =? back) type) ∙ if_is_true (h.kind =? ack) b c (eq-eqb h.kind ack type)
 
   -- "A long ACK with the burst flag .. notes its address"; that it sets BURST is `flag_sets` in TagSentences

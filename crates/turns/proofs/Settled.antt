@@ -6,7 +6,7 @@ use mathlib.Core.Bool.{Bool, true, false}
 use mathlib.Core.List.{List, [], ◌∷◌, ◌++◌}
 use lib.ListN.{length, replicate}
 use Rattle.base.specs.Refusal.{accepted}
-use Rattle.base.specs.Choice.{if◌then◌else◌}
+use Rattle.base.specs.Choice.{when◌then◌else◌}
 use Rattle.base.specs.Store.{stored}
 use Rattle.frame.specs.Check.{xor_from, exclusive_or}
 use Rattle.frame.specs.Delimiter.{stx, ack, delimiter_of}
@@ -32,7 +32,7 @@ frame_with h put e = record {
 }
 
 longest_frame : Longest 284
-unfolding if◌then◌else◌
+unfolding when◌then◌else◌
 longest_frame = record {
   none_longer = λ preamble h put room place end e.
       let w = written_length preamble h put room place end e in
@@ -45,7 +45,7 @@ longest_frame = record {
 }
 
 pub all_settled : AllSettled table
-unfolding hearing requested requested_up_to device_tick device_takes device_sends answered taken taken_data at_idle at_preamble at_first at_address at_expansion at_command at_count at_data at_check write_buffer write_answer frame_bytes preamble_bytes body_bytes protected_bytes header_bytes xor_from delimiter_of stored if◌then◌else◌
+unfolding hearing requested requested_up_to device_tick device_takes device_sends answered taken taken_data at_idle at_preamble at_first at_address at_expansion at_command at_count at_data at_check write_buffer write_answer frame_bytes preamble_bytes body_bytes protected_bytes header_bytes xor_from delimiter_of stored when◌then◌else◌
 all_settled =
     row_and (check_byte_is (frame_with request [] refl))
     (row_and (check_byte_is (frame_with (record { kind = stx; long = true; primary = true; burst = false; address = 2; command = 3 }) [] refl))

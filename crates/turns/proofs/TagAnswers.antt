@@ -9,7 +9,7 @@ use lib.ListN.{length, get_or, drop, drop_of_length-le, replicate}
 use lib.Seq.{drop-cons}
 use borrow.Author.Tests.{ltb-true, ltb-false, leb-true, leb-false, ne_eqb, eq-eqb, eqb-true}
 use Rattle.base.specs.Refusal.{Called, accepted, refused}
-use Rattle.base.specs.Choice.{if◌then◌else◌, ◌<?◌, ◌≤?◌, ◌=?◌}
+use Rattle.base.specs.Choice.{when◌then◌else◌, ◌<?◌, ◌≤?◌, ◌=?◌}
 use Rattle.base.specs.Store.{stored}
 use Rattle.base.proofs.Choices.{true_false, if_is_true, if_is_false}
 use Rattle.frame.specs.Address.{byte_at, largest_address}
@@ -682,7 +682,7 @@ silence_left m x l = go l.left
     go (in_hand some q out due) =
         subst (λ (t : DeviceTaken). Left (m - 1) t.device) (sym (silence_is x.device (l.hears some) out)) (by (m ≤? 1) refl)
       where
-        turn_is : (counts x.device idle x.device.due Nothing).device.turn ≡ (if m ≤? 1 then Listens else Asked (m - 1))
+        turn_is : (counts x.device idle x.device.due Nothing).device.turn ≡ (when m ≤? 1 then Listens else Asked (m - 1))
         turn_is = if_is_false (back_due x.device x.device.due) _ _ (none_due x.device (omega arith)) ∙ ap waited q
 
         by : (few : Bool) → (m ≤? 1) ≡ few → Left (m - 1) (counts x.device idle x.device.due Nothing).device

@@ -4,7 +4,7 @@ use mathlib.Core.Path.{◌≡◌, refl}
 use mathlib.Core.Bool.{true, false}
 use mathlib.Core.List.{List, [], ◌∷◌, ◌++◌}
 use lib.ListN.{replicate, drop}
-use Rattle.base.specs.Choice.{if◌then◌else◌}
+use Rattle.base.specs.Choice.{when◌then◌else◌}
 use Rattle.base.specs.Store.{stored}
 use Rattle.frame.specs.Check.{xor_from}
 use Rattle.frame.specs.Delimiter.{stx, delimiter_of}
@@ -33,12 +33,12 @@ unfoldable pub before_check : DeviceSide
 before_check = device_after 255 device (lead ++ all_taken (0x82 ∷ 0x80 ∷ 0x00 ∷ 0x00 ∷ 0x00 ∷ 0x00 ∷ 0x0B ∷ 0x00 ∷ []))
 
 pub hears_tag : HearsWhole before_check (Character 0x09) (record { header = command11 stx true false 0; expansion = 0; count = 0 })
-unfolding before_check device_after all_taken device_tick device_takes device_sends taken taken_data silent_inside at_idle at_preamble at_first at_address at_expansion at_command at_count at_data at_check xor_from delimiter_of stored if◌then◌else◌
+unfolding before_check device_after all_taken device_tick device_takes device_sends taken taken_data silent_inside at_idle at_preamble at_first at_address at_expansion at_command at_count at_data at_check xor_from delimiter_of stored when◌then◌else◌
 hears_tag = record { hears = refl; character = is_sound; whole = refl; plain = refl }
 
 pub tag_times : answer_in 255 before_check (Character 0x09) (0 ∷ 0 ∷ []) 0 ∷ answer_in 255 before_check (Character 0x09) (0 ∷ 0 ∷ []) 27 ∷ answer_in 255 before_check (Character 0x09) (0 ∷ 0 ∷ []) 28 ∷ []
     ≡ Taken ∷ Taken ∷ Refused 8 ∷ []
-unfolding answer_in before_check device_after all_taken device_tick device_takes device_sends answered taken taken_data silent_inside at_idle at_preamble at_first at_address at_expansion at_command at_count at_data at_check write_buffer write_answer frame_bytes preamble_bytes body_bytes protected_bytes header_bytes xor_from delimiter_of stored if◌then◌else◌
+unfolding answer_in before_check device_after all_taken device_tick device_takes device_sends answered taken taken_data silent_inside at_idle at_preamble at_first at_address at_expansion at_command at_count at_data at_check write_buffer write_answer frame_bytes preamble_bytes body_bytes protected_bytes header_bytes xor_from delimiter_of stored when◌then◌else◌
 tag_times = refl
 
 -- ---- a device that bursts, and the secondary's command 11 by broadcast
@@ -55,7 +55,7 @@ pub is_searched :
     ((device_tick 255 (device_after 255 device searched) Silence (gives_answer Same (0 ∷ 0 ∷ []))).told ≡ DeviceTold.Nothing) ×
     ((device_tick 255 (device_after 255 device searched) Silence (gives_answer Same (0 ∷ 0 ∷ []))).result ≡ Taken) ×
     ((device_after 255 device searched).device.burst ≡ true)
-unfolding device_ledger searched device_after all_taken device_tick device_takes device_sends answered content_given taken taken_data silent_inside at_idle at_preamble at_first at_address at_expansion at_command at_count at_data at_check write_buffer write_answer frame_bytes preamble_bytes body_bytes protected_bytes header_bytes xor_from delimiter_of stored if◌then◌else◌
+unfolding device_ledger searched device_after all_taken device_tick device_takes device_sends answered content_given taken taken_data silent_inside at_idle at_preamble at_first at_address at_expansion at_command at_count at_data at_check write_buffer write_answer frame_bytes preamble_bytes body_bytes protected_bytes header_bytes xor_from delimiter_of stored when◌then◌else◌
 is_searched = (refl, refl, refl, refl)
 
 -- The ACK of ticks 88 to 103 repeats the address bytes 0x00 with the burst flag, 0x40. Directly after it comes a BACK with the unique address.
@@ -64,7 +64,7 @@ pub tag_found : drop 72 (device_sents 255 device (searched ++ (calls (gives_answ
     (each (0xFF ∷ 0xFF ∷ 0xFF ∷ 0xFF ∷ 0xFF ∷ 0x86 ∷ 0x40 ∷ 0x00 ∷ 0x00 ∷ 0x00 ∷ 0x00 ∷ 0x0B ∷ 0x02 ∷ 0x00 ∷ 0x00 ∷ 0xCF ∷ []) ++
     (each (0xFF ∷ 0xFF ∷ 0xFF ∷ 0xFF ∷ 0xFF ∷ 0x81 ∷ 0xC0 ∷ 0x00 ∷ 0x00 ∷ 0x00 ∷ 0x02 ∷ 0x03 ∷ 0x02 ∷ 0x07 ∷ 0x08 ∷ 0x4D ∷ []) ++
     replicate 2 Silent))
-unfolding searched each all_taken device_sents device_tick device_takes device_sends answered content_given taken taken_data silent_inside at_idle at_preamble at_first at_address at_expansion at_command at_count at_data at_check write_buffer write_answer frame_bytes preamble_bytes body_bytes protected_bytes header_bytes xor_from delimiter_of stored if◌then◌else◌
+unfolding searched each all_taken device_sents device_tick device_takes device_sends answered content_given taken taken_data silent_inside at_idle at_preamble at_first at_address at_expansion at_command at_count at_data at_check write_buffer write_answer frame_bytes preamble_bytes body_bytes protected_bytes header_bytes xor_from delimiter_of stored when◌then◌else◌
 tag_found = refl
 
 -- ---- command 11 to its own address
@@ -80,7 +80,7 @@ pub is_asked :
     (device_ledger 255 blank device (asked_at 2 0x0B) ≡ told (command11 stx true false 2)) ×
     ((device_tick 255 (device_after 255 device (asked_at 2 0x0B)) Silence (gives_answer Same (0 ∷ 0 ∷ []))).result ≡ Taken) ×
     ((device_after 255 device (asked_at 2 0x0B)).device.content.given ≡ true)
-unfolding device_ledger asked_at device_after all_taken device_tick device_takes device_sends answered content_given taken taken_data silent_inside at_idle at_preamble at_first at_address at_expansion at_command at_count at_data at_check write_buffer write_answer frame_bytes preamble_bytes body_bytes protected_bytes header_bytes xor_from delimiter_of stored if◌then◌else◌
+unfolding device_ledger asked_at device_after all_taken device_tick device_takes device_sends answered content_given taken taken_data silent_inside at_idle at_preamble at_first at_address at_expansion at_command at_count at_data at_check write_buffer write_answer frame_bytes preamble_bytes body_bytes protected_bytes header_bytes xor_from delimiter_of stored when◌then◌else◌
 is_asked = (refl, refl, refl)
 
 -- the wish of an answer in tick 16 is taken, and the ACK has the burst flag; by broadcast it is refused with 10
@@ -88,5 +88,5 @@ pub wish_by_address :
     (device_sents 255 device (asked_at 2 0x0B ++ (calls (gives_answer On (0 ∷ 0 ∷ [])) ∷ replicate 15 (takes Silence)))
     ≡ replicate 16 Silent ++ each (0xFF ∷ 0xFF ∷ 0xFF ∷ 0xFF ∷ 0xFF ∷ 0x86 ∷ 0xC0 ∷ 0x00 ∷ 0x00 ∷ 0x00 ∷ 0x02 ∷ 0x0B ∷ 0x02 ∷ 0x00 ∷ 0x00 ∷ 0x4D ∷ [])) ×
     ((device_tick 255 (device_after 255 device (asked_at 0 0x09)) Silence (gives_answer On (0 ∷ 0 ∷ []))).result ≡ Refused 10)
-unfolding asked_at each device_after all_taken device_sents device_tick device_takes device_sends answered content_given taken taken_data silent_inside at_idle at_preamble at_first at_address at_expansion at_command at_count at_data at_check write_buffer write_answer frame_bytes preamble_bytes body_bytes protected_bytes header_bytes xor_from delimiter_of stored if◌then◌else◌
+unfolding asked_at each device_after all_taken device_sents device_tick device_takes device_sends answered content_given taken taken_data silent_inside at_idle at_preamble at_first at_address at_expansion at_command at_count at_data at_check write_buffer write_answer frame_bytes preamble_bytes body_bytes protected_bytes header_bytes xor_from delimiter_of stored when◌then◌else◌
 wish_by_address = (refl, refl)

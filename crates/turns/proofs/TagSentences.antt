@@ -7,7 +7,7 @@ use mathlib.Core.List.{List, [], ◌∷◌}
 use lib.ListN.{length}
 use borrow.Author.Tests.{eq-eqb, eqb-true, ne_eqb}
 use Rattle.base.specs.Refusal.{Called, accepted, refused}
-use Rattle.base.specs.Choice.{if◌then◌else◌, ◌<?◌, ◌=?◌, ◌outside◌to◌}
+use Rattle.base.specs.Choice.{when◌then◌else◌, ◌<?◌, ◌=?◌, ◌outside◌to◌}
 use Rattle.base.proofs.Choices.{true_false, if_is_true, if_is_false, went_then, went_else, inside_low}
 use Rattle.frame.specs.Address.{byte_at, largest_address}
 use Rattle.frame.specs.Delimiter.{stx, ack, back}
@@ -40,7 +40,7 @@ use Rattle.turns.specs.declared.Change.{Change}
 
 pub tag_told : (d : Device) (w : Whole) (primary flag : Bool) → w.header ≡ command11 stx primary flag 0 → w.expansion ≡ 0
     → after_frame d w ≡ record { turn = Asked d.profile.sto; request = w.header; length = d.length; told = DeviceTold.Request w }
-unfolding if◌then◌else◌
+unfolding when◌then◌else◌
 tag_told d w primary flag is plain =
     if_is_true (w.header.kind =? stx) _ _ (ap (λ (h : Header). h.kind =? stx) is)
     ∙ if_is_true (w.expansion =? 0) _ _ (eq-eqb w.expansion 0 plain)
@@ -188,7 +188,7 @@ module _ (m : Master) (tag : seeks_tag m.message.header ≡ true) where
 -- ---- "A wish to turn burst on or off in this answer is refused with 10"
 
 pub tag_no_wish : (kind : ℕ) (primary burst : Bool) → has_no_wish (command11 kind primary burst 0) ≡ true
-unfolding if◌then◌else◌
+unfolding when◌then◌else◌
 tag_no_wish kind primary burst = refl
 
 module _ (limit : ℕ) (d : Device) (n count : ℕ) (asked : d.turn ≡ Asked n) (tag : seeks_tag d.request ≡ true) (low : 2 ≤ count) (high : count ≤ limit) where
@@ -222,8 +222,8 @@ refused_leaves limit x heard wish put why e = (ap (λ (c : Called Device). (by c
 -- ---- "one tag, one device, so that at most one host's answer to each command 11 is taken"
 
 two_found : (h g : Header) (a b : List ℕ) → seeks_tag h ≡ true → seeks_tag g ≡ true → finders (given h a ∷ given g b ∷ []) ≡ 2
-unfolding finders if◌then◌else◌
-two_found h g a b e f = λ i. (if e i then 1 else 0) + ((if f i then 1 else 0) + 0)
+unfolding finders when◌then◌else◌
+two_found h g a b e f = λ i. (when e i then 1 else 0) + ((when f i then 1 else 0) + 0)
 
 -- behind a tick with the answers of two hosts to a command 11 the premise does not hold
 pub two_answers_break : {gs : List Ledger} {c : Calls} {cs : List Calls} {s : LinkStep} {ss : List LinkStep} (h g : Header) (a b : List ℕ) → seeks_tag h ≡ true → seeks_tag g ≡ true

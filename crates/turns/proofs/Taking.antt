@@ -9,7 +9,7 @@ use mathlib.Core.Logic.{◌⊎◌, inl, inr}
 use lib.ListN.{length, get_or}
 use borrow.Author.Tests.{ltb-true, ltb-false, leb-true, leb-false}
 use Rattle.base.specs.Refusal.{Called}
-use Rattle.base.specs.Choice.{if◌then◌else◌, ◌<?◌, ◌≤?◌}
+use Rattle.base.specs.Choice.{when◌then◌else◌, ◌<?◌, ◌≤?◌}
 use Rattle.base.proofs.Choices.{true_false, if_is_true, if_is_false}
 use Rattle.frame.specs.Frame.{frame_bytes}
 use Rattle.line.specs.Reader.{idle, passing, taken}
@@ -64,8 +64,8 @@ fails_ended {primary} frame retries g n e f =
     (λ q. record { still = is_waiting; formed = formed_staged frame g Waiting (λ q. absurd (awaiting_free n (sym e ∙ q))) f; gone = refl; same_attempts = refl; same_header = refl; retried = λ z. leb-true g.attempts retries q; over = inl refl })
     (λ q. ends_ended frame retries g _)
 
-either_ended : {primary : Bool} {frame : List ℕ} {retries : ℕ} {g : Message} (t : Bool) (a b : Ending) → Ended primary frame retries g a → Ended primary frame retries g b → Ended primary frame retries g (if t then a else b)
-unfolding if◌then◌else◌
+either_ended : {primary : Bool} {frame : List ℕ} {retries : ℕ} {g : Message} (t : Bool) (a b : Ending) → Ended primary frame retries g a → Ended primary frame retries g b → Ended primary frame retries g (when t then a else b)
+unfolding when◌then◌else◌
 either_ended true a b x y = x
 either_ended false a b x y = y
 

@@ -2,7 +2,7 @@
 -- "A device bursts from the first character of an ACK whose answer turned burst on until the first character of one whose answer turned it off." Here that is worked out from what the device heard, what its host gave and what it sent, without the field `burst`; BurstsAsSaid says that the field agrees with it in every tick.
 use Rattle.std.specs.Prelude.{ℕ, ◌≡◌, Bool, false, List, [], ◌∷◌}
 use Rattle.base.specs.Refusal.{accepted}
-use Rattle.base.specs.Choice.{if◌then◌else◌}
+use Rattle.base.specs.Choice.{when◌then◌else◌}
 use Rattle.line.specs.Profile.{profile_made}
 use Rattle.line.specs.declared.Heard.{Heard}
 use Rattle.line.specs.declared.Heard.TheVariants.{Silence, Character, Damaged}
@@ -52,7 +52,7 @@ sent_with (Sent.Character c) on w = effective on w
 
 -- a tick of the device
 abbrev pub log_after : DeviceSide → Heard → DeviceCall → DeviceStep → BurstLog → BurstLog
-log_after x heard c s g = sent_with s.sent g.on (wished_by c s.result (if x.device.deaf then g.pending else dropped_by heard g.pending))
+log_after x heard c s g = sent_with s.sent g.on (wished_by c s.result (when x.device.deaf then g.pending else dropped_by heard g.pending))
 
 -- what a device hears in a tick, and what its host gives
 pub record DeviceInput : Type 0 where

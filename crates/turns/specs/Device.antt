@@ -2,7 +2,7 @@
 -- Document 01, "Device's turns", with the refusals of device start, device answer and burst content. In a tick a device takes what was heard, then its host's answer or burst content, then sends.
 use Rattle.std.specs.Prelude.{ℕ, ◌+◌, ◌-◌, Bool, true, false, List, [], ◌∷◌, length, take}
 use Rattle.base.specs.Refusal.{Called, accepted, refused}
-use Rattle.base.specs.Choice.{if◌then◌else◌, ◌<?◌, ◌≤?◌, ◌=?◌, ◌outside◌to◌}
+use Rattle.base.specs.Choice.{when◌then◌else◌, ◌<?◌, ◌≤?◌, ◌=?◌, ◌outside◌to◌}
 use Rattle.frame.specs.Limits.{fewest_preambles, most_preambles, fewest_answered, reserved_command}
 use Rattle.frame.specs.Delimiter.{stx, ack, back}
 use Rattle.frame.specs.Address.{byte_at, largest_address}
@@ -56,11 +56,11 @@ device_with d r turn request wish length due = record {
 
 -- "STX to its unique address, or with command 0 to its polling address"
 abbrev pub is_own : Device → Header → Bool
-is_own d h = if h.long then d.unique =? h.address else (if d.polling =? h.address then h.command =? 0 else false)
+is_own d h = when h.long then d.unique =? h.address else (when d.polling =? h.address then h.command =? 0 else false)
 
 -- which request the host may answer. Item 6: "a device's host answers command 11 if the tag is its own; other broadcasts still get none." Whose tag it is, the hosts decide.
 abbrev pub may_answer : Device → Header → Bool
-may_answer d h = if seeks_tag h then true else is_own d h
+may_answer d h = when seeks_tag h then true else is_own d h
 
 -- ---- the next BACK
 
@@ -78,7 +78,7 @@ abbrev pub ended_by : Event → EndedForDevice
 ended_by Nothing = inside
 ended_by PassedOver = anything_else
 ended_by Broken = anything_else
-ended_by (Frame w) = if w.header.kind =? ack then another's_ack else anything_else
+ended_by (Frame w) = when w.header.kind =? ack then another's_ack else anything_else
 ended_by (Damaged w m) = anything_else
 
 -- the silent line ticks before the next BACK; 0 where no timer runs
@@ -98,7 +98,8 @@ due_after p inside = 0
 
 -- "0x80 plus each that occurred of 0x40 parity, 0x20 overrun, 0x10 framing, 0x08 check"
 abbrev pub error_status : FrameDamage → ℕ
-error_status m = 0x80 + (if m.parity then 0x40 else 0) + (if m.overrun then 0x20 else 0) + (if m.framing then 0x10 else 0) + (if m.check then 0x08 else 0)
+error_status m =
+    0x80 + (when m.parity then 0x40 else 0) + (when m.overrun then 0x20 else 0) + (when m.framing then 0x10 else 0) + (when m.check then 0x08 else 0)
 
 -- "two data bytes, .. then 0"
 abbrev pub error_data : FrameDamage → List ℕ
@@ -111,9 +112,9 @@ answer_header h burst = record { kind = ack; long = h.long; primary = h.primary;
 -- "Expansion bytes or damage in the address: no answer." Other damage in an STX "that as heard is for this device" is answered without the host. A damaged broadcast is for no device, so item 6's "A damaged one is never answered" holds (`damaged_unanswered` in proofs/TagSentences).
 abbrev pub has_error : Device → Whole → FrameDamage → Bool
 has_error d w m =
-    if w.header.kind =? stx then
-    (if w.expansion =? 0 then
-    (if m.address then false else is_own d w.header) else false) else false
+    when w.header.kind =? stx then
+    (when w.expansion =? 0 then
+    (when m.address then false else is_own d w.header) else false) else false
 
 -- ---- take: what was heard
 
@@ -127,20 +128,20 @@ listens_on d told = record { turn = Listens; request = d.request; length = d.len
 -- an undamaged STX without expansion bytes: one that the host may answer is told to it, with the ticks in which it may be answered; another broadcast is "told to the host and never answered"; of any other nothing is told
 abbrev pub after_request : Device → Whole → Change
 after_request d w =
-    if may_answer d w.header then record { turn = Asked d.profile.sto; request = w.header; length = d.length; told = Request w } else
-    if is_broadcast w.header then listens_on d (Broadcast w) else
+    when may_answer d w.header then record { turn = Asked d.profile.sto; request = w.header; length = d.length; told = Request w } else
+    when is_broadcast w.header then listens_on d (Broadcast w) else
     listens_on d DeviceTold.Nothing
 
 abbrev pub after_frame : Device → Whole → Change
 after_frame d w =
-    if w.header.kind =? stx then
-    (if w.expansion =? 0 then after_request d w else listens_on d DeviceTold.Nothing)
+    when w.header.kind =? stx then
+    (when w.expansion =? 0 then after_request d w else listens_on d DeviceTold.Nothing)
     else listens_on d DeviceTold.Nothing
 
 -- the error answer is put into the lent frame buffer in this tick, and begins in the next
 abbrev pub after_damage : Device → Whole → FrameDamage → Change
 after_damage d w m =
-    if has_error d w m then
+    when has_error d w m then
     record { turn = AnswerWaits; request = w.header; length = frame_length d.preamble (answer_header w.header d.burst) 2; told = DeviceTold.Nothing }
     else listens_on d DeviceTold.Nothing
 
@@ -162,7 +163,7 @@ on_character d r event = changed d r event (after_character d event)
 -- a silent tick: the request's ticks are counted, and an answer that was taken may begin
 abbrev pub waited : Turn → Turn
 waited Listens = Listens
-waited (Asked n) = if n ≤? 1 then Listens else Asked (n - 1)
+waited (Asked n) = when n ≤? 1 then Listens else Asked (n - 1)
 waited AnswerWaits = Begins
 waited Begins = Begins
 waited (Answers n) = Answers n
@@ -171,10 +172,10 @@ waited (Bursts n) = Bursts n
 
 -- a bursting device's BACK begins where its timer ends
 abbrev pub back_due : Device → ℕ → Bool
-back_due d due = if d.burst then due =? 1 else false
+back_due d due = when d.burst then due =? 1 else false
 
 abbrev pub next_turn : Device → ℕ → Turn
-next_turn d due = if back_due d due then Follows else waited d.turn
+next_turn d due = when back_due d due then Follows else waited d.turn
 
 abbrev pub counts : Device → Receiver → ℕ → Event → DeviceTaken
 counts d r due event = tells (device_with d r (next_turn d due) d.request d.wish d.length (due - 1)) DeviceTold.Nothing event
@@ -186,8 +187,8 @@ broken_due d = due_after d.profile (ended_by Broken) - 1
 -- a silent tick that is passed over inside a frame counts nothing; the second in a row breaks the frame, and both count in the timer after it; outside a frame each is counted
 abbrev pub on_silence : Device → Receiver → DeviceTaken
 on_silence d r =
-    if inside_frame d.receiver.place then
-    (if d.receiver.gap then counts d r (broken_due d) Broken
+    when inside_frame d.receiver.place then
+    (when d.receiver.gap then counts d r (broken_due d) Broken
     else tells (device_with d r d.turn d.request d.wish d.length d.due) DeviceTold.Nothing Nothing)
     else counts d r d.due Nothing
 
@@ -197,7 +198,7 @@ on_heard d (Character c) = on_character d (taken d.receiver (Character c)).recei
 on_heard d (Heard.Damaged c kind) = on_character d (taken d.receiver (Heard.Damaged c kind)).receiver (taken d.receiver (Heard.Damaged c kind)).event
 
 unfoldable pub device_takes : Device → Heard → DeviceTaken
-device_takes d heard = if d.deaf then tells d DeviceTold.Nothing Nothing else on_heard d heard
+device_takes d heard = when d.deaf then tells d DeviceTold.Nothing Nothing else on_heard d heard
 
 -- the lent frame buffer, as the frame writer leaves it with the error answer
 abbrev pub error_frame : Device → Event → List ℕ → List ℕ
@@ -205,7 +206,7 @@ error_frame d Nothing frame = frame
 error_frame d PassedOver frame = frame
 error_frame d Broken frame = frame
 error_frame d (Frame w) frame = frame
-error_frame d (Damaged w m) frame = if has_error d w m then write_buffer d.preamble (answer_header w.header d.burst) (error_data m) frame 0 else frame
+error_frame d (Damaged w m) frame = when has_error d w m then write_buffer d.preamble (answer_header w.header d.burst) (error_data m) frame 0 else frame
 
 -- ---- the host's answer
 
@@ -217,17 +218,17 @@ wished burst Off = false
 
 -- "on or off wished in answer to command 0"; item 6: "A wish to turn burst on or off in this answer is refused with 10"
 abbrev pub has_no_wish : Header → Bool
-has_no_wish h = if h.command =? 0 then true else seeks_tag h
+has_no_wish h = when h.command =? 0 then true else seeks_tag h
 
 -- "10: burst on without burst content, or on or off wished in answer to command 0"
 abbrev pub wish_refused : Device → Wish → Bool
 wish_refused d Same = false
-wish_refused d On = if has_no_wish d.request then true else (if d.content.given then false else true)
+wish_refused d On = when has_no_wish d.request then true else (when d.content.given then false else true)
 wish_refused d Off = has_no_wish d.request
 
 -- the turn of a request in hand: "an answer at T+1 begins at T+2", a later one in its own tick
 abbrev pub answers_at : Device → ℕ → Turn
-answers_at d left = if left =? d.profile.sto then AnswerWaits else Begins
+answers_at d left = when left =? d.profile.sto then AnswerWaits else Begins
 
 -- "9: data outside 2 to 255", of an answer and of burst content. `limit` is the link's data limit; 255 where none is given (document 02, item 12).
 abbrev pub count_refused : ℕ → ℕ → Bool
@@ -237,8 +238,8 @@ count_refused limit count = count outside fewest_answered to limit
 abbrev pub answered_by : ℕ → Device → Wish → ℕ → Turn → Called Device
 answered_by limit d wish count Listens = refused 8
 answered_by limit d wish count (Asked left) =
-    if count_refused limit count then refused 9 else
-    if wish_refused d wish then refused 10 else
+    when count outside fewest_answered to limit then refused 9 else
+    when wish_refused d wish then refused 10 else
     accepted (device_with d d.receiver (answers_at d left) d.request wish
     (frame_length d.preamble (answer_header d.request (wished d.burst wish)) count) d.due)
 answered_by limit d wish count AnswerWaits = refused 8
@@ -276,8 +277,8 @@ device_with_content d c = record {
 
 unfoldable pub content_given : ℕ → Device → ℕ → ℕ → Called Device
 content_given limit d command count =
-    if command =? reserved_command then refused 5 else
-    if count_refused limit count then refused 9 else
+    when command =? reserved_command then refused 5 else
+    when count outside fewest_answered to limit then refused 9 else
     accepted (device_with_content d (record { given = true; command = command; count = count }))
 
 -- ---- send
@@ -309,22 +310,22 @@ back_header d = record { kind = back; long = true; primary = d.primary; burst = 
 
 -- "The first after burst goes from off to on is for the primary, then they alternate."
 abbrev pub first_for : Device → Bool
-first_for d = if d.burst then d.primary else true
+first_for d = when d.burst then d.primary else true
 
 -- "A bursting device sends a BACK directly behind its own ACK"
 abbrev pub behind_ack : Bool → Turn
-behind_ack burst = if burst then Follows else Listens
+behind_ack burst = when burst then Follows else Listens
 
 -- one character of an ACK; `burst` is whether the device bursts from the ACK's first character on
 abbrev pub answers_from : Device → List ℕ → ℕ → Bool → Bool → DeviceSent
 answers_from d frame n burst primary =
-    if n + 1 <? d.length then sends d true (Answers (n + 1)) d.length burst primary (due_after d.profile inside) passing (Sent.Character (byte_at frame n))
+    when n + 1 <? d.length then sends d true (Answers (n + 1)) d.length burst primary (due_after d.profile inside) passing (Sent.Character (byte_at frame n))
     else sends d true (behind_ack burst) d.length burst primary (due_after d.profile own_ack) passing (Sent.Character (byte_at frame n))
 
 -- one character of a BACK of this length
 abbrev pub bursts_from : Device → List ℕ → ℕ → ℕ → Bool → DeviceSent
 bursts_from d frame n length primary =
-    if n + 1 <? length then sends d true (Bursts (n + 1)) length d.burst primary (due_after d.profile inside) passing (Sent.Character (byte_at frame n))
+    when n + 1 <? length then sends d true (Bursts (n + 1)) length d.burst primary (due_after d.profile inside) passing (Sent.Character (byte_at frame n))
     else sends d true Listens length d.burst primary (due_after d.profile own_back) passing (Sent.Character (byte_at frame n))
 
 abbrev pub back_length : Device → ℕ
@@ -337,7 +338,7 @@ sends_by d frame (Asked n) = sends d false (Asked n) d.length d.burst d.primary 
 sends_by d frame AnswerWaits = sends d false AnswerWaits d.length d.burst d.primary d.due d.receiver Silent
 sends_by d frame Begins = answers_from d frame 0 (wished d.burst d.wish) (first_for d)
 sends_by d frame (Answers n) = answers_from d frame n d.burst d.primary
-sends_by d frame Follows = bursts_from d frame 0 (back_length d) (if d.primary then false else true)
+sends_by d frame Follows = bursts_from d frame 0 (back_length d) (when d.primary then false else true)
 sends_by d frame (Bursts n) = bursts_from d frame n d.length d.primary
 
 unfoldable pub device_sends : Device → List ℕ → DeviceSent
@@ -375,7 +376,7 @@ fresh_device p preamble polling unique = record {
 
 abbrev pub device_starts : Profile → ℕ → ℕ → ℕ → Called Device
 device_starts p preamble polling unique =
-    if preamble outside fewest_preambles to most_preambles then refused 3 else
-    if largest_address false <? polling then refused 4 else
-    if unique outside 1 to largest_address true then refused 4 else
+    when preamble outside fewest_preambles to most_preambles then refused 3 else
+    when largest_address false <? polling then refused 4 else
+    when unique outside 1 to largest_address true then refused 4 else
     accepted (fresh_device p preamble polling unique)

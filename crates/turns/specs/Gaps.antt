@@ -2,7 +2,7 @@
 -- Document 02, item 1, for master and device, said of what each hears, what its host calls and what it sends: "One silent tick inside a frame is now passed over", "The second in a row breaks the frame, and both then count in the timers", and "Senders still leave no gap".
 use Rattle.std.specs.Prelude.{ℕ, suc, ◌≤◌, ◌≡◌, Bool, true, false, List, [], ◌∷◌, length}
 use Rattle.base.specs.Refusal.{accepted}
-use Rattle.base.specs.Choice.{if◌then◌else◌}
+use Rattle.base.specs.Choice.{when◌then◌else◌}
 use Rattle.frame.specs.Frame.{frame_bytes}
 use Rattle.frame.specs.Write.{write_answer}
 use Rattle.frame.specs.declared.Header.{Header}
@@ -108,7 +108,7 @@ pub data ToSend (m : Master) : Type 0 where
 
 -- "BURST clear, .. after a broken .. frame ..: timer RT1"; "BURST set: .. a broken frame included, .. the quiet time from the last character"
 abbrev pub behind_break : Master → ℕ
-behind_break m = if m.burst then quiet_time m.profile m.primary else own_rt1 m.profile m.primary
+behind_break m = when m.burst then quiet_time m.profile m.primary else own_rt1 m.profile m.primary
 
 -- a master takes the last character in tick T+1, and silence after it
 abbrev pub cut_off : Heard → MasterCall → List MasterCall → List MasterInput

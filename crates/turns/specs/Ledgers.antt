@@ -1,7 +1,7 @@
 -- To be believed: what the engine must do, or what is claimed of it.
 -- For each device a ledger of what its host was told and gave, kept from what a run shows; and item 6's premise on the answers to command 11.
 use Rattle.std.specs.Prelude.{ℕ, ◌+◌, ◌≤◌, Bool, true, false, List, [], ◌∷◌}
-use Rattle.base.specs.Choice.{if◌then◌else◌}
+use Rattle.base.specs.Choice.{when◌then◌else◌}
 use Rattle.frame.specs.declared.Header.{Header}
 use Rattle.turns.specs.Party.{seeks_tag}
 use Rattle.turns.specs.Link.{DeviceCall, no_call, gives_answer, gives_content, DeviceSide, DeviceStep, LinkStep, Calls}
@@ -63,10 +63,10 @@ found blank = false
 found (told h) = false
 found (given h put) = seeks_tag h
 
--- how many hosts' answers to it were taken. It is one command 11: all devices are told it in the same tick, and what their ledgers held before ends there (`told_together` and `none_outlives` in crates/runs/proofs/Together.antt; `late_told_together` in crates/runs/proofs/Item14.antt where each master starts at a tick of its own).
+-- how many hosts' answers to it were taken. It is one command 11: all devices are told it in the same tick, and what their ledgers held before ends there (`told_together` and `none_outlives` in crates/runs/proofs/Together.antt).
 unfoldable pub finders : List Ledger → ℕ
 finders [] = 0
-finders (g ∷ gs) = (if found g then 1 else 0) + finders gs
+finders (g ∷ gs) = (when found g then 1 else 0) + finders gs
 
 -- at most one such answer after every tick, by the calls and what the run shows
 pub data OneFinds : List Ledger → List Calls → List LinkStep → Type 0 where

@@ -2,7 +2,7 @@
 -- Document 01, "Line and ticks" and "Runs of the link": one primary, one secondary and devices on one line; a tick of them all, and a run over a list of ticks.
 use Rattle.std.specs.Prelude.{ℕ, List, [], ◌∷◌, length}
 use Rattle.base.specs.Refusal.{Called, accepted, refused}
-use Rattle.base.specs.Choice.{if◌then◌else◌}
+use Rattle.base.specs.Choice.{when◌then◌else◌}
 use Rattle.base.specs.Store.{stored}
 use Rattle.frame.specs.Frame.{frame_bytes}
 use Rattle.line.specs.Reader.{taken_data}
@@ -51,7 +51,7 @@ pub record MasterStep : Type 0 where
   pub result : CallResult
 
 abbrev pub master_data : MasterSide → Heard → List ℕ
-master_data x heard = if x.master.deaf then x.bytes else taken_data x.master.receiver heard x.bytes
+master_data x heard = when x.master.deaf then x.bytes else taken_data x.master.receiver heard x.bytes
 
 abbrev pub master_sent : MasterSent → List ℕ → List ℕ → MasterTold → CallResult → MasterStep
 master_sent s frame bytes told result =
@@ -88,7 +88,7 @@ pub record DeviceStep : Type 0 where
   pub result : CallResult
 
 abbrev pub device_data : DeviceSide → Heard → List ℕ
-device_data x heard = if x.device.deaf then x.bytes else taken_data x.device.receiver heard x.bytes
+device_data x heard = when x.device.deaf then x.bytes else taken_data x.device.receiver heard x.bytes
 
 -- the frame buffer after what was heard: an error answer may have been put into it
 abbrev pub heard_frame : DeviceSide → Heard → List ℕ

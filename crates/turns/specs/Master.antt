@@ -1,7 +1,7 @@
 -- To be believed: what the engine must do, or what is claimed of it.
 -- Document 01, "Master's turns", with "Timers" and the refusals of master start and master request. In a tick a master takes what was heard, then its host's request, then sends.
 use Rattle.std.specs.Prelude.{ℕ, ◌+◌, ◌-◌, ◌*◌, ◌/◌, Bool, true, false, List, length}
-use Rattle.base.specs.Choice.{if◌then◌else◌, ◌<?◌, ◌≤?◌, ◌=?◌, ◌outside◌to◌}
+use Rattle.base.specs.Choice.{when◌then◌else◌, ◌<?◌, ◌≤?◌, ◌=?◌, ◌outside◌to◌}
 use Rattle.base.specs.Refusal.{Called, accepted, refused}
 use Rattle.frame.specs.Limits.{fewest_preambles, most_preambles, largest_polling, reserved_command}
 use Rattle.frame.specs.Delimiter.{stx, ack, back}
@@ -36,11 +36,11 @@ use Rattle.turns.specs.declared.MasterSent.{MasterSent}
 
 -- "RT1 is its own RT1"
 abbrev pub own_rt1 : Profile → Bool → ℕ
-own_rt1 p primary = if primary then p.rt1p else p.rt1s
+own_rt1 p primary = when primary then p.rt1p else p.rt1s
 
 -- "the quiet time from the last character: 2×RT1 primary for the primary, RT2 more for the secondary"
 abbrev pub quiet_time : Profile → Bool → ℕ
-quiet_time p primary = if primary then 2 * p.rt1p else 2 * p.rt1p + p.rt2
+quiet_time p primary = when primary then 2 * p.rt1p else 2 * p.rt1p + p.rt2
 
 -- the same master with other parts
 abbrev pub master_with : Master → Receiver → Bool → Noted → Timer → Message → Master
@@ -75,49 +75,49 @@ opened p = record { next = 2 * p.rt2; window = p.hold; quiet = 0 }
 
 -- a silent tick with BURST clear
 abbrev pub count_clear : Profile → Timer → Timer
-count_clear p t = if t.next =? 1 then opened p else record { next = t.next - 1; window = t.window - 1; quiet = 0 }
+count_clear p t = when t.next =? 1 then opened p else record { next = t.next - 1; window = t.window - 1; quiet = 0 }
 
 -- a silent tick with BURST set, before the quiet time's end: a window that opens does not open again
 abbrev pub count_burst : Profile → Timer → Timer
 count_burst p t =
-    if t.next =? 1 then record { next = 0; window = p.hold; quiet = t.quiet - 1 }
+    when t.next =? 1 then record { next = 0; window = p.hold; quiet = t.quiet - 1 }
     else record { next = t.next - 1; window = t.window - 1; quiet = t.quiet - 1 }
 
 -- the quiet time's "end clears BURST", and opens a window
 abbrev pub timer_counted : Master → Timer
 timer_counted m =
-    if m.burst then (if m.timer.quiet =? 1 then opened m.profile else count_burst m.profile m.timer)
+    when m.burst then (when m.timer.quiet =? 1 then opened m.profile else count_burst m.profile m.timer)
     else count_clear m.profile m.timer
 
 abbrev pub burst_counted : Master → Bool
-burst_counted m = if m.burst then (if m.timer.quiet =? 1 then false else true) else false
+burst_counted m = when m.burst then (when m.timer.quiet =? 1 then false else true) else false
 
 -- ---- BURST
 
 -- whether the address is a device's: a long address is, except in the ACK to command 11 by broadcast, where it is the request's
 abbrev pub names_device : Header → Bool
-names_device h = if seeks_tag h then false else h.long
+names_device h = when seeks_tag h then false else h.long
 
 abbrev pub noted_from : Header → Noted
 noted_from h = record { long = h.long; address = h.address }
 
 -- whether the noted address is this long one
 abbrev pub is_noted : Noted → Header → Bool
-is_noted n h = if n.long then n.address =? h.address else false
+is_noted n h = when n.long then n.address =? h.address else false
 
 -- "A long ACK with the burst flag, or a BACK, sets BURST and notes its address. A long ACK from the noted address without the flag clears it. A short ACK with the flag sets BURST and notes nothing." Item 6, of the ACK to command 11 by broadcast: "with the flag it sets BURST and notes nothing, and it never clears it."
 abbrev pub burst_after : Bool → Noted → Header → Bool
 burst_after burst noted h =
-    if h.kind =? back then true else
-    if h.kind =? ack then
-    (if h.burst then true else
-    if names_device h then (if is_noted noted h then false else burst) else burst)
+    when h.kind =? back then true else
+    when h.kind =? ack then
+    (when h.burst then true else
+    when names_device h then (when is_noted noted h then false else burst) else burst)
     else burst
 
 abbrev pub noted_after : Noted → Header → Noted
 noted_after noted h =
-    if h.kind =? back then noted_from h else
-    if h.kind =? ack then (if h.burst then (if names_device h then noted_from h else noted) else noted)
+    when h.kind =? back then noted_from h else
+    when h.kind =? ack then (when h.burst then (when names_device h then noted_from h else noted) else noted)
     else noted
 
 -- ---- the timer after what ended
@@ -138,13 +138,13 @@ pub data EndedForMaster : Type 0 where
 
 -- whether a frame's master bit is the master's own
 abbrev pub to_itself : Master → Header → Bool
-to_itself m h = if m.primary then h.primary else (if h.primary then false else true)
+to_itself m h = when m.primary then h.primary else (when h.primary then false else true)
 
 -- a whole frame without damage
 abbrev pub ended_by : Master → Header → EndedForMaster
 ended_by m h =
-    if h.kind =? back then (if to_itself m h then back_to_itself else back_to_other) else
-    if h.kind =? ack then (if to_itself m h then ack_to_itself else ack_to_other) else
+    when h.kind =? back then (when to_itself m h then back_to_itself else back_to_other) else
+    when h.kind =? ack then (when to_itself m h then ack_to_itself else ack_to_other) else
     any_stx
 
 -- by what ended, and BURST after it: "BURST is brought up to date before the frame's timer is chosen." A BACK has set it, and a fresh master's is clear.
@@ -175,31 +175,31 @@ ends g told = record { message = message_at g Free; told = told }
 
 -- "R failed retries after the first attempt end the message as given up, with the attempts, equal to the STX frames sent"
 abbrev pub fails : ℕ → Message → Ending
-fails retries g = if g.attempts ≤? retries then record { message = message_at g Waiting; told = MasterTold.Nothing } else ends g (GivenUp g.attempts)
+fails retries g = when g.attempts ≤? retries then record { message = message_at g Waiting; told = MasterTold.Nothing } else ends g (GivenUp g.attempts)
 
 -- "the ACK with its master bit, address and command": equal addresses are both long or both short, with the same bits
 abbrev pub same_bit : Bool → Bool → Bool
-same_bit a b = if a then b else (if b then false else true)
+same_bit a b = when a then b else (when b then false else true)
 
 abbrev pub is_answer : Master → Header → Bool
 is_answer m h =
-    if h.kind =? ack then
-    (if to_itself m h then
-    (if same_bit m.message.header.long h.long then
-    (if m.message.header.address =? h.address then
+    when h.kind =? ack then
+    (when to_itself m h then
+    (when same_bit m.message.header.long h.long then
+    (when m.message.header.address =? h.address then
     m.message.header.command =? h.command else false) else false) else false) else false
 
 -- "a broken one, or RT1 without a character also fails it"
 abbrev pub at_break : Master → Ending
-at_break m = if is_broadcast m.message.header then ends m.message BroadcastSent else fails m.retries m.message
+at_break m = when is_broadcast m.message.header then ends m.message BroadcastSent else fails m.retries m.message
 
 -- a broadcast has no answer, but for item 6's command 11: "A master takes that ACK as the answer"
 abbrev pub answers_message : Master → Header → Bool
-answers_message m h = if is_broadcast m.message.header then (if seeks_tag m.message.header then is_answer m h else false) else is_answer m h
+answers_message m h = when is_broadcast m.message.header then (when seeks_tag m.message.header then is_answer m h else false) else is_answer m h
 
 -- "Such an ACK ends the message as answered, unless bit 7 of its first data byte is set: then the attempt failed. Another frame .. also fails it." A broadcast is "reported as sent .. at the next frame"; item 6: "Unanswered, or answered with bit 7 set, the message is reported after its one attempt as document 01's broadcast is."
 abbrev pub at_frame : Master → Whole → List ℕ → Ending
-at_frame m w bytes = if answers_message m w.header then (if byte_at bytes 0 / 128 =? 1 then at_break m else ends m.message (Answered w)) else at_break m
+at_frame m w bytes = when answers_message m w.header then (when byte_at bytes 0 / 128 =? 1 then at_break m else ends m.message (Answered w)) else at_break m
 
 -- only a master that awaits its ACK has an attempt to fail
 abbrev pub if_awaiting : Stage → Message → Ending → Ending
@@ -268,7 +268,7 @@ unless_ended (Awaiting n) t = t
 -- a silent tick: RT1, the quiet time and the window may end in it
 abbrev pub counts : Master → MasterTold → Event → MasterTaken
 counts m told event =
-    if rt1_ends m.message.stage then
+    when rt1_ends m.message.stage then
     tells (master_with m m.receiver (burst_counted m) m.noted (unless_ended (at_break m).message.stage (timer_counted m)) (at_break m).message)
     (at_break m).told event
     else
@@ -285,8 +285,8 @@ with_reader m r = master_with m r m.burst m.noted m.timer m.message
 -- a silent tick that is passed over inside a frame counts nothing; the second in a row breaks the frame, and both count in the timer after it; outside a frame each is counted
 abbrev pub on_silence : Master → Receiver → MasterTaken
 on_silence m r =
-    if inside_frame m.receiver.place then
-    (if m.receiver.gap then counts_twice (after_break m r Broken).master (after_break m r Broken).told Broken
+    when inside_frame m.receiver.place then
+    (when m.receiver.gap then counts_twice (after_break m r Broken).master (after_break m r Broken).told Broken
     else tells (with_reader m r) MasterTold.Nothing Nothing)
     else counts (with_reader m r) MasterTold.Nothing Nothing
 
@@ -298,7 +298,7 @@ on_heard m (Heard.Damaged c kind) bytes =
 
 -- "A sending party hears nothing", and neither does a fresh one in its first tick. `bytes` is the lent data buffer after this tick.
 unfoldable pub master_takes : Master → Heard → List ℕ → MasterTaken
-master_takes m heard bytes = if m.deaf then tells m MasterTold.Nothing Nothing else on_heard m heard bytes
+master_takes m heard bytes = when m.deaf then tells m MasterTold.Nothing Nothing else on_heard m heard bytes
 
 -- ---- the host's request
 
@@ -313,27 +313,27 @@ has_message (Awaiting n) = true
 
 -- "5: command 254, or a short address with a command but 0"
 abbrev pub command_refused : Request → Bool
-command_refused q = if q.command =? reserved_command then true else if q.long then false else (if q.command =? 0 then false else true)
+command_refused q = when q.command =? reserved_command then true else when q.long then false else (when q.command =? 0 then false else true)
 
 -- from the address on, where polling addresses go up to `polling`: "4: polling above" it "or unique above 38 bits; 5; 6: data above 255; 7: a message is in hand". `limit` is the link's data limit; 255 where none is given (document 02, item 12).
 unfoldable pub requested_up_to : ℕ → ℕ → Master → Request → ℕ → Called Master
 requested_up_to polling limit m q count =
-    if address_above polling (request_header m q) then refused 4 else
-    if command_refused q then refused 5 else
-    if limit <? count then refused 6 else
-    if has_message m.message.stage then refused 7 else
+    when address_above polling (request_header m q) then refused 4 else
+    when command_refused q then refused 5 else
+    when limit <? count then refused 6 else
+    when has_message m.message.stage then refused 7 else
     accepted (master_with m m.receiver m.burst m.noted m.timer
     (record { stage = Waiting; header = request_header m q; length = frame_length q.preamble (request_header m q) count; attempts = 0 }))
 
 -- item 2: "HART revisions 3 to 5 know polling addresses 0 to 15, later ones 0 to 63."
 abbrev pub polling_up_to : ℕ → ℕ
-polling_up_to revision = if revision ≤? 5 then 15 else largest_polling
+polling_up_to revision = when revision ≤? 5 then 15 else largest_polling
 
 -- "3: preamble outside 5 to 20"; item 2: "The request refuses a revision outside 3 to 7 with 17, checked after 3; an address too large for the revision is 4."
 unfoldable pub requested : ℕ → Master → Request → ℕ → Called Master
 requested limit m q count =
-    if q.preamble outside fewest_preambles to most_preambles then refused 3 else
-    if q.revision outside 3 to 7 then refused 17 else
+    when q.preamble outside fewest_preambles to most_preambles then refused 3 else
+    when q.revision outside 3 to 7 then refused 17 else
     requested_up_to (polling_up_to q.revision) limit m q count
 
 -- ---- send
@@ -361,7 +361,7 @@ attempted g stage attempts = record { stage = stage; header = g.header; length =
 
 abbrev pub sends_at : Master → List ℕ → ℕ → ℕ → MasterSent
 sends_at m frame n attempts =
-    if n + 1 <? m.message.length then
+    when n + 1 <? m.message.length then
     sends m true (timer_after m.profile m.primary inside m.burst) (attempted m.message (Sending (n + 1)) attempts)
     passing (Sent.Character (byte_at frame n))
     else
@@ -370,13 +370,13 @@ sends_at m frame n attempts =
 
 -- one more attempt: a message that waits has a retry left, and its attempts are at most R
 abbrev pub one_more : ℕ → ℕ → ℕ
-one_more retries attempts = if attempts ≤? retries then attempts + 1 else attempts
+one_more retries attempts = when attempts ≤? retries then attempts + 1 else attempts
 
 -- "A waiting message, or a retry that is due, begins there."
 abbrev pub sends_by : Master → List ℕ → Stage → MasterSent
 sends_by m frame Free = sends m false m.timer m.message m.receiver Silent
 sends_by m frame Waiting =
-    if 0 <? m.timer.window then sends_at m frame 0 (one_more m.retries m.message.attempts)
+    when 0 <? m.timer.window then sends_at m frame 0 (one_more m.retries m.message.attempts)
     else sends m false m.timer m.message m.receiver Silent
 sends_by m frame (Sending n) = sends_at m frame n m.message.attempts
 sends_by m frame (Awaiting n) = sends m false m.timer m.message m.receiver Silent
@@ -404,4 +404,4 @@ fresh_master p primary retries = record {
 }
 
 abbrev pub master_starts : Profile → Bool → ℕ → Called Master
-master_starts p primary retries = if retries outside 3 to 15 then refused 2 else accepted (fresh_master p primary retries)
+master_starts p primary retries = when retries outside 3 to 15 then refused 2 else accepted (fresh_master p primary retries)

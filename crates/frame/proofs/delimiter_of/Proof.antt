@@ -1,13 +1,13 @@
 -- Each case computes; the last arm's byte is none of the cases.
 use borrow.Author.Rules.{rules}
-use Rattle.base.specs.Choice.{if◌then◌else◌}
+use Rattle.base.specs.Choice.{when◌then◌else◌}
 use Rattle.frame.specs.Delimiter.{delimiter_of}
 use Rattle.frame.proofs.Delimiters.{other_byte}
 use Rattle.frame.proofs.delimiter_of.Statement.{statement}
 use Rattle.frame.proofs.delimiter_of.Tie as tie
 
 pub delimiter_of_spec : {M : Type 1} → statement M
-unfolding delimiter_of if◌then◌else◌
+unfolding delimiter_of when◌then◌else◌
 delimiter_of_spec =
     tie.close
     (tie.spec
