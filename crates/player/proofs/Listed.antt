@@ -21,7 +21,7 @@ use Rattle.turns.specs.declared.Sent.TheVariants.{Silent}
 use Rattle.turns.proofs.NoGaps.{master_leaves_no_gap, device_leaves_no_gap}
 use Rattle.player_script.specs.Script.{stop_of, calls_from}
 use Rattle.player_listing.specs.Lines.{is_lone}
-use Rattle.player_listing.specs.FrameLines.{sent_by, Ticks, no_more, one_more}
+use Rattle.player_listing.specs.FrameLines.{sent_by, Ticks, no_more, one_more_tick}
 use Rattle.player_listing.proofs.OutputLines.{output_listed}
 use Rattle.player_listing.specs.Sents.{devices_sent, sent_of, sent_in}
 use Rattle.player.specs.Play.{ready, ready_link}
@@ -108,7 +108,7 @@ module _ (limit : ℕ) where
   ticks_of lone n tick l (c ∷ cs) e h =
       let here : tick + 0 ≡ tick = omega arith in
       let sized : length (sent_of (link_tick limit l c)) ≡ n = omega (arith, as_many_sents l.line l.devices c.for_devices, e) in
-      one_more sized (ap lone (sym here) ∙ h 0)
+      one_more_tick sized (ap lone (sym here) ∙ h 0)
       (ticks_of lone n (tick + 1) (behind l c) cs (omega (arith, e, as_many_sides l.line l.devices c.for_devices)) (λ j. ap lone (onward j) ∙ h (suc j)))
     where
       onward : (j : ℕ) → tick + 1 + j ≡ tick + suc j

@@ -44,9 +44,9 @@ pub record PieceIs (told : Told) (script : List ℕ) (p : Playing) (x : Rows) (o
   pub full : r.tick < told.stop → length out < r.at + lines_room
   pub piece : Stands told.form script p → Piece told script p x out r x_after out_after
 
-abbrev pub PieceOf : Told → Lent (List ℕ) → Playing → Lent (List (List ℕ)) → Lent (List (List ℕ)) → Lent (List (List ℕ)) → Lent (List ℕ) → Playing → Type 0
+abbrev pub PieceOf : Told → List ℕ → Playing → Lent (List (List ℕ)) → Lent (List (List ℕ)) → Lent (List (List ℕ)) → Lent (List ℕ) → Playing → Type 0
 PieceOf told script p frames bytes contents out r =
-    PieceIs told (before script) p (rows_of (before frames) (before bytes) (before contents)) (before out) r
+    PieceIs told script p (rows_of (before frames) (before bytes) (before contents)) (before out) r
     (rows_of (after frames) (after bytes) (after contents)) (after out)
 
 -- what is written from a play on: the front of the output after each piece, up to the stop

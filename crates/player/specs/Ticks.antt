@@ -78,12 +78,12 @@ pub record Onward (told : Told) (script : List ℕ) (p : Playing) (x : Rows) (ou
   pub same_length : length out_after ≡ length out
   pub on : Stands told.form script p → PlaysOn told.form script told.stop p x out r x_after out_after
 
-abbrev pub OnwardIs : Told → Lent (List ℕ) → Playing → Lent (List (List ℕ)) → Lent (List (List ℕ)) → Lent (List (List ℕ)) → Lent (List ℕ) → Playing → Type 0
+abbrev pub OnwardIs : Told → List ℕ → Playing → Lent (List (List ℕ)) → Lent (List (List ℕ)) → Lent (List (List ℕ)) → Lent (List ℕ) → Playing → Type 0
 OnwardIs told script p frames bytes contents out r =
-    Onward told (before script) p (rows_of (before frames) (before bytes) (before contents)) (before out) r
+    Onward told script p (rows_of (before frames) (before bytes) (before contents)) (before out) r
     (rows_of (after frames) (after bytes) (after contents)) (after out)
 
 -- all that is left is printed
-abbrev pub PlaysAll : Told → Lent (List ℕ) → Playing → Lent (List (List ℕ)) → Lent (List (List ℕ)) → Lent (List (List ℕ)) → Lent (List ℕ) → ℕ → Type 0
+abbrev pub PlaysAll : Told → List ℕ → Playing → Lent (List (List ℕ)) → Lent (List (List ℕ)) → Lent (List (List ℕ)) → Lent (List ℕ) → ℕ → Type 0
 PlaysAll told script p frames bytes contents out r =
-    PutIs (text_left told.form (before script) told.stop p (rows_of (before frames) (before bytes) (before contents))) (before out) p.at r (after out)
+    PutIs (text_left told.form script told.stop p (rows_of (before frames) (before bytes) (before contents))) (before out) p.at r (after out)

@@ -84,7 +84,7 @@ fn tick_on(
     out: &mut [u8],
 ) -> Playing
     requires { p.tick < told.stop }
-    ensures { OnwardIs told script p frames bytes contents out result }
+    ensures { OnwardIs told script.now p frames bytes contents out result }
 {
     let put = [0u8; 255];
     let l = p.link;
@@ -125,7 +125,7 @@ fn onward(
     out: &mut [u8],
 ) -> Playing
     requires { p.tick < told.stop }
-    ensures { OnwardIs told script p frames bytes contents out result }
+    ensures { OnwardIs told script.now p frames bytes contents out result }
 {
     let l = p.link;
     let form = told.form;
@@ -152,7 +152,7 @@ fn play_from(
     out: &mut [u8],
 ) -> usize
     requires { Stands told.form script.now start × (start.tick ≤ told.stop) }
-    ensures { PlaysAll told script start frames bytes contents out result }
+    ensures { PlaysAll told script.now start frames bytes contents out result }
 {
     let mut sent: [[u16; 8]; 64] = [[0; 8]; 64];
     let mut p = start;
@@ -198,7 +198,7 @@ pub fn play_on(
     contents: &mut [[u8; 255]; 6],
     out: &mut [u8],
 ) -> Playing
-    ensures { PieceOf told script start frames bytes contents out result }
+    ensures { PieceOf told script.now start frames bytes contents out result }
 {
     let mut sent: [[u16; 8]; 64] = [[0; 8]; 64];
     let mut p = at_front(start);

@@ -12,7 +12,7 @@ use Rattle.player_convert.specs.Turn.{conversion, converted_as, length_in, Conve
 use Rattle.player_convert.specs.declared.Converted.{Converted}
 use Rattle.player_c.specs.Call.{returned, end_after, ConvertCall, LoadCall}
 
-module _ (size : ℕ) (script out : Lent (List ℕ)) (end : Lent ℕ) (found : Converted) (d : ConvertIs (conversion size (before script) (length (before out))) (before out) found (after out)) where
+module _ (size : ℕ) (script : List ℕ) (out : Lent (List ℕ)) (end : Lent ℕ) (found : Converted) (d : ConvertIs (conversion size script (length (before out))) (before out) found (after out)) where
   pub converted_to : (n : ℕ) → found ≡ Converted.To n → after end ≡ n → ConvertCall size script out end 0
   converted_to n e k =
       let is = sym (ap converted_as e) ∙ d.answer in

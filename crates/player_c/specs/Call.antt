@@ -16,10 +16,10 @@ abbrev pub end_after : Called ℕ → ℕ → ℕ
 end_after (accepted end) was = end
 end_after (refused why) was = was
 
-pub record ConvertCall (size : ℕ) (script out : Lent (List ℕ)) (end : Lent ℕ) (r : ℕ) : Type 0 where
-  pub returns : r ≡ returned (length_in (conversion size (before script) (length (before out))))
-  pub end_is : after end ≡ end_after (length_in (conversion size (before script) (length (before out)))) (before end)
-  pub out_is : after out ≡ lent_after (conversion size (before script) (length (before out))) (before out)
+pub record ConvertCall (size : ℕ) (script : List ℕ) (out : Lent (List ℕ)) (end : Lent ℕ) (r : ℕ) : Type 0 where
+  pub returns : r ≡ returned (length_in (conversion size script (length (before out))))
+  pub end_is : after end ≡ end_after (length_in (conversion size script (length (before out)))) (before end)
+  pub out_is : after out ≡ lent_after (conversion size script (length (before out))) (before out)
 
 pub record LoadCall (seed count : ℕ) (buffer : Lent (List ℕ)) (r : ℕ) : Type 0 where
   pub returns : r ≡ returned (load_answer seed count (length (before buffer)))

@@ -24,7 +24,7 @@ pub extern "C" fn nengapiko_convert(
     out: &mut [u8],
     end: &mut usize,
 ) -> u32
-    ensures { ConvertCall size script out end result }
+    ensures { ConvertCall size script.now out end result }
 {
     let converted = player_convert::convert(size, script, out);
     match converted {

@@ -3,11 +3,11 @@ use borrow.Author.Rules.{rules}
 use Rattle.player.proofs.play_form.Statement.{statement}
 use Rattle.player.proofs.play_form.Tie as tie
 
-returns : tie.Need-returns
-returns c = plays_good _ _ _ _ _ (search (rules, answer_is)) c.before.before.play_good.ensures
+returns : tie.Need-returns-then-is_good
+returns c = plays_good _ _ _ _ _ (search (rules, answer_is)) c.play_good.ensures
 
-returns_2 : tie.Need-returns-2
-returns_2 c = plays_bad _ _ _ _ _ (search (rules, answer_is)) c.before.before.put-bytes.ensures
+returns_2 : tie.Need-returns
+returns_2 c = plays_bad _ _ _ _ _ (search (rules, answer_is)) c.put_bytes.ensures
 
 pub play_form_spec : {M : Type 1} → statement M
 play_form_spec =
@@ -17,7 +17,6 @@ play_form_spec =
     (λ c κs. search (rules, answer_is))
     (λ c. search rules)
     returns
-    (λ c. search rules)
     (λ c κs. search rules)
     (λ c. search rules)
     returns_2)

@@ -3,19 +3,11 @@ use borrow.Author.Rules.{rules}
 use Rattle.player.proofs.play_good.Statement.{statement}
 use Rattle.player.proofs.play_good.Tie as tie
 
-play_from_requires : tie.Need-play-from-requires
-play_from_requires c κs =
-    let begun = c.before.before.before.before.before.before in
-    let told = begun.before.before in
-    let start = told.before.before.before in
-    ready_stands _ _ _ _ told.told_of.ensures begun.play-begin.ensures.play_is start.requires
+play_from_requires : tie.Need-play_from-requires
+play_from_requires c κs = ready_stands _ _ _ _ c.told_of-told.ensures c.play_begin-p.ensures.play_is c.requires
 
 returns : tie.Need-returns
-returns c =
-    let played = c.before.before in
-    let begun = played.before.before.before.before.before.before.before in
-    let told = begun.before.before in
-    ready_plays _ _ _ _ _ _ _ _ told.told_of.ensures begun.play-begin.ensures played.play-from.ensures
+returns c = ready_plays _ _ _ _ _ _ _ _ c.told_of-told.ensures c.play_begin-p.ensures c.play_from.ensures
 
 pub play_good_spec : {M : Type 1} → statement M
 play_good_spec =

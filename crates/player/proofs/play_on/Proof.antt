@@ -6,10 +6,10 @@ use Rattle.player.proofs.Pieces.{Piecing, pieces}
 use Rattle.player.proofs.play_on.Statement.{statement}
 use Rattle.player.proofs.play_on.Tie as tie
 
-abbrev invariant-loop : tie.invariant-loop
+abbrev invariant-loop : tie.invariant-loop-p
 invariant-loop told script frames₀ bytes₀ contents₀ out₀ sent₀ p₀ frames bytes contents out sent p = Piecing told script p₀ (rows_of frames₀ bytes₀ contents₀) out₀ p (rows_of frames bytes contents) out
 
-abbrev decreases-loop : tie.decreases-loop
+abbrev decreases-loop : tie.decreases-loop-p
 decreases-loop told script frames₀ bytes₀ contents₀ out₀ sent₀ p₀ frames bytes contents out sent p = told.stop - p.tick
 
 pub play_on_spec : {M : Type 1} → statement M
