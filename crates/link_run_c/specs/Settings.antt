@@ -45,6 +45,7 @@ pub record EndsAs (ended : RunEnded) (refusal : Lent ℕ) (r : ℕ) : Type 0 whe
   pub refusal_is : after refusal ≡ refusal_of (ran_as ended)
 
 -- the numbers of the run with these settings, in which the primary starts in tick a and the secondary in tick b, and why a start was refused
-pub record RunsAs (p : Profile) (retries limit : ℕ) (s : List Setting) (a b : ℕ) (ticks : List ℕ) (events : Lent (List ℕ)) (refusal : Lent ℕ) (r : ℕ) : Type 0 where
+pub record RunsAs (p : Profile) (retries limit : ℕ) (s : List Setting) (a b : ℕ) (ticks : List ℕ) (events : Lent (List ℕ)) (refusal : Lent ℕ) (r : ℕ)
+    : Type 0 where
   pub numbers : RunIs (numbers_of (late_steps limit p retries s a b ticks)) (before events) r (after events)
   pub refusal_is : after refusal ≡ refusal_of (limited_starts limit p retries s)
