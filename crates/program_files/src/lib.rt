@@ -67,7 +67,7 @@ pub fn goes_back<F: Seek>(file: &mut F) -> bool
 }
 
 // Text that is formatted into a buffer; what does not fit is left out.
-#[derive(Clone, Copy)]
+#[derive(Drop)]
 struct Words {
     bytes: [u8; 256],
     len: usize,
