@@ -30,26 +30,26 @@
  * (tests/stack works it out from the archive). On top come the arguments that are passed on the stack,
  * 72 bytes at most, and the two functions of the C library.
  *
- *   nengapiko_write                 80
+ *   nengapiko_write                 96
  *   nengapiko_read                  56
  *   nengapiko_reader_start           8
  *   nengapiko_reader_tick          312
  *   nengapiko_master_start          16
- *   nengapiko_master_tick          528
+ *   nengapiko_master_tick         1512
  *   nengapiko_device_start          24
- *   nengapiko_device_tick          608
- *   nengapiko_data_length           64
+ *   nengapiko_device_tick          656
+ *   nengapiko_data_length            8
  *   nengapiko_longest_wait           8
  *   nengapiko_ticks                120
  *   nengapiko_list                 280
- *   nengapiko_join                  72
+ *   nengapiko_join                 104
  *   nengapiko_port_master_start    336
- *   nengapiko_port_master_tick    1064
- *   nengapiko_port_device_start    328
- *   nengapiko_port_device_tick     960
+ *   nengapiko_port_master_tick    2312
+ *   nengapiko_port_device_start    336
+ *   nengapiko_port_device_tick    1040
  *   nengapiko_readings_clear         8
- *   nengapiko_readings_enter       232
- *   nengapiko_readings_find        152
+ *   nengapiko_readings_enter       192
+ *   nengapiko_readings_find         80
  *   nengapiko_readings_status        8
  */
 #ifndef NENGAPIKO_H
