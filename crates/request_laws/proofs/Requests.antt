@@ -2,7 +2,7 @@
 use Prim.Native.Nat.{ℕ}
 use mathlib.Core.Bool.{true}
 use mathlib.Core.Path.{◌≡◌, refl, sym, subst}
-use Rattle.base.specs.Choice.{when◌then◌else◌, ◌<?◌, ◌outside◌to◌}
+use Rattle.base.specs.Choice.{◌<?◌, ◌outside◌to◌}
 use Rattle.base.specs.Refusal.{Called, accepted, refused}
 use Rattle.base.proofs.Choices.{if_is_true}
 use Rattle.frame.specs.Address.{address_above}
