@@ -8,7 +8,7 @@ use Rattle.base.specs.Choice.{when◌then◌else◌}
 use Rattle.frame.specs.declared.Header.{Header}
 use Rattle.turns.specs.Party.{seeks_tag}
 use Rattle.turns.specs.Link.{DeviceCall, no_call, gives_answer, gives_content, DeviceSide, DeviceStep, LinkStep, Calls}
-use Rattle.turns.specs.Ledgers.{Ledger, blank, told, told_by, called_by, ledger_after, ledgers_after, blanks, finders}
+use Rattle.turns.specs.Ledgers.{Ledger, blank, told_by, called_by, ledger_after, ledgers_after, blanks, finders}
 use Rattle.runs.specs.Credit.{closed, closed_by, closed_after, booked_by, Gave, this_one, another}
 use Rattle.turns.specs.declared.CallResult.{CallResult}
 use Rattle.turns.specs.declared.DeviceTold.{DeviceTold}

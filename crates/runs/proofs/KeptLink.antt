@@ -1,5 +1,5 @@
 -- What every tick of the link keeps, whatever is heard and called: no device's frame and no burst content is longer than the longest one. And so for all parties of a link.
-use Prim.Native.Nat.{ℕ, ◌-◌, ◌+◌, ◌≤◌}
+use Prim.Native.Nat.{ℕ, ◌+◌, ◌≤◌}
 use native.Mathlib.Omega.{arith}
 use mathlib.Core.Path.{◌≡◌, refl, sym, subst}
 use mathlib.Core.Bool.{Bool}

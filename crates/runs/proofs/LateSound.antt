@@ -29,7 +29,7 @@ master_late : (limit n : ℕ) (x : MasterSide) (heard : Heard) (call : MasterCal
 master_late limit zero x heard call e = master_same limit x heard call e
 master_late limit (suc n) x heard call e = refl
 
-tick_late : (limit a b : ℕ) (l : Link) (c : Calls) → Same l → late_tick limit a b l c ≡ late_tick01 limit a b l c
+pub tick_late : (limit a b : ℕ) (l : Link) (c : Calls) → Same l → late_tick limit a b l c ≡ late_tick01 limit a b l c
 unfolding late_tick late_tick01
 tick_late limit a b l c s = λ i. record {
   for_primary = master_late limit a l.primary l.line c.for_primary s.primary i;

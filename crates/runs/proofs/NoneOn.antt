@@ -1,5 +1,5 @@
 -- No master is on: devices that start, or started some ticks before, send nothing and rest, whatever their hosts give. So the first tick of a master behind any number of such ticks is that of the common start.
-use Prim.Native.Nat.{ℕ, ◌-◌, ◌≤◌}
+use Prim.Native.Nat.{ℕ, ◌≤◌}
 use native.Mathlib.Omega.{arith}
 use mathlib.Core.Path.{◌≡◌, sym, ap, subst, ◌∙◌}
 use mathlib.Core.Bool.{true, false}

@@ -1,5 +1,5 @@
 -- Theorem: "turns on a sound pair are those of document 01", from the parties' starts alone, each master starting at a tick of its own. In every run a silent tick meets every reader outside a frame, and there both rules say the same. The common start is the case in which both masters start in tick 0.
-use Prim.Native.Nat.{ℕ, zero, suc, ◌-◌, ◌≤◌}
+use Prim.Native.Nat.{ℕ, ◌-◌, ◌≤◌}
 use mathlib.Core.Path.{◌≡◌, refl, sym, ap, subst, ◌∙◌}
 use mathlib.Core.Bool.{Bool, true, false}
 use mathlib.Core.List.{List, [], ◌∷◌}
@@ -8,12 +8,11 @@ use Rattle.line.specs.declared.Heard.{Heard}
 use Rattle.line.specs.declared.Heard.TheVariants.{Silence}
 use Rattle.line.specs.declared.Place.TheVariants.{Passing}
 use Rattle.line.specs.declared.Profile.{Profile}
-use Rattle.turns.specs.Master.{master_takes}
-use Rattle.turns.specs.Link.{MasterCall, MasterSide, master_data, DeviceCall, no_call, DeviceSide, DeviceStep, device_tick, device_ticks, sides, carried, Link, LinkStep, Calls, link_after}
+use Rattle.turns.specs.Link.{MasterSide, DeviceCall, no_call, DeviceSide, DeviceStep, device_tick, device_ticks, sides, carried, Link, LinkStep, Calls, link_after}
 use Rattle.turns.specs.Run.{All, none, and, MasterStarts, DeviceStarts}
-use Rattle.runs.specs.Late.{late_master, late_tick, late_run, Started, starts_now, started_before}
-use Rattle.runs.specs.SoundPair.{master_takes01, link_tick01, run01, SoundFromStarts}
-use Rattle.runs.specs.LateSoundPair.{late_master01, late_tick01, late_run01, LateSoundFromStarts}
+use Rattle.runs.specs.Late.{late_tick, late_run, Started, starts_now, started_before}
+use Rattle.runs.specs.SoundPair.{link_tick01, run01, SoundFromStarts}
+use Rattle.runs.specs.LateSoundPair.{late_tick01, late_run01, LateSoundFromStarts}
 use Rattle.turns.specs.declared.Master.{Master}
 use Rattle.turns.specs.declared.Device.{Device}
 use Rattle.turns.proofs.Windows.{Valid}
@@ -22,7 +21,8 @@ use Rattle.turns.proofs.Fresh.{valid, master_is, device_is}
 use Rattle.turns.proofs.Lists.{Quietly}
 use Rattle.turns.proofs.Silent.{ready_outside}
 use Rattle.turns.proofs.NoGaps.{rests, DeviceState, started_master, started_device}
-use Rattle.runs.proofs.SoundTicks.{Same, AllOutside, master_same, devices_same, same_outside}
+use Rattle.runs.proofs.SoundTicks.{AllOutside, same_outside}
+use Rattle.runs.proofs.LateSound.{tick_late}
 use Rattle.runs.proofs.NoneOn.{Rests, started_rests}
 use Rattle.runs.proofs.Late.{common_start}
 use Rattle.runs.proofs.Outside.{Outside, passing_outside}
@@ -31,19 +31,6 @@ use Rattle.runs.proofs.Parties.{Party, Ticks, no_party, party_and, Each, Quiet, 
 use Rattle.runs.proofs.PartyTicks.{master_party, MasterSeen, master_leaves, device_party, device_leaves}
 
 -- ---- a tick
-
-master_late : (limit n : ℕ) (x : MasterSide) (heard : Heard) (call : MasterCall) → master_takes x.master heard (master_data x heard) ≡ master_takes01 x.master heard (master_data x heard)
-    → late_master limit n x heard call ≡ late_master01 limit n x heard call
-master_late limit zero x heard call e = master_same limit x heard call e
-master_late limit (suc n) x heard call e = refl
-
-tick_late : (limit a b : ℕ) (l : Link) (c : Calls) → Same l → late_tick limit a b l c ≡ late_tick01 limit a b l c
-unfolding late_tick late_tick01
-tick_late limit a b l c s = λ i. record {
-  for_primary = master_late limit a l.primary l.line c.for_primary s.primary i;
-  for_secondary = master_late limit b l.secondary l.line c.for_secondary s.secondary i;
-  for_devices = devices_same limit l.line l.devices c.for_devices s.devices i;
-}
 
 first_of : {Q : Party → Type 0} {v : Party} {vs : List Party} → Each Q (v ∷ vs) → Q v
 first_of (P.and q qs) = q

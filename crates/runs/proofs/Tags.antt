@@ -20,7 +20,7 @@ use Rattle.turns.specs.Device.{device_with, is_own, may_answer, has_error, back_
 use Rattle.turns.specs.Link.{DeviceCall, no_call, gives_answer, gives_content, DeviceSide, DeviceStep, Link, LinkStep, Calls, device_sent, answer_called, content_called, device_calls, device_tick, device_ticks, heard_frame, device_data, sides, link_tick, link_after, run}
 use Rattle.turns.specs.Run.{All, none, and, EachTick, DeviceStarts, OneBursts}
 use Rattle.turns.specs.Run as R
-use Rattle.runs.specs.Credit.{Ledger, blank, told, given, told_by, answered_with, called_by, ledger_after, ledgers_after}
+use Rattle.runs.specs.Credit.{Ledger, blank, told, told_by, answered_with, called_by, ledger_after, ledgers_after}
 use Rattle.turns.specs.Ledgers.{found, finders, OneFinds, blanks}
 use Rattle.turns.specs.Demand3.{Premises}
 use Rattle.line.specs.declared.Profile.{Profile}

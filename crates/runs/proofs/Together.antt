@@ -37,7 +37,7 @@ use Rattle.turns.proofs.Spoken.{Spoken}
 use Rattle.turns.proofs.Phases.{OneOf}
 use Rattle.turns.proofs.Sending.{MasterPlace}
 use Rattle.turns.proofs.Sending as S
-use Rattle.runs.proofs.Beginning.{inside, finished, DeviceSpeaks, DeviceHears}
+use Rattle.runs.proofs.Beginning.{DeviceSpeaks, DeviceHears}
 use Rattle.turns.proofs.DeviceSpeaking.{Frames, an_ack, a_back}
 use Rattle.turns.proofs.DeviceTaking.{takes_nothing}
 use Rattle.runs.proofs.SilentTick.{FrameIs, is_ack, is_back}

@@ -10,7 +10,7 @@ use Rattle.base.specs.Choice.{when◌then◌else◌}
 use Rattle.line.specs.declared.Heard.TheVariants.{Silence, Character}
 use Rattle.line.specs.declared.Profile.{Profile}
 use Rattle.line.specs.declared.Whole.{Whole}
-use Rattle.turns.specs.Master.{burst_after, timer}
+use Rattle.turns.specs.Master.{burst_after}
 use Rattle.turns.specs.Link.{MasterSide, Link, LinkStep, Calls, link_after}
 use Rattle.runs.proofs.Fair.{Fair}
 use Rattle.turns.specs.declared.Noted.{Noted}

@@ -11,7 +11,7 @@ use Rattle.base.proofs.Choices.{true_false}
 use Rattle.line.specs.declared.Heard.TheVariants.{Silence, Character}
 use Rattle.line.specs.declared.Profile.{Profile}
 use Rattle.line.specs.declared.Whole.{Whole}
-use Rattle.turns.specs.Master.{burst_after, timer}
+use Rattle.turns.specs.Master.{burst_after}
 use Rattle.turns.specs.Link.{MasterSide, Link, LinkStep, Calls, link_after}
 use Rattle.turns.specs.declared.Noted.{Noted}
 use Rattle.turns.specs.declared.Timer.{Timer}

@@ -10,7 +10,7 @@ use Rattle.frame.specs.declared.Header.{Header}
 use Rattle.line.specs.declared.Heard.TheVariants.{Silence, Character}
 use Rattle.line.specs.declared.Profile.{Profile}
 use Rattle.line.specs.declared.Whole.{Whole}
-use Rattle.turns.specs.Master.{burst_after, timer}
+use Rattle.turns.specs.Master.{burst_after}
 use Rattle.turns.specs.Link.{MasterSide, MasterStep, DeviceSide, Link, LinkStep, link_after}
 use Rattle.turns.specs.Run.{All, and}
 use Rattle.turns.specs.declared.Sent.{Sent}
