@@ -33,23 +33,23 @@
  *   nengapiko_write                 96
  *   nengapiko_read                  56
  *   nengapiko_reader_start           8
- *   nengapiko_reader_tick          312
+ *   nengapiko_reader_tick          960
  *   nengapiko_master_start          16
- *   nengapiko_master_tick         1512
- *   nengapiko_device_start          24
- *   nengapiko_device_tick          656
+ *   nengapiko_master_tick          592
+ *   nengapiko_device_start          32
+ *   nengapiko_device_tick          672
  *   nengapiko_data_length            8
  *   nengapiko_longest_wait           8
- *   nengapiko_ticks                120
- *   nengapiko_list                 280
+ *   nengapiko_ticks                104
+ *   nengapiko_list                 200
  *   nengapiko_join                 104
- *   nengapiko_port_master_start    336
- *   nengapiko_port_master_tick    2312
- *   nengapiko_port_device_start    336
- *   nengapiko_port_device_tick    1040
- *   nengapiko_readings_clear         8
- *   nengapiko_readings_enter       192
- *   nengapiko_readings_find         80
+ *   nengapiko_port_master_start    248
+ *   nengapiko_port_master_tick    1152
+ *   nengapiko_port_device_start    264
+ *   nengapiko_port_device_tick    1104
+ *   nengapiko_readings_clear        32
+ *   nengapiko_readings_enter       176
+ *   nengapiko_readings_find         64
  *   nengapiko_readings_status        8
  */
 #ifndef NENGAPIKO_H

@@ -4,4 +4,3 @@ pub mod Lists
 pub mod Stores
 pub mod Filling
 pub mod Tables
-mod Numbers

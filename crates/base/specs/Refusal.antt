@@ -1,6 +1,6 @@
 -- To be believed: what the engine must do, or what is claimed of it.
 -- Document 01, "Refusals, by where each is checked": the table, and what a call may answer.
-use Rattle.std.specs.Prelude.{ℕ}
+use Rattle.std.specs.Prelude.{ℕ, Result, Ok, Err}
 use Rattle.base.specs.declared.Refusal.{Refusal}
 use Rattle.base.specs.declared.Refusal.TheVariants.{BadProfile, BadRetries, PreambleLength, Address, Command, DataLong, MessageInHand, NoRequest, DataLength, BurstWish, FewPreambles, NoDelimiter, EndsEarly, Unsound, BufferShort, BadScript, Revision, BadLoad, Register, TableFull, BadRecording, UnequalTaps, TapsDiffer, RecordSize, TickTooLarge, WaitTooShort}
 
@@ -63,3 +63,8 @@ number WaitTooShort = 26
 pub data Called (A : Type 0) : Type 0 where
   accepted : A → Called A
   refused : ℕ → Called A
+
+-- what a call's answer says in those words
+abbrev pub called_as : {A : Type 0} → Result A Refusal → Called A
+called_as (Ok x) = accepted x
+called_as (Err why) = refused (number why)

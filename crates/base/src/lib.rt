@@ -1,5 +1,5 @@
 // What every layer shares: the refusals of documents 01 and 02, a range test, and whether two conditions both hold.
-#![tactic(auto)]
+#![tactic(auto, using(crate::proofs::Choices::choices))]
 
 ghost use Rattle.std.specs.Prelude.{◌≡◌, false};
 ghost use Rattle.base.specs.Choice.{when◌then◌else◌, ◌outside◌to◌};
@@ -8,32 +8,32 @@ ghost use Rattle.base.specs.Refusal.{number};
 // Why a call is refused. Each has a number in document 01's table; the last ones are document 02's.
 #[derive(Clone, Copy)]
 pub enum Refusal {
-    BadProfile,
-    BadRetries,
-    PreambleLength,
-    Address,
-    Command,
-    DataLong,
-    MessageInHand,
-    NoRequest,
-    DataLength,
-    BurstWish,
-    FewPreambles,
-    NoDelimiter,
-    EndsEarly,
-    Unsound,
-    BufferShort,
-    BadScript,
-    Revision,
-    BadLoad,
-    Register,
-    TableFull,
-    BadRecording,
-    UnequalTaps,
-    TapsDiffer,
-    RecordSize,
-    TickTooLarge,
-    WaitTooShort,
+    BadProfile = 1,
+    BadRetries = 2,
+    PreambleLength = 3,
+    Address = 4,
+    Command = 5,
+    DataLong = 6,
+    MessageInHand = 7,
+    NoRequest = 8,
+    DataLength = 9,
+    BurstWish = 10,
+    FewPreambles = 11,
+    NoDelimiter = 12,
+    EndsEarly = 13,
+    Unsound = 14,
+    BufferShort = 15,
+    BadScript = 16,
+    Revision = 17,
+    BadLoad = 18,
+    Register = 19,
+    TableFull = 20,
+    BadRecording = 21,
+    UnequalTaps = 22,
+    TapsDiffer = 23,
+    RecordSize = 24,
+    TickTooLarge = 25,
+    WaitTooShort = 26,
 }
 
 impl Refusal {
@@ -41,34 +41,7 @@ impl Refusal {
     pub fn number(self) -> u32
         ensures { result ≡ number self }
     {
-        match self {
-            Refusal::BadProfile => 1,
-            Refusal::BadRetries => 2,
-            Refusal::PreambleLength => 3,
-            Refusal::Address => 4,
-            Refusal::Command => 5,
-            Refusal::DataLong => 6,
-            Refusal::MessageInHand => 7,
-            Refusal::NoRequest => 8,
-            Refusal::DataLength => 9,
-            Refusal::BurstWish => 10,
-            Refusal::FewPreambles => 11,
-            Refusal::NoDelimiter => 12,
-            Refusal::EndsEarly => 13,
-            Refusal::Unsound => 14,
-            Refusal::BufferShort => 15,
-            Refusal::BadScript => 16,
-            Refusal::Revision => 17,
-            Refusal::BadLoad => 18,
-            Refusal::Register => 19,
-            Refusal::TableFull => 20,
-            Refusal::BadRecording => 21,
-            Refusal::UnequalTaps => 22,
-            Refusal::TapsDiffer => 23,
-            Refusal::RecordSize => 24,
-            Refusal::TickTooLarge => 25,
-            Refusal::WaitTooShort => 26,
-        }
+        self as u32
     }
 }
 
@@ -76,18 +49,12 @@ impl Refusal {
 pub fn outside(x: usize, low: usize, high: usize) -> bool
     ensures { result ≡ (x outside low to high) }
 {
-    if x < low {
-        return true;
-    }
-    high < x
+    x < low || high < x
 }
 
-// Whether both hold.
+// Whether both hold, as a call.
 pub fn both(a: bool, b: bool) -> bool
     ensures { result ≡ (when a then b else false) }
 {
-    if a {
-        return b;
-    }
-    false
+    a && b
 }

@@ -4,8 +4,8 @@
 
 ghost use Rattle.std.specs.Prelude.{◌≡◌, length};
 
-use recording_capture::{Clock, Progress};
-use recording_lines::FirstBad;
+use program_files::Pieces;
+use recording_capture::Clock;
 use std::env::Env;
 use std::fs::Files;
 use std::io;
@@ -23,6 +23,7 @@ const ROOM: usize = 653_312;
 // More pieces than any file has; a loop has to end.
 const PIECES: usize = 281_474_976_710_655;
 
+// In a function of its own, with its length said: where such an array is made beside the loops, the check runs out of stack.
 fn packets_room() -> [u8; ROOM]
     ensures { 653312 ≡ length result }
 {
@@ -38,133 +39,55 @@ fn say_bad(rt: &impl Eprint, tick: u64) -> io::Result<()> {
     eprintln!(rt; "capture: 21: no recording has tick {tick}")
 }
 
-// Whether a piece is good; if not, its first bad tick is said, counted from the recording's start.
-fn is_good(rt: &impl Eprint, before: usize, piece: &[u8]) -> io::Result<bool> {
-    let bad = recording_lines::first_bad(piece);
-    match bad {
-        FirstBad::Tick(t) => {
-            say_bad(rt, (before as u64).wrapping_add(t as u64))?;
-            Ok(false)
-        }
-        FirstBad::None => Ok(true),
-    }
+// The first bad tick of a piece, counted from the recording's start. It and `look` stand in frames too: `program_files`, on which both rest, knows nothing of recordings.
+fn first_bad(before: usize, piece: &[u8]) -> Option<u64> {
+    recording_lines::first_bad(piece).map(|t| (before as u64).wrapping_add(t as u64))
 }
 
-// The first pass: whether the recording is good.
-fn look<R: Read>(rt: &impl Eprint, file: &mut R, piece: &mut [u8]) -> io::Result<bool> {
+// The first pass: the recording's first bad tick.
+fn look<R: Read>(recording: &mut Pieces<R, PIECE>) -> Option<u64> {
     for done in 0..PIECES {
-        let n = program_files::read_full(file, piece);
-        if !is_good(rt, TICKS * done, &piece[..n])? {
-            return Ok(false);
-        }
-        if n < PIECE {
-            return Ok(true);
+        let piece = program_files::next_piece(recording);
+        let bad = first_bad(TICKS * done, piece);
+        if bad.is_some() || piece.len() < PIECE {
+            return bad;
         }
     }
-    Ok(true)
-}
-
-fn write_out(rt: &(impl Print + Eprint), out: &[u8]) -> io::Result<bool> {
-    match rt.write_all(out) {
-        Ok(()) => Ok(true),
-        Err(error) => {
-            program_files::say_failure(rt, "capture: standard output", &error)?;
-            Ok(false)
-        }
-    }
+    None
 }
 
 fn write_header(rt: &(impl Print + Eprint), out: &mut [u8]) -> io::Result<bool> {
     let n = recording_capture::put_file_header(out, 0);
-    write_out(rt, texts::front(out, n))
-}
-
-// What is kept after a piece, and whether its packets were written.
-#[derive(Clone, Copy)]
-struct Went {
-    progress: Progress,
-    on: bool,
-}
-
-fn write_piece(
-    rt: &(impl Print + Eprint),
-    before: usize,
-    kept: Progress,
-    piece: &[u8],
-    bytes: &mut [u8; 255],
-    frame: &mut [u8; 267],
-    out: &mut [u8],
-) -> io::Result<Went> {
-    if is_good(rt, before, piece)? {
-        let captured = recording_capture::packets(kept, piece, bytes, frame, out);
-        let on = write_out(rt, texts::front(out, captured.at))?;
-        let progress = captured.progress;
-        return Ok(Went { progress, on });
-    }
-    Ok(Went {
-        progress: kept,
-        on: false,
-    })
+    program_files::write_out(rt, "capture: standard output", texts::front(out, n))
 }
 
 // The second pass: the packets, with what is kept from piece to piece, up to a piece that is not full. It answers whether they were all written.
 fn write_packets<R: Read>(
     rt: &(impl Print + Eprint),
     clock: Clock,
-    file: &mut R,
-    piece: &mut [u8],
-    bytes: &mut [u8; 255],
-    frame: &mut [u8; 267],
-    out: &mut [u8],
-) -> io::Result<bool> {
-    let mut kept = recording_capture::start(clock);
-    for done in 0..PIECES {
-        let n = program_files::read_full(file, piece);
-        let went = write_piece(rt, TICKS * done, kept, &piece[..n], bytes, frame, out)?;
-        kept = went.progress;
-        if !went.on {
-            return Ok(false);
-        }
-        if n < PIECE {
-            return Ok(true);
-        }
-    }
-    Ok(true)
-}
-
-// The header and the packets; it answers whether all was written.
-fn write_all<R: Read>(
-    rt: &(impl Print + Eprint),
-    clock: Clock,
-    file: &mut R,
-    piece: &mut [u8],
+    recording: &mut Pieces<R, PIECE>,
     out: &mut [u8],
 ) -> io::Result<bool> {
     let mut bytes = [0u8; 255];
     let mut frame = [0u8; 267];
-    if write_header(rt, out)? {
-        if write_packets(rt, clock, file, piece, &mut bytes, &mut frame, out)? {
-            return Ok(program_files::is_over(file));
+    let mut kept = recording_capture::start(clock);
+    for done in 0..PIECES {
+        let piece = program_files::next_piece(recording);
+        if let Some(tick) = first_bad(TICKS * done, piece) {
+            say_bad(rt, tick)?;
+            return Ok(false);
+        }
+        let captured = recording_capture::packets(kept, piece, &mut bytes, &mut frame, out);
+        kept = captured.progress;
+        let packets = texts::front(out, captured.at);
+        if !program_files::write_out(rt, "capture: standard output", packets)? {
+            return Ok(false);
+        }
+        if piece.len() < PIECE {
+            return Ok(true);
         }
     }
-    Ok(false)
-}
-
-// The second pass, from the file's start.
-fn write_file<R: Read + Seek>(
-    rt: &(impl Print + Eprint),
-    clock: Clock,
-    file: &mut R,
-    piece: &mut [u8],
-    out: &mut [u8],
-) -> io::Result<()> {
-    if program_files::goes_back(file) {
-        if write_all(rt, clock, file, piece, out)? {
-            return Ok(());
-        }
-        return eprintln!(rt; "capture: what was written is not the whole capture");
-    }
-    eprintln!(rt; "capture: the recording is no file that can be read twice")
+    Ok(true)
 }
 
 // Both passes.
@@ -172,89 +95,53 @@ fn capture_file<R: Read + Seek>(
     rt: &(impl Print + Eprint),
     clock: Clock,
     file: &mut R,
-    piece: &mut [u8],
-    out: &mut [u8],
 ) -> io::Result<()> {
-    if look(rt, file, piece)? {
-        if program_files::is_over(file) {
-            return write_file(rt, clock, file, piece, out);
-        }
+    let mut recording = Pieces {
+        file,
+        room: [0; PIECE],
+    };
+    if let Some(tick) = look(&mut recording) {
+        return say_bad(rt, tick);
+    }
+    if !program_files::is_over(recording.file) {
         return eprintln!(rt; "capture: the recording cannot be read to its end");
     }
-    Ok(())
-}
-
-fn capture_open<R: Read + Seek>(
-    rt: &(impl Print + Eprint),
-    clock: Clock,
-    file: &mut R,
-) -> io::Result<()> {
-    let mut piece = [0u8; PIECE];
+    if !program_files::goes_back(recording.file) {
+        return eprintln!(rt; "capture: the recording is no file that can be read twice");
+    }
     let mut out = packets_room();
-    capture_file(rt, clock, file, &mut piece, &mut out)
+    if write_header(rt, &mut out)?
+        && write_packets(rt, clock, &mut recording, &mut out)?
+        && program_files::is_over(recording.file)
+    {
+        return Ok(());
+    }
+    eprintln!(rt; "capture: what was written is not the whole capture")
 }
 
 // The file that the first argument names.
 fn capture_named(rt: &(impl Env + Files + Print + Eprint), clock: Clock) -> io::Result<()> {
     match program_files::open_argument(rt, 1)? {
-        Some(mut file) => capture_open(rt, clock, &mut file),
+        Some(mut file) => capture_file(rt, clock, &mut file),
         None => Ok(()),
     }
-}
-
-fn is_fsk(word: &[u8]) -> bool {
-    if word.len() == 3 {
-        if word[0] == b'f' {
-            if word[1] == b's' {
-                return word[2] == b'k';
-            }
-        }
-    }
-    false
-}
-
-fn ends_in_psk(word: &[u8]) -> bool {
-    if word.len() == 5 {
-        if word[2] == b'p' {
-            if word[3] == b's' {
-                return word[4] == b'k';
-            }
-        }
-    }
-    false
-}
-
-fn is_c8psk(word: &[u8]) -> bool {
-    if word.len() == 5 {
-        if word[0] == b'c' {
-            if word[1] == b'8' {
-                return ends_in_psk(word);
-            }
-        }
-    }
-    false
 }
 
 // With the profile that the second argument names.
 fn capture_clocked(rt: &(impl Env + Files + Print + Eprint)) -> io::Result<()> {
     let mut word = [0u8; program_files::ARGUMENT];
     let n = program_files::argument(rt, 2, &mut word);
-    if is_fsk(&word[..n]) {
-        return capture_named(rt, Clock::Fsk);
+    match &word[..n] {
+        b"fsk" => capture_named(rt, Clock::Fsk),
+        b"c8psk" => capture_named(rt, Clock::C8psk),
+        _ => say_use(rt),
     }
-    if is_c8psk(&word[..n]) {
-        return capture_named(rt, Clock::C8psk);
-    }
-    say_use(rt)
 }
 
 fn main(rt: HostRuntime) -> io::Result<()> {
-    let count = program_files::argument_count(&rt);
-    if count == 2 {
-        return capture_named(&rt, Clock::Fsk);
+    match program_files::argument_count(&rt) {
+        2 => capture_named(&rt, Clock::Fsk),
+        3 => capture_clocked(&rt),
+        _ => say_use(&rt),
     }
-    if count == 3 {
-        return capture_clocked(&rt);
-    }
-    say_use(&rt)
 }

@@ -2,9 +2,8 @@
 #![tactic(auto)]
 
 use base::Refusal;
-use player_convert::Converted;
 use player_input::{Input, ROOM};
-use player_script::{Form, SizedForm};
+use player_script::Form;
 use std::env::Env;
 use std::io;
 use std::io::Read;
@@ -14,25 +13,27 @@ fn record_size(rt: &impl Env) -> usize {
     let mut word = [0u8; program_files::ARGUMENT];
     let n = program_files::argument(rt, 1, &mut word);
     if program_files::argument_count(rt) == 2 {
-        return player_script::size_in(&word[..n]);
+        player_script::size_in(&word[..n])
+    } else {
+        0
     }
-    0
 }
 
 fn print_converted(rt: &impl Print, size: usize, script: &[u8], out: &mut [u8]) -> io::Result<()> {
-    let converted = player_convert::convert(size, script, out);
-    match converted {
-        Converted::To(end) => rt.write_all(texts::front(out, end)),
-        Converted::Refused(why) => player_input::print_refusal(rt, why),
+    match player_convert::convert(size, script, out) {
+        Ok(end) => rt.write_all(texts::front(out, end)),
+        Err(why) => player_input::print_refusal(rt, why),
     }
 }
 
 // A good script that is longer than the room: its stop's tick is too large to turn back, or the result has no room.
 fn print_long(rt: &impl Print, stop: u32) -> io::Result<()> {
-    if 65535 < stop {
-        return player_input::print_refusal(rt, Refusal::TickTooLarge);
-    }
-    player_input::print_refusal(rt, Refusal::BufferShort)
+    let why = if 65535 < stop {
+        Refusal::TickTooLarge
+    } else {
+        Refusal::BufferShort
+    };
+    player_input::print_refusal(rt, why)
 }
 
 // The script on standard input.
@@ -44,8 +45,7 @@ fn convert_input<R: Read>(
     script: &mut [u8; ROOM],
     out: &mut [u8; ROOM],
 ) -> io::Result<()> {
-    let input = player_input::read(form, reader, script);
-    match input {
+    match player_input::read(form, reader, script) {
         Input::Whole(n) => print_converted(rt, size, texts::front(script, n), out),
         Input::LongGood(stop) => print_long(rt, stop),
         Input::LongBad => player_input::print_refusal(rt, Refusal::BadScript),
@@ -56,11 +56,8 @@ fn main(rt: HostRuntime) -> io::Result<()> {
     let mut script = [0u8; ROOM];
     let mut out = [0u8; ROOM];
     let size = record_size(&rt);
-    let sized = player_script::form_of(size);
-    match sized {
-        SizedForm::Is(form) => {
-            convert_input(&rt, size, form, &mut rt.stdin(), &mut script, &mut out)
-        }
-        SizedForm::Refused(why) => player_input::print_refusal(&rt, why),
+    match player_script::form_of(size) {
+        Ok(form) => { convert_input(&rt, size, form, &mut rt.stdin(), &mut script, &mut out) }
+        Err(why) => player_input::print_refusal(&rt, why),
     }
 }

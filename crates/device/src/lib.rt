@@ -1,5 +1,5 @@
 // A HART device: a slave, with burst mode. The functions follow the definitions of crates/turns/specs/Device.antt, in their order.
-#![tactic(auto)]
+#![tactic(auto, using(base::proofs::Choices::choices))]
 
 mod sends;
 
@@ -8,28 +8,14 @@ ghost use Rattle.frame.specs.Limits.{most_data};
 ghost use Rattle.frame.specs.Write.{write_buffer};
 ghost use Rattle.turns.specs.Device.{device_with, error_status, error_data, answer_header, error_frame, has_no_wish, wish_refused, answers_at, answered_by, answered, answer_frame, back_header, begun_frame, fresh_device, device_starts};
 ghost use Rattle.device_rules.specs.Hearing.{length_by};
-ghost use Rattle.device.specs.Calls.{started_as, called_as};
 ghost use Rattle.device.specs.Promises.{DeviceTakeIs, AnswerIs, SendIs};
+ghost use Rattle.base.specs.Refusal.{called_as};
 
 use base::Refusal;
 use frame::Header;
 use line::{Event, FrameDamage, Heard, Profile, Whole};
 pub use sends::sends_by;
 use turns::{Content, Device, DeviceSent, DeviceTaken, Turn, Wish};
-
-// What a start answers.
-#[derive(Clone, Copy)]
-pub enum DeviceStarted {
-    Started(Device),
-    Refused(Refusal),
-}
-
-// What a host's call answers.
-#[derive(Clone, Copy)]
-pub enum DeviceCalled {
-    Accepted(Device),
-    Refused(Refusal),
-}
 
 // The first data byte of an error answer.
 fn error_status(m: FrameDamage) -> u8
@@ -53,11 +39,8 @@ fn answer_header(h: Header, burst: bool) -> Header
 {
     Header {
         kind: frame::ACK,
-        long: h.long,
-        primary: h.primary,
-        burst: burst,
-        address: h.address,
-        command: h.command,
+        burst,
+        ..h
     }
 }
 
@@ -65,7 +48,7 @@ fn answer_header(h: Header, burst: bool) -> Header
 fn put_frame(preamble: u8, h: Header, bytes: &[u8], frame: &mut [u8; 284])
     ensures { frame.new ≡ write_buffer preamble h bytes.now frame.old 0 }
 {
-    frame_write::write(preamble as usize, h, bytes, frame, 0);
+    let _ = frame_write::write(usize::from(preamble), h, bytes, frame, 0);
 }
 
 // The same with the first bytes of a burst content.
@@ -73,18 +56,20 @@ fn put_part(preamble: u8, h: Header, count: u8, contents: &[u8], frame: &mut [u8
     requires { most_data ≤ length contents.now }
     ensures { frame.new ≡ write_buffer preamble h (take count contents.now) frame.old 0 }
 {
-    let end = count as usize;
-    put_frame(preamble, h, &contents[..end], frame);
+    put_frame(preamble, h, &contents[..usize::from(count)], frame);
 }
 
 // Puts the error answer to a damaged frame into the lent frame buffer.
 fn put_error(d: Device, w: Whole, m: FrameDamage, frame: &mut [u8; 284])
     ensures { frame.new ≡ error_frame d (Event.Damaged w m) frame.old }
 {
-    let h = w.header;
     if device_rules::has_error(d, w, m) {
-        let bytes = error_data(m);
-        put_frame(d.preamble, answer_header(h, d.burst), &bytes, frame);
+        put_frame(
+            d.preamble,
+            answer_header(w.header, d.burst),
+            &error_data(m),
+            frame,
+        );
     }
 }
 
@@ -92,12 +77,8 @@ fn put_error(d: Device, w: Whole, m: FrameDamage, frame: &mut [u8; 284])
 fn put_error_answer(d: Device, event: Event, frame: &mut [u8; 284])
     ensures { frame.new ≡ error_frame d event frame.old }
 {
-    match event {
-        Event::Nothing => {}
-        Event::PassedOver => {}
-        Event::Broken => {}
-        Event::Frame(_) => {}
-        Event::Damaged(w, m) => put_error(d, w, m, frame),
+    if let Event::Damaged(w, m) = event {
+        put_error(d, w, m, frame);
     }
 }
 
@@ -106,8 +87,7 @@ pub fn take(d: Device, heard: Heard, bytes: &mut [u8; 255], frame: &mut [u8; 284
     ensures { DeviceTakeIs d heard bytes.old frame.old result bytes.new frame.new }
 {
     let taken = device_rules::take(d, heard, bytes);
-    let event = taken.event;
-    put_error_answer(d, event, frame);
+    put_error_answer(d, taken.event, frame);
     taken
 }
 
@@ -115,35 +95,23 @@ pub fn take(d: Device, heard: Heard, bytes: &mut [u8; 255], frame: &mut [u8; 284
 fn has_no_wish(h: Header) -> bool
     ensures { result ≡ has_no_wish h }
 {
-    if h.command == 0 {
-        return true;
-    }
-    party::seeks_tag(h)
+    h.command == 0 || party::seeks_tag(h)
 }
 
 // Whether burst may not be turned on.
 fn on_refused(d: Device) -> bool
     ensures { result ≡ wish_refused d Wish.On }
 {
-    let request = d.request;
-    let content = d.content;
-    if has_no_wish(request) {
-        return true;
-    }
-    if content.given {
-        return false;
-    }
-    true
+    has_no_wish(d.request) || !d.content.given
 }
 
 fn wish_refused(d: Device, wish: Wish) -> bool
     ensures { result ≡ wish_refused d wish }
 {
-    let request = d.request;
     match wish {
         Wish::Same => false,
         Wish::On => on_refused(d),
-        Wish::Off => has_no_wish(request),
+        Wish::Off => has_no_wish(d.request),
     }
 }
 
@@ -151,56 +119,51 @@ fn wish_refused(d: Device, wish: Wish) -> bool
 fn answers_at(d: Device, left: u16) -> Turn
     ensures { result ≡ answers_at d left }
 {
-    let profile = d.profile;
-    if left == profile.sto {
-        return Turn::AnswerWaits;
+    if left == d.profile.sto {
+        Turn::AnswerWaits
+    } else {
+        Turn::Begins
     }
-    Turn::Begins
 }
 
 // The device with an answer of so many data bytes.
 fn answering(d: Device, wish: Wish, count: u8, left: u16) -> Device
     ensures { result ≡ device_with d d.receiver (answers_at d left) d.request wish (length_by d.preamble d.request.long count) d.due }
 {
-    let receiver = d.receiver;
-    let request = d.request;
-    let length = device_rules::frame_length(d.preamble, request.long, count);
-    device_rules::with_parts(
-        d,
-        receiver,
-        answers_at(d, left),
-        request,
+    Device {
+        turn: answers_at(d, left),
         wish,
-        length,
-        d.due,
-    )
+        length: device_rules::frame_length(d.preamble, d.request.long, count),
+        ..d
+    }
 }
 
 // An answer of so many data bytes to the request in hand.
-fn answer_request(limit: u8, d: Device, wish: Wish, count: usize, left: u16) -> DeviceCalled
+fn answer_request(
+    limit: u8,
+    d: Device,
+    wish: Wish,
+    count: usize,
+    left: u16,
+) -> Result<Device, Refusal>
     ensures { called_as result ≡ answered_by limit d wish count (Turn.Asked left) }
 {
     if base::outside(count, 2, limit as usize) {
-        return DeviceCalled::Refused(Refusal::DataLength);
+        Err(Refusal::DataLength)
+    } else if wish_refused(d, wish) {
+        Err(Refusal::BurstWish)
+    } else {
+        Ok(answering(d, wish, count as u8, left))
     }
-    if wish_refused(d, wish) {
-        return DeviceCalled::Refused(Refusal::BurstWish);
-    }
-    DeviceCalled::Accepted(answering(d, wish, count as u8, left))
 }
 
-fn answer_by(limit: u8, d: Device, wish: Wish, count: usize) -> DeviceCalled
+#[tactic(auto, using(base::proofs::Choices::choices), unfolding(turns::specs::Device::answered))]
+fn answer_by(limit: u8, d: Device, wish: Wish, count: usize) -> Result<Device, Refusal>
     ensures { called_as result ≡ answered limit d wish count }
 {
-    let turn = d.turn;
-    match turn {
-        Turn::Listens => DeviceCalled::Refused(Refusal::NoRequest),
+    match d.turn {
         Turn::Asked(left) => answer_request(limit, d, wish, count, left),
-        Turn::AnswerWaits => DeviceCalled::Refused(Refusal::NoRequest),
-        Turn::Begins => DeviceCalled::Refused(Refusal::NoRequest),
-        Turn::Answers(_) => DeviceCalled::Refused(Refusal::NoRequest),
-        Turn::Follows => DeviceCalled::Refused(Refusal::NoRequest),
-        Turn::Bursts(_) => DeviceCalled::Refused(Refusal::NoRequest),
+        _ => Err(Refusal::NoRequest),
     }
 }
 
@@ -208,41 +171,40 @@ fn answer_by(limit: u8, d: Device, wish: Wish, count: usize) -> DeviceCalled
 fn put_answer(d: Device, wish: Wish, bytes: &[u8], frame: &mut [u8; 284])
     ensures { frame.new ≡ answer_frame d wish bytes.now frame.old }
 {
-    let request = d.request;
     put_frame(
         d.preamble,
-        answer_header(request, sends::wished_burst(d.burst, wish)),
+        answer_header(d.request, sends::wished_burst(d.burst, wish)),
         bytes,
         frame,
     );
 }
 
 // Takes the host's answer to the request in hand, on a link with this data limit, or refuses it with 8, 9 or 10 and leaves the lent frame buffer as it was.
-pub fn answer(limit: u8, d: Device, wish: Wish, bytes: &[u8], frame: &mut [u8; 284]) -> DeviceCalled
+pub fn answer(
+    limit: u8,
+    d: Device,
+    wish: Wish,
+    bytes: &[u8],
+    frame: &mut [u8; 284],
+) -> Result<Device, Refusal>
     ensures { AnswerIs limit d wish bytes.now frame.old result frame.new }
 {
-    let called = answer_by(limit, d, wish, bytes.len());
-    match called {
-        DeviceCalled::Accepted(e) => {
-            put_answer(d, wish, bytes, frame);
-            DeviceCalled::Accepted(e)
-        }
-        DeviceCalled::Refused(why) => DeviceCalled::Refused(why),
-    }
+    let answering = answer_by(limit, d, wish, bytes.len())?;
+    put_answer(d, wish, bytes, frame);
+    Ok(answering)
 }
 
 // What a BACK says.
 fn back_header(d: Device) -> Header
     ensures { result ≡ back_header d }
 {
-    let content = d.content;
     Header {
         kind: frame::BACK,
         long: true,
         primary: d.primary,
         burst: true,
         address: d.unique,
-        command: content.command,
+        command: d.content.command,
     }
 }
 
@@ -250,23 +212,15 @@ fn back_header(d: Device) -> Header
 fn put_back(d: Device, contents: &[u8; 255], frame: &mut [u8; 284])
     ensures { frame.new ≡ begun_frame d Turn.Follows contents.now frame.old }
 {
-    let content = d.content;
-    put_part(d.preamble, back_header(d), content.count, contents, frame);
+    put_part(d.preamble, back_header(d), d.content.count, contents, frame);
 }
 
 // Puts the BACK that begins in this tick, if one does.
 fn put_begun(d: Device, contents: &[u8; 255], frame: &mut [u8; 284])
     ensures { frame.new ≡ begun_frame d d.turn contents.now frame.old }
 {
-    let turn = d.turn;
-    match turn {
-        Turn::Listens => {}
-        Turn::Asked(_) => {}
-        Turn::AnswerWaits => {}
-        Turn::Begins => {}
-        Turn::Answers(_) => {}
-        Turn::Follows => put_back(d, contents, frame),
-        Turn::Bursts(_) => {}
+    if matches!(d.turn, Turn::Follows) {
+        put_back(d, contents, frame);
     }
 }
 
@@ -279,10 +233,9 @@ pub fn send(d: Device, contents: &[u8; 255], frame: &mut [u8; 284]) -> DeviceSen
 }
 
 // A device with burst off, no request in hand, and no burst content.
-pub fn fresh(profile: Profile, preamble: u8, polling: u8, unique: u64) -> Device
+fn fresh(profile: Profile, preamble: u8, polling: u8, unique: u64) -> Device
     ensures { result ≡ fresh_device profile preamble polling unique }
 {
-    let receiver = line_reader::passing_reader();
     let request = Header {
         kind: 0,
         long: false,
@@ -297,35 +250,32 @@ pub fn fresh(profile: Profile, preamble: u8, polling: u8, unique: u64) -> Device
         count: 0,
     };
     Device {
-        profile: profile,
-        preamble: preamble,
-        polling: polling,
-        unique: unique,
-        receiver: receiver,
+        profile,
+        preamble,
+        polling,
+        unique,
+        receiver: line_reader::passing_reader(),
         deaf: true,
         turn: Turn::Listens,
-        request: request,
+        request,
         wish: Wish::Same,
         length: 0,
         burst: false,
         primary: true,
-        due: profile.rt1p as u32,
-        content: content,
+        due: u32::from(profile.rt1p),
+        content,
     }
 }
 
 // A device of these addresses, or refusal 3 or 4.
-pub fn start(profile: Profile, preamble: usize, polling: u8, unique: u64) -> DeviceStarted
-    ensures { started_as result ≡ device_starts profile preamble polling unique }
+pub fn start(profile: Profile, preamble: usize, polling: u8, unique: u64) -> Result<Device, Refusal>
+    ensures { called_as result ≡ device_starts profile preamble polling unique }
 {
     if base::outside(preamble, 5, 20) {
-        return DeviceStarted::Refused(Refusal::PreambleLength);
+        Err(Refusal::PreambleLength)
+    } else if 63 < polling || base::outside(unique as usize, 1, 274877906943) {
+        Err(Refusal::Address)
+    } else {
+        Ok(fresh(profile, preamble as u8, polling, unique))
     }
-    if 63 < polling {
-        return DeviceStarted::Refused(Refusal::Address);
-    }
-    if base::outside(unique as usize, 1, 274877906943) {
-        return DeviceStarted::Refused(Refusal::Address);
-    }
-    DeviceStarted::Started(fresh(profile, preamble as u8, polling, unique))
 }

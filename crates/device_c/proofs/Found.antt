@@ -2,7 +2,7 @@
 use Prim.Native.Nat.{ℕ}
 use mathlib.Core.List.{List}
 use mathlib.Core.Path.{◌≡◌, refl, sym, subst}
-use Rattle.base.specs.Choice.{when◌then◌else◌, ◌=?◌}
+use Rattle.base.specs.Choice.{◌=?◌}
 use Rattle.base.specs.Refusal.{Called, accepted, refused}
 use Rattle.frame.specs.Delimiter.{stx}
 use Rattle.line.specs.Reader.{taken, inside_frame}

@@ -1,6 +1,6 @@
 -- `unpacked (packed limit d)` is d, for every device whose numbers are values of their types.
 use Prim.Native.Nat.{ℕ, ◌<◌, ◌^◌}
-use mathlib.Core.Path.{◌≡◌, refl, sym, subst}
+use mathlib.Core.Path.{◌≡◌, refl}
 use native.Mathlib.Omega.{arith}
 use Rattle.base.specs.Choice.{when◌then◌else◌}
 use Rattle.turns.specs.declared.Device.{Device}
@@ -52,7 +52,3 @@ device_kept limit d f = λ i. record {
     count = number_kept 8 d.content.count f.content.count i;
   };
 }
-
--- the turn that a match has shown
-pub turn_shown : (t q : Turn) → t ≡ q → TurnFits q → TurnFits t
-turn_shown t q e f = subst TurnFits (sym e) f

@@ -1,17 +1,13 @@
--- A device's words put part by part, and a device made of its parts.
+-- A device's words put part by part.
 use Prim.Native.Nat.{ℕ}
 use mathlib.Core.List.{List, ◌++◌}
 use mathlib.Core.Path.{◌≡◌, refl, sym, ap, ◌∙◌}
 use lib.ListN.{length}
 use Rattle.base.specs.Store.{stored}
-use Rattle.line.specs.declared.Receiver.{Receiver}
 use Rattle.turns.specs.declared.Device.{Device}
-use Rattle.state_words.specs.Reader.{receiver_words, receiver_at}
+use Rattle.state_words.specs.Reader.{receiver_words}
 use Rattle.state_words.proofs.Puts.{part_behind, all_put}
-use Rattle.device_c.specs.Words.{settings_words, settings_at, answering_words, answering_at, bursting_words, bursting_at, packed, joined, unpacked}
-use Rattle.device_c.specs.declared.Settings.{Settings}
-use Rattle.device_c.specs.declared.Answering.{Answering}
-use Rattle.device_c.specs.declared.Bursting.{Bursting}
+use Rattle.device_c.specs.Words.{settings_words, answering_words, bursting_words, packed}
 
 abbrev front : Device → List ℕ
 front d = settings_words d.profile d.preamble d.polling d.unique
@@ -30,8 +26,3 @@ packed_is limit d before first second third words settings reader answering burs
     let four : words ≡ stored before 0 (((front d ++ receiver_words d.receiver) ++ answering_words d) ++ bursting_words limit d) =
     part_behind 34 before third words ((front d ++ receiver_words d.receiver) ++ answering_words d) (bursting_words limit d) three refl (u ∙ ap (λ (l : List ℕ). stored third 34 l) b) in
     all_put before words (packed limit d) four (sym n)
-
-pub unpacked_is : (words : List ℕ) (s : Settings) (r : Receiver) (a : Answering) (b : Bursting) (d : Device)
-    → s ≡ settings_at words → r ≡ receiver_at words 8 → a ≡ answering_at words → b ≡ bursting_at words → d ≡ joined s r a b
-    → d ≡ unpacked words
-unpacked_is words s r a b d p q t u e = e ∙ (λ i. joined (p i) (q i) (t i) (u i))

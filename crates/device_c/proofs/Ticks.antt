@@ -1,7 +1,7 @@
--- A tick by what its parts gave, and one with what was made of its arguments.
+-- A tick by what its parts gave.
 use Prim.Native.Nat.{ℕ, ◌<◌, ◌^◌}
 use mathlib.Core.List.{List}
-use mathlib.Core.Path.{◌≡◌, ap, subst, ◌∙◌}
+use mathlib.Core.Path.{◌≡◌, ap, ◌∙◌}
 use Rattle.line.specs.declared.Heard.{Heard}
 use Rattle.turns.specs.Device.{device_takes}
 use Rattle.turns.specs.Link.{DeviceStep, device_tick}
@@ -38,15 +38,3 @@ tick_is limit before frame bytes contents d heard call put t frame_after bytes_a
           ((v.found ∙ ap (λ (x : Device). (device_takes x heard).event) e) i));
       returned = q ∙ ap (λ (s : DeviceStep). call_number s.result) step;
     }
-
-abbrev Steps : List ℕ → List ℕ → List ℕ → List ℕ → List ℕ → List ℕ → List ℕ → List ℕ → List ℕ → List ℕ → ℕ → Heard → DeviceCall → Type 0
-Steps before frame bytes contents put words frame_after bytes_after contents_after results r heard call =
-    StepIs (limit_at before) (device_tick (limit_at before) (side_of (unpacked before) frame bytes contents) heard (call_of call put)) (device_takes (unpacked before) heard).event
-    words frame_after bytes_after contents_after results r
-
-pub tick_called : (before frame bytes contents put words frame_after bytes_after contents_after results : List ℕ) (r : ℕ) (h heard : Heard) (c call : DeviceCall) → h ≡ heard → c ≡ call
-    → Steps before frame bytes contents put words frame_after bytes_after contents_after results r h c
-    → Steps before frame bytes contents put words frame_after bytes_after contents_after results r heard call
-tick_called before frame bytes contents put words frame_after bytes_after contents_after results r h heard c call d e v =
-    subst (λ (x : DeviceCall). Steps before frame bytes contents put words frame_after bytes_after contents_after results r heard x) e
-    (subst (λ (x : Heard). Steps before frame bytes contents put words frame_after bytes_after contents_after results r x c) d v)

@@ -1,12 +1,12 @@
 // A device for programs in C: its state as words that the caller lends, and its tick.
-#![tactic(auto)]
+#![tactic(auto, using(base::proofs::Choices::choices))]
 
 ghost use Rattle.std.specs.Prelude.{◌<◌, ◌^◌, ◌≡◌};
 ghost use Rattle.line.specs.Heard.{heard_of};
 ghost use Rattle.turns.specs.Told.{device_tells};
 ghost use Rattle.device_c.specs.Words.{turn_word, turn_by, turn_of, wish_word, wish_of, settings_words, settings_at};
 ghost use Rattle.device_c.specs.Words.{answering_words, answering_at, bursting_words, content_at, bursting_at, packed, joined, unpacked, limit_at};
-ghost use Rattle.device_c.specs.Fits.{TurnFits, ContentFits, NumbersFit, DeviceFits};
+ghost use Rattle.device_c.specs.Fits.{TurnFits, DeviceFits};
 ghost use Rattle.device_tick.specs.Tick.{host_call_by};
 ghost use Rattle.device_c.specs.Tick.{DeviceTicks};
 
@@ -60,25 +60,15 @@ fn turn_word(turn: Turn) -> u64
 fn turn_by(number: u64, n: u16) -> Turn
     ensures { result ≡ turn_by number n }
 {
-    if number == 1 {
-        return Turn::Asked(n);
+    match number {
+        1 => Turn::Asked(n),
+        2 => Turn::AnswerWaits,
+        3 => Turn::Begins,
+        4 => Turn::Answers(n),
+        5 => Turn::Follows,
+        6 => Turn::Bursts(n),
+        _ => Turn::Listens,
     }
-    if number == 2 {
-        return Turn::AnswerWaits;
-    }
-    if number == 3 {
-        return Turn::Begins;
-    }
-    if number == 4 {
-        return Turn::Answers(n);
-    }
-    if number == 5 {
-        return Turn::Follows;
-    }
-    if number == 6 {
-        return Turn::Bursts(n);
-    }
-    Turn::Listens
 }
 
 fn turn_of(word: u64) -> Turn
@@ -100,21 +90,18 @@ fn wish_word(wish: Wish) -> u64
 fn wish_of(word: u64) -> Wish
     ensures { result ≡ wish_of word }
 {
-    if word == 1 {
-        return Wish::On;
+    match word {
+        1 => Wish::On,
+        2 => Wish::Off,
+        _ => Wish::Same,
     }
-    if word == 2 {
-        return Wish::Off;
-    }
-    Wish::Same
 }
 
 fn settings_at(words: &[u64; 41]) -> Settings
     ensures { result ≡ settings_at words.now }
 {
-    let profile = state_words::profile_at(words, 0);
     Settings {
-        profile: profile,
+        profile: state_words::profile_at(words, 0),
         preamble: state_words::u8_at(words, 5),
         polling: state_words::u8_at(words, 6),
         unique: state_words::word_at(words, 7),
@@ -124,15 +111,12 @@ fn settings_at(words: &[u64; 41]) -> Settings
 fn answering_at(words: &[u64; 41]) -> Answering
     ensures { result ≡ answering_at words.now }
 {
-    let turn = turn_of(state_words::word_at(words, 25));
-    let wish = wish_of(state_words::word_at(words, 26));
-    let request = state_words::header_at(words, 28);
     Answering {
         deaf: state_words::flag_at(words, 24),
-        turn: turn,
-        wish: wish,
+        turn: turn_of(state_words::word_at(words, 25)),
+        wish: wish_of(state_words::word_at(words, 26)),
         length: state_words::u16_at(words, 27),
-        request: request,
+        request: state_words::header_at(words, 28),
     }
 }
 
@@ -150,38 +134,32 @@ fn content_at(words: &[u64], place: u16) -> Content
 fn bursting_at(words: &[u64; 41]) -> Bursting
     ensures { result ≡ bursting_at words.now }
 {
-    let content = content_at(words, 37);
     Bursting {
         burst: state_words::flag_at(words, 34),
         primary: state_words::flag_at(words, 35),
         due: state_words::u32_at(words, 36),
-        content: content,
+        content: content_at(words, 37),
     }
 }
 
 fn join(s: Settings, r: Receiver, a: Answering, b: Bursting) -> Device
     ensures { result ≡ joined s r a b }
 {
-    let profile = s.profile;
-    let turn = a.turn;
-    let request = a.request;
-    let wish = a.wish;
-    let content = b.content;
     Device {
         unique: s.unique,
         receiver: r,
-        request: request,
-        profile: profile,
+        request: a.request,
+        profile: s.profile,
         length: a.length,
         due: b.due,
-        turn: turn,
+        turn: a.turn,
         preamble: s.preamble,
         polling: s.polling,
         deaf: a.deaf,
-        wish: wish,
+        wish: a.wish,
         burst: b.burst,
         primary: b.primary,
-        content: content,
+        content: b.content,
     }
 }
 
@@ -189,59 +167,56 @@ fn join(s: Settings, r: Receiver, a: Answering, b: Bursting) -> Device
 pub fn unpack(words: &[u64; 41]) -> Device
     ensures { result ≡ unpacked words.now }
 {
-    let settings = settings_at(words);
-    let receiver = state_words::receiver_at(words, 8);
-    let answering = answering_at(words);
-    let bursting = bursting_at(words);
-    join(settings, receiver, answering, bursting)
+    join(
+        settings_at(words),
+        state_words::receiver_at(words, 8),
+        answering_at(words),
+        bursting_at(words),
+    )
 }
 
-fn settings_words(p: Profile, preamble: u8, polling: u8, unique: u64) -> [u64; 8]
-    ensures { result ≡ settings_words p preamble polling unique }
+fn settings_words(d: Device) -> [u64; 8]
+    ensures { result ≡ settings_words d.profile d.preamble d.polling d.unique }
 {
     [
-        p.sto as u64,
-        p.hold as u64,
-        p.rt2 as u64,
-        p.rt1p as u64,
-        p.rt1s as u64,
-        preamble as u64,
-        polling as u64,
-        unique,
+        d.profile.sto as u64,
+        d.profile.hold as u64,
+        d.profile.rt2 as u64,
+        d.profile.rt1p as u64,
+        d.profile.rt1s as u64,
+        d.preamble as u64,
+        d.polling as u64,
+        d.unique,
     ]
 }
 
 fn answering_words(d: Device) -> [u64; 10]
     ensures { result ≡ answering_words d }
 {
-    let turn = d.turn;
-    let wish = d.wish;
-    let h = d.request;
     [
         d.deaf as u64,
-        turn_word(turn),
-        wish_word(wish),
+        turn_word(d.turn),
+        wish_word(d.wish),
         d.length as u64,
-        h.kind as u64,
-        h.long as u64,
-        h.primary as u64,
-        h.burst as u64,
-        h.address,
-        h.command as u64,
+        d.request.kind as u64,
+        d.request.long as u64,
+        d.request.primary as u64,
+        d.request.burst as u64,
+        d.request.address,
+        d.request.command as u64,
     ]
 }
 
 fn bursting_words(limit: u8, d: Device) -> [u64; 7]
     ensures { result ≡ bursting_words limit d }
 {
-    let c = d.content;
     [
         d.burst as u64,
         d.primary as u64,
         d.due as u64,
-        c.given as u64,
-        c.command as u64,
-        c.count as u64,
+        d.content.given as u64,
+        d.content.command as u64,
+        d.content.count as u64,
         limit as u64,
     ]
 }
@@ -250,16 +225,10 @@ fn bursting_words(limit: u8, d: Device) -> [u64; 7]
 pub fn pack(words: &mut [u64; 41], limit: u8, d: Device)
     ensures { words.new ≡ packed limit d }
 {
-    let p = d.profile;
-    let r = d.receiver;
-    let settings = settings_words(p, d.preamble, d.polling, d.unique);
-    let reader = state_words::receiver_words(r);
-    let answering = answering_words(d);
-    let bursting = bursting_words(limit, d);
-    state_words::put(words, 0, &settings);
-    state_words::put(words, 8, &reader);
-    state_words::put(words, 24, &answering);
-    state_words::put(words, 34, &bursting);
+    state_words::put(words, 0, &settings_words(d));
+    state_words::put(words, 8, &state_words::receiver_words(d.receiver));
+    state_words::put(words, 24, &answering_words(d));
+    state_words::put(words, 34, &bursting_words(limit, d));
 }
 
 // The data limit that some words hold.
@@ -269,53 +238,24 @@ pub fn limit_at(words: &[u64; 41]) -> u8
     state_words::u8_at(words, 40)
 }
 
-// The next six do nothing. The contract of each says that the numbers of a value are within their types, which the prover knows of a parameter; `device_kept` needs it.
-fn u16_fits(n: u16)
-    ensures { n < 2 ^ 16 }
-{}
-
+// The next three do nothing but call each other. The contract of each says that the numbers of a value are within their types, which the prover knows of a parameter; `device_kept` needs it.
 pub fn limit_fits(limit: u8)
     ensures { limit < 2 ^ 8 }
 {}
 
 fn turn_fits(turn: Turn)
     ensures { TurnFits turn }
-{
-    match turn {
-        Turn::Listens => {}
-        Turn::Asked(n) => u16_fits(n),
-        Turn::AnswerWaits => {}
-        Turn::Begins => {}
-        Turn::Answers(n) => u16_fits(n),
-        Turn::Follows => {}
-        Turn::Bursts(n) => u16_fits(n),
-    }
-}
-
-fn content_fits(c: Content)
-    ensures { ContentFits c }
 {}
 
-fn numbers_fit(preamble: u8, polling: u8, length: u16, due: u32)
-    ensures { NumbersFit preamble polling length due }
-{}
-
+// The numbers of a device.
 pub fn device_fits(d: Device)
     ensures { DeviceFits d }
 {
-    let profile = d.profile;
-    let receiver = d.receiver;
-    let turn = d.turn;
-    let request = d.request;
-    let content = d.content;
-    state_words::profile_fits(profile);
-    state_words::receiver_fits(receiver);
-    turn_fits(turn);
-    state_words::header_fits(request);
-    content_fits(content);
-    numbers_fit(d.preamble, d.polling, d.length, d.due);
+    state_words::receiver_fits(d.receiver);
+    turn_fits(d.turn);
 }
 
+// What a device tells its host, as the number that a program in C reads.
 pub fn told_number(told: DeviceTold) -> u64
     ensures { result ≡ (device_tells told).number }
 {
@@ -342,21 +282,16 @@ fn tick(
     let d = unpack(words);
     let limit = limit_at(words);
     let t = device_tick::tick(limit, d, heard, call, put, contents, frame, bytes);
-    let next = t.device;
-    let sent = t.sent;
-    let told = t.told;
-    let event = t.event;
-    let result = t.result;
-    device_fits(next);
+    device_fits(t.device);
     limit_fits(limit);
-    pack(words, limit, next);
+    pack(words, limit, t.device);
     *results = state_words::tick_numbers(
-        party::sent_number(sent) as u64,
-        told_number(told),
+        party::sent_number(t.sent) as u64,
+        told_number(t.told),
         0,
-        event,
+        t.event,
     );
-    party::call_number(result)
+    party::call_number(t.result)
 }
 
 // A tick of a device; returns 0, or the number with which its host's answer or burst content is refused.
@@ -374,7 +309,14 @@ pub fn nengapiko_device_tick(
 ) -> u32
     ensures { DeviceTicks state frame bytes contents (heard_of kind character) (host_call_by call command) put.now results result }
 {
-    let heard = line::heard_of(kind, character);
-    let given = device_tick::host_call_by(call, command);
-    tick(state, frame, bytes, contents, heard, given, put, results)
+    tick(
+        state,
+        frame,
+        bytes,
+        contents,
+        line::heard_of(kind, character),
+        device_tick::host_call_by(call, command),
+        put,
+        results,
+    )
 }

@@ -1,5 +1,5 @@
 // What a device does after what it heard. The functions follow the definitions of crates/turns/specs/Device.antt, in their order.
-#![tactic(auto)]
+#![tactic(auto, using(base::proofs::Choices::choices))]
 
 ghost use Rattle.std.specs.Prelude.{◌≡◌, false};
 ghost use Rattle.base.specs.Choice.{when◌then◌else◌};
@@ -12,76 +12,36 @@ use frame::Header;
 use line::{Event, FrameDamage, Heard, Receiver, Whole};
 use turns::{Change, Device, DeviceTaken, DeviceTold, Turn, Wish};
 
-// The same device with other parts.
-pub fn with_parts(
-    d: Device,
-    r: Receiver,
-    turn: Turn,
-    request: Header,
-    wish: Wish,
-    length: u16,
-    due: u32,
-) -> Device
-    ensures { result ≡ device_with d r turn request wish length due }
-{
-    let p = d.profile;
-    let profile = party::copy_profile(p);
-    let content = d.content;
-    Device {
-        profile: profile,
-        preamble: d.preamble,
-        polling: d.polling,
-        unique: d.unique,
-        receiver: r,
-        deaf: d.deaf,
-        turn: turn,
-        request: request,
-        wish: wish,
-        length: length,
-        burst: d.burst,
-        primary: d.primary,
-        due: due,
-        content: content,
-    }
-}
-
 // Whether a request is for this device: to its unique address, or with command 0 to its polling address.
 fn is_own(d: Device, h: Header) -> bool
     ensures { result ≡ is_own d h }
 {
     if h.long {
-        return d.unique == h.address;
+        d.unique == h.address
+    } else {
+        u64::from(d.polling) == h.address && h.command == 0
     }
-    if (d.polling as u64) == h.address {
-        return h.command == 0;
-    }
-    false
 }
 
 // The silent ticks before the next BACK, after an undamaged frame of another party.
 fn due_after_frame(d: Device, w: Whole) -> u32
     ensures { result ≡ due_after d.profile (ended_by (Event.Frame w)) }
 {
-    let h = w.header;
-    if h.kind == frame::ACK {
-        return 1;
+    if w.header.kind == frame::ACK {
+        1
+    } else {
+        u32::from(d.profile.rt1p)
     }
-    let profile = d.profile;
-    profile.rt1p as u32
 }
 
 // The silent ticks before the next BACK, after a character.
 fn due_after(d: Device, event: Event) -> u32
     ensures { result ≡ due_after d.profile (ended_by event) }
 {
-    let profile = d.profile;
-    let rt1 = profile.rt1p as u32;
     match event {
         Event::Nothing => 0,
-        Event::PassedOver => rt1,
-        Event::Broken => rt1,
         Event::Frame(w) => due_after_frame(d, w),
-        Event::Damaged(_, _) => rt1,
+        Event::PassedOver | Event::Broken | Event::Damaged(..) => u32::from(d.profile.rt1p),
     }
 }
 
@@ -89,46 +49,32 @@ fn due_after(d: Device, event: Event) -> u32
 pub fn frame_length(preamble: u8, long: bool, count: u8) -> u16
     ensures { result ≡ length_by preamble long count }
 {
-    if long {
-        return (preamble as u16) + (8 + (count as u16) + 1);
-    }
-    (preamble as u16) + (4 + (count as u16) + 1)
+    let header: u16 = if long { 8 } else { 4 };
+    u16::from(preamble) + header + u16::from(count) + 1
 }
 
 // Whether a damaged frame is answered without the host.
 pub fn has_error(d: Device, w: Whole, m: FrameDamage) -> bool
     ensures { result ≡ has_error d w m }
 {
-    let h = w.header;
-    if h.kind == frame::STX {
-        if w.expansion == 0 {
-            return has_own_address(d, h, m);
-        }
-        return false;
-    }
-    false
+    w.header.kind == frame::STX && w.expansion == 0 && has_own_address(d, w.header, m)
 }
 
 fn has_own_address(d: Device, h: Header, m: FrameDamage) -> bool
     ensures { result ≡ (when m.address then false else is_own d h) }
 {
-    if m.address {
-        return false;
-    }
-    is_own(d, h)
+    !m.address && is_own(d, h)
 }
 
 // A device with nothing in hand.
 fn listens(d: Device, told: DeviceTold) -> Change
     ensures { result ≡ listens_on d told }
 {
-    let q = d.request;
-    let request = line_reader::copy_header(q);
     Change {
         turn: Turn::Listens,
-        request: request,
+        request: d.request,
         length: d.length,
-        told: told,
+        told,
     }
 }
 
@@ -136,64 +82,52 @@ fn listens(d: Device, told: DeviceTold) -> Change
 fn may_answer(d: Device, h: Header) -> bool
     ensures { result ≡ may_answer d h }
 {
-    if party::seeks_tag(h) {
-        return true;
-    }
-    is_own(d, h)
+    party::seeks_tag(h) || is_own(d, h)
 }
 
 // An undamaged STX without expansion bytes: a request that its host may answer, another broadcast, or a request for another device.
 fn after_request(d: Device, w: Whole) -> Change
     ensures { result ≡ after_request d w }
 {
-    let h = w.header;
-    let profile = d.profile;
-    if may_answer(d, h) {
-        let request = line_reader::copy_header(h);
-        return Change {
-            turn: Turn::Asked(profile.sto),
-            request: request,
+    if may_answer(d, w.header) {
+        Change {
+            turn: Turn::Asked(d.profile.sto),
+            request: w.header,
             length: d.length,
             told: DeviceTold::Request(w),
-        };
+        }
+    } else if party::is_broadcast(w.header) {
+        listens(d, DeviceTold::Broadcast(w))
+    } else {
+        listens(d, DeviceTold::Nothing)
     }
-    if party::is_broadcast(h) {
-        return listens(d, DeviceTold::Broadcast(w));
-    }
-    listens(d, DeviceTold::Nothing)
 }
 
 // An undamaged frame.
 fn after_frame(d: Device, w: Whole) -> Change
     ensures { result ≡ after_frame d w }
 {
-    let h = w.header;
-    let expansion = w.expansion;
-    if h.kind == frame::STX {
-        if expansion == 0 {
-            return after_request(d, w);
-        }
-        return listens(d, DeviceTold::Nothing);
+    if w.header.kind == frame::STX && w.expansion == 0 {
+        after_request(d, w)
+    } else {
+        listens(d, DeviceTold::Nothing)
     }
-    listens(d, DeviceTold::Nothing)
 }
 
 // A damaged frame.
 fn after_damage(d: Device, w: Whole, m: FrameDamage) -> Change
     ensures { result ≡ after_damage d w m }
 {
-    let h = w.header;
     if has_error(d, w, m) {
-        let length = frame_length(d.preamble, h.long, 2);
-        let request = line_reader::copy_header(h);
-        return Change {
+        Change {
             turn: Turn::AnswerWaits,
-            request: request,
-            length: length,
+            request: w.header,
+            length: frame_length(d.preamble, w.header.long, 2),
             told: DeviceTold::Nothing,
-        };
+        }
+    } else {
+        listens(d, DeviceTold::Nothing)
     }
-    listens(d, DeviceTold::Nothing)
 }
 
 // A character, by what the reader tells.
@@ -201,11 +135,9 @@ fn after_character(d: Device, event: Event) -> Change
     ensures { result ≡ after_character d event }
 {
     match event {
-        Event::Nothing => listens(d, DeviceTold::Nothing),
-        Event::PassedOver => listens(d, DeviceTold::Nothing),
-        Event::Broken => listens(d, DeviceTold::Nothing),
         Event::Frame(w) => after_frame(d, w),
         Event::Damaged(w, m) => after_damage(d, w, m),
+        Event::Nothing | Event::PassedOver | Event::Broken => listens(d, DeviceTold::Nothing),
     }
 }
 
@@ -214,15 +146,19 @@ fn on_character(d: Device, r: Receiver, event: Event) -> DeviceTaken
     ensures { result ≡ on_character d r event }
 {
     let c = after_character(d, event);
-    let due = due_after(d, event);
-    let turn = c.turn;
-    let request = c.request;
-    let told = c.told;
-    let device = with_parts(d, r, turn, request, Wish::Same, c.length, due);
+    let device = Device {
+        receiver: r,
+        turn: c.turn,
+        request: c.request,
+        wish: Wish::Same,
+        length: c.length,
+        due: due_after(d, event),
+        ..d
+    };
     DeviceTaken {
-        device: device,
-        told: told,
-        event: event,
+        device,
+        told: c.told,
+        event,
     }
 }
 
@@ -231,13 +167,9 @@ fn waits(turn: Turn) -> Turn
     ensures { result ≡ waited turn }
 {
     match turn {
-        Turn::Listens => Turn::Listens,
         Turn::Asked(n) => waits_for_answer(n),
         Turn::AnswerWaits => Turn::Begins,
-        Turn::Begins => Turn::Begins,
-        Turn::Answers(n) => Turn::Answers(n),
-        Turn::Follows => Turn::Follows,
-        Turn::Bursts(n) => Turn::Bursts(n),
+        _ => turn,
     }
 }
 
@@ -246,19 +178,17 @@ fn waits_for_answer(n: u16) -> Turn
     ensures { result ≡ waited (Turn.Asked n) }
 {
     if n <= 1 {
-        return Turn::Listens;
+        Turn::Listens
+    } else {
+        Turn::Asked(n - 1)
     }
-    Turn::Asked(n - 1)
 }
 
 // Whether a BACK begins.
 fn back_due(d: Device, due: u32) -> bool
     ensures { result ≡ back_due d due }
 {
-    if d.burst {
-        return due == 1;
-    }
-    false
+    d.burst && due == 1
 }
 
 // The turn after a silent tick: a BACK begins where its timer ends.
@@ -266,24 +196,26 @@ fn next_turn(d: Device, due: u32) -> Turn
     ensures { result ≡ next_turn d due }
 {
     if back_due(d, due) {
-        return Turn::Follows;
+        Turn::Follows
+    } else {
+        waits(d.turn)
     }
-    let turn = d.turn;
-    waits(turn)
 }
 
 // A silent tick.
 fn count_tick(d: Device, r: Receiver, due: u32, event: Event) -> DeviceTaken
     ensures { result ≡ counts d r due event }
 {
-    let request = d.request;
-    let wish = d.wish;
-    let next = next_turn(d, due);
-    let device = with_parts(d, r, next, request, wish, d.length, party::one_less(due));
+    let device = Device {
+        receiver: r,
+        turn: next_turn(d, due),
+        due: party::one_less(due),
+        ..d
+    };
     DeviceTaken {
-        device: device,
+        device,
         told: DeviceTold::Nothing,
-        event: event,
+        event,
     }
 }
 
@@ -291,25 +223,18 @@ fn count_tick(d: Device, r: Receiver, due: u32, event: Event) -> DeviceTaken
 fn broken_due(d: Device) -> u32
     ensures { result ≡ broken_due d }
 {
-    let profile = d.profile;
-    party::one_less(profile.rt1p as u32)
+    party::one_less(u32::from(d.profile.rt1p))
 }
 
 // A silent tick inside a frame that is passed over.
 fn passed_over(d: Device) -> DeviceTaken
     ensures { result ≡ tells (device_with d (gapped d.receiver) d.turn d.request d.wish d.length d.due) DeviceTold.Nothing Event.Nothing }
 {
-    let reader = d.receiver;
-    let r = line_reader::gapped_reader(reader);
-    let request = d.request;
-    let wish = d.wish;
-    let turn = d.turn;
-    let device = with_parts(d, r, turn, request, wish, d.length, d.due);
-    DeviceTaken {
-        device: device,
-        told: DeviceTold::Nothing,
-        event: Event::Nothing,
-    }
+    let device = Device {
+        receiver: line_reader::gapped_reader(d.receiver),
+        ..d
+    };
+    hears_nothing(device)
 }
 
 // A device that hears nothing.
@@ -327,44 +252,25 @@ fn hears_nothing(d: Device) -> DeviceTaken
 fn hears_silence(d: Device) -> DeviceTaken
     ensures { result ≡ on_silence d (taken d.receiver Silence).receiver }
 {
-    let reader = d.receiver;
-    let place = reader.place;
-    if line_reader::is_inside(place) {
-        if reader.gap {
-            return count_tick(d, line_reader::idle_reader(), broken_due(d), Event::Broken);
-        }
-        return passed_over(d);
+    if !line_reader::is_inside(d.receiver.place) {
+        count_tick(d, line_reader::idle_reader(), d.due, Event::Nothing)
+    } else if d.receiver.gap {
+        count_tick(d, line_reader::idle_reader(), broken_due(d), Event::Broken)
+    } else {
+        passed_over(d)
     }
-    count_tick(d, line_reader::idle_reader(), d.due, Event::Nothing)
-}
-
-// The same device, with the parts that the tick reader builds again field by field.
-fn copy_device(d: Device) -> Device
-    ensures { result ≡ d }
-{
-    let r = d.receiver;
-    let q = d.request;
-    let turn = d.turn;
-    let wish = d.wish;
-    let receiver = line_reader::copy_receiver(r);
-    let request = line_reader::copy_header(q);
-    with_parts(d, receiver, turn, request, wish, d.length, d.due)
 }
 
 // Takes what was heard: returns the device after it, and what it tells its host. The data of the frame being heard are in the lent data buffer.
 pub fn take(d: Device, heard: Heard, bytes: &mut [u8; 255]) -> DeviceTaken
     ensures { HeardIs d heard bytes.old result bytes.new }
 {
-    let own = copy_device(d);
-    if own.deaf {
-        return hears_nothing(own);
+    if d.deaf {
+        hears_nothing(d)
+    } else if party::is_silence(heard) {
+        hears_silence(d)
+    } else {
+        let t = line_reader::take(d.receiver, heard, bytes);
+        on_character(d, t.receiver, t.event)
     }
-    if party::is_silence(heard) {
-        return hears_silence(own);
-    }
-    let reader = own.receiver;
-    let t = line_reader::take(reader, heard, bytes);
-    let r = t.receiver;
-    let event = t.event;
-    on_character(own, r, event)
 }

@@ -1,6 +1,6 @@
 -- How the code stands for what is to be believed.
 -- A tick of a device, by `device_tick` of crates/turns/specs/Link.antt.
-use Rattle.std.specs.Prelude.{ℕ, List, ◌≡◌}
+use Rattle.std.specs.Prelude.{ℕ, List, ◌≡◌, Result, Ok, Err}
 use Rattle.base.specs.Choice.{when◌then◌else◌, ◌=?◌}
 use Rattle.base.specs.Refusal.{number}
 use Rattle.line.specs.declared.Event.{Event}
@@ -12,10 +12,10 @@ use Rattle.turns.specs.declared.Device.{Device}
 use Rattle.turns.specs.declared.DeviceTold.{DeviceTold}
 use Rattle.turns.specs.declared.Wish.TheVariants.{Same, On, Off}
 use Rattle.turns.specs.declared.CallResult.{CallResult}
-use Rattle.device.specs.declared.DeviceCalled.{DeviceCalled}
 use Rattle.device_tick.specs.declared.DeviceCall.{DeviceCall}
 use Rattle.device_tick.specs.declared.DeviceCallTaken.{DeviceCallTaken}
 use Rattle.device_tick.specs.declared.DeviceTicked.{DeviceTicked}
+use Rattle.base.specs.declared.Refusal.{Refusal}
 
 -- a host's call by its number, as programs in C, recordings and lists of ticks have it: 1 is an answer, 2 one that turns burst on, 3 one that turns it off, 4 burst content of this command, any other number nothing
 abbrev pub host_call_by : ℕ → ℕ → DeviceCall
@@ -43,9 +43,9 @@ abbrev pub uncalled : Device → DeviceCallTaken
 uncalled d = record { device = d; result = CallResult.Nothing }
 
 -- after an answer or a burst content, by what the call answered
-abbrev pub called_by : Device → DeviceCalled → DeviceCallTaken
-called_by d (DeviceCalled.Accepted e) = record { device = e; result = CallResult.Taken }
-called_by d (DeviceCalled.Refused why) = record { device = d; result = CallResult.Refused (number why) }
+abbrev pub called_by : Device → Result Device Refusal → DeviceCallTaken
+called_by d (Ok e) = record { device = e; result = CallResult.Taken }
+called_by d (Err why) = record { device = d; result = CallResult.Refused (number why) }
 
 -- a call, whatever the tick told before it and whatever data it heard: `frame_after` and `contents_after` are the frame buffer and the burst content after the call
 pub record DeviceCalledIs (limit : ℕ) (d : Device) (call : DeviceCall) (put frame contents : List ℕ) (r : DeviceCallTaken)

@@ -1,22 +1,22 @@
 // A tick of a device: it takes what was heard, then its host's answer or burst content, then sends a character or none.
-#![tactic(auto)]
+#![tactic(auto, using(base::proofs::Choices::choices))]
 
-ghost use Rattle.std.specs.Prelude.{◌≡◌, true, ◌≤◌, length};
+ghost use Rattle.std.specs.Prelude.{◌≡◌, true, ◌≤◌, length, IfOk};
 ghost use Rattle.base.specs.Store.{stored};
 ghost use Rattle.frame.specs.Limits.{most_data};
 ghost use Rattle.turns.specs.Device.{device_with_content, content_given};
-ghost use Rattle.device.specs.Calls.{called_as};
 ghost use Rattle.device_tick.specs.Content.{ContentIs};
 ghost use Rattle.device_tick.specs.Tick.{host_call_by, uncalled, called_by, DeviceCalledIs, DeviceTickIs};
+ghost use Rattle.base.specs.Refusal.{called_as};
 
 use base::Refusal;
-use device::DeviceCalled;
 use line::{Event, Heard};
 use turns::{CallResult, Content, Device, DeviceTold, Sent, Wish};
 
 // A host's call in a tick.
 #[derive(Clone, Copy)]
 pub enum DeviceCall {
+    // none: no Option, since the specs name three cases
     Nothing,
     Answers(Wish),
     // a burst content of this command
@@ -27,19 +27,13 @@ pub enum DeviceCall {
 pub fn host_call_by(number: u8, command: u8) -> DeviceCall
     ensures { result ≡ host_call_by number command }
 {
-    if number == 1 {
-        return DeviceCall::Answers(Wish::Same);
+    match number {
+        1 => DeviceCall::Answers(Wish::Same),
+        2 => DeviceCall::Answers(Wish::On),
+        3 => DeviceCall::Answers(Wish::Off),
+        4 => DeviceCall::Content(command),
+        _ => DeviceCall::Nothing,
     }
-    if number == 2 {
-        return DeviceCall::Answers(Wish::On);
-    }
-    if number == 3 {
-        return DeviceCall::Answers(Wish::Off);
-    }
-    if number == 4 {
-        return DeviceCall::Content(command);
-    }
-    DeviceCall::Nothing
 }
 
 // A device after its host's call.
@@ -63,45 +57,27 @@ pub struct DeviceTicked {
 fn with_content(d: Device, command: u8, count: u8) -> Device
     ensures { result ≡ device_with_content d (record { given = true; command = command; count = count }) }
 {
-    let profile = d.profile;
-    let receiver = d.receiver;
-    let turn = d.turn;
-    let request = d.request;
-    let wish = d.wish;
     let content = Content {
         given: true,
-        command: command,
-        count: count,
+        command,
+        count,
     };
-    Device {
-        profile: profile,
-        preamble: d.preamble,
-        polling: d.polling,
-        unique: d.unique,
-        receiver: receiver,
-        deaf: d.deaf,
-        turn: turn,
-        request: request,
-        wish: wish,
-        length: d.length,
-        burst: d.burst,
-        primary: d.primary,
-        due: d.due,
-        content: content,
-    }
+    Device { content, ..d }
 }
 
 // The device after a burst content of so many data bytes.
-fn content_by(limit: u8, d: Device, command: u8, count: usize) -> DeviceCalled
-    ensures { called_as result ≡ content_given limit d command count }
+#[tactic(auto, using(base::proofs::Choices::choices), unfolding(turns::specs::Device::content_given))]
+fn content_by(limit: u8, d: Device, command: u8, count: usize) -> Result<Device, Refusal>
+    ensures called { called_as result ≡ content_given limit d command count }
+    ensures fits { IfOk result (λ e. count ≤ most_data) }
 {
     if command == 254 {
-        return DeviceCalled::Refused(Refusal::Command);
+        Err(Refusal::Command)
+    } else if base::outside(count, 2, limit as usize) {
+        Err(Refusal::DataLength)
+    } else {
+        Ok(with_content(d, command, count as u8))
     }
-    if base::outside(count, 2, limit as usize) {
-        return DeviceCalled::Refused(Refusal::DataLength);
-    }
-    DeviceCalled::Accepted(with_content(d, command, count as u8))
 }
 
 // Puts the data at the front of the lent content.
@@ -109,11 +85,7 @@ fn put_content(bytes: &[u8], contents: &mut [u8])
     requires { (length bytes.now ≤ most_data) × (most_data ≤ length contents.old) }
     ensures { contents.new ≡ stored contents.old 0 bytes.now }
 {
-    let mut i = 0;
-    while i < bytes.len() {
-        contents[i] = bytes[i];
-        i += 1;
-    }
+    contents[..bytes.len()].copy_from_slice(bytes);
 }
 
 // Takes the burst content, or refuses it with 5 or 9 and leaves the lent content as it was.
@@ -123,29 +95,24 @@ fn content(
     command: u8,
     bytes: &[u8],
     contents: &mut [u8; 255],
-) -> DeviceCalled
+) -> Result<Device, Refusal>
     ensures { ContentIs limit d command bytes.now contents.old result contents.new }
 {
-    let called = content_by(limit, d, command, bytes.len());
-    match called {
-        DeviceCalled::Accepted(e) => {
-            put_content(bytes, contents);
-            DeviceCalled::Accepted(e)
-        }
-        DeviceCalled::Refused(why) => DeviceCalled::Refused(why),
-    }
+    let given = content_by(limit, d, command, bytes.len())?;
+    put_content(bytes, contents);
+    Ok(given)
 }
 
 // A device after its host's answer or burst content, by what the call answered.
-fn called_by(d: Device, r: DeviceCalled) -> DeviceCallTaken
+fn called_by(d: Device, r: Result<Device, Refusal>) -> DeviceCallTaken
     ensures { result ≡ called_by d r }
 {
     match r {
-        DeviceCalled::Accepted(e) => DeviceCallTaken {
-            device: e,
+        Ok(device) => DeviceCallTaken {
+            device,
             result: CallResult::Taken,
         },
-        DeviceCalled::Refused(why) => DeviceCallTaken {
+        Err(why) => DeviceCallTaken {
             device: d,
             result: CallResult::Refused(why.number()),
         },
@@ -193,21 +160,14 @@ pub fn tick(
     ensures { DeviceTickIs limit d heard call put.now frame.old bytes.old contents.old result
         frame.new bytes.new contents.new }
 {
-    let t = device::take(d, heard, bytes, frame);
-    let taken = t.device;
-    let told = t.told;
-    let event = t.event;
-    let c = take_call(limit, taken, call, put, contents, frame);
-    let called = c.device;
-    let result = c.result;
-    let s = device::send(called, contents, frame);
-    let next = s.device;
-    let sent = s.sent;
+    let taken = device::take(d, heard, bytes, frame);
+    let called = take_call(limit, taken.device, call, put, contents, frame);
+    let behind = device::send(called.device, contents, frame);
     DeviceTicked {
-        device: next,
-        sent: sent,
-        told: told,
-        event: event,
-        result: result,
+        device: behind.device,
+        sent: behind.sent,
+        told: taken.told,
+        event: taken.event,
+        result: called.result,
     }
 }

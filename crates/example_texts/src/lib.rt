@@ -21,7 +21,7 @@ fn put_flag(name: &[u8], on: bool, out: &mut [u8], at: usize) -> usize
 pub fn put_header(h: Header, out: &mut [u8], at: usize) -> usize
     ensures { PutIs (header_text h) out.old at result out.new }
 {
-    let mut place = put_field(b" type ", h.kind as u64, out, at);
+    let mut place = put_field(b" type ", u64::from(h.kind), out, at);
     place = put_flag(b" long ", h.long, out, place);
     place = put_flag(b" primary ", h.primary, out, place);
     place = put_flag(b" burst ", h.burst, out, place);

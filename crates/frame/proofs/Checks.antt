@@ -5,14 +5,21 @@ use mathlib.Core.Path.{◌≡◌, refl, sym, ap, ◌∙◌}
 use mathlib.Core.List.{List, [], ◌∷◌, ◌++◌}
 use lib.ListN.{length, take, get_or}
 use lib.Seq.{take_all}
-use lib.Bits.{bit_xor, bit_and, xor_self, xor_add_and, and_le_l, and_le_r}
+use lib.Bits.{bit_xor, xor_self, xor_add_and, and_le_l, and_le_r}
 use Rattle.base.proofs.Stores.{take_more}
+use Rattle.std.specs.List.{fold}
 use Rattle.frame.specs.Check.{xor_from, exclusive_or}
 
 pub xor_append : (x : ℕ) (us vs : List ℕ) → xor_from x (us ++ vs) ≡ xor_from (xor_from x us) vs
 unfolding xor_from
 xor_append x [] vs = refl
 xor_append x (u ∷ us) vs = xor_append (bit_xor x u) us vs
+
+-- as an iterator's fold works it out
+pub xor_is_fold : (x : ℕ) (bytes : List ℕ) → fold bit_xor x bytes ≡ xor_from x bytes
+unfolding xor_from
+xor_is_fold x [] = refl
+xor_is_fold x (b ∷ bytes) = xor_is_fold (bit_xor x b) bytes
 
 -- the loop: sum is the exclusive-or of x and the first i bytes
 pub record Passed (x : ℕ) (bytes : List ℕ) (sum i : ℕ) : Type 0 where

@@ -1,4 +1,5 @@
 -- Theorems: an answer of the reader that asks for no more bytes stays the same whatever follows, and behind the preamble 267 bytes are enough.
+use Rattle.std.specs.Prelude.{Option, Some, None}
 use Prim.Native.Nat.{ℕ, suc, ◌+◌, ◌≤◌, ◌<◌, ◌/◌, ◌%◌}
 use native.Mathlib.Omega.{arith}
 use native.Mathlib.Numerals.{add-one}
@@ -11,7 +12,7 @@ use borrow.Author.Tests.{leb-false, ltb-true, ltb-false, eq-eqb, eqb-false}
 use Rattle.base.specs.Choice.{when◌then◌else◌, ◌<?◌, ◌≤?◌, ◌=?◌}
 use Rattle.base.specs.Refusal.{Called, accepted, refused}
 use Rattle.base.proofs.Choices.{true_false, if_true, if_false, if_above, if_below, if_not_below, if_unequal, if_is_true, if_is_false, went_then, went_else}
-use Rattle.frame.specs.Delimiter.{is_type, delimiter_of}
+use Rattle.frame.specs.Delimiter.{is_type, delimiter_of, delimiter_with}
 use Rattle.frame.specs.Address.{address_length, byte_at}
 use Rattle.frame.specs.Check.{xor_from, exclusive_or}
 use Rattle.frame.specs.Frame.{preamble_bytes, too_few}
@@ -21,7 +22,6 @@ use Rattle.frame.proofs.Lengths.{preamble_count}
 use Rattle.frame.proofs.Preambles.{preambles_split}
 use Rattle.frame.proofs.Prefix.{reads_prefix}
 use Rattle.frame.specs.declared.Delimiter.{Delimiter}
-use Rattle.frame.specs.declared.Delimiter.TheVariants.{Is, Not}
 use Rattle.frame.specs.declared.Found.{Found}
 
 refused_same : (n m : ℕ) → ◌≡◌ {A = Called Found} (refused n) (refused m) → n ≡ m
@@ -80,9 +80,9 @@ module _ (preamble : ℕ) (t rest : List ℕ) (why : ℕ) (settled : why ≡ 13 
       (count_kept frame long expansion place (byte_at t (place + 1)) a.1
       ∙ ap (λ (n : ℕ). with_count preamble (t ++ rest) frame long expansion place n) (sym (byte_kept t rest (place + 1) inside)))
 
-  delimiter_kept : (d : Delimiter) → with_delimiter preamble t d ≡ refused why → refused why ≡ with_delimiter preamble (t ++ rest) d
-  delimiter_kept Not e = sym e
-  delimiter_kept (Is frame long expansion) e = command_kept frame long expansion (command_place long expansion) e
+  delimiter_kept : (d : Option Delimiter) → with_delimiter preamble t d ≡ refused why → refused why ≡ with_delimiter preamble (t ++ rest) d
+  delimiter_kept None e = sym e
+  delimiter_kept (Some d) e = command_kept d.kind d.long d.expansion (command_place d.long d.expansion) e
 
   body_some : read_body preamble t ≡ refused why → length t ≡ 0 → ⊥
   unfolding read_body
@@ -157,16 +157,21 @@ others_final bytes rest e = go (read_frame bytes) refl e
         let a = went_else (why =? 13) _ _ false w true_false in
         refused_kept bytes rest why (eqb-false why 13 a.0) a.1 q ∙ sym q
 
+-- how many expansion bytes a delimiter says; 0 where there is none
+abbrev said : Option Delimiter → ℕ
+said None = 0
+said (Some d) = d.expansion
+
 -- a delimiter's expansion bytes are at most three
-few_expansion : (b frame : ℕ) (long : Bool) (expansion : ℕ) → delimiter_of b ≡ Is frame long expansion → expansion < 4
+few_expansion : (b frame : ℕ) (long : Bool) (expansion : ℕ) → delimiter_of b ≡ delimiter_with frame long expansion → expansion < 4
 unfolding delimiter_of
 few_expansion b frame long expansion e =
-    let a = went_then (b / 8 % 4 =? 0) _ _ (Is frame long expansion) e not_is in
-    let c = went_then (is_type (b % 8)) _ _ (Is frame long expansion) a.1 not_is in
-    let same : b / 32 % 4 ≡ expansion = cc c.1 in
+    let a = went_then (b / 8 % 4 =? 0) _ _ (delimiter_with frame long expansion) e not_is in
+    let c = went_then (is_type (b % 8)) _ _ (delimiter_with frame long expansion) a.1 not_is in
+    let same : b / 32 % 4 ≡ expansion = ap said c.1 in
     omega arith
   where
-    not_is : Not ≡ Is frame long expansion → ⊥
+    not_is : None ≡ delimiter_with frame long expansion → ⊥
     not_is q = let z : ◌≡◌ {A = ℕ} 0 1 = cc in omega arith
 
 address_short : (long : Bool) → address_length long < 6
@@ -186,13 +191,13 @@ module _ (bytes : List ℕ) (preamble : ℕ) (t : List ℕ) (enough : most_behin
       go false true = refl
       go false false = refl
 
-  delimited_enough : ((i : ℕ) → byte_at t i < 256) → (d : Delimiter) → delimiter_of (byte_at t 0) ≡ d → wants_more bytes (with_delimiter preamble t d) ≡ false
+  delimited_enough : ((i : ℕ) → byte_at t i < 256) → (d : Option Delimiter) → delimiter_of (byte_at t 0) ≡ d → wants_more bytes (with_delimiter preamble t d) ≡ false
   unfolding when◌then◌else◌
-  delimited_enough small Not e = refl
-  delimited_enough small (Is frame long expansion) e =
-      let place : ℕ = command_place long expansion in
-      let short : place < 10 = omega (arith, few_expansion (byte_at t 0) frame long expansion e, address_short long) in
-      ap (wants_more bytes) (sym (if_above (length t) (place + 1) _ _ _ (omega arith) refl)) ∙ counted_enough frame long expansion place (byte_at t (place + 1)) short (small (place + 1))
+  delimited_enough small None e = refl
+  delimited_enough small (Some d) e =
+      let place : ℕ = command_place d.long d.expansion in
+      let short : place < 10 = omega (arith, few_expansion (byte_at t 0) d.kind d.long d.expansion e, address_short d.long) in
+      ap (wants_more bytes) (sym (if_above (length t) (place + 1) _ _ _ (omega arith) refl)) ∙ counted_enough d.kind d.long d.expansion place (byte_at t (place + 1)) short (small (place + 1))
 
 pub enough_bytes : EnoughBytes
 unfolding read_frame read_body

@@ -1,9 +1,9 @@
 -- How long the parts of a frame are: as the fields say.
 use Prim.Native.Nat.{ℕ, ◌+◌}
 use native.Mathlib.Omega.{arith}
-use mathlib.Core.Path.{◌≡◌, refl, sym, ap, ◌∙◌}
+use mathlib.Core.Path.{◌≡◌, refl, sym}
 use mathlib.Core.Bool.{Bool, true, false}
-use mathlib.Core.List.{List, [], ◌∷◌, ◌++◌}
+use mathlib.Core.List.{List, [], ◌∷◌}
 use lib.ListN.{length, length-append, length-replicate}
 use Rattle.base.specs.Choice.{when◌then◌else◌}
 use Rattle.frame.specs.Address.{address_length, address_bytes, long_address, short_address}

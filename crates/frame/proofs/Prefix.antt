@@ -1,32 +1,30 @@
 -- Theorem: the reader's answer depends only on the bytes up to the end that it gives.
-use Prim.Native.Nat.{ℕ, ◌+◌, ◌*◌, ◌%◌, ◌^◌, ◌≤◌, ◌<◌}
+use Prim.Native.Nat.{ℕ, ◌+◌, ◌%◌, ◌≤◌, ◌<◌}
 use native.Mathlib.Omega.{arith}
-use mathlib.Core.Path.{◌≡◌, refl, sym, ap, ap₂, ◌∙◌}
+use mathlib.Core.Path.{◌≡◌, refl, sym, ap, ◌∙◌}
 use mathlib.Core.Bool.{Bool, true, false}
-use mathlib.Core.List.{List, [], ◌∷◌, ◌++◌, append_assoc}
-use lib.ListN.{length, take, drop, get_or, length-append, get_or-append}
+use mathlib.Core.List.{List, ◌++◌, append_assoc}
+use lib.ListN.{length, take, drop, length-append, get_or-append}
 use lib.Seq.{length-take-le, take_at, drop_at, get_or-take, take-append-add}
 use Rattle.base.specs.Choice.{when◌then◌else◌}
 use Rattle.base.proofs.Choices.{if_is_true, if_is_false}
 use Rattle.base.specs.Refusal.{accepted}
-use Rattle.frame.specs.Delimiter.{delimiter_of}
-use Rattle.frame.specs.Address.{byte_at, master_bit, burst_flag, address_of, unique_address, polling_address}
+use Rattle.frame.specs.Delimiter.{delimiter_of, delimiter_with}
+use Rattle.frame.specs.Address.{byte_at, address_of, unique_address, polling_address}
 use Rattle.frame.specs.Check.{exclusive_or}
 use Rattle.frame.specs.Frame.{preamble_bytes}
-use Rattle.frame.specs.Read.{preambles, command_place, header_of, found_at, read_frame}
+use Rattle.frame.specs.Read.{preambles, command_place, header_of, read_frame}
 use Rattle.frame.proofs.Lengths.{preamble_count}
 use Rattle.frame.proofs.Preambles.{preambles_are, no_preamble, preambles_split}
 use Rattle.frame.proofs.Sound.{Sound, SoundFrame, frame_sound, sound_frame}
-use Rattle.frame.specs.declared.Delimiter.{Delimiter}
-use Rattle.frame.specs.declared.Delimiter.TheVariants.{Is, Not}
 use Rattle.frame.specs.declared.Header.{Header}
 use Rattle.frame.specs.declared.Found.{Found}
 
 -- a delimiter is no preamble
-pub delimited_no_preamble : (b frame : ℕ) (long : Bool) (expansion : ℕ) → delimiter_of b ≡ Is frame long expansion → b ≡ 0xFF → ⊥
+pub delimited_no_preamble : (b frame : ℕ) (long : Bool) (expansion : ℕ) → delimiter_of b ≡ delimiter_with frame long expansion → b ≡ 0xFF → ⊥
 unfolding delimiter_of when◌then◌else◌
 delimited_no_preamble b frame long expansion d e =
-    let none : delimiter_of 0xFF ≡ Is frame long expansion = ap delimiter_of (sym e) ∙ d in
+    let none : delimiter_of 0xFF ≡ delimiter_with frame long expansion = ap delimiter_of (sym e) ∙ d in
     let z : ◌≡◌ {A = ℕ} 0 1 = cc none in omega arith
 
 -- the first m bytes of t, with others behind them

@@ -1,8 +1,7 @@
 -- Theorem: a written frame reads back as the same message, with its end where the writer stopped and its data equal, whatever stands behind it.
-use Prim.Native.Nat.{ℕ, zero, suc, ◌+◌, ◌-◌, ◌*◌, ◌/◌, ◌%◌, ◌^◌, ◌≤◌, ◌<◌}
+use Prim.Native.Nat.{ℕ, ◌+◌, ◌-◌, ◌*◌, ◌/◌, ◌%◌, ◌^◌, ◌≤◌, ◌<◌}
 use native.Mathlib.Omega.{arith}
 use native.Mathlib.Nat.{div-div-eq-div-mul}
-use native.Mathlib.Numerals.{add-one}
 use mathlib.Core.Path.{◌≡◌, refl, sym, ap, ◌∙◌}
 use mathlib.Core.Bool.{Bool, true, false}
 use mathlib.Core.List.{List, [], ◌∷◌, ◌++◌, append_assoc}
@@ -11,9 +10,9 @@ use lib.Seq.{take_at, drop_at, length-take-le}
 use borrow.Author.Tests.{eq-eqb, ne_eqb}
 use Rattle.base.specs.Choice.{when◌then◌else◌, ◌=?◌}
 use Rattle.base.proofs.Stores.{stored_between}
-use Rattle.base.proofs.Choices.{if_is_true, if_is_false, if_unequal, if_at_most}
+use Rattle.base.proofs.Choices.{if_is_true, if_is_false, if_at_most}
 use Rattle.base.specs.Refusal.{Called, accepted}
-use Rattle.frame.specs.Delimiter.{is_type, delimiter_of, delimiter_byte}
+use Rattle.frame.specs.Delimiter.{is_type, delimiter_of, delimiter_byte, delimiter_with}
 use Rattle.frame.specs.Address.{address_length, largest_address, long_address, short_address, first_byte, byte_at, master_bit, burst_flag, address_of, unique_address, polling_address}
 use Rattle.frame.specs.Check.{exclusive_or}
 use Rattle.frame.specs.Frame.{header_bytes, protected_bytes, body_bytes, preamble_bytes, frame_bytes, header_length, frame_length}
@@ -24,16 +23,15 @@ use Rattle.frame.proofs.Lengths.{header_count, body_count, preamble_count, frame
 use Rattle.frame.proofs.Preambles.{preambles_are, no_preamble}
 use Rattle.frame.proofs.Sound.{Sound, sound_frame}
 use Rattle.frame.proofs.Taken.{Fits, taken, Typed, is_stx, is_ack, is_back, typed_as, type_small}
-use Rattle.frame.specs.declared.Delimiter.TheVariants.{Is}
 use Rattle.frame.specs.declared.Header.{Header}
 use Rattle.frame.specs.declared.Found.{Found}
 
 -- the delimiter that is written is read as the type and the address's form, with no expansion bytes
-pub delimiter_back : (frame : ℕ) (long : Bool) → is_type frame ≡ true → delimiter_of (delimiter_byte frame long) ≡ Is frame long 0
+pub delimiter_back : (frame : ℕ) (long : Bool) → is_type frame ≡ true → delimiter_of (delimiter_byte frame long) ≡ delimiter_with frame long 0
 unfolding delimiter_of when◌then◌else◌
 delimiter_back frame long e = go long (typed_as frame e)
   where
-    go : (l : Bool) → Typed frame → delimiter_of (delimiter_byte frame l) ≡ Is frame l 0
+    go : (l : Bool) → Typed frame → delimiter_of (delimiter_byte frame l) ≡ delimiter_with frame l 0
     go true (is_stx q) = rw q
     go false (is_stx q) = rw q
     go true (is_ack q) = rw q

@@ -1,29 +1,29 @@
 -- Theorem: a frame that is read without expansion bytes is, from delimiter to check byte, what the writer gives for its fields, and the writer takes them.
+use Rattle.std.specs.Prelude.{Option, Some, None}
 use Prim.Native.Nat.{ℕ, zero, suc, ◌+◌, ◌-◌, ◌*◌, ◌/◌, ◌%◌, ◌^◌, ◌≤◌, ◌<◌}
 use native.Mathlib.Omega.{arith}
 use mathlib.Core.Path.{◌≡◌, refl, sym, ap, ap₂, subst, ◌∙◌}
 use mathlib.Core.Bool.{Bool, true, false}
 use mathlib.Core.List.{List, [], ◌∷◌, ◌++◌}
-use lib.ListN.{length, take, drop, get_or, length-drop}
+use lib.ListN.{length, take, drop, length-drop}
 use lib.Seq.{drop-cons, take-add, drop-drop, get_or-drop, length-take-le}
 use borrow.Author.Tests.{eqb-true}
-use Rattle.base.specs.Choice.{when◌then◌else◌, ◌≤?◌, ◌=?◌}
-use Rattle.base.proofs.Choices.{true_false, if_is_true, if_is_false, if_at_most}
+use Rattle.base.specs.Choice.{when◌then◌else◌, ◌=?◌}
+use Rattle.base.proofs.Choices.{if_is_true, if_is_false, if_at_most}
 use Rattle.base.proofs.Stores.{take_more}
 use Rattle.base.proofs.Tables.{holds_below, holds_at, chain_first, chain_second}
 use Rattle.base.specs.Refusal.{accepted}
 use Rattle.frame.specs.Limits.{fewest_preambles, most_preambles}
-use Rattle.frame.specs.Delimiter.{is_type, delimiter_of, delimiter_byte}
-use Rattle.frame.specs.Address.{address_length, largest_address, address_bytes, long_address, short_address, first_byte, byte_at, master_bit, burst_flag, address_of, unique_address, polling_address}
+use Rattle.frame.specs.Delimiter.{is_type, delimiter_of, delimiter_byte, delimiter_with}
+use Rattle.frame.specs.Address.{largest_address, address_bytes, long_address, short_address, first_byte, byte_at, address_of, unique_address, polling_address}
 use Rattle.frame.specs.Check.{exclusive_or}
 use Rattle.frame.specs.Frame.{too_few, header_bytes, protected_bytes, body_bytes, frame_length}
 use Rattle.frame.specs.Read.{preambles, command_place, header_of, found_at, read_frame, part_of}
 use Rattle.frame.specs.Write.{write_answer}
 use Rattle.frame.proofs.Checks.{check_from_zero}
-use Rattle.frame.proofs.Sound.{Sound, SoundFrame, frame_sound}
+use Rattle.frame.proofs.Sound.{frame_sound}
 use Rattle.frame.proofs.Taken.{Fits, fits_taken}
 use Rattle.frame.specs.declared.Delimiter.{Delimiter}
-use Rattle.frame.specs.declared.Delimiter.TheVariants.{Is, Not}
 use Rattle.frame.specs.declared.Header.{Header}
 use Rattle.frame.specs.declared.Found.{Found}
 
@@ -32,22 +32,22 @@ pub Bytes : List ℕ → Type 0
 Bytes bytes = (i : ℕ) → byte_at bytes i < 256
 
 -- a delimiter with no expansion bytes is the one that is written; its type is a frame type
-right : ℕ → Delimiter → Bool
-right b Not = true
-right b (Is frame long expansion) = when is_type frame then (when expansion =? 0 then b =? delimiter_byte frame long else true) else false
+right : ℕ → Option Delimiter → Bool
+right b None = true
+right b (Some d) = when is_type d.kind then (when d.expansion =? 0 then b =? delimiter_byte d.kind d.long else true) else false
 
 all_right : holds_below 256 (λ (b : ℕ). right b (delimiter_of b)) ≡ true
 unfolding holds_below right delimiter_of when◌then◌else◌
 all_right = refl
 
-right_at : (b frame : ℕ) (long : Bool) (expansion : ℕ) → b < 256 → delimiter_of b ≡ Is frame long expansion → right b (Is frame long expansion) ≡ true
+right_at : (b frame : ℕ) (long : Bool) (expansion : ℕ) → b < 256 → delimiter_of b ≡ delimiter_with frame long expansion → right b (delimiter_with frame long expansion) ≡ true
 right_at b frame long expansion h e = ap (right b) (sym e) ∙ holds_at 256 (λ (n : ℕ). right n (delimiter_of n)) all_right b h
 
-pub delimiter_typed : (b frame : ℕ) (long : Bool) (expansion : ℕ) → b < 256 → delimiter_of b ≡ Is frame long expansion → is_type frame ≡ true
+pub delimiter_typed : (b frame : ℕ) (long : Bool) (expansion : ℕ) → b < 256 → delimiter_of b ≡ delimiter_with frame long expansion → is_type frame ≡ true
 unfolding right
 delimiter_typed b frame long expansion h e = chain_first (is_type frame) _ (right_at b frame long expansion h e)
 
-delimiter_again : (b frame : ℕ) (long : Bool) → b < 256 → delimiter_of b ≡ Is frame long 0 → b ≡ delimiter_byte frame long
+delimiter_again : (b frame : ℕ) (long : Bool) → b < 256 → delimiter_of b ≡ delimiter_with frame long 0 → b ≡ delimiter_byte frame long
 unfolding right when◌then◌else◌
 delimiter_again b frame long h e = eqb-true b (delimiter_byte frame long) (chain_second (is_type frame) (b =? delimiter_byte frame long) (right_at b frame long 0 h e))
 
@@ -103,7 +103,7 @@ module _ (x b2 b3 b4 b5 : ℕ) (hx : x < 64) (h2 : b2 < 256) (h3 : b3 < 256) (h4
   unique_small = omega arith
 
 -- the first bytes of a frame that was read are the header that is written for its fields
-module _ (t : List ℕ) (small : Bytes t) (frame : ℕ) (long : Bool) (delimited : delimiter_of (byte_at t 0) ≡ Is frame long 0) where
+module _ (t : List ℕ) (small : Bytes t) (frame : ℕ) (long : Bool) (delimited : delimiter_of (byte_at t 0) ≡ delimiter_with frame long 0) where
   place : ℕ
   place = command_place long 0
 
@@ -175,7 +175,7 @@ module _ (t : List ℕ) (small : Bytes t) (frame : ℕ) (long : Bool) (delimited
       go false e = omega (arith, if_is_false {A = ℕ} long (2 ^ 38 - 1) 63 e, if_is_false long (unique_address t) (polling_address t) e)
 
 -- delimiter to check byte, in what stands behind the preamble
-body_again : (t : List ℕ) (frame : ℕ) (long : Bool) (count : ℕ) (small : Bytes t) (delimited : delimiter_of (byte_at t 0) ≡ Is frame long 0)
+body_again : (t : List ℕ) (frame : ℕ) (long : Bool) (count : ℕ) (small : Bytes t) (delimited : delimiter_of (byte_at t 0) ≡ delimiter_with frame long 0)
     → count ≡ byte_at t (command_place long 0 + 1) → command_place long 0 + 2 + count < length t → exclusive_or (take (command_place long 0 + 3 + count) t) ≡ 0
     → take (command_place long 0 + 3 + count) t ≡ body_bytes (header_of frame long (command_place long 0) t) (take count (drop (command_place long 0 + 2) t))
 unfolding body_bytes protected_bytes place h
@@ -213,7 +213,7 @@ part_inside bytes start count h = sym (if_at_most (start + count) (length bytes)
 
 -- the same of the caller's bytes, behind so many preambles
 module _ (bytes : List ℕ) (preamble frame : ℕ) (long : Bool) (count : ℕ) (small : Bytes bytes)
-    (delimited : delimiter_of (byte_at (drop preamble bytes) 0) ≡ Is frame long 0)
+    (delimited : delimiter_of (byte_at (drop preamble bytes) 0) ≡ delimiter_with frame long 0)
     (counted : count ≡ byte_at (drop preamble bytes) (command_place long 0 + 1))
     (inside : command_place long 0 + 2 + count < length (drop preamble bytes))
     (enough : too_few frame count ≡ false)
@@ -263,7 +263,7 @@ read_is_written bytes f small e none =
     ap₂ (λ (x n : ℕ). found_at p t s.frame s.long x n s.count) (sym no_expansion) (sym there) ∙ s.found in
     subst (WrittenAgain bytes) same
     (again bytes p s.frame s.long s.count small
-    (s.delimited ∙ ap (Is s.frame s.long) no_expansion)
+    (s.delimited ∙ ap (delimiter_with s.frame s.long) no_expansion)
     (s.counted ∙ ap (λ (n : ℕ). byte_at t (n + 1)) there)
     (omega (arith, there, s.inside))
     s.enough

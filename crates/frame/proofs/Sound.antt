@@ -1,21 +1,21 @@
 -- When the reader finds a frame: each of its tests, as a fact. The theorems on frames read these facts instead of the definition.
+use Rattle.std.specs.Prelude.{Option, Some, None}
 use Prim.Native.Nat.{ℕ, ◌+◌, ◌≤◌, ◌<◌}
 use native.Mathlib.Omega.{arith}
 use mathlib.Core.Path.{◌≡◌, refl, sym, ap, ◌∙◌}
-use mathlib.Core.Bool.{Bool, true, false}
+use mathlib.Core.Bool.{Bool, false}
 use mathlib.Core.List.{List}
 use lib.ListN.{length, take, drop}
 use borrow.Author.Tests.{leb-false, ltb-false, eqb-true}
-use Rattle.base.specs.Choice.{when◌then◌else◌, ◌<?◌, ◌≤?◌, ◌=?◌}
+use Rattle.base.specs.Choice.{◌<?◌, ◌≤?◌, ◌=?◌}
 use Rattle.base.specs.Refusal.{accepted, refused}
 use Rattle.base.proofs.Choices.{went_then, went_else, if_false, if_above, if_equal, if_unequal, if_not_below}
-use Rattle.frame.specs.Delimiter.{delimiter_of}
+use Rattle.frame.specs.Delimiter.{delimiter_of, delimiter_with}
 use Rattle.frame.specs.Address.{byte_at}
 use Rattle.frame.specs.Check.{exclusive_or}
 use Rattle.frame.specs.Frame.{too_few}
 use Rattle.frame.specs.Read.{preambles, command_place, found_at, with_count, with_command, with_delimiter, read_body, read_frame}
 use Rattle.frame.specs.declared.Delimiter.{Delimiter}
-use Rattle.frame.specs.declared.Delimiter.TheVariants.{Is, Not}
 use Rattle.frame.specs.declared.Found.{Found}
 
 -- t, behind so many preambles, begins with the frame f
@@ -25,7 +25,7 @@ pub record Sound (preamble : ℕ) (t : List ℕ) (f : Found) : Type 0 where
   pub expansion : ℕ
   pub place : ℕ
   pub count : ℕ
-  pub delimited : delimiter_of (byte_at t 0) ≡ Is frame long expansion
+  pub delimited : delimiter_of (byte_at t 0) ≡ delimiter_with frame long expansion
   pub placed : place ≡ command_place long expansion
   pub counted : count ≡ byte_at t (place + 1)
   pub inside : place + 2 + count < length t
@@ -53,7 +53,7 @@ sound_reads preamble t f s =
 not_frame : (why : ℕ) (f : Found) → refused why ≡ accepted f → ⊥
 not_frame why f e = let z : ◌≡◌ {A = ℕ} 0 1 = cc in omega arith
 
-with_command_sound : (preamble : ℕ) (t : List ℕ) (f : Found) (frame : ℕ) (long : Bool) (expansion : ℕ) → delimiter_of (byte_at t 0) ≡ Is frame long expansion
+with_command_sound : (preamble : ℕ) (t : List ℕ) (f : Found) (frame : ℕ) (long : Bool) (expansion : ℕ) → delimiter_of (byte_at t 0) ≡ delimiter_with frame long expansion
     → with_command preamble t frame long expansion (command_place long expansion) ≡ accepted f → Sound preamble t f
 with_command_sound preamble t f frame long expansion d e =
     let place : ℕ = command_place long expansion in
@@ -81,9 +81,9 @@ pub reads_sound : (preamble : ℕ) (t : List ℕ) (f : Found) → read_body prea
 unfolding read_body
 reads_sound preamble t f e = go (delimiter_of (byte_at t 0)) refl (went_else (length t =? 0) _ _ (accepted f) e (not_frame 13 f)).1
   where
-    go : (d : Delimiter) → delimiter_of (byte_at t 0) ≡ d → with_delimiter preamble t (delimiter_of (byte_at t 0)) ≡ accepted f → Sound preamble t f
-    go Not q r = absurd (not_frame 12 f (ap (with_delimiter preamble t) (sym q) ∙ r))
-    go (Is frame long expansion) q r = with_command_sound preamble t f frame long expansion q (ap (with_delimiter preamble t) (sym q) ∙ r)
+    go : (d : Option Delimiter) → delimiter_of (byte_at t 0) ≡ d → with_delimiter preamble t (delimiter_of (byte_at t 0)) ≡ accepted f → Sound preamble t f
+    go None q r = absurd (not_frame 12 f (ap (with_delimiter preamble t) (sym q) ∙ r))
+    go (Some d) q r = with_command_sound preamble t f d.kind d.long d.expansion q (ap (with_delimiter preamble t) (sym q) ∙ r)
 
 -- the whole reader: behind at least two preambles
 pub record SoundFrame (bytes : List ℕ) (f : Found) : Type 0 where

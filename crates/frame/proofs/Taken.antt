@@ -1,7 +1,7 @@
 -- What a taken write tells: the fields are within their limits, and the frame fits the buffer.
 use Prim.Native.Nat.{ℕ, ◌+◌, ◌≤◌}
 use native.Mathlib.Omega.{arith}
-use mathlib.Core.Path.{◌≡◌, refl, sym, ap, ◌∙◌}
+use mathlib.Core.Path.{◌≡◌, refl, sym}
 use mathlib.Core.Bool.{Bool, true, false}
 use borrow.Author.Tests.{ltb-false, leb-true, eqb-true}
 use Rattle.base.specs.Choice.{when◌then◌else◌, ◌<?◌, ◌≤?◌, ◌=?◌, ◌outside◌to◌}
@@ -11,7 +11,7 @@ use Rattle.frame.specs.Limits.{fewest_preambles, most_preambles, most_data}
 use Rattle.frame.specs.Delimiter.{stx, ack, back, is_type}
 use Rattle.frame.specs.Address.{largest_address, address_too_large}
 use Rattle.frame.specs.Frame.{too_few, frame_length}
-use Rattle.frame.specs.Write.{by_fields, by_room, write_answer}
+use Rattle.frame.specs.Write.{write_answer}
 use Rattle.frame.specs.declared.Header.{Header}
 
 -- the fields of a frame that can be written, with so many data bytes

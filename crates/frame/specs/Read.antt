@@ -1,18 +1,15 @@
 -- To be believed: what the engine must do, or what is claimed of it.
 -- The frame reader. Document 01, "Frames": "the reader needs two" preambles and "gives the fields, the end, and the data as that part of the caller's bytes"; "Refusals", the line of the frame reader.
-use Rattle.std.specs.Prelude.{ℕ, ◌+◌, Bool, List, [], ◌∷◌, length, take, drop}
+use Rattle.std.specs.Prelude.{ℕ, ◌+◌, Bool, List, [], ◌∷◌, length, take, drop, Option, Some, None}
 use Rattle.base.specs.Choice.{when◌then◌else◌, ◌<?◌, ◌≤?◌, ◌=?◌}
-use Rattle.base.specs.Refusal.{number, Called, accepted, refused}
+use Rattle.base.specs.Refusal.{Called, accepted, refused}
 use Rattle.frame.specs.Delimiter.{delimiter_of}
 use Rattle.frame.specs.Address.{address_length, byte_at, master_bit, burst_flag, address_of}
 use Rattle.frame.specs.Check.{exclusive_or}
 use Rattle.frame.specs.Frame.{too_few}
 use Rattle.frame.specs.declared.Delimiter.{Delimiter}
-use Rattle.frame.specs.declared.Delimiter.TheVariants.{Is, Not}
 use Rattle.frame.specs.declared.Header.{Header}
 use Rattle.frame.specs.declared.Found.{Found}
-use Rattle.frame.specs.declared.Read.{Read}
-use Rattle.frame.specs.declared.Read.TheVariants.{Frame, Refused}
 
 -- how many 0xFF the bytes begin with
 unfoldable pub preambles : List ℕ → ℕ
@@ -59,9 +56,9 @@ with_command preamble body frame long expansion place =
     with_count preamble body frame long expansion place (byte_at body (place + 1))
 
 -- "12: the byte behind them is no delimiter"
-abbrev pub with_delimiter : ℕ → List ℕ → Delimiter → Called Found
-with_delimiter preamble body Not = refused 12
-with_delimiter preamble body (Is frame long expansion) = with_command preamble body frame long expansion (command_place long expansion)
+abbrev pub with_delimiter : ℕ → List ℕ → Option Delimiter → Called Found
+with_delimiter preamble body None = refused 12
+with_delimiter preamble body (Some d) = with_command preamble body d.kind d.long d.expansion (command_place d.long d.expansion)
 
 unfoldable pub read_body : ℕ → List ℕ → Called Found
 read_body preamble body =
@@ -73,11 +70,6 @@ unfoldable pub read_frame : List ℕ → Called Found
 read_frame bytes =
     when preambles bytes <? 2 then refused 11 else
     read_body (preambles bytes) (drop (preambles bytes) bytes)
-
--- what the reader's answer says
-abbrev pub read_as : Read → Called Found
-read_as (Frame f) = accepted f
-read_as (Refused why) = refused (number why)
 
 -- the part of the caller's bytes that begins at a place and has so many bytes; none where it would run past the end
 abbrev pub part_of : List ℕ → ℕ → ℕ → List ℕ

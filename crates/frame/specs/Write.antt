@@ -1,16 +1,15 @@
 -- To be believed: what the engine must do, or what is claimed of it.
 -- The frame writer. Document 01, "Frames": it "starts at a place the caller names in its lent buffer and changes only the frame's bytes there"; "Refusals", the line of the frame writer.
-use Rattle.std.specs.Prelude.{ℕ, ◌+◌, ◌≡◌, List, length}
+use Rattle.std.specs.Prelude.{ℕ, ◌+◌, ◌≡◌, List, length, Result}
 use Rattle.base.specs.Choice.{when◌then◌else◌, ◌<?◌, ◌≤?◌, ◌outside◌to◌}
 use Rattle.base.specs.Store.{stored}
-use Rattle.base.specs.Refusal.{number, Called, accepted, refused}
+use Rattle.base.specs.Refusal.{Called, accepted, refused, called_as}
 use Rattle.frame.specs.Limits.{fewest_preambles, most_preambles, most_data}
 use Rattle.frame.specs.Delimiter.{is_type}
 use Rattle.frame.specs.Address.{address_too_large}
 use Rattle.frame.specs.Frame.{too_few, frame_bytes, frame_length}
 use Rattle.frame.specs.declared.Header.{Header}
-use Rattle.frame.specs.declared.Written.{Written}
-use Rattle.frame.specs.declared.Written.TheVariants.{To, Refused}
+use Rattle.base.specs.declared.Refusal.{Refusal}
 
 -- the refusal for the fields alone, the lowest where several apply; else `fits`. ("6: data above 255" comes before "9: data outside 2 to 255", so 9 is left for fewer than 2.)
 abbrev pub by_fields : ℕ → Header → ℕ → Called ℕ → Called ℕ
@@ -39,12 +38,7 @@ unfoldable pub write_buffer : ℕ → Header → List ℕ → List ℕ → ℕ �
 write_buffer preamble h bytes buffer place =
     buffer_by (write_answer preamble h (length bytes) (length buffer) place) buffer place (frame_bytes preamble h bytes)
 
--- what the writer's answer says
-abbrev pub written_as : Written → Called ℕ
-written_as (To end) = accepted end
-written_as (Refused why) = refused (number why)
-
 -- what writing promises
-pub record WriteIs (preamble : ℕ) (h : Header) (bytes buffer : List ℕ) (place : ℕ) (r : Written) (after : List ℕ) : Type 0 where
-  pub answer : written_as r ≡ write_answer preamble h (length bytes) (length buffer) place
+pub record WriteIs (preamble : ℕ) (h : Header) (bytes buffer : List ℕ) (place : ℕ) (r : Result ℕ Refusal) (after : List ℕ) : Type 0 where
+  pub answer : called_as r ≡ write_answer preamble h (length bytes) (length buffer) place
   pub buffer_after : after ≡ write_buffer preamble h bytes buffer place

@@ -1,8 +1,8 @@
 // The HART frame: what it says, the answers of its writer and its reader, and what both of them work out.
-#![tactic(auto)]
+#![tactic(auto, using(base::proofs::Choices::choices))]
 
 ghost use Rattle.std.specs.Prelude.{◌≡◌};
-ghost use Rattle.frame.specs.Delimiter.{delimiter_of, from_device, is_type};
+ghost use Rattle.frame.specs.Delimiter.{delimiter_of, delimiter_with, from_device, is_type};
 ghost use Rattle.frame.specs.Check.{xor_from};
 ghost use Rattle.frame.specs.Frame.{too_few};
 
@@ -16,7 +16,7 @@ pub const ACK: u8 = 6;
 pub const BACK: u8 = 1;
 
 // What a frame says, without preamble and data.
-#[derive(Clone, Copy)]
+#[derive(Clone, Copy, PartialEq, Eq)]
 pub struct Header {
     pub address: u64,
     // the frame type: STX, ACK or BACK
@@ -30,19 +30,15 @@ pub struct Header {
     pub command: u8,
 }
 
-// What a byte means in the delimiter's place.
+// What a delimiter says.
 #[derive(Clone, Copy)]
-pub enum Delimiter {
-    // the frame type, whether the address is long, and how many expansion bytes there are
-    Is(u8, bool, u8),
-    Not,
-}
-
-// What the writer answers: where the frame ends in the buffer, or why nothing was written.
-#[derive(Clone, Copy)]
-pub enum Written {
-    To(usize),
-    Refused(Refusal),
+pub struct Delimiter {
+    // the frame type: STX, ACK or BACK
+    pub kind: u8,
+    // whether the address is long
+    pub long: bool,
+    // how many expansion bytes there are
+    pub expansion: u8,
 }
 
 // A frame that was read: its fields, and where its data and its end are in the caller's bytes.
@@ -56,43 +52,48 @@ pub struct Found {
     pub end: usize,
 }
 
-// What the reader answers.
-#[derive(Clone, Copy)]
-pub enum Read {
-    Frame(Found),
-    Refused(Refusal),
+// A delimiter that says these three.
+fn delimiter_with(kind: u8, long: bool, expansion: u8) -> Option<Delimiter>
+    ensures { result ≡ delimiter_with kind long expansion }
+{
+    Some(Delimiter {
+        kind,
+        long,
+        expansion,
+    })
 }
 
-// What a byte means in the delimiter's place.
-pub fn delimiter_of(byte: u8) -> Delimiter
+// What a byte says in the delimiter's place; nothing where it is no delimiter.
+#[tactic(auto, using(base::proofs::Choices::choices), unfolding(crate::specs::Delimiter::delimiter_of))]
+pub fn delimiter_of(byte: u8) -> Option<Delimiter>
     ensures { result ≡ delimiter_of byte }
 {
     match byte {
-        0x02 => Delimiter::Is(STX, false, 0),
-        0x22 => Delimiter::Is(STX, false, 1),
-        0x42 => Delimiter::Is(STX, false, 2),
-        0x62 => Delimiter::Is(STX, false, 3),
-        0x82 => Delimiter::Is(STX, true, 0),
-        0xA2 => Delimiter::Is(STX, true, 1),
-        0xC2 => Delimiter::Is(STX, true, 2),
-        0xE2 => Delimiter::Is(STX, true, 3),
-        0x06 => Delimiter::Is(ACK, false, 0),
-        0x26 => Delimiter::Is(ACK, false, 1),
-        0x46 => Delimiter::Is(ACK, false, 2),
-        0x66 => Delimiter::Is(ACK, false, 3),
-        0x86 => Delimiter::Is(ACK, true, 0),
-        0xA6 => Delimiter::Is(ACK, true, 1),
-        0xC6 => Delimiter::Is(ACK, true, 2),
-        0xE6 => Delimiter::Is(ACK, true, 3),
-        0x01 => Delimiter::Is(BACK, false, 0),
-        0x21 => Delimiter::Is(BACK, false, 1),
-        0x41 => Delimiter::Is(BACK, false, 2),
-        0x61 => Delimiter::Is(BACK, false, 3),
-        0x81 => Delimiter::Is(BACK, true, 0),
-        0xA1 => Delimiter::Is(BACK, true, 1),
-        0xC1 => Delimiter::Is(BACK, true, 2),
-        0xE1 => Delimiter::Is(BACK, true, 3),
-        _ => Delimiter::Not,
+        0x02 => delimiter_with(STX, false, 0),
+        0x22 => delimiter_with(STX, false, 1),
+        0x42 => delimiter_with(STX, false, 2),
+        0x62 => delimiter_with(STX, false, 3),
+        0x82 => delimiter_with(STX, true, 0),
+        0xA2 => delimiter_with(STX, true, 1),
+        0xC2 => delimiter_with(STX, true, 2),
+        0xE2 => delimiter_with(STX, true, 3),
+        0x06 => delimiter_with(ACK, false, 0),
+        0x26 => delimiter_with(ACK, false, 1),
+        0x46 => delimiter_with(ACK, false, 2),
+        0x66 => delimiter_with(ACK, false, 3),
+        0x86 => delimiter_with(ACK, true, 0),
+        0xA6 => delimiter_with(ACK, true, 1),
+        0xC6 => delimiter_with(ACK, true, 2),
+        0xE6 => delimiter_with(ACK, true, 3),
+        0x01 => delimiter_with(BACK, false, 0),
+        0x21 => delimiter_with(BACK, false, 1),
+        0x41 => delimiter_with(BACK, false, 2),
+        0x61 => delimiter_with(BACK, false, 3),
+        0x81 => delimiter_with(BACK, true, 0),
+        0xA1 => delimiter_with(BACK, true, 1),
+        0xC1 => delimiter_with(BACK, true, 2),
+        0xE1 => delimiter_with(BACK, true, 3),
+        _ => None,
     }
 }
 
@@ -100,41 +101,27 @@ pub fn delimiter_of(byte: u8) -> Delimiter
 pub fn from_device(n: u8) -> bool
     ensures { result ≡ from_device n }
 {
-    if n == ACK {
-        return true;
-    }
-    n == BACK
+    n == ACK || n == BACK
 }
 
 // Whether a number is a frame type.
 pub fn is_type(n: u8) -> bool
     ensures { result ≡ is_type n }
 {
-    if n == STX {
-        return true;
-    }
-    from_device(n)
+    n == STX || from_device(n)
 }
 
 // Whether a frame of this type must carry more than so many data bytes.
 pub fn too_few(frame: u8, count: usize) -> bool
     ensures { result ≡ too_few frame count }
 {
-    if from_device(frame) {
-        return count < 2;
-    }
-    false
+    from_device(frame) && count < 2
 }
 
 // The exclusive-or of x and some bytes, byte by byte.
+#[tactic(auto, using(crate::proofs::Checks::xor_is_fold))]
 pub fn xor_bytes(x: u8, bytes: &[u8]) -> u8
     ensures { result ≡ xor_from x bytes.now }
 {
-    let mut sum = x;
-    let mut i = 0;
-    while i < bytes.len() {
-        sum = sum ^ bytes[i];
-        i += 1;
-    }
-    sum
+    bytes.iter().fold(x, |sum, byte| sum ^ *byte)
 }

@@ -1,11 +1,10 @@
 // The frame writer and reader for programs in C: a frame's fields are arguments, and each call answers in numbers.
-#![tactic(auto)]
+#![tactic(auto, using(base::proofs::Choices::choices))]
 
 ghost use Rattle.std.specs.Prelude.{◌≡◌};
-ghost use Rattle.base.specs.Choice.{bit};
 ghost use Rattle.frame_c.specs.Numbers.{header, found_numbers, WriteCall, ReadCall};
 
-use frame::{Found, Header, Read, Written};
+use frame::{Found, Header};
 
 // Writes a frame, and sets end to where it ends; or returns the refusal's number and changes nothing.
 #[unsafe(no_mangle)]
@@ -26,30 +25,19 @@ pub extern "C" fn nengapiko_write(
 {
     let h = Header {
         kind: frame,
-        long: long,
-        primary: primary,
-        burst: burst,
-        address: address,
-        command: command,
+        long,
+        primary,
+        burst,
+        address,
+        command,
     };
-    let written = frame_write::write(preamble, h, bytes, buffer, place);
-    match written {
-        Written::To(place_behind) => {
+    match frame_write::write(preamble, h, bytes, buffer, place) {
+        Ok(place_behind) => {
             *end = place_behind;
             0
         }
-        Written::Refused(why) => why.number(),
+        Err(why) => why.number(),
     }
-}
-
-// A bool as a number.
-fn bit_of(on: bool) -> u64
-    ensures { result ≡ bit on }
-{
-    if on {
-        return 1;
-    }
-    0
 }
 
 // The numbers of a frame that was read, in the header's order.
@@ -59,13 +47,13 @@ fn numbers_of(found: Found) -> [u64; 11]
     let h = found.header;
     [
         found.preamble as u64,
-        h.kind as u64,
-        bit_of(h.long),
-        bit_of(h.primary),
-        bit_of(h.burst),
+        u64::from(h.kind),
+        u64::from(h.long),
+        u64::from(h.primary),
+        u64::from(h.burst),
         h.address,
-        found.expansion as u64,
-        h.command as u64,
+        u64::from(found.expansion),
+        u64::from(h.command),
         found.start as u64,
         found.count as u64,
         found.end as u64,
@@ -77,12 +65,11 @@ fn numbers_of(found: Found) -> [u64; 11]
 pub extern "C" fn nengapiko_read(bytes: &[u8], fields: &mut [u64; 11]) -> u32
     ensures { ReadCall bytes.now fields result }
 {
-    let read = frame_read::read(bytes);
-    match read {
-        Read::Frame(found) => {
+    match frame_read::read(bytes) {
+        Ok(found) => {
             *fields = numbers_of(found);
             0
         }
-        Read::Refused(why) => why.number(),
+        Err(why) => why.number(),
     }
 }

@@ -149,14 +149,36 @@ more_bytes bytes i m n a b r h u v e = record { is = e ∙ value; of_bytes = sub
         ∙ sym (number_split m (us ++ vs) ∙ ap₂ (λ (p q : List ℕ). number q * 2 ^ (8 * m) + number p) (take_at us vs m full) (drop_at us vs m full))
         ∙ ap number (sym parts)
 
-pub pair_is : (bytes : List ℕ) (i a b r : ℕ) → i + 2 ≤ length bytes → a ≡ get_or bytes i 0 → a ≤ 255 → b ≡ get_or bytes (i + 1) 0 → b ≤ 255 → r ≡ a + b * 256 → NumberIs bytes i 2 r
-pair_is bytes i a b r h p k q l e = more_bytes bytes i 1 1 a b r (omega arith) (one_byte bytes i a (omega arith) p k) (one_byte bytes (i + 1) b (omega arith) q l) e
-
-pub quad_is : (bytes : List ℕ) (i a b r : ℕ) → i + 4 ≤ length bytes → NumberIs bytes i 2 a → NumberIs bytes (i + 2) 2 b → r ≡ a + b * 65536 → NumberIs bytes i 4 r
-quad_is bytes i a b r h u v e = more_bytes bytes i 2 2 a b r (omega arith) u v e
-
+-- a word of two halves
 pub word_is : (bytes : List ℕ) (i a b r : ℕ) → i + 8 ≤ length bytes → NumberIs bytes i 4 a → NumberIs bytes (i + 4) 4 b → r ≡ a + b * 4294967296 → NumberIs bytes i 8 r
 word_is bytes i a b r h u v e = more_bytes bytes i 4 4 a b r (omega arith) u v e
+
+pub word_loaded : (bytes : List ℕ) (i r : ℕ) → i + 8 ≤ length bytes → ((k : ℕ) → get_or bytes k 0 < 256)
+    → r ≡ get_or bytes i 0 + get_or bytes (i + 1) 0 * 2 ^ 8 + get_or bytes (i + 2) 0 * 2 ^ 16 + get_or bytes (i + 3) 0 * 2 ^ 24 + get_or bytes (i + 4) 0 * 2 ^ 32 + get_or bytes (i + 5) 0 * 2 ^ 40 + get_or bytes (i + 6) 0 * 2 ^ 48 + get_or bytes (i + 7) 0 * 2 ^ 56
+    → NumberIs bytes i 8 r
+word_loaded bytes i r h small e =
+    more_bytes bytes i 4 4 (quad i) (quad (i + 4)) r (omega arith) (quad_is i (omega arith)) (quad_is (i + 4) (omega arith)) (e ∙ regroup)
+  where
+    byte : ℕ → ℕ
+    byte j = get_or bytes j 0
+
+    pair : ℕ → ℕ
+    pair j = byte j + byte (j + 1) * 256
+
+    quad : ℕ → ℕ
+    quad j = pair j + pair (j + 2) * 65536
+
+    at : (m n : ℕ) → m ≡ n → byte m ≡ byte n
+    at m n e = ap byte e
+
+    regroup : byte i + byte (i + 1) * 2 ^ 8 + byte (i + 2) * 2 ^ 16 + byte (i + 3) * 2 ^ 24 + byte (i + 4) * 2 ^ 32 + byte (i + 5) * 2 ^ 40 + byte (i + 6) * 2 ^ 48 + byte (i + 7) * 2 ^ 56 ≡ quad i + quad (i + 4) * 2 ^ (8 * 4)
+    regroup = omega (arith, at (i + 2 + 1) (i + 3) (omega arith), at (i + 4 + 1) (i + 5) (omega arith), at (i + 4 + 2) (i + 6) (omega arith), at (i + 4 + 2 + 1) (i + 7) (omega arith))
+
+    pair_is : (j : ℕ) → j + 2 ≤ length bytes → NumberIs bytes j 2 (pair j)
+    pair_is j k = more_bytes bytes j 1 1 (byte j) (byte (j + 1)) (pair j) (omega arith) (one_byte bytes j (byte j) (omega arith) refl (omega (arith, small j))) (one_byte bytes (j + 1) (byte (j + 1)) (omega arith) refl (omega (arith, small (j + 1)))) refl
+
+    quad_is : (j : ℕ) → j + 4 ≤ length bytes → NumberIs bytes j 4 (quad j)
+    quad_is j k = more_bytes bytes j 2 2 (pair j) (pair (j + 2)) (quad j) (omega arith) (pair_is j (omega arith)) (pair_is (j + 2) (omega arith)) refl
 
 -- what it folds to
 pub word_folds : (bytes : List ℕ) (i w : ℕ) → NumberIs bytes i 8 w → folded w ≡ xor_at bytes i 8

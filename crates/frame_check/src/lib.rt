@@ -5,38 +5,25 @@ ghost use Rattle.std.specs.Prelude.{◌≡◌, ◌+◌, ◌*◌, ◌/◌, ◌%�
 ghost use Rattle.frame.specs.Check.{xor_from, exclusive_or};
 ghost use Rattle.frame_check.specs.Words.{NumberIs, folded, every_other, every_other_of16, xor_onto, in_blocks, in_words};
 
-// A byte as a wider number.
-fn wide(x: u8) -> u64
-    ensures { (result ≡ x) × (result ≤ 255) }
-{
-    x as u64
-}
-
-// Two bytes as one number, the first the least significant.
-fn pair(p: &[u8], i: usize) -> u64
-    requires { i + 2 ≤ length p.now }
-    ensures { NumberIs p.now i 2 result × (result < 65536) }
-{
-    wide(p[i]) + wide(p[i + 1]) * 256
-}
-
-// Four bytes.
-fn quad(p: &[u8], i: usize) -> u64
-    requires { i + 4 ≤ length p.now }
-    ensures { NumberIs p.now i 4 result × (result < 4294967296) }
-{
-    pair(p, i) + pair(p, i + 2) * 65536
-}
-
-// Eight bytes, a word. It is compiled to one load.
+// Eight bytes as a word, the first the least significant. It is compiled to one load.
 fn word(p: &[u8], i: usize) -> u64
     requires { i + 8 ≤ length p.now }
     ensures { NumberIs p.now i 8 result }
 {
-    quad(p, i) + quad(p, i + 4) * 4294967296
+    u64::from_le_bytes([
+        p[i],
+        p[i + 1],
+        p[i + 2],
+        p[i + 3],
+        p[i + 4],
+        p[i + 5],
+        p[i + 6],
+        p[i + 7],
+    ])
 }
 
 // The exclusive-or of a word's eight bytes.
+#[tactic(auto, using(crate::proofs::Words::folded_word), unfolding(crate::specs::Words::halves))]
 fn fold(w: u64) -> u8
     ensures { result ≡ folded w }
 {
@@ -46,7 +33,7 @@ fn fold(w: u64) -> u8
     (c % 256) as u8
 }
 
-// The exclusive-or of every second word of the eight from i on.
+// The exclusive-or of every second word of the eight from i on. Written out, it is compiled to vectors.
 fn every_other(p: &[u8], i: usize) -> u64
     requires { i + 56 ≤ length p.now }
     ensures { folded result ≡ every_other p.now i }
@@ -67,13 +54,11 @@ fn xor_blocks(x: u8, bytes: &[u8], n: usize) -> u64
     requires { n * 128 ≤ length bytes.now }
     ensures { folded result ≡ xor_from x (take (n * 128) bytes.now) }
 {
-    let mut a = wide(x);
+    let mut a = u64::from(x);
     let mut b: u64 = 0;
-    let mut i = 0;
-    while i < n {
-        a = a ^ every_other_of_16(bytes, i * 128);
-        b = b ^ every_other_of_16(bytes, i * 128 + 8);
-        i += 1;
+    for i in 0..n {
+        a ^= every_other_of_16(bytes, i * 128);
+        b ^= every_other_of_16(bytes, i * 128 + 8);
     }
     a ^ b
 }
@@ -84,10 +69,11 @@ fn xor_half_block(first: u64, bytes: &[u8]) -> u64
 {
     let n = bytes.len();
     if n % 128 < 64 {
-        return first;
+        first
+    } else {
+        let start = n / 128 * 128;
+        (first ^ every_other(bytes, start)) ^ every_other(bytes, start + 8)
     }
-    let start = n / 128 * 128;
-    (first ^ every_other(bytes, start)) ^ every_other(bytes, start + 8)
 }
 
 // The exclusive-or of a word and so many words from a start on, as a word.
@@ -96,10 +82,8 @@ fn xor_words(first: u64, bytes: &[u8], start: usize, count: usize) -> u64
     ensures { folded result ≡ xor_onto first bytes.now start (count * 8) }
 {
     let mut sum = first;
-    let mut i = 0;
-    while i < count {
-        sum = sum ^ word(bytes, start + i * 8);
-        i += 1;
+    for i in 0..count {
+        sum ^= word(bytes, start + i * 8);
     }
     sum
 }
@@ -111,10 +95,11 @@ fn xor_long(x: u8, bytes: &[u8]) -> u64
     let n = bytes.len();
     let blocks = xor_blocks(x, bytes, n / 128);
     if n % 128 < 8 {
-        return blocks;
+        blocks
+    } else {
+        let halves = xor_half_block(blocks, bytes);
+        xor_words(halves, bytes, n / 64 * 64, n % 64 / 8)
     }
-    let halves = xor_half_block(blocks, bytes);
-    xor_words(halves, bytes, n / 64 * 64, n % 64 / 8)
 }
 
 // The bytes after the whole words, as a word: they are the high ones of the last eight bytes.
@@ -139,10 +124,11 @@ fn xor_short(x: u8, bytes: &[u8]) -> u8
     requires { length bytes.now < 16 }
     ensures { result ≡ xor_from x bytes.now }
 {
-    if 8 <= bytes.len() {
-        return with_last(wide(x) ^ word(bytes, 0), bytes);
+    if bytes.len() < 8 {
+        frame::xor_bytes(x, bytes)
+    } else {
+        with_last(u64::from(x) ^ word(bytes, 0), bytes)
     }
-    frame::xor_bytes(x, bytes)
 }
 
 // The exclusive-or of x and some bytes: by words, where there are at least eight bytes. Fewer than eight words are compiled without a loop.
@@ -150,10 +136,11 @@ pub fn xor_from(x: u8, bytes: &[u8]) -> u8
     ensures { result ≡ xor_from x bytes.now }
 {
     if bytes.len() < 16 {
-        return xor_short(x, bytes);
+        xor_short(x, bytes)
+    } else if bytes.len() < 64 {
+        let words = xor_words(u64::from(x), bytes, 0, bytes.len() % 64 / 8);
+        with_last(words, bytes)
+    } else {
+        with_last(xor_long(x, bytes), bytes)
     }
-    if bytes.len() < 64 {
-        return with_last(xor_words(wide(x), bytes, 0, bytes.len() % 64 / 8), bytes);
-    }
-    with_last(xor_long(x, bytes), bytes)
 }

@@ -10,13 +10,7 @@ ghost use Rattle.frame.specs.Read.{part_of};
 pub extern "C" fn nengapiko_check_words(x: u8, bytes: &[u8], start: usize, count: usize) -> u8
     ensures { result ≡ xor_from x (part_of bytes.now start count) }
 {
-    if start <= bytes.len() {
-        if count <= bytes.len() - start {
-            return frame_check::xor_from(x, &bytes[start..start + count]);
-        }
-        return x;
-    }
-    x
+    frame_check::xor_from(x, frame_read::part(bytes, start, count))
 }
 
 // Byte by byte.
@@ -24,11 +18,5 @@ pub extern "C" fn nengapiko_check_words(x: u8, bytes: &[u8], start: usize, count
 pub extern "C" fn nengapiko_check_bytes(x: u8, bytes: &[u8], start: usize, count: usize) -> u8
     ensures { result ≡ xor_from x (part_of bytes.now start count) }
 {
-    if start <= bytes.len() {
-        if count <= bytes.len() - start {
-            return frame::xor_bytes(x, &bytes[start..start + count]);
-        }
-        return x;
-    }
-    x
+    frame::xor_bytes(x, frame_read::part(bytes, start, count))
 }

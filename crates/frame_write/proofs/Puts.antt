@@ -2,18 +2,16 @@
 use Prim.Native.Nat.{ℕ, ◌+◌, ◌-◌, ◌/◌, ◌%◌, ◌^◌, ◌≤◌, ◌<◌}
 use native.Mathlib.Omega.{arith}
 use mathlib.Core.Path.{◌≡◌, refl, sym, ap, ◌∙◌}
-use mathlib.Core.Bool.{true, false}
 use mathlib.Core.List.{List, [], ◌∷◌, ◌++◌, append_assoc}
-use lib.ListN.{length, take, drop, set, get_or, get_or-replicate, length-append, length-set}
+use lib.ListN.{length, take, drop, set, get_or, get_or-replicate, length-append}
 use lib.Bits.{bit_xor}
 use lib.Seq.{take_all, drop-drop, length-take-le}
 use borrow.Rule.Slice.PartMut.{put_mid}
-use Rattle.base.specs.Choice.{when◌then◌else◌}
+use Rattle.std.specs.Int.{w64, to_be_bytes}
 use Rattle.base.specs.Store.{stored}
 use Rattle.base.proofs.Stores.{stored_between, stored_front, stored_part, stored_parts, length_stored, Storing, storing_none, storing_more, storing_all}
-use Rattle.base.proofs.Choices.{if_is_true, if_is_false}
 use Rattle.frame.specs.Delimiter.{delimiter_byte}
-use Rattle.frame.specs.Address.{first_byte, long_address, short_address, address_bytes, address_length}
+use Rattle.frame.specs.Address.{address_bytes, address_length, first_byte, long_address}
 use Rattle.frame.specs.Check.{xor_from, exclusive_or}
 use Rattle.frame.specs.Frame.{header_bytes, protected_bytes, body_bytes, preamble_bytes, frame_bytes, header_length, frame_length}
 use Rattle.frame.proofs.Checks.{xor_append, Passed, passed_none, passed_more, passed_all}
@@ -49,38 +47,21 @@ pub byte_put : (xs : List ℕ) (x b r : ℕ) → length xs ≡ 1 → r ≡ bit_x
 unfolding stored xor_from
 byte_put xs x b r e q = record { holds = stored_whole xs (b ∷ []) (sym e); check = q }
 
-pub long_address_put : (xs : List ℕ) (x : ℕ) (h : Header) (first r : ℕ) → length xs ≡ 5 → first ≡ first_byte h (h.address / 2 ^ 32)
-    → r ≡ bit_xor (bit_xor (bit_xor (bit_xor (bit_xor x first) (h.address / 2 ^ 24 % 256)) (h.address / 2 ^ 16 % 256)) (h.address / 2 ^ 8 % 256)) (h.address % 256)
-    → PartIs x (long_address h) (set (set (set (set (set xs 0 first) 1 (h.address / 2 ^ 24 % 256)) 2 (h.address / 2 ^ 16 % 256)) 3 (h.address / 2 ^ 8 % 256)) 4 (h.address % 256)) r
-unfolding stored xor_from
-long_address_put xs x h first r e q s = record {
-  holds =
-      ap (λ (b : ℕ). set (set (set (set (set xs 0 b) 1 (h.address / 2 ^ 24 % 256)) 2 (h.address / 2 ^ 16 % 256)) 3 (h.address / 2 ^ 8 % 256)) 4 (h.address % 256)) q
-      ∙ stored_whole xs (long_address h) (sym e);
-  check =
-      s ∙ ap (λ (b : ℕ). bit_xor (bit_xor (bit_xor (bit_xor (bit_xor x b) (h.address / 2 ^ 24 % 256)) (h.address / 2 ^ 16 % 256)) (h.address / 2 ^ 8 % 256)) (h.address % 256)) q;
-}
+-- a unique address, by the bytes of the number
+pub first_small : (a : ℕ) (bytes : List ℕ) → bytes ≡ to_be_bytes w64 a → a < 2 ^ 38 → get_or bytes 3 0 < 64
+first_small a bytes e h = omega (arith, ap (λ (l : List ℕ). get_or l 3 0) e)
 
--- a place of five, when four have been set
-pub place_inside_5 : (xs : List ℕ) (a b c d i : ℕ) → length xs ≡ 5 → i < 5 → i < length (set (set (set (set xs 0 a) 1 b) 2 c) 3 d)
-place_inside_5 xs a b c d i e h = simp length-set (omega arith)
+pub long_address_put : (x : ℕ) (h : Header) (bytes part : List ℕ) (first r : ℕ) → bytes ≡ to_be_bytes w64 h.address → h.address < 2 ^ 38 → first ≡ first_byte h (get_or bytes 3 0)
+    → PartIs x (first ∷ get_or bytes 4 0 ∷ get_or bytes 5 0 ∷ get_or bytes 6 0 ∷ get_or bytes 7 0 ∷ []) part r → PartIs x (long_address h) part r
+long_address_put x h bytes part first r e small q v = record { holds = v.holds ∙ same; check = v.check ∙ ap (xor_from x) same }
+  where
+    six : h.address / 2 ^ 32 % 256 ≡ h.address / 2 ^ 32
+    six = omega arith
 
--- the address's form, and its part
-pub long_part : (h : Header) (n : ℕ) → h.long ≡ true → n ≡ address_length h.long → n ≡ 5
-long_part h n e p = p ∙ if_is_true {A = ℕ} h.long 5 1 e
-
-pub short_part : (h : Header) (n : ℕ) → h.long ≡ false → n ≡ address_length h.long → n ≡ 1
-short_part h n e p = p ∙ if_is_false {A = ℕ} h.long 5 1 e
-
-same_part : (x : ℕ) (us vs part : List ℕ) (r : ℕ) → us ≡ vs → PartIs x us part r → PartIs x vs part r
-same_part x us vs part r e v = record { holds = v.holds ∙ e; check = v.check ∙ ap (xor_from x) e }
-
-pub long_put : (x : ℕ) (h : Header) (part : List ℕ) (r : ℕ) → h.long ≡ true → PartIs x (long_address h) part r → PartIs x (address_bytes h) part r
-long_put x h part r e v = same_part x (long_address h) (address_bytes h) part r (sym (if_is_true h.long (long_address h) (short_address h) e)) v
-
-pub short_put : (x : ℕ) (h : Header) (first : ℕ) (part : List ℕ) (r : ℕ) → h.long ≡ false → first ≡ first_byte h h.address → PartIs x (first ∷ []) part r → PartIs x (address_bytes h) part r
-short_put x h first part r e q v =
-    same_part x (first ∷ []) (address_bytes h) part r (ap (λ (b : ℕ). b ∷ []) q ∙ sym (if_is_false h.long (long_address h) (short_address h) e)) v
+    same : first ∷ get_or bytes 4 0 ∷ get_or bytes 5 0 ∷ get_or bytes 6 0 ∷ get_or bytes 7 0 ∷ [] ≡ long_address h
+    same =
+        ap (λ (f : ℕ). f ∷ get_or bytes 4 0 ∷ get_or bytes 5 0 ∷ get_or bytes 6 0 ∷ get_or bytes 7 0 ∷ []) (q ∙ ap (λ (l : List ℕ). first_byte h (get_or l 3 0)) e ∙ ap (first_byte h) six)
+        ∙ ap (λ (l : List ℕ). first_byte h (h.address / 2 ^ 32) ∷ get_or l 4 0 ∷ get_or l 5 0 ∷ get_or l 6 0 ∷ get_or l 7 0 ∷ []) e
 
 -- a loop that stores bytes which fill the part
 pub storing_whole : (xs us : List ℕ) (n : ℕ) (ys : List ℕ) (i : ℕ) → Storing xs us n ys i → n ≡ length xs → length ys ≤ i → ys ≡ us

@@ -1,5 +1,5 @@
 // The frame writer: it takes a frame's fields and data, and writes its bytes into the part of a lent buffer that begins at the named place.
-#![tactic(auto)]
+#![tactic(auto, using(base::proofs::Choices::choices))]
 
 ghost use Rattle.std.specs.Prelude.{◌≡◌, [], ◌∷◌, ◌+◌, ◌^◌, ◌≤◌, ◌<◌, length};
 ghost use Rattle.base.specs.Choice.{when◌then◌else◌};
@@ -8,20 +8,19 @@ ghost use Rattle.frame.specs.Limits.{most_preambles, most_data, longest_frame};
 ghost use Rattle.frame.specs.Address.{address_length, long_address, address_bytes, address_above, largest_address, first_byte};
 ghost use Rattle.frame.specs.Delimiter.{delimiter_byte};
 ghost use Rattle.frame.specs.Frame.{header_bytes, body_bytes, preamble_bytes, frame_bytes, header_length, frame_length};
-ghost use Rattle.frame.specs.Write.{by_room, write_answer, written_as, WriteIs};
+ghost use Rattle.frame.specs.Write.{by_room, write_answer, WriteIs};
 ghost use Rattle.frame_write.specs.Puts.{PartIs, WithinLimits};
+ghost use Rattle.base.specs.Refusal.{called_as};
 
 use base::Refusal;
-use frame::{Header, Written};
+use frame::Header;
 
-// The preamble: every byte of its part is 0xFF.
+// The preamble: every byte of its part is 0xFF. `fill` takes sixteen bytes of stack more.
 fn put_preamble(part: &mut [u8])
     ensures { part.new ≡ preamble_bytes (length part.old) }
 {
-    let mut i = 0;
-    while i < part.len() {
-        part[i] = 0xFF;
-        i += 1;
+    for byte in part.iter_mut() {
+        *byte = 0xFF;
     }
 }
 
@@ -29,10 +28,7 @@ fn put_preamble(part: &mut [u8])
 pub fn flag(on: bool, bit: u8) -> u8
     ensures { (result ≡ (when on then bit else 0)) × (result ≤ bit) }
 {
-    if on {
-        return bit;
-    }
-    0
+    if on { bit } else { 0 }
 }
 
 // The first address byte, with the six bits that the address begins with.
@@ -51,7 +47,7 @@ fn delimiter_byte(h: Header) -> u8
     flag(h.long, 128) + h.kind
 }
 
-// Puts a field of one byte. Like each function that puts a field, it returns the exclusive-or of x and what it put.
+// Puts a field of one byte, without a loop for it. Like each function that puts a field, it returns the exclusive-or of x and what it put.
 fn put_byte(part: &mut [u8], x: u8, byte: u8) -> u8
     requires { length part.old ≡ 1 }
     ensures { PartIs x (byte ∷ []) part.new result }
@@ -65,18 +61,9 @@ fn put_long_address(part: &mut [u8], x: u8, h: Header) -> u8
     requires { (length part.old ≡ 5) × (h.address < 2 ^ 38) }
     ensures { PartIs x (long_address h) part.new result }
 {
-    let a = h.address;
-    let first = first_byte(h, (a / 4294967296) as u8);
-    let second = (a / 16777216 % 256) as u8;
-    let third = (a / 65536 % 256) as u8;
-    let fourth = (a / 256 % 256) as u8;
-    let fifth = (a % 256) as u8;
-    part[0] = first;
-    part[1] = second;
-    part[2] = third;
-    part[3] = fourth;
-    part[4] = fifth;
-    x ^ first ^ second ^ third ^ fourth ^ fifth
+    let [_, _, _, first, second, third, fourth, fifth] = h.address.to_be_bytes();
+    let field = [first_byte(h, first), second, third, fourth, fifth];
+    put_data(part, x, &field)
 }
 
 // Puts the address.
@@ -85,9 +72,10 @@ fn put_address(part: &mut [u8], x: u8, h: Header) -> u8
     ensures { PartIs x (address_bytes h) part.new result }
 {
     if h.long {
-        return put_long_address(part, x, h);
+        put_long_address(part, x, h)
+    } else {
+        put_byte(part, x, first_byte(h, h.address as u8))
     }
-    put_byte(part, x, first_byte(h, h.address as u8))
 }
 
 // Puts delimiter, address, command and byte count.
@@ -97,24 +85,21 @@ fn put_header(part: &mut [u8], h: Header, count: u8) -> u8
 {
     let address_end = part.len() - 2;
     let command_end = part.len() - 1;
-    let delimiter = put_byte(&mut part[0..1], 0, delimiter_byte(h));
+    let delimiter = put_byte(&mut part[..1], 0, delimiter_byte(h));
     let address = put_address(&mut part[1..address_end], delimiter, h);
     let command = put_byte(&mut part[address_end..command_end], address, h.command);
     put_byte(&mut part[command_end..], command, count)
 }
 
-// Puts the data.
+// Puts the data. One pass copies and adds up: the data are read once.
 fn put_data(part: &mut [u8], x: u8, bytes: &[u8]) -> u8
     requires { length part.old ≡ length bytes.now }
     ensures { PartIs x bytes.now part.new result }
 {
     let mut sum = x;
-    let mut i = 0;
-    while i < bytes.len() {
-        let byte = bytes[i];
-        part[i] = byte;
-        sum = sum ^ byte;
-        i += 1;
+    for (i, byte) in bytes.iter().enumerate() {
+        part[i] = *byte;
+        sum ^= *byte;
     }
     sum
 }
@@ -123,10 +108,7 @@ fn put_data(part: &mut [u8], x: u8, bytes: &[u8]) -> u8
 fn header_length(h: Header) -> usize
     ensures { (result ≡ header_length h) × (result ≤ 8) }
 {
-    if h.long {
-        return 8;
-    }
-    4
+    if h.long { 8 } else { 4 }
 }
 
 // Puts delimiter to check byte at the front of part.
@@ -136,7 +118,7 @@ fn put_body(part: &mut [u8], h: Header, bytes: &[u8])
 {
     let start = header_length(h);
     let end = start + bytes.len();
-    let header = put_header(&mut part[0..start], h, bytes.len() as u8);
+    let header = put_header(&mut part[..start], h, bytes.len() as u8);
     let check = put_data(&mut part[start..end], header, bytes);
     put_byte(&mut part[end..end + 1], 0, check);
 }
@@ -146,7 +128,7 @@ fn put_frame(part: &mut [u8], preamble: usize, h: Header, bytes: &[u8])
     requires { (frame_length preamble h (length bytes.now) ≤ length part.old) × WithinLimits h (length bytes.now) }
     ensures { part.new ≡ stored part.old 0 (frame_bytes preamble h bytes.now) }
 {
-    put_preamble(&mut part[0..preamble]);
+    put_preamble(&mut part[..preamble]);
     put_body(&mut part[preamble..], h, bytes);
 }
 
@@ -154,10 +136,8 @@ fn put_frame(part: &mut [u8], preamble: usize, h: Header, bytes: &[u8])
 pub fn address_above(polling: u64, h: Header) -> bool
     ensures { result ≡ address_above polling h }
 {
-    if h.long {
-        return 274877906943 < h.address;
-    }
-    polling < h.address
+    let largest = if h.long { 274877906943 } else { polling };
+    largest < h.address
 }
 
 // How many bytes a frame with so many data bytes has.
@@ -169,50 +149,56 @@ fn frame_length(preamble: usize, h: Header, count: usize) -> usize
 }
 
 // Whether so many bytes fit into a buffer of room bytes from a place on.
-fn by_room(place: usize, length: usize, room: usize) -> Written
-    ensures { written_as result ≡ by_room (place + length) room }
+fn by_room(place: usize, length: usize, room: usize) -> Result<usize, Refusal>
+    ensures { called_as result ≡ by_room (place + length) room }
 {
-    if place <= room {
-        if length <= room - place {
-            return Written::To(place + length);
-        }
-        return Written::Refused(Refusal::BufferShort);
+    if place <= room && length <= room - place {
+        Ok(place + length)
+    } else {
+        Err(Refusal::BufferShort)
     }
-    Written::Refused(Refusal::BufferShort)
 }
 
 // What a write answers, for so many data bytes and a buffer of room bytes.
-fn answer(preamble: usize, h: Header, count: usize, room: usize, place: usize) -> Written
-    ensures { written_as result ≡ write_answer preamble h count room place }
+#[tactic(auto, using(base::proofs::Choices::choices, crate::proofs::Answers::room_of), unfolding(frame::specs::Write::write_answer))]
+fn answer(
+    preamble: usize,
+    h: Header,
+    count: usize,
+    room: usize,
+    place: usize,
+) -> Result<usize, Refusal>
+    ensures { called_as result ≡ write_answer preamble h count room place }
 {
     if base::outside(preamble, 5, 20) {
-        return Written::Refused(Refusal::PreambleLength);
+        return Err(Refusal::PreambleLength);
     }
     if address_above(63, h) {
-        return Written::Refused(Refusal::Address);
+        return Err(Refusal::Address);
     }
     if 255 < count {
-        return Written::Refused(Refusal::DataLong);
+        return Err(Refusal::DataLong);
     }
     if frame::too_few(h.kind, count) {
-        return Written::Refused(Refusal::DataLength);
+        return Err(Refusal::DataLength);
     }
-    if frame::is_type(h.kind) {
-        return by_room(place, frame_length(preamble, h, count), room);
+    if !frame::is_type(h.kind) {
+        return Err(Refusal::NoDelimiter);
     }
-    Written::Refused(Refusal::NoDelimiter)
+    by_room(place, frame_length(preamble, h, count), room)
 }
 
 // Writes a frame into the buffer from a place on, or refuses and leaves the buffer as it was.
-pub fn write(preamble: usize, h: Header, bytes: &[u8], buffer: &mut [u8], place: usize) -> Written
+pub fn write(
+    preamble: usize,
+    h: Header,
+    bytes: &[u8],
+    buffer: &mut [u8],
+    place: usize,
+) -> Result<usize, Refusal>
     ensures { WriteIs preamble h bytes.now buffer.old place result buffer.new }
 {
-    let written = answer(preamble, h, bytes.len(), buffer.len(), place);
-    match written {
-        Written::To(end) => {
-            put_frame(&mut buffer[place..], preamble, h, bytes);
-            Written::To(end)
-        }
-        Written::Refused(why) => Written::Refused(why),
-    }
+    let end = answer(preamble, h, bytes.len(), buffer.len(), place)?;
+    put_frame(&mut buffer[place..], preamble, h, bytes);
+    Ok(end)
 }

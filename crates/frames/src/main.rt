@@ -4,7 +4,7 @@
 
 ghost use Rattle.std.specs.Prelude.{◌≡◌, length};
 
-use recording_lines::{FirstBad, Progress};
+use program_files::Pieces;
 use std::env::Env;
 use std::fs::Files;
 use std::io;
@@ -22,6 +22,7 @@ const ROOM: usize = 1_843_200;
 // More pieces than any file has; a loop has to end.
 const PIECES: usize = 281_474_976_710_655;
 
+// In a function of its own, with its length said: where the array is made beside the loops, the check runs out of stack.
 fn lines_room() -> [u8; ROOM]
     ensures { 1843200 ≡ length result }
 {
@@ -33,86 +34,44 @@ fn print_bad(rt: &impl Print, tick: u64) -> io::Result<()> {
     println!(rt; "21 {tick}")
 }
 
-// Whether a piece is good; if not, its first bad tick is printed, counted from the recording's start.
-fn is_good(rt: &impl Print, before: usize, piece: &[u8]) -> io::Result<bool> {
-    let bad = recording_lines::first_bad(piece);
-    match bad {
-        FirstBad::Tick(t) => {
-            print_bad(rt, (before as u64).wrapping_add(t as u64))?;
-            Ok(false)
-        }
-        FirstBad::None => Ok(true),
-    }
+// The first bad tick of a piece, counted from the recording's start. It and `look` stand in capture too: `program_files`, on which both rest, knows nothing of recordings.
+fn first_bad(before: usize, piece: &[u8]) -> Option<u64> {
+    recording_lines::first_bad(piece).map(|t| (before as u64).wrapping_add(t as u64))
 }
 
-// The first pass: whether the recording is good.
-fn look<R: Read>(rt: &impl Print, file: &mut R, piece: &mut [u8]) -> io::Result<bool> {
+// The first pass: the recording's first bad tick.
+fn look<R: Read>(recording: &mut Pieces<R, PIECE>) -> Option<u64> {
     for done in 0..PIECES {
-        let n = program_files::read_full(file, piece);
-        if !is_good(rt, TICKS * done, &piece[..n])? {
-            return Ok(false);
-        }
-        if n < PIECE {
-            return Ok(true);
+        let piece = program_files::next_piece(recording);
+        let bad = first_bad(TICKS * done, piece);
+        if bad.is_some() || piece.len() < PIECE {
+            return bad;
         }
     }
-    Ok(true)
-}
-
-fn write_lines(rt: &(impl Print + Eprint), out: &[u8]) -> io::Result<bool> {
-    match rt.write_all(out) {
-        Ok(()) => Ok(true),
-        Err(error) => {
-            program_files::say_failure(rt, "frames: standard output", &error)?;
-            Ok(false)
-        }
-    }
-}
-
-// What is kept after a piece, and whether its lines were written.
-#[derive(Clone, Copy)]
-struct Went {
-    progress: Progress,
-    on: bool,
-}
-
-fn print_piece(
-    rt: &(impl Print + Eprint),
-    before: usize,
-    kept: Progress,
-    piece: &[u8],
-    bytes: &mut [u8; 255],
-    out: &mut [u8],
-) -> io::Result<Went> {
-    if is_good(rt, before, piece)? {
-        let printed = recording_lines::lines(kept, piece, bytes, out);
-        let on = write_lines(rt, texts::front(out, printed.at))?;
-        let progress = printed.progress;
-        return Ok(Went { progress, on });
-    }
-    Ok(Went {
-        progress: kept,
-        on: false,
-    })
+    None
 }
 
 // The second pass: the lines, with what is kept from piece to piece, up to a piece that is not full. Returns whether they were all written.
 fn print<R: Read>(
     rt: &(impl Print + Eprint),
-    file: &mut R,
-    piece: &mut [u8],
-    bytes: &mut [u8; 255],
+    recording: &mut Pieces<R, PIECE>,
     out: &mut [u8],
 ) -> io::Result<bool> {
+    let mut bytes = [0u8; 255];
     let mut kept = recording_lines::start();
     for done in 0..PIECES {
-        let n = program_files::read_full(file, piece);
-        let went = print_piece(rt, TICKS * done, kept, &piece[..n], bytes, out)?;
-        kept = went.progress;
-        if !went.on {
+        let piece = program_files::next_piece(recording);
+        if let Some(tick) = first_bad(TICKS * done, piece) {
+            print_bad(rt, tick)?;
             return Ok(false);
         }
-        if n < PIECE {
+        let printed = recording_lines::lines(kept, piece, &mut bytes, out);
+        kept = printed.progress;
+        let lines = texts::front(out, printed.at);
+        if !program_files::write_out(rt, "frames: standard output", lines)? {
+            return Ok(false);
+        }
+        if piece.len() < PIECE {
             return Ok(true);
         }
     }
@@ -123,54 +82,32 @@ fn say_unread(rt: &impl Eprint) -> io::Result<()> {
     eprintln!(rt; "frames: the recording cannot be read to its end")
 }
 
-// The second pass, from the file's start.
-fn print_file<R: Read + Seek>(
-    rt: &(impl Print + Eprint),
-    file: &mut R,
-    piece: &mut [u8],
-    bytes: &mut [u8; 255],
-    out: &mut [u8],
-) -> io::Result<()> {
-    if program_files::goes_back(file) {
-        if print(rt, file, piece, bytes, out)? {
-            if program_files::is_over(file) {
-                return Ok(());
-            }
-            return say_unread(rt);
-        }
-        return Ok(());
-    }
-    eprintln!(rt; "frames: the recording is no file that can be read twice")
-}
-
 // Both passes.
-fn list_file<R: Read + Seek>(
-    rt: &(impl Print + Eprint),
-    file: &mut R,
-    piece: &mut [u8],
-    bytes: &mut [u8; 255],
-    out: &mut [u8],
-) -> io::Result<()> {
-    if look(rt, file, piece)? {
-        if program_files::is_over(file) {
-            return print_file(rt, file, piece, bytes, out);
-        }
+fn list_file<R: Read + Seek>(rt: &(impl Print + Eprint), file: &mut R) -> io::Result<()> {
+    let mut recording = Pieces {
+        file,
+        room: [0; PIECE],
+    };
+    if let Some(tick) = look(&mut recording) {
+        return print_bad(rt, tick);
+    }
+    if !program_files::is_over(recording.file) {
+        return say_unread(rt);
+    }
+    if !program_files::goes_back(recording.file) {
+        return eprintln!(rt; "frames: the recording is no file that can be read twice");
+    }
+    let mut out = lines_room();
+    if print(rt, &mut recording, &mut out)? && !program_files::is_over(recording.file) {
         return say_unread(rt);
     }
     Ok(())
 }
 
-fn list_open<R: Read + Seek>(rt: &(impl Print + Eprint), file: &mut R) -> io::Result<()> {
-    let mut piece = [0u8; PIECE];
-    let mut bytes = [0u8; 255];
-    let mut out = lines_room();
-    list_file(rt, file, &mut piece, &mut bytes, &mut out)
-}
-
 // The file that the argument names.
 fn list_named(rt: &(impl Env + Files + Print + Eprint)) -> io::Result<()> {
     match program_files::open_argument(rt, 1)? {
-        Some(mut file) => list_open(rt, &mut file),
+        Some(mut file) => list_file(rt, &mut file),
         None => Ok(()),
     }
 }

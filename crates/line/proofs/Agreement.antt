@@ -1,12 +1,13 @@
 -- Theorem: what the tick reader calls whole and undamaged is what the slice reader reads from the same bytes, fields and data.
-use Prim.Native.Nat.{ℕ, zero, suc, ◌+◌, ◌-◌, ◌*◌, ◌/◌, ◌%◌, ◌^◌, ◌≤◌, ◌<◌}
+use Rattle.std.specs.Prelude.{Option, Some, None}
+use Prim.Native.Nat.{ℕ, suc, ◌+◌, ◌-◌, ◌*◌, ◌/◌, ◌%◌, ◌^◌, ◌≤◌, ◌<◌}
 use native.Mathlib.Omega.{arith}
 use native.Mathlib.Nat.{add-zero}
 use native.Mathlib.Numerals.{add-one}
 use mathlib.Core.Path.{◌≡◌, refl, sym, ap, ap₂, subst, ◌∙◌}
 use mathlib.Core.Bool.{Bool, true, false}
-use mathlib.Core.List.{List, [], ◌∷◌, ◌++◌, append_assoc, append-nil}
-use lib.ListN.{length, take, drop, get_or, set, length-append}
+use mathlib.Core.List.{List, [], ◌∷◌, ◌++◌, append_assoc}
+use lib.ListN.{length, take, drop, set, length-append}
 use lib.Seq.{take_all, take_at, drop_at, drop-append-add, get_or-append-add}
 use lib.Bits.{bit_xor, xor_zero_l}
 use borrow.Author.Tests.{lt-ltb, ltb-true, ltb-false, eqb-true, eqb-false}
@@ -17,10 +18,9 @@ use Rattle.base.proofs.Choices.{if_is_true, if_is_false, if_at_most}
 use Rattle.base.proofs.Stores.{stored_front}
 use Rattle.frame.specs.Address.{address_length, byte_at, master_bit, burst_flag, address_of}
 use Rattle.frame.specs.Check.{xor_from, exclusive_or}
-use Rattle.frame.specs.Delimiter.{delimiter_of}
+use Rattle.frame.specs.Delimiter.{delimiter_of, delimiter_with}
 use Rattle.frame.specs.Frame.{too_few, preamble_bytes}
 use Rattle.frame.specs.declared.Delimiter.{Delimiter}
-use Rattle.frame.specs.declared.Delimiter.TheVariants.{Is, Not}
 use Rattle.frame.specs.Read.{preambles, command_place, header_of, found_at, read_frame, part_of}
 use Rattle.frame.specs.declared.Header.{Header}
 use Rattle.frame.specs.declared.Found.{Found}
@@ -29,13 +29,12 @@ use Rattle.frame.proofs.Preambles.{preambles_are, no_preamble}
 use Rattle.frame.proofs.Prefix.{delimited_no_preamble}
 use Rattle.frame.proofs.Checks.{xor_append}
 use Rattle.frame.proofs.Lengths.{preamble_count}
-use Rattle.line.specs.Reader.{idle, blank, no_damage, taken, taken_data, tells, next, breaks, counted, at_count, at_data, at_check, ended, is_damaged, with_check, at_idle, at_preamble, begins, at_first, at_address, at_command, at_expansion, first_header, address_header, command_header}
+use Rattle.line.specs.Reader.{idle, blank, no_damage, taken, taken_data, tells, breaks, at_count, at_data, at_check, ended, with_check, at_idle, at_preamble, begins, at_first, at_address, at_command, at_expansion, first_header, address_header, command_header}
 use Rattle.line.specs.declared.Event.{Event}
-use Rattle.line.specs.declared.Event.TheVariants.{Nothing, PassedOver, Broken, Frame, Damaged}
-use Rattle.line.specs.declared.FrameDamage.{FrameDamage}
+use Rattle.line.specs.declared.Event.TheVariants.{Nothing, Broken, Frame}
 use Rattle.line.specs.declared.Heard.TheVariants.{Character}
 use Rattle.line.specs.declared.Place.{Place}
-use Rattle.line.specs.declared.Place.TheVariants.{Idle, Preamble, First, Address, Expansion, Command, Count, Data, Check}
+use Rattle.line.specs.declared.Place.TheVariants.{Preamble, First, Expansion, Command, Count}
 use Rattle.line.specs.declared.Receiver.{Receiver}
 use Rattle.line.specs.declared.Taken.{Taken}
 use Rattle.line.specs.declared.Whole.{Whole}
@@ -183,7 +182,7 @@ address_heard x b2 b3 b4 b5 hx h2 h3 h4 h5 =
 data NextPreamble (x : ℕ) : Type 0 where
   another : x ≡ 0xFF → taken (blank (Preamble 2)) (Character x) ≡ tells (blank (Preamble 2)) Nothing → NextPreamble x
   broke : taken (blank (Preamble 2)) (Character x) ≡ breaks → NextPreamble x
-  delimiter : (frame : ℕ) (long : Bool) (expansion : ℕ) → delimiter_of x ≡ Is frame long expansion
+  delimiter : (frame : ℕ) (long : Bool) (expansion : ℕ) → delimiter_of x ≡ delimiter_with frame long expansion
       → taken (blank (Preamble 2)) (Character x) ≡ tells (opened frame long expansion x) Nothing → NextPreamble x
 
 next_preamble : (x : ℕ) → NextPreamble x
@@ -193,10 +192,10 @@ next_preamble x = go (x =? 0xFF) refl (delimiter_of x) refl
     two : {A : Type 0} (a b : A) → (when 2 <? 2 then a else b) ≡ b
     two a b = if_is_false (2 <? 2) a b refl
 
-    go : (t : Bool) → (x =? 0xFF) ≡ t → (d : Delimiter) → delimiter_of x ≡ d → NextPreamble x
+    go : (t : Bool) → (x =? 0xFF) ≡ t → (d : Option Delimiter) → delimiter_of x ≡ d → NextPreamble x
     go true q d z = another (eqb-true x 0xFF q) (if_is_true (x =? 0xFF) _ _ q)
-    go false q Not z = broke (if_is_false (x =? 0xFF) _ _ q ∙ two _ _ ∙ ap (begins x) z)
-    go false q (Is frame long expansion) z = delimiter frame long expansion z (if_is_false (x =? 0xFF) _ _ q ∙ two _ _ ∙ ap (begins x) z)
+    go false q None z = broke (if_is_false (x =? 0xFF) _ _ q ∙ two _ _ ∙ ap (begins x) z)
+    go false q (Some d) z = delimiter d.kind d.long d.expansion z (if_is_false (x =? 0xFF) _ _ q ∙ two _ _ ∙ ap (begins x) z)
 
 -- behind one 0xFF: another, or a break; and before a frame
 data NextSecond (x : ℕ) : Type 0 where
@@ -511,7 +510,7 @@ module _ (c : ℕ) (w : Whole) where
     d : ℕ
     tail : List ℕ
     split : cs ≡ preamble_bytes more ++ (d ∷ tail)
-    delimited : delimiter_of d ≡ Is frame long expansion
+    delimited : delimiter_of d ≡ delimiter_with frame long expansion
     body : AddressRead frame long expansion d tail
     no_data : (b : List ℕ) → data_after (blank (Preamble 2)) cs b ≡ data_after (opened frame long expansion d) tail b
 
@@ -627,7 +626,7 @@ module _ (frame : ℕ) (long : Bool) (expansion d command count : ℕ) (address 
   unfolding body back
   body_long p q n = omega (arith, length-append front back, length-append bytes (c ∷ []), front_long p q)
 
-  sound : (preamble : ℕ) → delimiter_of d ≡ Is frame long expansion → length address ≡ address_length long → length extra ≡ expansion → length bytes ≡ count
+  sound : (preamble : ℕ) → delimiter_of d ≡ delimiter_with frame long expansion → length address ≡ address_length long → length extra ≡ expansion → length bytes ≡ count
       → too_few frame count ≡ false → exclusive_or body ≡ 0 → Sound preamble body (found_at preamble body frame long expansion place count)
   unfolding body front back place
   sound preamble delimited p q n enough zero_sum = record {

@@ -1,4 +1,5 @@
 -- Theorems: the claims of specs/Gaps. Two silent ticks in a row break a frame; single ones change nothing of what is told, of the data and of the reader; a written frame with single silent ticks inside is told as the message written.
+use Rattle.std.specs.Prelude.{Option, Some, None}
 use Prim.Native.Nat.{ℕ, ◌+◌, ◌-◌, ◌≤◌}
 use native.Mathlib.Omega.{arith}
 use mathlib.Core.Path.{◌≡◌, refl, sym, ap, subst, subst₂, ◌∙◌}
@@ -11,7 +12,6 @@ use Rattle.frame.specs.Check.{exclusive_or}
 use Rattle.frame.specs.Delimiter.{delimiter_of}
 use Rattle.frame.specs.Frame.{too_few, protected_bytes, body_bytes, preamble_bytes, frame_bytes}
 use Rattle.frame.specs.declared.Delimiter.{Delimiter}
-use Rattle.frame.specs.declared.Delimiter.TheVariants.{Is, Not}
 use Rattle.frame.specs.declared.Header.{Header}
 use Rattle.frame.proofs.Taken as Write
 use Rattle.line.specs.Heard.{characters}
@@ -64,9 +64,9 @@ behind_next r h place c i = within refl (record { inside = i; no_gap = refl })
 behind_counted : (r : Receiver) (c : ℕ) (place : Place) → Inside place → Behind (counted r c place)
 behind_counted r c place i = within refl (record { inside = i; no_gap = refl })
 
-behind_begins : (c : ℕ) (d : Delimiter) → Behind (begins c d)
-behind_begins c Not = behind_breaks
-behind_begins c (Is frame long expansion) = within refl (record { inside = refl; no_gap = refl })
+behind_begins : (c : ℕ) (d : Option Delimiter) → Behind (begins c d)
+behind_begins c None = behind_breaks
+behind_begins c (Some d) = within refl (record { inside = refl; no_gap = refl })
 
 in_frame : (x : ℕ) (t : Bool) → Inside (when t then Command else Expansion x)
 unfolding when◌then◌else◌

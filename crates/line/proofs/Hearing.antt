@@ -1,35 +1,30 @@
 -- Theorem: the characters of a written frame, taken one a tick from the idle reader, tell nothing before the last, and at the last the message that was written, with its data in the buffer.
 use Prim.Native.Nat.{ℕ, zero, suc, ◌+◌, ◌*◌, ◌-◌, ◌/◌, ◌%◌, ◌^◌, ◌≤◌, ◌<◌}
 use native.Mathlib.Omega.{arith}
-use native.Mathlib.Nat.{div-div-eq-div-mul, zero-add}
+use native.Mathlib.Nat.{div-div-eq-div-mul}
 use mathlib.Core.Path.{◌≡◌, refl, sym, ap, subst, ◌∙◌}
 use mathlib.Core.Bool.{Bool, true, false}
 use mathlib.Core.List.{List, [], ◌∷◌, ◌++◌, append_assoc}
-use lib.ListN.{length, take, get_or}
+use lib.ListN.{length}
 use lib.Bits.{bit_xor, xor_self, xor_zero_l}
 use borrow.Author.Tests.{eq-eqb}
-use Rattle.base.specs.Choice.{when◌then◌else◌, ◌=?◌, ◌<?◌}
+use Rattle.base.specs.Choice.{when◌then◌else◌, ◌=?◌}
 use Rattle.base.specs.Store.{stored}
 use Rattle.base.proofs.Choices.{if_is_true, if_is_false, if_false, if_not_below, if_unequal, if_equal}
-use Rattle.frame.specs.Delimiter.{is_type, delimiter_of, delimiter_byte}
-use Rattle.frame.specs.Address.{largest_address, address_bytes, long_address, short_address, first_byte}
+use Rattle.frame.specs.Delimiter.{is_type, delimiter_byte, delimiter_with}
+use Rattle.frame.specs.Address.{largest_address, address_bytes}
 use Rattle.frame.specs.Check.{xor_from, exclusive_or}
-use Rattle.frame.specs.Frame.{too_few, header_bytes, protected_bytes, body_bytes, preamble_bytes, frame_bytes}
-use Rattle.frame.specs.declared.Delimiter.{Delimiter}
-use Rattle.frame.specs.declared.Delimiter.TheVariants.{Is}
+use Rattle.frame.specs.Frame.{too_few, header_bytes, protected_bytes, preamble_bytes}
 use Rattle.frame.specs.declared.Header.{Header}
 use Rattle.frame.proofs.Checks.{xor_append}
 use Rattle.frame.proofs.Reread.{delimiter_back, delimiter_no_preamble, first, master_back, burst_back, bits_back}
-use Rattle.line.specs.Reader.{tells, idle, blank, no_damage, taken, taken_data, begins, at_preamble, at_first, at_address, at_command, at_count, at_check, behind_address, first_header, address_header, command_header, ended, with_check}
-use Rattle.line.specs.declared.Event.{Event}
-use Rattle.line.specs.declared.Event.TheVariants.{Nothing, Frame}
+use Rattle.line.specs.Reader.{tells, idle, blank, no_damage, taken, taken_data, begins, at_preamble, at_first, at_address, at_command, at_count, at_check, ended, with_check}
+use Rattle.line.specs.declared.Event.TheVariants.{Frame}
 use Rattle.line.specs.declared.Heard.TheVariants.{Character}
-use Rattle.line.specs.declared.Place.{Place}
-use Rattle.line.specs.declared.Place.TheVariants.{Preamble, First, Address, Command, Count, Data, Check}
+use Rattle.line.specs.declared.Place.TheVariants.{Preamble, First, Count}
 use Rattle.line.specs.declared.Receiver.{Receiver}
-use Rattle.line.specs.declared.Taken.{Taken}
 use Rattle.line.specs.declared.Whole.{Whole}
-use Rattle.line.proofs.Leads.{Leads, stays, hears, leads_on, preamble_leads, in_data, at_end, data_leads}
+use Rattle.line.proofs.Leads.{Leads, stays, hears, leads_on, preamble_leads, at_end, data_leads}
 
 -- the reader behind a delimiter, and at the command, the byte count
 abbrev opened : ℕ → Bool → ℕ → Receiver
@@ -44,7 +39,7 @@ delimiter_leads : (b : List ℕ) (frame : ℕ) (long : Bool) → is_type frame �
 unfolding taken taken_data at_preamble
 delimiter_leads b frame long typed =
     let d : ℕ = delimiter_byte frame long in
-    let at : begins d (Is frame long 0) ≡ taken (blank (Preamble 2)) (Character d) =
+    let at : begins d (delimiter_with frame long 0) ≡ taken (blank (Preamble 2)) (Character d) =
     if_unequal d 0xFF _ _ _ (delimiter_no_preamble frame long typed)
     (if_not_below 2 2 _ _ _ (omega arith) (ap (begins d) (sym (delimiter_back frame long typed)))) in
     hears (sym at) refl stays

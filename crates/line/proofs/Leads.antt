@@ -3,7 +3,7 @@ use Prim.Native.Nat.{ℕ, zero, suc, ◌+◌, ◌≤◌, ◌<◌}
 use native.Mathlib.Omega.{arith}
 use native.Mathlib.Numerals.{add-one}
 use mathlib.Core.Path.{◌≡◌, refl, sym, ap, ap₂, subst, ◌∙◌}
-use mathlib.Core.Bool.{Bool, true, false}
+use mathlib.Core.Bool.{false}
 use mathlib.Core.List.{List, [], ◌∷◌, ◌++◌}
 use lib.ListN.{length, set, take, get_or}
 use lib.Bits.{bit_xor}
@@ -13,11 +13,10 @@ use Rattle.base.proofs.Choices.{if_below, if_not_below}
 use Rattle.frame.specs.Check.{xor_from}
 use Rattle.frame.specs.Frame.{preamble_bytes}
 use Rattle.frame.specs.declared.Header.{Header}
-use Rattle.line.specs.Reader.{tells, idle, blank, no_damage, taken, taken_data, at_idle, at_preamble, at_data, next}
+use Rattle.line.specs.Reader.{tells, idle, blank, no_damage, taken, taken_data, at_idle, at_preamble, at_data}
 use Rattle.line.specs.declared.Event.TheVariants.{Nothing}
 use Rattle.line.specs.declared.Heard.TheVariants.{Character}
-use Rattle.line.specs.declared.Place.{Place}
-use Rattle.line.specs.declared.Place.TheVariants.{Idle, Preamble, Data, Check}
+use Rattle.line.specs.declared.Place.TheVariants.{Preamble, Data, Check}
 use Rattle.line.specs.declared.Receiver.{Receiver}
 use Rattle.line.specs.declared.Taken.{Taken}
 

@@ -1,11 +1,9 @@
 -- To be believed: what the engine must do, or what is claimed of it.
 -- Document 01, "Timers": "A profile has five numbers in ticks"; "Refusals", the line of the profile.
-use Rattle.std.specs.Prelude.{ℕ, ◌+◌, Bool, true, false}
-use Rattle.base.specs.Choice.{when◌then◌else◌, ◌<?◌, ◌≤?◌, ◌=?◌, ◌outside◌to◌}
-use Rattle.base.specs.Refusal.{number, Called, accepted, refused}
+use Rattle.std.specs.Prelude.{◌+◌, Bool, true, false}
+use Rattle.base.specs.Choice.{when◌then◌else◌, ◌≤?◌, ◌=?◌, ◌outside◌to◌}
+use Rattle.base.specs.Refusal.{Called, accepted, refused}
 use Rattle.line.specs.declared.Profile.{Profile}
-use Rattle.line.specs.declared.MadeProfile.{MadeProfile}
-use Rattle.line.specs.declared.MadeProfile.TheVariants.{Made, Refused}
 
 -- "FSK: STO 28, HOLD 2, RT2 8, RT1 33 primary and 41 secondary"
 abbrev pub fsk_profile : Profile
@@ -39,8 +37,3 @@ order_refused p =
 -- "1": a profile is made, or refused
 abbrev pub profile_made : Profile → Called Profile
 profile_made p = when value_refused p then refused 1 else when order_refused p then refused 1 else accepted p
-
--- what the answer says
-abbrev pub made_as : MadeProfile → Called Profile
-made_as (Made p) = accepted p
-made_as (Refused why) = refused (number why)

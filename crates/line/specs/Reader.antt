@@ -1,6 +1,6 @@
 -- To be believed: what the engine must do, or what is claimed of it.
 -- The tick reader: document 01, "Frames", the paragraph on the line, with document 02, item 1, for a silent tick inside a frame. In each tick it takes what is heard and tells what became of a frame.
-use Rattle.std.specs.Prelude.{ℕ, ◌+◌, ◌-◌, ◌*◌, ◌/◌, ◌%◌, ◌^◌, Bool, true, false, ◌≡◌, List, [], ◌∷◌}
+use Rattle.std.specs.Prelude.{ℕ, ◌+◌, ◌-◌, ◌*◌, ◌/◌, ◌%◌, ◌^◌, Bool, true, false, ◌≡◌, List, [], ◌∷◌, Option, Some, None}
 use Rattle.std.specs.Int.Bits.{bit_xor}
 use Rattle.base.specs.Choice.{when◌then◌else◌, ◌<?◌, ◌=?◌}
 use Rattle.base.specs.Store.{stored}
@@ -8,7 +8,6 @@ use Rattle.frame.specs.Limits.{most_data}
 use Rattle.frame.specs.Delimiter.{delimiter_of}
 use Rattle.frame.specs.Frame.{too_few}
 use Rattle.frame.specs.declared.Delimiter.{Delimiter}
-use Rattle.frame.specs.declared.Delimiter.TheVariants.{Is, Not}
 use Rattle.frame.specs.declared.Header.{Header}
 use Rattle.line.specs.declared.Damage.{Damage}
 use Rattle.line.specs.declared.Damage.TheVariants.{Parity, Overrun, Framing}
@@ -87,13 +86,13 @@ unfoldable pub at_idle : ℕ → Taken
 at_idle c = when c =? 0xFF then tells (blank (Preamble 1)) Nothing else breaks
 
 -- the delimiter
-abbrev pub begins : ℕ → Delimiter → Taken
-begins c Not = breaks
-begins c (Is frame long expansion) =
+abbrev pub begins : ℕ → Option Delimiter → Taken
+begins c None = breaks
+begins c (Some d) =
     tells (record {
       place = First;
-      header = record { kind = frame; long = long; primary = false; burst = false; address = 0; command = 0 };
-      expansion = expansion;
+      header = record { kind = d.kind; long = d.long; primary = false; burst = false; address = 0; command = 0 };
+      expansion = d.expansion;
       count = 0;
       sum = c;
       damage = no_damage;

@@ -1,10 +1,11 @@
 // The line: what is heard in a tick, the profiles, and what the tick reader holds and tells.
-#![tactic(auto)]
+#![tactic(auto, using(base::proofs::Choices::choices))]
 
 ghost use Rattle.std.specs.Prelude.{◌≡◌};
 ghost use Rattle.line.specs.Heard.{heard_of};
 ghost use Rattle.line.specs.Told.{event_number};
-ghost use Rattle.line.specs.Profile.{fsk_profile, c8psk_profile, infrared_profile, value_refused, order_refused, profile_made, made_as};
+ghost use Rattle.line.specs.Profile.{fsk_profile, c8psk_profile, infrared_profile, value_refused, order_refused, profile_made};
+ghost use Rattle.base.specs.Refusal.{called_as};
 
 use base::Refusal;
 use frame::Header;
@@ -39,15 +40,8 @@ pub struct Profile {
     pub rt1s: u16,
 }
 
-// What making a profile answers.
-#[derive(Clone, Copy)]
-pub enum MadeProfile {
-    Made(Profile),
-    Refused(Refusal),
-}
-
 // Where the tick reader stands.
-#[derive(Clone, Copy)]
+#[derive(Clone, Copy, PartialEq, Eq)]
 pub enum Place {
     // passes over characters until a silent tick
     Passing,
@@ -69,7 +63,7 @@ pub enum Place {
 }
 
 // What is wrong with a frame: damage in command, data or check byte by its kind, a wrong check byte, damage in address or expansion bytes.
-#[derive(Clone, Copy)]
+#[derive(Clone, Copy, PartialEq, Eq)]
 pub struct FrameDamage {
     pub parity: bool,
     pub overrun: bool,
@@ -79,7 +73,7 @@ pub struct FrameDamage {
 }
 
 // What the tick reader holds from tick to tick: its place, and what it has heard of the frame so far.
-#[derive(Clone, Copy)]
+#[derive(Clone, Copy, PartialEq, Eq)]
 pub struct Receiver {
     pub header: Header,
     pub place: Place,
@@ -136,23 +130,17 @@ impl Event {
     }
 }
 
-// What is heard in a tick, by a kind and a character: silence, a character, or a damaged one.
+// What is heard in a tick, by a kind and a character, as programs in C and recordings tell it: silence, a character, or a damaged one.
 pub fn heard_of(kind: u8, c: u8) -> Heard
     ensures { result ≡ heard_of kind c }
 {
-    if kind == 1 {
-        return Heard::Character(c);
+    match kind {
+        1 => Heard::Character(c),
+        2 => Heard::Damaged(c, Damage::Parity),
+        3 => Heard::Damaged(c, Damage::Overrun),
+        4 => Heard::Damaged(c, Damage::Framing),
+        _ => Heard::Silence,
     }
-    if kind == 2 {
-        return Heard::Damaged(c, Damage::Parity);
-    }
-    if kind == 3 {
-        return Heard::Damaged(c, Damage::Overrun);
-    }
-    if kind == 4 {
-        return Heard::Damaged(c, Damage::Framing);
-    }
-    Heard::Silence
 }
 
 impl Profile {
@@ -198,51 +186,32 @@ impl Profile {
 fn value_refused(p: Profile) -> bool
     ensures { result ≡ value_refused p }
 {
-    if base::outside(p.sto as usize, 1, 1000) {
-        return true;
-    }
-    if base::outside(p.hold as usize, 1, 1000) {
-        return true;
-    }
-    if base::outside(p.rt2 as usize, 1, 1000) {
-        return true;
-    }
-    if base::outside(p.rt1p as usize, 1, 1000) {
-        return true;
-    }
-    base::outside(p.rt1s as usize, 1, 1000)
+    base::outside(p.sto as usize, 1, 1000)
+        || base::outside(p.hold as usize, 1, 1000)
+        || base::outside(p.rt2 as usize, 1, 1000)
+        || base::outside(p.rt1p as usize, 1, 1000)
+        || base::outside(p.rt1s as usize, 1, 1000)
 }
 
 // Whether the values are not in the order that they must have.
 fn order_refused(p: Profile) -> bool
     ensures { result ≡ order_refused p }
 {
-    if p.rt2 <= p.hold {
-        return true;
-    }
-    if p.rt1p <= p.rt2 {
-        return true;
-    }
-    if p.rt1p <= p.sto {
-        return true;
-    }
-    if (p.rt1s as u32) == (p.rt1p as u32) + (p.rt2 as u32) {
-        return false;
-    }
-    true
+    p.rt2 <= p.hold
+        || p.rt1p <= p.rt2
+        || p.rt1p <= p.sto
+        || u32::from(p.rt1s) != u32::from(p.rt1p) + u32::from(p.rt2)
 }
 
 impl Profile {
     // A profile of these values, or refusal 1.
-    pub fn checked(self) -> MadeProfile
-        ensures { made_as result ≡ profile_made self }
+    pub fn checked(self) -> Result<Profile, Refusal>
+        ensures { called_as result ≡ profile_made self }
     {
-        if value_refused(self) {
-            return MadeProfile::Refused(Refusal::BadProfile);
+        if value_refused(self) || order_refused(self) {
+            Err(Refusal::BadProfile)
+        } else {
+            Ok(self)
         }
-        if order_refused(self) {
-            return MadeProfile::Refused(Refusal::BadProfile);
-        }
-        MadeProfile::Made(self)
     }
 }

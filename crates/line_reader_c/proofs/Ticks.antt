@@ -1,8 +1,8 @@
 -- A tick of the reader by what its parts gave.
 use Prim.Native.Nat.{ℕ}
 use mathlib.Core.List.{List}
-use mathlib.Core.Path.{◌≡◌, sym, ap, subst, ◌∙◌}
-use Rattle.line.specs.Reader.{taken, ReaderTakeIs}
+use mathlib.Core.Path.{◌≡◌, ap, subst, ◌∙◌}
+use Rattle.line.specs.Reader.{ReaderTakeIs}
 use Rattle.line.specs.declared.Heard.{Heard}
 use Rattle.line.specs.declared.Receiver.{Receiver}
 use Rattle.line.specs.declared.Taken.{Taken}

@@ -16,11 +16,8 @@ pub extern "C" fn nengapiko_reader_tick(
     ensures { ReaderTicks state bytes (heard_of kind character) results }
 {
     let heard = line::heard_of(kind, character);
-    let r = state_words::receiver_at(state, 0);
-    let t = line_reader::take(r, heard, bytes);
-    let next = t.receiver;
-    let event = t.event;
-    state_words::receiver_fits(next);
-    *state = state_words::receiver_words(next);
-    *results = state_words::tick_numbers(0, 0, 0, event);
+    let taken = line_reader::take(state_words::receiver_at(state, 0), heard, bytes);
+    state_words::receiver_fits(taken.receiver);
+    *state = state_words::receiver_words(taken.receiver);
+    *results = state_words::tick_numbers(0, 0, 0, taken.event);
 }

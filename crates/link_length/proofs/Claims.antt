@@ -1,5 +1,5 @@
 -- The claims: the length that is given is the largest, 26 is answered exactly where 2 data bytes wait too long, and then none fits; and the owner's wait holds on a link with that length.
-use Prim.Native.Nat.{ℕ, zero, suc, ◌+◌, ◌-◌, ◌≤◌, ◌<◌}
+use Prim.Native.Nat.{ℕ, zero, suc, ◌+◌, ◌≤◌}
 use native.Mathlib.Decide.{dec_le}
 use native.Mathlib.Nat.{mul-le-mul_left}
 use native.Mathlib.Omega.{arith}

@@ -2,13 +2,11 @@
 -- Document 02, item 12, "How much data for a wanted turn": the data length for a wait, the longest wait for a data length, and what is refused.
 use Rattle.std.specs.Prelude.{ℕ, zero, suc, ◌+◌, Bool}
 use Rattle.base.specs.Choice.{when◌then◌else◌, ◌<?◌, ◌≤?◌, ◌outside◌to◌}
-use Rattle.base.specs.Refusal.{number, Called, accepted, refused}
+use Rattle.base.specs.Refusal.{Called, accepted, refused}
 use Rattle.frame.specs.Limits.{fewest_answered, most_data}
 use Rattle.line.specs.Profile.{profile_made}
 use Rattle.line.specs.declared.Profile.{Profile}
 use Rattle.turns.specs.Demand3.{longest_wait, longer_with_burst}
-use Rattle.link_length.specs.declared.DataLength.{DataLength}
-use Rattle.link_length.specs.declared.LongestWait.{LongestWait}
 
 -- "It refuses the profile with 1, then ..": what is answered for the profile that the check takes
 abbrev pub with_profile : (Profile → Called ℕ) → Called Profile → Called ℕ
@@ -51,13 +49,3 @@ wait_in p retries n bursting =
 
 abbrev pub wait_for : Profile → ℕ → ℕ → Bool → Called ℕ
 wait_for p retries n bursting = with_profile (λ q. wait_in q retries n bursting) (profile_made p)
-
--- ---- what the answers say
-
-abbrev pub length_as : DataLength → Called ℕ
-length_as (DataLength.Bytes n) = accepted n
-length_as (DataLength.Refused why) = refused (number why)
-
-abbrev pub wait_as : LongestWait → Called ℕ
-wait_as (LongestWait.Ticks n) = accepted n
-wait_as (LongestWait.Refused why) = refused (number why)

@@ -1,27 +1,14 @@
 // Document 02, item 12: how much data for a wanted turn, and the longest wait for so much data.
-#![tactic(auto)]
+#![tactic(auto, using(base::proofs::Choices::choices))]
 
 ghost use Rattle.std.specs.Prelude.{◌≡◌, ◌+◌, ◌*◌, ◌<◌};
 ghost use Rattle.frame.specs.Limits.{longest_frame};
 ghost use Rattle.turns.specs.Demand3.{longest_wait, longer_with_burst};
-ghost use Rattle.link_length.specs.Length.{largest_from, length_in, data_length, length_as, wait_with, wait_in, wait_for, wait_as};
+ghost use Rattle.link_length.specs.Length.{largest_from, length_in, data_length, wait_with, wait_in, wait_for};
+ghost use Rattle.base.specs.Refusal.{called_as};
 
 use base::Refusal;
-use line::{MadeProfile, Profile};
-
-// What is answered for a wait: so many data bytes, or a refusal.
-#[derive(Clone, Copy)]
-pub enum DataLength {
-    Bytes(u8),
-    Refused(Refusal),
-}
-
-// What is answered for a data length: so many ticks, or a refusal.
-#[derive(Clone, Copy)]
-pub enum LongestWait {
-    Ticks(u32),
-    Refused(Refusal),
-}
+use line::Profile;
 
 // ---- the wait formula
 
@@ -65,9 +52,10 @@ fn wait_with(bursting: bool, length: u8, p: Profile, retries: u8) -> u32
 {
     let plain = plain_wait(length, p, retries);
     if bursting {
-        return plain + longer_with_burst(length, p);
+        plain + longer_with_burst(length, p)
+    } else {
+        plain
     }
-    plain
 }
 
 // ---- the data length for a wait
@@ -76,62 +64,57 @@ fn wait_with(bursting: bool, length: u8, p: Profile, retries: u8) -> u32
 fn largest(p: Profile, retries: u8, wait: u32) -> u8
     ensures { result ≡ largest_from 255 p retries wait }
 {
-    let mut n: u8 = 255;
-    while 0 < n {
+    for n in (1..=255).rev() {
         if plain_wait(n, p, retries) <= wait {
             return n;
         }
-        n -= 1;
     }
     0
 }
 
 // For a profile that the check takes: 2, then 26, then the length.
-fn length_in(p: Profile, retries: u8, wait: u32) -> DataLength
-    ensures { length_as result ≡ length_in p retries wait }
+fn length_in(p: Profile, retries: u8, wait: u32) -> Result<u8, Refusal>
+    ensures { called_as result ≡ length_in p retries wait }
 {
     if base::outside(retries as usize, 3, 15) {
-        return DataLength::Refused(Refusal::BadRetries);
+        Err(Refusal::BadRetries)
+    } else if wait < plain_wait(2, p, retries) {
+        Err(Refusal::WaitTooShort)
+    } else {
+        Ok(largest(p, retries, wait))
     }
-    if wait < plain_wait(2, p, retries) {
-        return DataLength::Refused(Refusal::WaitTooShort);
-    }
-    DataLength::Bytes(largest(p, retries, wait))
 }
 
 // The largest data length from 2 to 255 whose plain wait formula stays within this wait; or refusal 1, 2 or 26.
-pub fn data_length(profile: Profile, retries: u8, wait: u32) -> DataLength
-    ensures { length_as result ≡ data_length profile retries wait }
+pub fn data_length(profile: Profile, retries: u8, wait: u32) -> Result<u8, Refusal>
+    ensures { called_as result ≡ data_length profile retries wait }
 {
-    let made = profile.checked();
-    match made {
-        MadeProfile::Made(p) => length_in(p, retries, wait),
-        MadeProfile::Refused(why) => DataLength::Refused(why),
-    }
+    length_in(profile.checked()?, retries, wait)
 }
 
 // ---- the longest wait for a data length
 
 // For a profile that the check takes: 2, then 9, then the wait.
-fn wait_in(p: Profile, retries: u8, length: usize, bursting: bool) -> LongestWait
-    ensures { wait_as result ≡ wait_in p retries length bursting }
+fn wait_in(p: Profile, retries: u8, length: usize, bursting: bool) -> Result<u32, Refusal>
+    ensures { called_as result ≡ wait_in p retries length bursting }
 {
     if base::outside(retries as usize, 3, 15) {
-        return LongestWait::Refused(Refusal::BadRetries);
+        Err(Refusal::BadRetries)
+    } else if base::outside(length, 2, 255) {
+        Err(Refusal::DataLength)
+    } else {
+        Ok(wait_with(bursting, length as u8, p, retries))
     }
-    if base::outside(length, 2, 255) {
-        return LongestWait::Refused(Refusal::DataLength);
-    }
-    LongestWait::Ticks(wait_with(bursting, length as u8, p, retries))
 }
 
 // The longest wait on a link with this data length, with or without a bursting device; or refusal 1, 2 or 9.
-pub fn longest_wait(profile: Profile, retries: u8, length: usize, bursting: bool) -> LongestWait
-    ensures { wait_as result ≡ wait_for profile retries length bursting }
+pub fn longest_wait(
+    profile: Profile,
+    retries: u8,
+    length: usize,
+    bursting: bool,
+) -> Result<u32, Refusal>
+    ensures { called_as result ≡ wait_for profile retries length bursting }
 {
-    let made = profile.checked();
-    match made {
-        MadeProfile::Made(p) => wait_in(p, retries, length, bursting),
-        MadeProfile::Refused(why) => LongestWait::Refused(why),
-    }
+    wait_in(profile.checked()?, retries, length, bursting)
 }

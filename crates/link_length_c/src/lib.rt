@@ -4,7 +4,6 @@
 ghost use Rattle.link_length_c.specs.Call.{profile, LengthCall, WaitCall};
 
 use line::Profile;
-use link_length::{DataLength, LongestWait};
 
 // Sets length to the largest data length whose plain wait stays within this one; or returns the refusal's number, 1, 2 or 26, and changes nothing.
 #[unsafe(no_mangle)]
@@ -21,19 +20,18 @@ pub extern "C" fn nengapiko_data_length(
     ensures { LengthCall (profile sto hold rt2 rt1p rt1s) retries wait length result }
 {
     let p = Profile {
-        sto: sto,
-        hold: hold,
-        rt2: rt2,
-        rt1p: rt1p,
-        rt1s: rt1s,
+        sto,
+        hold,
+        rt2,
+        rt1p,
+        rt1s,
     };
-    let found = link_length::data_length(p, retries, wait);
-    match found {
-        DataLength::Bytes(n) => {
+    match link_length::data_length(p, retries, wait) {
+        Ok(n) => {
             *length = n;
             0
         }
-        DataLength::Refused(why) => why.number(),
+        Err(why) => why.number(),
     }
 }
 
@@ -53,18 +51,17 @@ pub extern "C" fn nengapiko_longest_wait(
     ensures { WaitCall (profile sto hold rt2 rt1p rt1s) retries length bursting wait result }
 {
     let p = Profile {
-        sto: sto,
-        hold: hold,
-        rt2: rt2,
-        rt1p: rt1p,
-        rt1s: rt1s,
+        sto,
+        hold,
+        rt2,
+        rt1p,
+        rt1s,
     };
-    let found = link_length::longest_wait(p, retries, length, bursting);
-    match found {
-        LongestWait::Ticks(n) => {
+    match link_length::longest_wait(p, retries, length, bursting) {
+        Ok(n) => {
             *wait = n;
             0
         }
-        LongestWait::Refused(why) => why.number(),
+        Err(why) => why.number(),
     }
 }

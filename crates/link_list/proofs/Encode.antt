@@ -1,23 +1,22 @@
 -- Every list of codable ticks is what its bytes decode to: each call, each tick, then the list.
-use Prim.Native.Nat.{ℕ, zero, suc, ◌+◌, ◌*◌, ◌/◌, ◌%◌, ◌^◌, ◌≤◌, ◌<◌}
+use Prim.Native.Nat.{ℕ, suc, ◌+◌, ◌*◌, ◌/◌, ◌%◌, ◌^◌, ◌≤◌, ◌<◌}
 use native.Mathlib.Nat.{div-div-eq-div-mul}
 use native.Mathlib.Omega.{arith}
-use mathlib.Core.Path.{◌≡◌, refl, sym, ap, subst, ◌∙◌}
+use mathlib.Core.Path.{◌≡◌, refl, sym, ap, ◌∙◌}
 use mathlib.Core.Bool.{Bool, true, false}
 use mathlib.Core.List.{List, [], ◌∷◌, ◌++◌, append_assoc}
-use lib.ListN.{length, take, drop, length-append}
+use lib.ListN.{length}
 use lib.Seq.{take_at, drop_at}
-use Rattle.base.specs.Choice.{when◌then◌else◌, ◌=?◌}
+use Rattle.base.specs.Choice.{when◌then◌else◌}
 use Rattle.base.proofs.Choices.{if_unequal}
 use Rattle.turns.proofs.Bursting.{if_both}
 use Rattle.turns.specs.Link.{MasterCall, no_request, requests, DeviceCall, no_call, gives_answer, gives_content, Calls}
 use Rattle.turns.specs.declared.Request.{Request}
-use Rattle.turns.specs.declared.Wish.{Wish}
 use Rattle.turns.specs.declared.Wish.TheVariants.{Same, On, Off}
 use Rattle.master.specs.Tick as M
 use Rattle.device_tick.specs.Tick as D
-use Rattle.link_list.specs.Ticks.{address_in, length_in, data_in, request_by, request_in, answer_in, behind_call, behind, Here, calls_each, slots_in, calls_in, ticks_of}
-use Rattle.link_list.specs.Encode.{call_bytes, master_bytes, wish_kind, device_bytes, slots_bytes, tick_bytes, ticks_bytes, Bytes, no_byte, byte_and, DataCodable, RequestCodable, MasterCodable, DeviceCodable, SlotsCodable, no_slot, absent_and, present_and, TickCodable, TicksCodable, no_tick, tick_and, Encodes}
+use Rattle.link_list.specs.Ticks.{length_in, data_in, request_by, request_in, answer_in, behind_call, behind, Here, calls_each, slots_in, calls_in, ticks_of}
+use Rattle.link_list.specs.Encode.{call_bytes, master_bytes, device_bytes, slots_bytes, tick_bytes, ticks_bytes, Bytes, no_byte, byte_and, DataCodable, MasterCodable, DeviceCodable, SlotsCodable, no_slot, absent_and, present_and, TickCodable, TicksCodable, no_tick, tick_and, Encodes}
 use Rattle.link_list.proofs.Whole.{ticks_more, ticks_none}
 
 -- ---- a call

@@ -8,12 +8,10 @@ use lib.ListN.{length, take, drop, get_or, set, length-set, length-drop}
 use lib.Seq.{drop-drop, take_all, take-nil}
 use borrow.Author.Tests.{ltb-true, ltb-false}
 use Rattle.base.specs.Choice.{when◌then◌else◌, ◌<?◌, ◌=?◌}
-use Rattle.base.proofs.Choices.{if_is_true, if_is_false, if_below, if_not_below}
+use Rattle.base.proofs.Choices.{if_is_true, if_is_false}
 use Rattle.base.proofs.Lists.{front_more}
 use Rattle.master.specs.Tick as M
-use Rattle.master.specs.declared.MasterCall.{MasterCall}
 use Rattle.device_tick.specs.Tick as D
-use Rattle.device_tick.specs.declared.DeviceCall.{DeviceCall}
 use Rattle.link_parties.specs.Part.{data_of}
 use Rattle.link_parties.specs.Stands.{if_here, no_device_call, device_call_of, device_calls_from, calls_of}
 use Rattle.link_parties.proofs.Parts.{past_end}
@@ -22,16 +20,6 @@ use Rattle.link_parties.specs.declared.MasterCallWithPart.{MasterCallWithPart}
 use Rattle.link_parties.specs.declared.Part.{Part}
 use Rattle.link_list.specs.Ticks.{kind_in, length_in, data_in, request_in, answer_in, behind_call, Here, slots_in, behind, calls_in}
 use Rattle.link_list.specs.Read.{part_in, master_call_at, device_call_at, forward, next_in, calls_from, place_behind, CallsRead, tick_from, tick_at}
-use Rattle.link_list.specs.declared.TickRead.{TickRead}
-
--- a call, its parts told
-pub master_call_is : (ticks : List ℕ) (at : ℕ) (call : MasterCall) (part : Part) → call ≡ request_in (drop at ticks) → part ≡ part_in ticks at
-    → ◌≡◌ {A = MasterCallWithPart} (record { call = call; part = part }) (master_call_at ticks at)
-master_call_is ticks at call part e f = λ i. record { call = e i; part = f i }
-
-pub device_call_is : (ticks : List ℕ) (at : ℕ) (call : DeviceCall) (part : Part) → call ≡ answer_in (drop at ticks) → part ≡ part_in ticks at
-    → ◌≡◌ {A = DeviceCallWithPart} (record { call = call; part = part }) (device_call_at ticks at)
-device_call_is ticks at call part e f = λ i. record { call = e i; part = f i }
 
 -- ---- a loop: the first n calls are read, of so many
 
@@ -85,22 +73,16 @@ module _ {A : Type 0} where
           inside = v.inside;
         }
 
-pub tick_is : (ticks : List ℕ) (at middle next : ℕ) (ms : List MasterCallWithPart) (ds : List DeviceCallWithPart) → CallsRead master_call_at ticks 2 at ms middle → CallsRead device_call_at ticks 6 middle ds next
-    → record { calls = record { masters = ms; devices = ds }; next = next } ≡ tick_from ticks at
-unfolding place_behind
-tick_is ticks at middle next ms ds m d = λ i. record {
-  calls = record { masters = m.calls_are i; devices = (d.calls_are ∙ ap (calls_from device_call_at ticks 6) m.next_is) i };
-  next = (d.next_is ∙ ap (place_behind ticks 6) m.next_is) i;
-}
-
--- behind the end of the list
-pub tick_inside : (ticks : List ℕ) (at : ℕ) (r : TickRead) → at < length ticks → r ≡ tick_from ticks at → r ≡ tick_at ticks at
-tick_inside ticks at r h e = e ∙ ap (tick_from ticks) (if_below at (length ticks) at at (length ticks) h refl)
-
-pub tick_behind : (ticks : List ℕ) (at : ℕ) (r : TickRead) → length ticks ≤ at → r ≡ tick_from ticks (length ticks) → r ≡ tick_at ticks at
-tick_behind ticks at r h e = e ∙ ap (tick_from ticks) (if_not_below at (length ticks) (length ticks) at (length ticks) h refl)
-
-pub ruleset readings = (refl, master_call_is, device_call_is, reading_none, reading_more, reading_all, tick_is, tick_inside, tick_behind)
+pub tick_is : (ticks : List ℕ) (at second third next : ℕ) (p s : MasterCallWithPart) (ds : List DeviceCallWithPart)
+    → p ≡ master_call_at ticks at → second ≡ next_in ticks at → s ≡ master_call_at ticks second → third ≡ next_in ticks second → CallsRead device_call_at ticks 6 third ds next
+    → record { calls = record { masters = p ∷ s ∷ []; devices = ds }; next = next } ≡ tick_from ticks at
+unfolding calls_from place_behind
+tick_is ticks at second third next p s ds e f g h d =
+    let behind_two : third ≡ next_in ticks (next_in ticks at) = h ∙ ap (next_in ticks) f in
+    λ i. record {
+      calls = record { masters = e i ∷ (g ∙ ap (master_call_at ticks) f) i ∷ []; devices = (d.calls_are ∙ ap (calls_from device_call_at ticks 6) behind_two) i };
+      next = (d.next_is ∙ ap (place_behind ticks 6) behind_two) i;
+    }
 
 -- ---- what is read at a place
 

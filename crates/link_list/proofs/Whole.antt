@@ -3,8 +3,8 @@ use Prim.Native.Nat.{ℕ, zero, suc, ◌+◌, ◌≤◌, ◌<◌}
 use native.Mathlib.Omega.{arith}
 use mathlib.Core.Path.{◌≡◌, refl, ap}
 use mathlib.Core.List.{List, [], ◌∷◌}
-use lib.ListN.{length, drop, length-drop}
-use Rattle.base.specs.Choice.{when◌then◌else◌, ◌=?◌}
+use lib.ListN.{length, length-drop}
+use Rattle.base.specs.Choice.{◌=?◌}
 use Rattle.turns.specs.Link.{Calls}
 use Rattle.turns.proofs.Bursting.{if_both}
 use Rattle.link_list.specs.Ticks.{kind_in, length_in, behind_call, behind, Here, calls_each, calls_in, ticks_from, ticks_of}

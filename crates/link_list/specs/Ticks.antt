@@ -1,16 +1,16 @@
 -- How the code stands for what is to be believed.
 -- A list of ticks as bytes, so that a run can be lent "a list of ticks from tick 0" (document 01, "Runs of the link"). Every byte string is some list of ticks. A tick of a link with six slots is eight calls, one after the other: to the primary, to the secondary, and to the devices of the slots.
 -- A call is one byte 0, no call; or a kind that is not 0, the preamble, the command, the address in five bytes, the length of the data in two, each most significant first, and the data. The length counts modulo 257, so that a call can have 0 to 256 data bytes. Past the list's end every byte counts as 0, and a call's data end where the list ends.
-use Rattle.std.specs.Prelude.{ℕ, zero, suc, ◌+◌, ◌*◌, ◌/◌, ◌%◌, ◌^◌, Bool, true, false, List, [], ◌∷◌, length, take, drop}
+use Rattle.std.specs.Prelude.{ℕ, zero, suc, ◌+◌, ◌*◌, ◌/◌, ◌%◌, ◌^◌, Bool, true, false, List, [], ◌∷◌, length, take, drop, Option, Some, None}
 use Rattle.base.specs.Choice.{when◌then◌else◌, ◌=?◌}
 use Rattle.frame.specs.Address.{byte_at}
 use Rattle.turns.specs.Link.{DeviceCall, Calls}
 use Rattle.master.specs.Tick as M
-use Rattle.master.specs.declared.MasterCall.{MasterCall}
 use Rattle.device_tick.specs.Tick as D
 use Rattle.device_tick.specs.Tick.{host_call_by}
 use Rattle.device_tick.specs.declared.DeviceCall as DeviceHost
 use Rattle.link_parties.specs.Stands.{if_here}
+use Rattle.turns.specs.declared.Request.{Request}
 
 -- ---- a call, in front of the rest of the list
 
@@ -27,8 +27,8 @@ abbrev pub data_in : List ℕ → List ℕ
 data_in rest = take (length_in rest) (drop 10 rest)
 
 -- a master's call: the kind is four times the revision, plus 1 for a request with a short address or 2 for one with a long address; any other kind is no call
-abbrev pub request_of : Bool → List ℕ → MasterCall
-request_of long rest = MasterCall.Requests (record {
+abbrev pub request_of : Bool → List ℕ → Option Request
+request_of long rest = Some (record {
   preamble = byte_at rest 1;
   revision = kind_in rest / 4;
   long = long;
@@ -36,10 +36,10 @@ request_of long rest = MasterCall.Requests (record {
   command = byte_at rest 2;
 })
 
-abbrev pub request_by : ℕ → List ℕ → MasterCall
-request_by form rest = when form =? 1 then request_of false rest else (when form =? 2 then request_of true rest else MasterCall.Nothing)
+abbrev pub request_by : ℕ → List ℕ → Option Request
+request_by form rest = when form =? 1 then request_of false rest else (when form =? 2 then request_of true rest else None)
 
-abbrev pub request_in : List ℕ → MasterCall
+abbrev pub request_in : List ℕ → Option Request
 request_in rest = request_by (kind_in rest % 4) rest
 
 -- a device's call, by its kind

@@ -1,4 +1,5 @@
 -- The short ways are a party's tick: one that only counts a silent tick, and one that only hears a character.
+use Rattle.std.specs.Prelude.{Option, Some, None}
 use Prim.Native.Nat.{ℕ}
 use native.Mathlib.Omega.{arith}
 use mathlib.Core.Bool.{Bool, true, false}
@@ -31,7 +32,6 @@ use Rattle.turns.specs.declared.Stage.TheVariants.{Free, Waiting, Sending, Await
 use Rattle.turns.specs.declared.Turn.{Turn}
 use Rattle.turns.specs.declared.Turn.TheVariants.{Listens, Asked, AnswerWaits, Begins, Answers, Follows, Bursts}
 use Rattle.master.specs.Tick as MT
-use Rattle.master.specs.declared.MasterCall.{MasterCall}
 use Rattle.device_tick.specs.Tick as DT
 use Rattle.device_tick.specs.declared.DeviceCall.{DeviceCall}
 use Rattle.link_parties.specs.Readers.{same_reader}
@@ -40,6 +40,7 @@ use Rattle.link_parties.specs.Ways.{calls_master, is_free, is_sending, master_co
 use Rattle.link_parties.specs.declared.Way.{Way}
 use Rattle.link_parties.specs.declared.Way.TheVariants.{Counts, Hears, Acts}
 use Rattle.link_parties.proofs.Readers.{readers_equal}
+use Rattle.turns.specs.declared.Request.{Request}
 
 -- ---- what a way tells
 
@@ -381,7 +382,7 @@ module _ (limit : ℕ) (x : MasterSide) (deaf : x.master.deaf ≡ false) where
       ∙ whole
       ∙ ap (λ (y : Master). master_tick limit (with_master x y x.bytes) (Character c) no_request) (sym e)
 
-module _ (limit : ℕ) (x : MasterSide) (heard : Heard) (call : MasterCall) (put : List ℕ) (follows quiet : Bool) (reader : Receiver) where
+module _ (limit : ℕ) (x : MasterSide) (heard : Heard) (call : Option Request) (put : List ℕ) (follows quiet : Bool) (reader : Receiver) where
   opened_way : (w : Way) → master_way x.master heard call follows quiet reader ≡ w → (Acts ≡ w → ⊥) → (x.master.deaf ≡ false) × ((calls_master call ≡ false) × (master_hears x.master heard follows quiet reader ≡ w))
   unfolding master_way
   opened_way w e f =
@@ -394,17 +395,17 @@ module _ (limit : ℕ) (x : MasterSide) (heard : Heard) (call : MasterCall) (put
       let o = opened_way Counts e acts_counts in
       by call heard o.1.0 o.1.1
     where
-      by : (c : MasterCall) (h : Heard) → calls_master c ≡ false → master_hears x.master h follows quiet reader ≡ Counts
+      by : (c : Option Request) (h : Heard) → calls_master c ≡ false → master_hears x.master h follows quiet reader ≡ Counts
           → quiet_master (with_master x (counted_master x.master) x.bytes) ≡ master_tick limit x h (MT.call_of c put)
-      by MasterCall.Nothing Silence k l =
+      by None Silence k l =
           let o = opened_way Counts e acts_counts in
           let a = not_first x.master.burst (when inside_frame x.master.receiver.place then false else is_free x.master.message.stage) (went_then (master_counts x.master) Counts Acts Counts l acts_counts).0 in
           let b = not_first (inside_frame x.master.receiver.place) (is_free x.master.message.stage) a.1 in
           clear_at limit x o.0 x.master.receiver.place b.0 refl a.0 (free_is x.master.message.stage b.1)
-      by MasterCall.Nothing (Character c) k l =
+      by None (Character c) k l =
           absurd (character_counts follows quiet (same_reader x.master.receiver reader) (went_else (is_sending x.master.message.stage) Acts _ Counts l acts_counts).1)
-      by MasterCall.Nothing (Heard.Damaged c kind) k l = absurd (acts_counts l)
-      by (MasterCall.Requests q) h k l = absurd (true_false k)
+      by None (Heard.Damaged c kind) k l = absurd (acts_counts l)
+      by (Some q) h k l = absurd (true_false k)
 
   pub master_hears_lem : (r : Receiver) → master_way x.master heard call follows quiet reader ≡ Hears
       → (follows ≡ true → x.master.receiver ≡ reader) → (quiet ≡ true → taken reader heard ≡ R.tells r Nothing)
@@ -413,14 +414,14 @@ module _ (limit : ℕ) (x : MasterSide) (heard : Heard) (call : MasterCall) (put
       let o = opened_way Hears e acts_hears in
       by call heard o.1.0 o.1.1 step
     where
-      by : (c : MasterCall) (h : Heard) → calls_master c ≡ false → master_hears x.master h follows quiet reader ≡ Hears
+      by : (c : Option Request) (h : Heard) → calls_master c ≡ false → master_hears x.master h follows quiet reader ≡ Hears
           → (quiet ≡ true → taken reader h ≡ R.tells r Nothing)
           → quiet_master (with_master x (heard_master x.master r) (taken_data x.master.receiver h x.bytes)) ≡ master_tick limit x h (MT.call_of c put)
-      by MasterCall.Nothing Silence k l f = absurd (silence_hears (master_counts x.master) l)
-      by MasterCall.Nothing (Character c) k l f =
+      by None Silence k l f = absurd (silence_hears (master_counts x.master) l)
+      by None (Character c) k l f =
           let o = opened_way Hears e acts_hears in
           let s = went_else (is_sending x.master.message.stage) Acts _ Hears l acts_hears in
           let both = character_hears follows quiet (same_reader x.master.receiver reader) (x.master.receiver ≡ reader) same (readers_equal x.master.receiver reader) s.1 in
           heard_at limit x o.0 c r s.0 (ap (λ (q : Receiver). taken q (Character c)) both.0 ∙ f both.1)
-      by MasterCall.Nothing (Heard.Damaged c kind) k l f = absurd (acts_hears l)
-      by (MasterCall.Requests q) h k l f = absurd (true_false k)
+      by None (Heard.Damaged c kind) k l f = absurd (acts_hears l)
+      by (Some q) h k l f = absurd (true_false k)

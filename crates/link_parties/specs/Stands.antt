@@ -1,6 +1,6 @@
 -- How the code stands for what is to be believed.
 -- How the parties, rows and calls of the code stand for those of crates/turns/specs/Link.antt. The devices of a link are those of the slots that have one, in the slots' order.
-use Rattle.std.specs.Prelude.{ℕ, suc, ◌+◌, Bool, true, false, List, [], ◌∷◌, map, get_or}
+use Rattle.std.specs.Prelude.{ℕ, suc, ◌+◌, Bool, true, false, List, [], ◌∷◌, map, get_or, Option, Some, None, is_some}
 use Rattle.base.specs.Lent.{Lent, before, after}
 use Rattle.line.specs.declared.Heard.{Heard}
 use Rattle.turns.specs.Master.{fresh_master}
@@ -9,7 +9,6 @@ use Rattle.turns.specs.Link as L
 use Rattle.turns.specs.declared.Device.{Device}
 use Rattle.turns.specs.declared.Master.{Master}
 use Rattle.master.specs.Tick as M
-use Rattle.master.specs.declared.MasterCall.{MasterCall}
 use Rattle.master.specs.declared.MasterTicked.{MasterTicked}
 use Rattle.device_tick.specs.Tick as D
 use Rattle.device_tick.specs.declared.DeviceTicked.{DeviceTicked}
@@ -20,7 +19,6 @@ use Rattle.link_parties.specs.declared.DeviceCallWithPart.{DeviceCallWithPart}
 use Rattle.link_parties.specs.declared.Link.{Link}
 use Rattle.link_parties.specs.declared.MasterCallWithPart.{MasterCallWithPart}
 use Rattle.link_parties.specs.declared.Part.{Part}
-use Rattle.link_parties.specs.declared.Slot.{Slot}
 
 -- ---- the parties
 
@@ -50,9 +48,10 @@ if_here true a others = a ∷ others
 if_here false a others = others
 
 -- the devices of the slots that have one, from this number on
-unfoldable pub devices_from : Rows → ℕ → List Slot → List DeviceSide
+unfoldable pub devices_from : Rows → ℕ → List (Option Device) → List DeviceSide
 devices_from x i [] = []
-devices_from x i (s ∷ ss) = if_here s.here (device_at x i s.device) (devices_from x (suc i) ss)
+devices_from x i (None ∷ ss) = devices_from x (suc i) ss
+devices_from x i (Some d ∷ ss) = device_at x i d ∷ devices_from x (suc i) ss
 
 abbrev pub link_of : Link → Rows → L.Link
 link_of l x = record {
@@ -63,8 +62,8 @@ link_of l x = record {
 }
 
 -- which slots have a device
-abbrev pub heres : List Slot → List Bool
-heres ss = map (λ (s : Slot). s.here) ss
+abbrev pub heres : List (Option Device) → List Bool
+heres ss = map is_some ss
 
 -- ---- the calls, with their data in what is put
 
@@ -72,7 +71,7 @@ abbrev pub no_part : Part
 no_part = record { from = 0; count = 0 }
 
 abbrev pub no_master_call : MasterCallWithPart
-no_master_call = record { call = MasterCall.Nothing; part = no_part }
+no_master_call = record { call = None; part = no_part }
 
 abbrev pub no_device_call : DeviceCallWithPart
 no_device_call = record { call = DeviceCall.Nothing; part = no_part }

@@ -1,6 +1,6 @@
 -- Inner contracts: nothing that is to be believed rests on them.
 -- How a party's tick goes: it only counts a silent tick, it only hears a character, or it acts. The laws in proofs/Ways.antt say that the first two, which are shorter, do what its tick does.
-use Rattle.std.specs.Prelude.{ℕ, ◌-◌, Bool, true, false}
+use Rattle.std.specs.Prelude.{◌-◌, Bool, true, false, Option, Some, None}
 use Rattle.base.specs.Choice.{when◌then◌else◌}
 use Rattle.line.specs.Reader.{idle, inside_frame}
 use Rattle.line.specs.declared.Heard.{Heard}
@@ -16,12 +16,11 @@ use Rattle.turns.specs.declared.Stage.TheVariants.{Free, Waiting, Sending, Await
 use Rattle.turns.specs.declared.Turn.{Turn}
 use Rattle.turns.specs.declared.Turn.TheVariants.{Listens, Asked, AnswerWaits, Begins, Answers, Follows, Bursts}
 use Rattle.turns.specs.declared.Wish.TheVariants.{Same}
-use Rattle.master.specs.declared.MasterCall.{MasterCall}
 use Rattle.device_tick.specs.declared.DeviceCall.{DeviceCall}
 use Rattle.link_parties.specs.Readers.{same_reader}
-use Rattle.link_parties.specs.declared.Slot.{Slot}
 use Rattle.link_parties.specs.declared.Way.{Way}
 use Rattle.link_parties.specs.declared.Way.TheVariants.{Counts, Hears, Acts}
+use Rattle.turns.specs.declared.Request.{Request}
 
 -- a character: the party only hears it where the line's reader finds nothing and the party's reader equals that one, by its flag or by comparison
 abbrev pub hears_if : Bool → Bool → Bool → Way
@@ -64,14 +63,14 @@ counted_device d = D.device_with d idle Listens d.request d.wish d.length (d.due
 abbrev pub heard_device : Device → Receiver → Device
 heard_device d r = D.device_with d r Listens d.request Same d.length 0
 
-abbrev pub in_slot : Device → Slot
-in_slot d = record { device = d; here = true }
+abbrev pub in_slot : Device → Option Device
+in_slot d = Some d
 
 -- ---- a master
 
-abbrev pub calls_master : MasterCall → Bool
-calls_master MasterCall.Nothing = false
-calls_master (MasterCall.Requests q) = true
+abbrev pub calls_master : Option Request → Bool
+calls_master None = false
+calls_master (Some q) = true
 
 abbrev pub is_free : Stage → Bool
 is_free Free = true
@@ -97,7 +96,7 @@ master_hears m Silence follows quiet reader = counts_if (master_counts m)
 master_hears m (Character c) follows quiet reader = master_character m follows quiet reader
 master_hears m (Heard.Damaged c kind) follows quiet reader = Acts
 
-unfoldable pub master_way : Master → Heard → MasterCall → Bool → Bool → Receiver → Way
+unfoldable pub master_way : Master → Heard → Option Request → Bool → Bool → Receiver → Way
 master_way m heard call follows quiet reader = when m.deaf then Acts else when calls_master call then Acts else master_hears m heard follows quiet reader
 
 abbrev pub counted_master : Master → Master

@@ -1,8 +1,9 @@
 -- A party that rests: what it is behind a silent tick.
+use Rattle.std.specs.Prelude.{None}
 use Prim.Native.Nat.{ℕ, suc, ◌-◌}
 use native.Mathlib.Omega.{arith}
 use mathlib.Core.Bool.{Bool, true, false}
-use mathlib.Core.Path.{◌≡◌, refl, sym, ap, ◌∙◌}
+use mathlib.Core.Path.{◌≡◌, refl, sym, ap}
 use mathlib.Core.List.{[]}
 use Rattle.base.specs.Choice.{when◌then◌else◌}
 use Rattle.base.proofs.Choices.{true_false}
@@ -13,7 +14,6 @@ use Rattle.turns.specs.Link.{no_request, no_call, MasterSide, master_tick, Devic
 use Rattle.turns.specs.declared.Device.{Device}
 use Rattle.turns.specs.declared.Master.{Master}
 use Rattle.turns.specs.declared.Turn.TheVariants.{Listens}
-use Rattle.master.specs.declared.MasterCall.{MasterCall}
 use Rattle.device_tick.specs.declared.DeviceCall.{DeviceCall}
 use Rattle.link_parties.specs.Ways.{counts_if, is_listening, is_free, device_way, master_way}
 use Rattle.link_parties.specs.declared.Way.{Way}
@@ -54,14 +54,14 @@ device_one_more n d = let k : d.due - n - 1 ≡ d.due - suc n = omega arith in a
 -- ---- the same of a master
 
 abbrev pub MasterRests : Master → Type 0
-MasterRests m = master_way m Silence MasterCall.Nothing false false m.receiver ≡ Counts
+MasterRests m = master_way m Silence None false false m.receiver ≡ Counts
 
 abbrev pub master_side : ℕ → MasterSide → MasterSide
 master_side n x = with_master x (master_rested n x.master) x.bytes
 
 pub master_tick_lem : (x : MasterSide) → MasterRests x.master → master_tick 255 x Silence no_request ≡ quiet_master (master_side 1 x)
 unfolding timer_rested
-master_tick_lem x r = sym (master_counts_lem 255 x Silence MasterCall.Nothing [] false false x.master.receiver r)
+master_tick_lem x r = sym (master_counts_lem 255 x Silence None [] false false x.master.receiver r)
 
 pub master_rests_on : (n : ℕ) (m : Master) → MasterRests m → MasterRests (master_rested n m)
 unfolding master_way when◌then◌else◌

@@ -1,25 +1,26 @@
 -- A link that rests: what it is behind any number of ticks, and that nobody sends in them.
 use Prim.Native.Nat.{ℕ, zero, suc}
 use native.Mathlib.Omega.{arith}
-use mathlib.Core.Bool.{Bool, true, false}
+use mathlib.Core.Bool.{true, false}
 use mathlib.Core.Path.{◌≡◌, refl, sym, ap, subst, ◌∙◌}
 use mathlib.Core.List.{List, [], ◌∷◌, map}
 use lib.ListN.{get_or}
+use Rattle.std.specs.Prelude.{Option, Some, None}
 use Rattle.base.specs.Choice.{when◌then◌else◌}
-use Rattle.base.proofs.Choices.{true_false, if_is_true}
+use Rattle.base.proofs.Choices.{true_false}
 use Rattle.base.proofs.Tables.{chain_first, chain_second}
 use Rattle.line.specs.declared.Heard.{Heard}
 use Rattle.line.specs.declared.Heard.TheVariants.{Silence, Character, Damaged}
 use Rattle.turns.specs.Link.{DeviceSide, DeviceStep, device_ticks, link_tick, sides, carried, link_after}
 use Rattle.turns.specs.Link as L
 use Rattle.turns.specs.Run.{All, none, and, device_senders, senders}
+use Rattle.turns.specs.declared.Device.{Device}
 use Rattle.party.specs.Hears.{is_silence}
-use Rattle.link_parties.specs.Stands.{Rows, any_master, device_at, if_here, devices_from, link_of}
+use Rattle.link_parties.specs.Stands.{Rows, any_master, device_at, devices_from, link_of}
 use Rattle.link_parties.specs.declared.Link.{Link}
-use Rattle.link_parties.specs.declared.Slot.{Slot}
 use Rattle.link_parties.proofs.Ways.{quiet_device, quiet_master}
 use Rattle.link_rests.specs.Uncalled.{uncalled_tick, after_ticks}
-use Rattle.link_rests.specs.Rests.{device_rests, master_rests, slot_rests, slots_rest, masters_rest, link_rests, timer_rested, slot_rested, link_rested}
+use Rattle.link_rests.specs.Rests.{device_rests, device_rested, master_rests, slot_rests, slots_rest, masters_rest, link_rests, timer_rested, slot_rested, link_rested}
 use Rattle.link_rests.proofs.Resting.{counts_is, DeviceRests, device_side, device_tick_lem, device_rests_on, device_one_more, MasterRests, master_side, master_tick_lem, master_rests_on}
 
 -- ---- the devices
@@ -112,25 +113,17 @@ rests_on (suc n) l r = subst LinkRests (sym (rests_for n l r)) (rests_again (suc
 
 -- ---- the code's link
 
-slots_are : (x : Rows) (n i : ℕ) (ss : List Slot) → devices_from x i (map (slot_rested n) ss) ≡ sides_rested n (devices_from x i ss)
+slots_are : (x : Rows) (n i : ℕ) (ss : List (Option Device)) → devices_from x i (map (slot_rested n) ss) ≡ sides_rested n (devices_from x i ss)
 unfolding devices_from sides_rested
 slots_are x n i [] = refl
-slots_are x n i (s ∷ ss) = by s.here (slots_are x n (suc i) ss)
-  where
-    by : (h : Bool) → devices_from x (suc i) (map (slot_rested n) ss) ≡ sides_rested n (devices_from x (suc i) ss)
-        → if_here h (device_at x i (slot_rested n s).device) (devices_from x (suc i) (map (slot_rested n) ss)) ≡ sides_rested n (if_here h (device_at x i s.device) (devices_from x (suc i) ss))
-    by true e = ap (λ (xs : List DeviceSide). device_at x i (slot_rested n s).device ∷ xs) e
-    by false e = e
+slots_are x n i (None ∷ ss) = slots_are x n (suc i) ss
+slots_are x n i (Some d ∷ ss) = ap (λ (xs : List DeviceSide). device_at x i (device_rested n d) ∷ xs) (slots_are x n (suc i) ss)
 
-slots_rest_lem : (x : Rows) (i : ℕ) (ss : List Slot) → slots_rest ss ≡ true → All SideRests (devices_from x i ss)
+slots_rest_lem : (x : Rows) (i : ℕ) (ss : List (Option Device)) → slots_rest ss ≡ true → All SideRests (devices_from x i ss)
 unfolding devices_from slots_rest
 slots_rest_lem x i [] e = none
-slots_rest_lem x i (s ∷ ss) e =
-    by s.here refl (chain_first (slot_rests s) (slots_rest ss) e) (slots_rest_lem x (suc i) ss (chain_second (slot_rests s) (slots_rest ss) e))
-  where
-    by : (h : Bool) → s.here ≡ h → slot_rests s ≡ true → All SideRests (devices_from x (suc i) ss) → All SideRests (if_here h (device_at x i s.device) (devices_from x (suc i) ss))
-    by true k r others = and (counts_is _ (sym (if_is_true s.here (device_rests s.device) true k) ∙ r)) others
-    by false k r others = others
+slots_rest_lem x i (None ∷ ss) e = slots_rest_lem x (suc i) ss (chain_second (slot_rests None) (slots_rest ss) e)
+slots_rest_lem x i (Some d ∷ ss) e = and (counts_is _ (chain_first (device_rests d) (slots_rest ss) e)) (slots_rest_lem x (suc i) ss (chain_second (device_rests d) (slots_rest ss) e))
 
 module _ (l : Link) (x : Rows) where
   link_are : (n : ℕ) → link_of (link_rested n l) x ≡ rested_link n (link_of l x)

@@ -1,117 +1,74 @@
 // A link that rests: the line is silent, and every party only counts. Until a host calls, nothing but timers changes. What it is after any number of ticks is worked out party by party.
-#![tactic(auto)]
+#![tactic(auto, using(base::proofs::Choices::choices))]
 
 ghost use Rattle.std.specs.Prelude.{◌≡◌, map, ◌-◌};
 ghost use Rattle.link_rests.specs.Rests.{only_counts, device_rests, master_rests, slot_rests, slots_rest, masters_rest, link_rests};
 ghost use Rattle.link_rests.specs.Rests.{device_rested, timer_rested, master_rested, slot_rested, masters_rested, link_rested};
 
 use line::{Heard, Profile};
-use link_parties::{Link, Slot, Way};
+use link_parties::{Link, Way};
 use turns::{Device, Master, Timer, Turn};
 
 // Whether a tick of this way only counts.
 fn only_counts(way: Way) -> bool
     ensures { result ≡ only_counts way }
 {
-    match way {
-        Way::Counts => true,
-        Way::Hears => false,
-        Way::Acts => false,
-    }
+    matches!(way, Way::Counts)
 }
 
 fn device_rests(d: Device) -> bool
     ensures { result ≡ device_rests d }
 {
     let none = link_parties::no_device_call();
-    let own = d.receiver;
-    only_counts(link_parties::device_way(d, Heard::Silence, none, false, false, own))
+    only_counts(link_parties::device_way(d, Heard::Silence, none, false, false, d.receiver))
 }
 
 fn master_rests(m: Master) -> bool
     ensures { result ≡ master_rests m }
 {
     let none = link_parties::no_master_call();
-    let own = m.receiver;
-    only_counts(link_parties::master_way(m, Heard::Silence, none, false, false, own))
+    only_counts(link_parties::master_way(m, Heard::Silence, none, false, false, m.receiver))
 }
 
-fn slot_rests(s: Slot) -> bool
+fn slot_rests(s: Option<Device>) -> bool
     ensures { result ≡ slot_rests s }
 {
-    let d = s.device;
-    if s.here {
-        return device_rests(d);
-    }
-    true
+    s.is_none_or(device_rests)
 }
 
-fn slots_rest(slots: [Slot; 6]) -> bool
+fn slots_rest(slots: [Option<Device>; 6]) -> bool
     ensures { result ≡ slots_rest slots }
 {
-    let mut rest = true;
-    let mut i = 0;
-    while i < 6 {
-        let s = slots[i];
-        let rests = slot_rests(s);
-        rest = base::both(rest, rests);
-        i += 1;
+    for s in slots {
+        if !slot_rests(s) {
+            return false;
+        }
     }
-    rest
+    true
 }
 
 fn masters_rest(masters: [Master; 2]) -> bool
     ensures { result ≡ masters_rest masters }
 {
-    let primary = masters[0];
-    let secondary = masters[1];
-    if master_rests(primary) {
-        return master_rests(secondary);
-    }
-    false
+    base::both(master_rests(masters[0]), master_rests(masters[1]))
 }
 
 // Whether a link rests: until a host calls, nothing but timers changes.
 pub fn link_rests(l: Link) -> bool
     ensures { result ≡ link_rests l }
 {
-    let line = l.line;
-    let masters = l.masters;
-    let devices = l.devices;
-    if party::is_silence(line) {
-        if masters_rest(masters) {
-            return slots_rest(devices);
-        }
-        return false;
-    }
-    false
-}
-
-// So many less, down to 0.
-fn less(n: u32, by: u32) -> u32
-    ensures { result ≡ n - by }
-{
-    if by < n {
-        return n - by;
-    }
-    0
+    party::is_silence(l.line) && masters_rest(l.masters) && slots_rest(l.devices)
 }
 
 fn device_rested(d: Device, ticks: u32) -> Device
     ensures { result ≡ device_rested ticks d }
 {
-    let idle = line_reader::idle_reader();
-    let request = d.request;
-    let wish = d.wish;
-    device_rules::with_parts(
-        d,
-        idle,
-        Turn::Listens,
-        request,
-        wish,
-        d.length,
-        less(d.due, ticks),
-    )
+    Device {
+        receiver: line_reader::idle_reader(),
+        turn: Turn::Listens,
+        due: d.due.saturating_sub(ticks),
+        ..d
+    }
 }
 
 // A timer after so many silent ticks with BURST clear.
@@ -119,10 +76,8 @@ fn timer_rested(p: Profile, start: Timer, ticks: u32) -> Timer
     ensures { result ≡ timer_rested ticks p start }
 {
     let mut t = start;
-    let mut i: u32 = 0;
-    while i < ticks {
+    for _ in 0..ticks {
         t = master_rules::count_clear(p, t);
-        i += 1;
     }
     t
 }
@@ -130,36 +85,25 @@ fn timer_rested(p: Profile, start: Timer, ticks: u32) -> Timer
 fn master_rested(m: Master, ticks: u32) -> Master
     ensures { result ≡ master_rested ticks m }
 {
-    let idle = line_reader::idle_reader();
-    let noted = m.noted;
-    let message = m.message;
-    let profile = m.profile;
-    let start = m.timer;
-    let timer = timer_rested(profile, start, ticks);
-    master_rules::with_parts(m, idle, m.burst, noted, timer, message)
-}
-
-fn slot_rested(s: Slot, ticks: u32) -> Slot
-    ensures { result ≡ slot_rested ticks s }
-{
-    let d = s.device;
-    let device = device_rested(d, ticks);
-    Slot {
-        device: device,
-        here: s.here,
+    Master {
+        receiver: line_reader::idle_reader(),
+        timer: timer_rested(m.profile, m.timer, ticks),
+        ..m
     }
 }
 
-fn slots_rested(slots: [Slot; 6], ticks: u32) -> [Slot; 6]
+fn slot_rested(s: Option<Device>, ticks: u32) -> Option<Device>
+    ensures { result ≡ slot_rested ticks s }
+{
+    s.map(|d| device_rested(d, ticks))
+}
+
+fn slots_rested(slots: [Option<Device>; 6], ticks: u32) -> [Option<Device>; 6]
     ensures { result ≡ map (slot_rested ticks) slots }
 {
     let mut all = slots;
-    let mut i = 0;
-    while i < 6 {
-        let s = all[i];
-        let rested = slot_rested(s, ticks);
-        all[i] = rested;
-        i += 1;
+    for s in &mut all {
+        *s = slot_rested(*s, ticks);
     }
     all
 }
@@ -167,22 +111,19 @@ fn slots_rested(slots: [Slot; 6], ticks: u32) -> [Slot; 6]
 fn masters_rested(masters: [Master; 2], ticks: u32) -> [Master; 2]
     ensures { result ≡ masters_rested ticks masters }
 {
-    let p = masters[0];
-    let s = masters[1];
-    let primary = master_rested(p, ticks);
-    let secondary = master_rested(s, ticks);
-    [primary, secondary]
+    [
+        master_rested(masters[0], ticks),
+        master_rested(masters[1], ticks),
+    ]
 }
 
 // A link that rests, after so many ticks.
 pub fn link_rested(l: Link, ticks: u32) -> Link
     ensures { result ≡ link_rested ticks l }
 {
-    let masters = l.masters;
-    let devices = l.devices;
     Link {
-        masters: masters_rested(masters, ticks),
-        devices: slots_rested(devices, ticks),
+        masters: masters_rested(l.masters, ticks),
+        devices: slots_rested(l.devices, ticks),
         line: Heard::Silence,
     }
 }

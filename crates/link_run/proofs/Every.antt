@@ -3,6 +3,7 @@ use Prim.Native.Nat.{ℕ}
 use native.Mathlib.Omega.{arith}
 use mathlib.Core.Path.{◌≡◌, ap, ◌∙◌}
 use mathlib.Core.List.{List}
+use Rattle.std.specs.Prelude.{Option}
 use Rattle.base.specs.Refusal.{accepted}
 use Rattle.line.specs.declared.Profile.{Profile}
 use Rattle.turns.specs.Link.{Calls}
@@ -26,7 +27,7 @@ bytes_for l ticks = ticks_bytes (heres l.devices) (nearest_ticks (heres l.device
 pub are_bytes : (l : Link) (ticks : List Calls) → Bytes (bytes_for l ticks)
 are_bytes l ticks = (every_list (heres l.devices) (nearest_ticks (heres l.devices) ticks) (nearest_codable (heres l.devices) ticks)).are_bytes
 
-pub every_list_runs : (limit : ℕ) (p : Profile) (retries : ℕ) (s : List Setting) (l : Link) (ticks : List Calls) → limited_starts limit p retries s ≡ accepted l → TicksGive ticks
+pub every_list_runs : (limit : ℕ) (p : Profile) (retries : ℕ) (s : List (Option Setting)) (l : Link) (ticks : List Calls) → limited_starts limit p retries s ≡ accepted l → TicksGive ticks
     → steps_of limit p retries s (bytes_for l ticks) ≡ run_steps limit (lent_fresh l) ticks
 unfolding steps_of
 every_list_runs limit p retries s l ticks e g =

@@ -4,14 +4,15 @@ use native.Mathlib.Omega.{arith}
 use mathlib.Core.Path.{◌≡◌, refl, sym, ap, subst, ◌∙◌}
 use mathlib.Core.List.{List, [], ◌∷◌}
 use lib.ListN.{length, drop, set, length-drop}
+use Rattle.std.specs.Prelude.{Option}
 use Rattle.base.specs.Events.{RunIs}
 use Rattle.base.proofs.Filling.{Filling, filling_begun, filling_more, filling_ended, filling_full}
 use Rattle.turns.specs.Link.{Calls, link_after}
 use Rattle.turns.specs.Link as L
+use Rattle.turns.specs.declared.Device.{Device}
 use Rattle.runs.specs.Late.{late_tick, late_run}
 use Rattle.link_parties.specs.Stands.{Rows, link_of, heres}
 use Rattle.link_parties.specs.declared.Link.{Link}
-use Rattle.link_parties.specs.declared.Slot.{Slot}
 use Rattle.link_list.specs.Ticks.{Here, behind, calls_in, ticks_of}
 use Rattle.link_list.proofs.Whole.{ticks_more, ticks_none}
 use Rattle.link_run.specs.Run.{tick_number, numbers_of}
@@ -19,7 +20,7 @@ use Rattle.link_run.specs.Step.{starts_left, LateReady, late_numbers, step_at, L
 use Rattle.link_run.specs.declared.StartTicks.{StartTicks}
 use Rattle.link_run.specs.declared.Stepped.{Stepped}
 
-pub heres_length : (ss : List Slot) → length (heres ss) ≡ length ss
+pub heres_length : (ss : List (Option Device)) → length (heres ss) ≡ length ss
 heres_length [] = refl
 heres_length (s ∷ ss) = ap suc (heres_length ss)
 

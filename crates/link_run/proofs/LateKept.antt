@@ -1,4 +1,5 @@
 -- A run with two start ticks keeps its promise: by whether its start was accepted.
+use Rattle.std.specs.Prelude.{Result, Ok, Err, Option}
 use Prim.Native.Nat.{ℕ, zero, suc, ◌≤◌, ◌<◌}
 use native.Mathlib.Omega.{arith}
 use mathlib.Core.Bool.{Bool, true}
@@ -8,7 +9,7 @@ use lib.ListN.{length, get_or}
 use lib.Seq.{take-nil, drop-nil}
 use Rattle.base.specs.Events.{RunIs}
 use Rattle.base.specs.Store.{stored}
-use Rattle.base.specs.Refusal.{number, Called, accepted, refused}
+use Rattle.base.specs.Refusal.{number, Called, accepted, refused, called_as}
 use Rattle.base.specs.declared.Refusal.{Refusal}
 use Rattle.line.specs.declared.Heard.{Heard}
 use Rattle.line.specs.declared.Profile.{Profile}
@@ -28,13 +29,11 @@ use Rattle.link_start.specs.Fresh.{rows_fresh, lent_fresh}
 use Rattle.link_start.specs.Start.{limited_starts, made, LimitedIs}
 use Rattle.link_start.specs.declared.Setting.{Setting}
 use Rattle.link_start.specs.declared.LinkStarted.{LinkStarted}
-use Rattle.link_start.specs.declared.StartAnswer.{StartAnswer}
 use Rattle.link_start.proofs.Started.{masters_start_lem, slots_started, all_start, limited_bounds, limited_link}
 use Rattle.link_list.specs.Ticks.{ticks_of}
-use Rattle.link_run.specs.Run.{steps_by, steps_of, devices_by, calls_by, numbers_of, ran_as, ran_by, written, RunKeeps}
+use Rattle.link_run.specs.Run.{steps_by, steps_of, devices_by, calls_by, numbers_of, ran_by, written, RunKeeps}
 use Rattle.link_run.specs.Late.{late_steps_by, late_steps, LateRunPremises, Item14Of, LateKeeps}
 use Rattle.link_run.specs.Step.{Fresh, LateReady, late_numbers}
-use Rattle.link_run.specs.declared.RunEnded.{RunEnded}
 use Rattle.link_run.specs.declared.StartTicks.{StartTicks}
 use Rattle.link_run.proofs.Kept.{run_keeps}
 use Rattle.link_run.proofs.Senders.{written_tells}
@@ -68,7 +67,7 @@ all_started : (limit : ℕ) {p : Profile} {line : Heard} {xs : List DeviceSide} 
 all_started limit none = none
 all_started limit (and x q) = and (starts_now x) (all_started limit q)
 
-item_14_kept : (limit : ℕ) (p : Profile) (retries : ℕ) (s : List Setting) (six : length s ≡ 6) (a b : ℕ) (ticks : List ℕ) → LateRunPremises limit p retries s a b ticks → Item14Of limit p retries s a b ticks
+item_14_kept : (limit : ℕ) (p : Profile) (retries : ℕ) (s : List (Option Setting)) (six : length s ≡ 6) (a b : ℕ) (ticks : List ℕ) → LateRunPremises limit p retries s a b ticks → Item14Of limit p retries s a b ticks
 unfolding late_steps
 item_14_kept limit p retries s six a b ticks k = by (limited_starts limit p retries s) refl
   where
@@ -88,7 +87,7 @@ item_14_kept limit p retries s six a b ticks k = by (limited_starts limit p retr
         })
 
 -- where two send, it is a tick of the overlap
-one_but_in_overlap : (limit : ℕ) (p : Profile) (retries : ℕ) (s : List Setting) (six : length s ≡ 6) (a b : ℕ) (ticks : List ℕ) (i : ℕ) → LateRunPremises limit p retries s a b ticks → (InOverlap limit (late_steps limit p retries s a b ticks) i → ⊥) → senders_in (late_steps limit p retries s a b ticks) i ≤ 1
+one_but_in_overlap : (limit : ℕ) (p : Profile) (retries : ℕ) (s : List (Option Setting)) (six : length s ≡ 6) (a b : ℕ) (ticks : List ℕ) (i : ℕ) → LateRunPremises limit p retries s a b ticks → (InOverlap limit (late_steps limit p retries s a b ticks) i → ⊥) → senders_in (late_steps limit p retries s a b ticks) i ≤ 1
 one_but_in_overlap limit p retries s six a b ticks i k f = by (senders_in (late_steps limit p retries s a b ticks) i) ((item_14_kept limit p retries s six a b ticks k).one_overlap.two_send i)
   where
     by : (n : ℕ) → (2 ≤ n → InOverlap limit (late_steps limit p retries s a b ticks) i) → n ≤ 1
@@ -97,7 +96,7 @@ one_but_in_overlap limit p retries s six a b ticks i k f = by (senders_in (late_
     by (suc (suc n)) h = absurd (f (h (omega arith)))
 
 -- where both masters start in tick 0, it is the run of the common start
-common : (limit : ℕ) (p : Profile) (retries : ℕ) (s : List Setting) (ticks : List ℕ) → late_steps limit p retries s 0 0 ticks ≡ steps_of limit p retries s ticks
+common : (limit : ℕ) (p : Profile) (retries : ℕ) (s : List (Option Setting)) (ticks : List ℕ) → late_steps limit p retries s 0 0 ticks ≡ steps_of limit p retries s ticks
 unfolding late_steps steps_of
 common limit p retries s ticks = by (limited_starts limit p retries s)
   where
@@ -105,8 +104,8 @@ common limit p retries s ticks = by (limited_starts limit p retries s)
     by (accepted l) = common_start limit (lent_fresh l) (ticks_of (heres l.devices) ticks)
     by (refused why) = refl
 
-as_common : (limit : ℕ) (p : Profile) (retries : ℕ) (s : List Setting) (six : length s ≡ 6) (a b : ℕ) (ticks before : List ℕ) (r : RunEnded) (after : List ℕ) → a ≡ 0 → b ≡ 0
-    → ran_as r ≡ ran_by (limited_starts limit p retries s) (length (written (late_steps limit p retries s a b ticks) before)) → after ≡ stored before 0 (written (late_steps limit p retries s a b ticks) before) → RunKeeps limit p retries s ticks before r after
+as_common : (limit : ℕ) (p : Profile) (retries : ℕ) (s : List (Option Setting)) (six : length s ≡ 6) (a b : ℕ) (ticks before : List ℕ) (r : Result ℕ Refusal) (after : List ℕ) → a ≡ 0 → b ≡ 0
+    → called_as r ≡ ran_by (limited_starts limit p retries s) (length (written (late_steps limit p retries s a b ticks) before)) → after ≡ stored before 0 (written (late_steps limit p retries s a b ticks) before) → RunKeeps limit p retries s ticks before r after
 as_common limit p retries s six a b ticks before r after f g x y =
     let same : late_steps limit p retries s a b ticks ≡ steps_of limit p retries s ticks = (λ i. late_steps limit p retries s (f i) (g i) ticks) ∙ common limit p retries s ticks in
     run_keeps limit p retries s six ticks before r after (x ∙ ap (λ (steps : List LinkStep). ran_by (limited_starts limit p retries s) (length (written steps before))) same)
@@ -117,12 +116,12 @@ as_common limit p retries s six a b ticks before r after f g x y =
 fresh : (p : Profile) (primary : Bool) (retries : ℕ) (m : Master) → master_starts p primary retries ≡ accepted m → Fresh m
 fresh p primary retries m e = subst Fresh (sym (master_is p primary retries m e)) (record { hears_nothing = refl; no_message = refl })
 
-module _ (limit : ℕ) (p : Profile) (retries : ℕ) (s : List Setting) (starts : StartTicks) (ticks before : List ℕ) (started : LinkStarted) (six : length s ≡ 6) (q : LimitedIs limit p retries s started) where
+module _ (limit : ℕ) (p : Profile) (retries : ℕ) (s : List (Option Setting)) (starts : StartTicks) (ticks before : List ℕ) (started : LinkStarted) (six : length s ≡ 6) (q : LimitedIs limit p retries s started) where
   -- what the answer says of the start
-  was_started : started.answer ≡ StartAnswer.Started → limited_starts limit p retries s ≡ accepted started.link
+  was_started : started.answer ≡ Ok tt → limited_starts limit p retries s ≡ accepted started.link
   was_started e = sym q.answer_is ∙ ap (made started.link) e
 
-  pub start_ready : started.answer ≡ StartAnswer.Started → LateReady starts started.link
+  pub start_ready : started.answer ≡ Ok tt → LateReady starts started.link
   start_ready e =
       let link = limited_link limit p retries s started.link (was_started e) in
       let masters = masters_start_lem p retries s six started.link link in
@@ -135,7 +134,7 @@ module _ (limit : ℕ) (p : Profile) (retries : ℕ) (s : List Setting) (starts 
   abbrev steps_from : Called Link → List LinkStep
   steps_from c = late_steps_by limit starts.primary starts.secondary c ticks
 
-  promised : (c : Called Link) (r : RunEnded) (after : List ℕ) → limited_starts limit p retries s ≡ c → ran_as r ≡ ran_by c (length (written (steps_from c) before)) → after ≡ stored before 0 (written (steps_from c) before)
+  promised : (c : Called Link) (r : Result ℕ Refusal) (after : List ℕ) → limited_starts limit p retries s ≡ c → called_as r ≡ ran_by c (length (written (steps_from c) before)) → after ≡ stored before 0 (written (steps_from c) before)
       → LateKeeps limit p retries s starts.primary starts.secondary ticks before r after
   unfolding late_steps
   promised c r after e x y =
@@ -152,20 +151,20 @@ module _ (limit : ℕ) (p : Profile) (retries : ℕ) (s : List Setting) (starts 
       }
 
   -- its limit is a byte
-  pub limit_small : started.answer ≡ StartAnswer.Started → limit < 256
+  pub limit_small : started.answer ≡ Ok tt → limit < 256
   limit_small e = omega (arith, limited_bounds limit p retries s started.link (was_started e))
 
-  pub run_accepted : (n : ℕ) (after : List ℕ) → started.answer ≡ StartAnswer.Started → RunIs (late_numbers limit started.link starts rows_fresh ticks) before n after
-      → LateKeeps limit p retries s starts.primary starts.secondary ticks before (RunEnded.Ran n) after
+  pub run_accepted : (n : ℕ) (after : List ℕ) → started.answer ≡ Ok tt → RunIs (late_numbers limit started.link starts rows_fresh ticks) before n after
+      → LateKeeps limit p retries s starts.primary starts.secondary ticks before (Ok n) after
   run_accepted n after e r =
-      promised (accepted started.link) (RunEnded.Ran n) after (was_started e) (ap (λ (k : ℕ). accepted k) r.returned) r.events
+      promised (accepted started.link) (Ok n) after (was_started e) (ap (λ (k : ℕ). accepted k) r.returned) r.events
 
-  pub run_refused : (why : Refusal) → started.answer ≡ StartAnswer.Refused why → LateKeeps limit p retries s starts.primary starts.secondary ticks before (RunEnded.Refused why) before
+  pub run_refused : (why : Refusal) → started.answer ≡ Err why → LateKeeps limit p retries s starts.primary starts.secondary ticks before (Err why) before
   unfolding numbers_of stored
-  run_refused why e = promised (refused (number why)) (RunEnded.Refused why) before (sym q.answer_is ∙ ap (made started.link) e) refl (sym (ap (λ (l : List ℕ). stored before 0 l) (take-nil (length before))))
+  run_refused why e = promised (refused (number why)) (Err why) before (sym q.answer_is ∙ ap (made started.link) e) refl (sym (ap (λ (l : List ℕ). stored before 0 l) (take-nil (length before))))
 
 pub ruleset kept = (refl, start_ready, limit_small, run_accepted, run_refused)
 
 -- what is promised where both masters start in tick 0
-pub common_kept : (limit : ℕ) (p : Profile) (retries : ℕ) (s : List Setting) (ticks before : List ℕ) (r : RunEnded) (after : List ℕ) → LateKeeps limit p retries s 0 0 ticks before r after → RunKeeps limit p retries s ticks before r after
+pub common_kept : (limit : ℕ) (p : Profile) (retries : ℕ) (s : List (Option Setting)) (ticks before : List ℕ) (r : Result ℕ Refusal) (after : List ℕ) → LateKeeps limit p retries s 0 0 ticks before r after → RunKeeps limit p retries s ticks before r after
 common_kept limit p retries s ticks before r after k = k.common_start refl refl

@@ -1,4 +1,5 @@
 -- Laws of one tick in which a master may not have started: what a fresh master does that is ticked without a call, and that the tick of the code is `late_tick` of runs.
+use Rattle.std.specs.Prelude.{None}
 use Prim.Native.Nat.{ℕ, zero, suc, ◌+◌, ◌-◌, ◌*◌, ◌<◌}
 use native.Mathlib.Omega.{arith}
 use mathlib.Core.Path.{◌≡◌, refl, sym, ap, subst, ◌∙◌}
@@ -21,7 +22,6 @@ use Rattle.turns.specs.declared.MasterTold.{MasterTold}
 use Rattle.turns.specs.declared.Sent.TheVariants.{Silent}
 use Rattle.turns.specs.declared.Stage.{Stage}
 use Rattle.master.specs.Tick as M
-use Rattle.master.specs.declared.MasterCall.{MasterCall}
 use Rattle.link_parties.specs.Stands.{Rows, any_master, link_of, heres, no_master_call, master_call_of, calls_of}
 use Rattle.link_parties.specs.declared.Calls.{Calls}
 use Rattle.link_parties.specs.declared.Link.{Link}
@@ -58,7 +58,7 @@ pub record AsLate (limit start : ℕ) (x : MasterSide) (heard : Heard) (call : L
 not_started : (n : ℕ) → (suc n =? 0) ≡ false
 not_started n = ne_eqb (suc n) 0 (λ e. omega (arith, e))
 
-none_taken : (n : ℕ) (c : MasterCallWithPart) → call_taken (suc n) c ≡ record { call = MasterCall.Nothing; part = c.part }
+none_taken : (n : ℕ) (c : MasterCallWithPart) → call_taken (suc n) c ≡ record { call = None; part = c.part }
 none_taken n c = if_is_false (suc n =? 0) _ _ (not_started n)
 
 put_back : (n : ℕ) (before ticked : Master) → ticked_master (suc n) before ticked ≡ before

@@ -4,14 +4,15 @@ use native.Mathlib.Omega.{arith}
 use mathlib.Core.List.{List, [], ◌∷◌}
 use mathlib.Core.Path.{◌≡◌, ap, ◌∙◌}
 use lib.ListN.{length, get_or}
+use Rattle.std.specs.Prelude.{Option}
 use Rattle.line.specs.declared.Heard.{Heard}
+use Rattle.turns.specs.declared.Device.{Device}
 use Rattle.turns.specs.declared.Master.{Master}
 use Rattle.link_parties.specs.Stands.{any_master, no_master_call}
 use Rattle.link_parties.specs.declared.Calls.{Calls}
 use Rattle.link_parties.specs.declared.DeviceCallWithPart.{DeviceCallWithPart}
 use Rattle.link_parties.specs.declared.Link.{Link}
 use Rattle.link_parties.specs.declared.MasterCallWithPart.{MasterCallWithPart}
-use Rattle.link_parties.specs.declared.Slot.{Slot}
 use Rattle.link_ticks.proofs.Lists.{any_default}
 use Rattle.link_run.specs.Step.{starts_left, call_taken, ticked_master}
 use Rattle.link_run.specs.declared.StartTicks.{StartTicks}
@@ -37,7 +38,7 @@ module _ (x y : ℕ) where
 pub calls_made : (cs ds : List MasterCallWithPart) (others : List DeviceCallWithPart) → cs ≡ ds → ◌≡◌ {A = Calls} (record { masters = cs; devices = others }) (record { masters = ds; devices = others })
 calls_made cs ds others e = λ i. record { masters = e i; devices = others }
 
-pub link_made : (ms ns : List Master) (others : List Slot) (line : Heard) → ms ≡ ns
+pub link_made : (ms ns : List Master) (others : List (Option Device)) (line : Heard) → ms ≡ ns
     → ◌≡◌ {A = Link} (record { masters = ms; devices = others; line = line }) (record { masters = ns; devices = others; line = line })
 link_made ms ns others line e = λ i. record { masters = e i; devices = others; line = line }
 

@@ -5,6 +5,7 @@ use mathlib.Core.Path.{◌≡◌, refl}
 use mathlib.Core.Bool.{true, false}
 use mathlib.Core.List.{List, [], ◌∷◌, ◌++◌}
 use lib.ListN.{length, take, get_or, replicate}
+use Rattle.std.specs.Prelude.{Option, Some, None}
 use Rattle.base.specs.Refusal.{accepted}
 use Rattle.base.specs.Choice.{when◌then◌else◌}
 use Rattle.base.specs.Store.{stored}
@@ -37,16 +38,16 @@ use Rattle.link_run.proofs.Kept.{credit_kept, backs_kept}
 -- ---- one device, which answers and bursts
 
 -- a slot without a device
-abbrev nobody : Setting
-nobody = record { here = false; preamble = 0; polling = 0; unique = 0 }
+abbrev nobody : Option Setting
+nobody = None
 
-unfoldable pub one_slot : List Setting
-one_slot = record { here = true; preamble = 5; polling = 0; unique = 2 } ∷ replicate 5 nobody
+unfoldable pub one_slot : List (Option Setting)
+one_slot = Some (record { preamble = 5; polling = 0; unique = 2 }) ∷ replicate 5 nobody
 
 unfoldable pub link : Link
 link = record {
   masters = fresh_master short true 3 ∷ fresh_master short false 3 ∷ [];
-  devices = record { device = fresh_device short 5 0 2; here = true } ∷ replicate 5 absent;
+  devices = Some (fresh_device short 5 0 2) ∷ replicate 5 absent;
   line = Silence;
 }
 
@@ -111,8 +112,8 @@ run_backs = backs_kept 255 short 3 one_slot six_settings bytes met link started
 
 -- ---- two devices with one polling address
 
-unfoldable pub alike : List Setting
-alike = record { here = true; preamble = 5; polling = 0; unique = 2 } ∷ record { here = true; preamble = 5; polling = 0; unique = 3 } ∷ replicate 4 nobody
+unfoldable pub alike : List (Option Setting)
+alike = Some (record { preamble = 5; polling = 0; unique = 2 }) ∷ Some (record { preamble = 5; polling = 0; unique = 3 }) ∷ replicate 4 nobody
 
 -- in tick 0 the primary asks the polling address 0 of a device of revision 7 for command 0; in tick 15 both hosts answer
 unfoldable pub both_reply : List ℕ

@@ -2,26 +2,25 @@
 use Prim.Native.Nat.{ℕ, zero, suc, ◌+◌, ◌*◌, ◌≤◌, ◌<◌}
 use native.Mathlib.Numerals.{add-one}
 use native.Mathlib.Omega.{arith}
-use mathlib.Core.Bool.{Bool, true, false}
+use mathlib.Core.Bool.{true, false}
 use mathlib.Core.Path.{◌≡◌, refl, sym, ap, subst, ◌∙◌}
 use mathlib.Core.List.{List, [], ◌∷◌}
 use lib.ListN.{length, drop, get_or, replicate, drop_of_length-le}
 use lib.Seq.{drop-cons}
-use Rattle.base.specs.Choice.{when◌then◌else◌, ◌<?◌}
+use Rattle.std.specs.Prelude.{Option, Some, None}
+use Rattle.base.specs.Choice.{when◌then◌else◌}
 use Rattle.base.proofs.Choices.{if_not_below}
-use Rattle.line.specs.declared.Heard.{Heard}
-use Rattle.turns.specs.Link.{DeviceSide, DeviceStep, LinkStep, device_ticks, link_tick}
-use Rattle.turns.specs.Link as L
+use Rattle.turns.specs.Link.{DeviceStep, LinkStep, link_tick}
 use Rattle.turns.specs.Run.{count, device_senders}
 use Rattle.turns.specs.declared.CallResult.{CallResult}
+use Rattle.turns.specs.declared.Device.{Device}
 use Rattle.turns.specs.declared.Sent.{Sent}
 use Rattle.turns.specs.declared.Sent.TheVariants.{Silent, Character}
 use Rattle.party.specs.Numbers.{sent_number}
-use Rattle.link_parties.specs.Stands.{Rows, if_here, device_at, devices_from, heres, calls_of}
+use Rattle.link_parties.specs.Stands.{Rows, devices_from, heres, calls_of}
 use Rattle.link_parties.specs.declared.Calls.{Calls}
 use Rattle.link_parties.specs.declared.Link.{Link}
 use Rattle.link_parties.specs.declared.MasterDid.{MasterDid}
-use Rattle.link_parties.specs.declared.Slot.{Slot}
 use Rattle.link_parties.specs.declared.Ticked.{Ticked}
 use Rattle.link_ticks.specs.Ticks.{on_here, device_code, codes, answer_kept, master_nothing, masters_do}
 use Rattle.link_ticks.specs.Ticks as T
@@ -108,14 +107,11 @@ number_is hs s h e = λ i.
 
 -- ---- the devices are those that are here
 
-pub devices_here : (x : Rows) (i : ℕ) (ss : List Slot) → length (devices_from x i ss) ≡ present (heres ss)
+pub devices_here : (x : Rows) (i : ℕ) (ss : List (Option Device)) → length (devices_from x i ss) ≡ present (heres ss)
 unfolding devices_from
 devices_here x i [] = refl
-devices_here x i (s ∷ ss) = by s.here (devices_here x (suc i) ss)
-  where
-    by : (h : Bool) → length (devices_from x (suc i) ss) ≡ present (heres ss) → length (if_here h (device_at x i s.device) (devices_from x (suc i) ss)) ≡ present (h ∷ heres ss)
-    by true e = ap suc e
-    by false e = e
+devices_here x i (None ∷ ss) = devices_here x (suc i) ss
+devices_here x i (Some d ∷ ss) = ap suc (devices_here x (suc i) ss)
 
 -- ---- the tick: its number, whatever the calls were, and what is read of the list
 

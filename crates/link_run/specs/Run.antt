@@ -1,7 +1,7 @@
 -- How the code stands for what is to be believed.
 -- Document 01, "Runs of the link": "A run is a list of ticks from tick 0, in which every party is fresh". What every party does in each tick of a lent list, and what is promised of that run: demand 3, the credited answer and the BACKs.
-use Rattle.std.specs.Prelude.{ℕ, ◌+◌, ◌*◌, ◌/◌, ◌%◌, ◌≤◌, ◌<◌, ◌≡◌, List, [], ◌∷◌, length, take, get_or}
-use Rattle.base.specs.Refusal.{number, Called, accepted, refused}
+use Rattle.std.specs.Prelude.{ℕ, ◌+◌, ◌*◌, ◌/◌, ◌%◌, ◌≤◌, ◌<◌, ◌≡◌, List, [], ◌∷◌, length, take, get_or, Result, Option}
+use Rattle.base.specs.Refusal.{Called, accepted, refused, called_as}
 use Rattle.base.specs.Store.{stored}
 use Rattle.line.specs.Profile.{profile_made}
 use Rattle.line.specs.declared.Profile.{Profile}
@@ -19,7 +19,7 @@ use Rattle.link_start.specs.Fresh.{lent_fresh}
 use Rattle.link_start.specs.Start.{limited_starts}
 use Rattle.link_start.specs.declared.Setting.{Setting}
 use Rattle.link_list.specs.Ticks.{ticks_of}
-use Rattle.link_run.specs.declared.RunEnded.{RunEnded}
+use Rattle.base.specs.declared.Refusal.{Refusal}
 
 -- ---- the run, with a data limit (document 02, item 12)
 
@@ -32,7 +32,7 @@ abbrev pub steps_by : ℕ → Called Link → List ℕ → List LinkStep
 steps_by limit (accepted l) ticks = run_steps limit (lent_fresh l) (ticks_of (heres l.devices) ticks)
 steps_by limit (refused why) ticks = []
 
-unfoldable pub steps_of : ℕ → Profile → ℕ → List Setting → List ℕ → List LinkStep
+unfoldable pub steps_of : ℕ → Profile → ℕ → List (Option Setting) → List ℕ → List LinkStep
 steps_of limit p retries s ticks = steps_by limit (limited_starts limit p retries s) ticks
 
 abbrev pub devices_by : Called Link → List DeviceSide
@@ -67,11 +67,6 @@ unfoldable pub numbers_of : List LinkStep → List ℕ
 numbers_of [] = []
 numbers_of (s ∷ ss) = tick_number s ∷ numbers_of ss
 
--- what a run answers: how many numbers it gave, or why a start was refused
-abbrev pub ran_as : RunEnded → Called ℕ
-ran_as (RunEnded.Ran n) = accepted n
-ran_as (RunEnded.Refused why) = refused (number why)
-
 abbrev pub ran_by : Called Link → ℕ → Called ℕ
 ran_by (accepted l) n = accepted n
 ran_by (refused why) n = refused why
@@ -98,7 +93,7 @@ pub record OneSender (n : ℕ) : Type 0 where
 -- ---- demand 3, the credited answer and the BACKs, for the run that was made
 
 -- "Let a primary master, a secondary master and devices that share no address all start in the same tick with one profile and one retry limit R. .. if .. at most one device bursts at a time" and, by item 6, "at most one host's answer to each command 11 is taken". That all start so is how the run begins; that no character is damaged or lost is how its line is defined.
-pub record RunPremises (limit : ℕ) (p : Profile) (retries : ℕ) (s : List Setting) (ticks : List ℕ) : Type 0 where
+pub record RunPremises (limit : ℕ) (p : Profile) (retries : ℕ) (s : List (Option Setting)) (ticks : List ℕ) : Type 0 where
   -- the profile is one that the check takes
   pub made : profile_made p ≡ accepted p
   pub distinct : Distinct (devices_by (limited_starts limit p retries s))
@@ -106,17 +101,17 @@ pub record RunPremises (limit : ℕ) (p : Profile) (retries : ℕ) (s : List Set
   pub one_finds : FindsBy limit (limited_starts limit p retries s) ticks
 
 -- "then no two send in one tick, and every accepted message's first character goes out within" its ticks
-abbrev pub Demand3Of : ℕ → Profile → ℕ → List Setting → List ℕ → Type 0
+abbrev pub Demand3Of : ℕ → Profile → ℕ → List (Option Setting) → List ℕ → Type 0
 Demand3Of limit p retries s ticks = EachTick NoTwoSend (steps_of limit p retries s ticks) × WaitIn limit p retries (steps_of limit p retries s ticks)
 
 -- beyond demand 3, of the link l that was started: every answer that a master reports is credited
-abbrev pub CreditOf : ℕ → Profile → ℕ → List Setting → List ℕ → Type 0
+abbrev pub CreditOf : ℕ → Profile → ℕ → List (Option Setting) → List ℕ → Type 0
 CreditOf limit p retries s ticks =
     (l : Link) → limited_starts limit p retries s ≡ accepted l
     → EachCredited limit none_asked (blanks (devices_by (accepted l))) (lent_fresh l) (calls_by (accepted l) ticks)
 
 -- and every BACK that a master finds whole is as its device's host gave it
-abbrev pub BacksOf : ℕ → Profile → ℕ → List Setting → List ℕ → Type 0
+abbrev pub BacksOf : ℕ → Profile → ℕ → List (Option Setting) → List ℕ → Type 0
 BacksOf limit p retries s ticks =
     (l : Link) → limited_starts limit p retries s ≡ accepted l
     → EachBack limit (no_contents (devices_by (accepted l))) (lent_fresh l) (calls_by (accepted l) ticks)
@@ -128,8 +123,9 @@ abbrev pub written : List LinkStep → List ℕ → List ℕ
 written steps before = take (length before) (numbers_of steps)
 
 -- its answer, and the numbers at the front of the lent events; and where the premises hold demand 3, the credited answer and the BACKs of the run, and at most one sender in each number that was written
-pub record RunKeeps (limit : ℕ) (p : Profile) (retries : ℕ) (s : List Setting) (ticks before : List ℕ) (r : RunEnded) (after : List ℕ) : Type 0 where
-  pub answered : ran_as r ≡ ran_by (limited_starts limit p retries s) (length (written (steps_of limit p retries s ticks) before))
+pub record RunKeeps (limit : ℕ) (p : Profile) (retries : ℕ) (s : List (Option Setting)) (ticks before : List ℕ)
+    (r : Result ℕ Refusal) (after : List ℕ) : Type 0 where
+  pub answered : called_as r ≡ ran_by (limited_starts limit p retries s) (length (written (steps_of limit p retries s ticks) before))
   pub events : after ≡ stored before 0 (written (steps_of limit p retries s ticks) before)
   pub demand_3 : RunPremises limit p retries s ticks → Demand3Of limit p retries s ticks
   pub credit : RunPremises limit p retries s ticks → CreditOf limit p retries s ticks

@@ -1,6 +1,6 @@
 -- Inner contracts: nothing that is to be believed rests on them.
 -- One tick of a run: its number, the link after it, and the place after it in the list. The code ticks all parties; a master that has not started has no call in that tick, and after it is what it was before.
-use Rattle.std.specs.Prelude.{ℕ, ◌+◌, ◌-◌, ◌*◌, ◌<◌, ◌≡◌, true, List, [], ◌∷◌, length, drop, get_or}
+use Rattle.std.specs.Prelude.{ℕ, ◌+◌, ◌-◌, ◌*◌, ◌<◌, ◌≡◌, true, List, [], ◌∷◌, length, drop, get_or, None}
 use Rattle.base.specs.Choice.{when◌then◌else◌, ◌<?◌, ◌=?◌}
 use Rattle.base.specs.Events.{RunIs}
 use Rattle.base.specs.Lent as B
@@ -9,7 +9,6 @@ use Rattle.turns.specs.Link.{LinkStep, link_after}
 use Rattle.runs.specs.Late.{late_tick, late_run}
 use Rattle.turns.specs.declared.Master.{Master}
 use Rattle.turns.specs.declared.Stage.TheVariants.{Free}
-use Rattle.master.specs.declared.MasterCall.{MasterCall}
 use Rattle.link_parties.specs.Stands.{Rows, rows_of, any_master, link_of, heres, no_master_call}
 use Rattle.turns.specs.declared.CallResult.{CallResult}
 use Rattle.link_parties.specs.declared.Calls.{Calls}
@@ -53,7 +52,7 @@ starts_left s = record { primary = s.primary - 1; secondary = s.secondary - 1 }
 
 -- the calls that are taken: none of a master that has not started
 abbrev pub call_taken : ℕ → MasterCallWithPart → MasterCallWithPart
-call_taken start c = when start =? 0 then c else record { call = MasterCall.Nothing; part = c.part }
+call_taken start c = when start =? 0 then c else record { call = None; part = c.part }
 
 abbrev pub requests_taken : StartTicks → List MasterCallWithPart → List MasterCallWithPart
 requests_taken s cs = call_taken s.primary (get_or cs 0 no_master_call) ∷ call_taken s.secondary (get_or cs 1 no_master_call) ∷ []

@@ -1,5 +1,5 @@
 // A run of the link over a lent list of ticks, in which each master starts at a tick of its own: item 14 is promised of it, and where both start in tick 0 demand 3, the credited answer and the BACKs.
-#![tactic(auto)]
+#![tactic(auto, using(base::proofs::Choices::choices))]
 
 ghost use Rattle.std.specs.Prelude.{◌≡◌, ◌+◌, ◌-◌, ◌*◌, ◌≤◌, length};
 ghost use Rattle.base.specs.Events.{RunIs};
@@ -11,7 +11,7 @@ ghost use Rattle.link_run.specs.Step.{count_in, senders_in, taken_in, row_number
 use base::Refusal;
 use line::Profile;
 use link_parties::{Calls, Link, MasterCallWithPart, MasterDid};
-use link_start::{Setting, StartAnswer};
+use link_start::Setting;
 use link_ticks::Most;
 use turns::{CallResult, Master};
 
@@ -19,10 +19,7 @@ use turns::{CallResult, Master};
 fn count_of(code: u16) -> u8
     ensures { (result ≡ count_in code) × (result ≤ 1) }
 {
-    if code < 256 {
-        return 0;
-    }
-    1
+    if code < 256 { 0 } else { 1 }
 }
 
 // 1 for a request that was taken.
@@ -30,9 +27,8 @@ fn taken_of(res: CallResult) -> u8
     ensures { (result ≡ taken_in res) × (result ≤ 1) }
 {
     match res {
-        CallResult::Nothing => 0,
         CallResult::Taken => 1,
-        CallResult::Refused(_) => 0,
+        CallResult::Nothing | CallResult::Refused(_) => 0,
     }
 }
 
@@ -48,11 +44,8 @@ fn senders_of(row: &[u16; 8]) -> u8
 {
     eight_numbers(row);
     let mut senders = 0;
-    let mut next = 0;
-    while next < 8 {
-        let i = next;
-        next += 1;
-        senders += count_of(row[i]);
+    for code in row {
+        senders += count_of(*code);
     }
     senders
 }
@@ -61,8 +54,7 @@ fn senders_of(row: &[u16; 8]) -> u8
 fn master_number(did: MasterDid, code: u16) -> u8
     ensures { (result ≡ taken_in did.result + 4 * count_in code) × (result ≤ 5) }
 {
-    let result = did.result;
-    taken_of(result) + 4 * count_of(code)
+    taken_of(did.result) + 4 * count_of(code)
 }
 
 // The number of a tick in which each party sent this and the masters' hosts were answered so.
@@ -82,22 +74,13 @@ pub struct StartTicks {
     pub secondary: u64,
 }
 
-fn less_one(n: u64) -> u64
-    ensures { result ≡ n - 1 }
-{
-    if n == 0 {
-        return 0;
-    }
-    n - 1
-}
-
 // The same a tick later.
 fn starts_behind(s: StartTicks) -> StartTicks
     ensures { result ≡ starts_left s }
 {
     StartTicks {
-        primary: less_one(s.primary),
-        secondary: less_one(s.secondary),
+        primary: s.primary.saturating_sub(1),
+        secondary: s.secondary.saturating_sub(1),
     }
 }
 
@@ -106,32 +89,27 @@ fn call_taken(start: u64, c: MasterCallWithPart) -> MasterCallWithPart
     ensures { result ≡ call_taken start c }
 {
     if start == 0 {
-        return c;
-    }
-    let part = c.part;
-    MasterCallWithPart {
-        call: master::MasterCall::Nothing,
-        part: part,
+        c
+    } else {
+        MasterCallWithPart { call: None, ..c }
     }
 }
 
 fn requests_taken(s: StartTicks, requests: [MasterCallWithPart; 2]) -> [MasterCallWithPart; 2]
     ensures { result ≡ requests_taken s requests }
 {
-    let p = call_taken(s.primary, requests[0]);
-    let q = call_taken(s.secondary, requests[1]);
-    [p, q]
+    [
+        call_taken(s.primary, requests[0]),
+        call_taken(s.secondary, requests[1]),
+    ]
 }
 
 fn calls_taken(s: StartTicks, calls: Calls) -> Calls
     ensures { result ≡ calls_taken s calls }
 {
-    let requests = calls.masters;
-    let devices = calls.devices;
-    let masters = requests_taken(s, requests);
     Calls {
-        masters: masters,
-        devices: devices,
+        masters: requests_taken(s, calls.masters),
+        ..calls
     }
 }
 
@@ -139,33 +117,25 @@ fn calls_taken(s: StartTicks, calls: Calls) -> Calls
 fn master_behind(start: u64, before: Master, ticked: Master) -> Master
     ensures { result ≡ ticked_master start before ticked }
 {
-    if start == 0 {
-        return ticked;
-    }
-    before
+    if start == 0 { ticked } else { before }
 }
 
 fn masters_behind(s: StartTicks, before: [Master; 2], ticked: [Master; 2]) -> [Master; 2]
     ensures { result ≡ ticked_masters s before ticked }
 {
-    let p = master_behind(s.primary, before[0], ticked[0]);
-    let q = master_behind(s.secondary, before[1], ticked[1]);
-    [p, q]
+    [
+        master_behind(s.primary, before[0], ticked[0]),
+        master_behind(s.secondary, before[1], ticked[1]),
+    ]
 }
 
 // The link after a tick.
 fn link_behind(s: StartTicks, l: Link, t: Link) -> Link
     ensures { result ≡ ticked_link s l t }
 {
-    let before = l.masters;
-    let ticked = t.masters;
-    let devices = t.devices;
-    let line = t.line;
-    let masters = masters_behind(s, before, ticked);
     Link {
-        masters: masters,
-        devices: devices,
-        line: line,
+        masters: masters_behind(s, l.masters, t.masters),
+        ..t
     }
 }
 
@@ -197,22 +167,16 @@ fn step_at(
 ) -> Stepped
     ensures { LateStepIs x.limit x.link x.starts ticks.now at frames bytes contents result }
 {
-    let limit = x.limit;
-    let l = x.link;
-    let s = x.starts;
     let read = link_list::read(ticks, at);
-    let listed = read.calls;
-    let calls = calls_taken(s, listed);
+    let calls = calls_taken(x.starts, read.calls);
     let most = Most {
         ticks: 1,
-        data: limit,
+        data: x.limit,
     };
-    let t = link_ticks::ticks(most, l, calls, ticks, frames, bytes, contents, sent);
-    let ticked = t.link;
-    let masters = t.masters;
+    let t = link_ticks::ticks(most, x.link, calls, ticks, frames, bytes, contents, sent);
     Stepped {
-        link: link_behind(s, l, ticked),
-        number: tick_number(&sent[0], masters),
+        link: link_behind(x.starts, x.link, t.link),
+        number: tick_number(&sent[0], t.masters),
         next: read.next,
     }
 }
@@ -236,6 +200,7 @@ fn run_from(
     let mut s = starts;
     let mut at = 0;
     let mut i = 0;
+    // the count of events is the answer too: with `for` the proof of the last return did not close
     while i < events.len() {
         if ticks.len() <= at {
             return i;
@@ -243,7 +208,7 @@ fn run_from(
         let place = i;
         i += 1;
         let x = Late {
-            limit: limit,
+            limit,
             link: l,
             starts: s,
         };
@@ -276,37 +241,25 @@ fn run_started(limit: u8, start: Link, starts: StartTicks, ticks: &[u8], events:
     )
 }
 
-// What a run answers: how many ticks it gave numbers of, or why the link's start was refused.
-#[derive(Clone, Copy)]
-pub enum RunEnded {
-    Ran(usize),
-    Refused(Refusal),
-}
-
 // Starts a link with a data limit, whose devices start in tick 0 and whose masters in the ticks that are named, and runs it over a lent list of ticks. Each tick's number goes to the front of the lent events, for as many ticks as both hold. What is promised is the run that the definitions give, and item 14 of it.
 pub fn late_run(
     limit: usize,
     profile: Profile,
     retries: u8,
-    settings: [Setting; 6],
+    settings: [Option<Setting>; 6],
     starts: StartTicks,
     ticks: &[u8],
     events: &mut [u8],
-) -> RunEnded
+) -> Result<usize, Refusal>
     ensures { LateKeeps limit profile retries settings starts.primary starts.secondary ticks.now events.old result events.new }
 {
     let started = link_start::start_limited(limit, profile, retries, settings);
+    // with `?` the laws of a kept run, which cite the two cases, did not close
     let answer = started.answer;
     let link = started.link;
     match answer {
-        StartAnswer::Started => RunEnded::Ran(run_started(
-            limit as u8,
-            link,
-            starts,
-            ticks,
-            events,
-        )),
-        StartAnswer::Refused(why) => RunEnded::Refused(why),
+        Ok(()) => Ok(run_started(limit as u8, link, starts, ticks, events)),
+        Err(why) => Err(why),
     }
 }
 
@@ -315,10 +268,10 @@ pub fn run(
     limit: usize,
     profile: Profile,
     retries: u8,
-    settings: [Setting; 6],
+    settings: [Option<Setting>; 6],
     ticks: &[u8],
     events: &mut [u8],
-) -> RunEnded
+) -> Result<usize, Refusal>
     ensures { RunKeeps limit profile retries settings ticks.now events.old result events.new }
 {
     let starts = StartTicks {

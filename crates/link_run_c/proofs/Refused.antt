@@ -1,8 +1,7 @@
 -- Computed: the number of a refused start, for a data limit at its bounds, and beside the refusals of the parties' starts.
 use Prim.Native.Nat.{ℕ}
 use mathlib.Core.Path.{◌≡◌, refl}
-use mathlib.Core.Bool.{true, false}
-use mathlib.Core.List.{List, [], ◌∷◌}
+use mathlib.Core.List.{[], ◌∷◌}
 use lib.ListN.{replicate}
 use Rattle.base.specs.Choice.{when◌then◌else◌}
 use Rattle.line.specs.Profile.{fsk_profile}

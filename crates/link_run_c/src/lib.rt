@@ -1,22 +1,26 @@
 // A run of the link for programs in C and Rust, in which each master starts at a tick of its own.
-#![tactic(auto)]
+#![tactic(auto, using(base::proofs::Choices::choices))]
 
 ghost use Rattle.std.specs.Prelude.{◌≡◌, length};
 ghost use Rattle.link_run_c.specs.Settings.{profile_of, setting_of, settings_in, EndsAs, RunsAs};
 
+use base::Refusal;
 use line::Profile;
-use link_run::{RunEnded, StartTicks};
+use link_run::StartTicks;
 use link_start::Setting;
 
 // What a slot's device is started with; a preamble of 0 stands for a slot without one.
-fn setting_of(preamble: u8, polling: u8, unique: u64) -> Setting
+fn setting_of(preamble: u8, polling: u8, unique: u64) -> Option<Setting>
     ensures { result ≡ setting_of preamble polling unique }
 {
-    Setting {
-        here: 0 < preamble,
-        preamble: preamble as usize,
-        polling: polling,
-        unique: unique,
+    if 0 < preamble {
+        Some(Setting {
+            preamble: preamble as usize,
+            polling,
+            unique,
+        })
+    } else {
+        None
     }
 }
 
@@ -26,31 +30,27 @@ fn six_each(preambles: &[u8], pollings: &[u8], uniques: &[u64])
     ensures { (length preambles.now ≡ 6) × (length pollings.now ≡ 6) × (length uniques.now ≡ 6) }
 {}
 
-fn settings_of(preambles: &[u8; 6], pollings: &[u8; 6], uniques: &[u64; 6]) -> [Setting; 6]
+fn settings_of(preambles: &[u8; 6], pollings: &[u8; 6], uniques: &[u64; 6]) -> [Option<Setting>; 6]
     ensures { result ≡ settings_in preambles.now pollings.now uniques.now }
 {
     six_each(preambles, pollings, uniques);
-    let none = setting_of(0, 0, 0);
-    let mut settings = [none; 6];
-    let mut n = 0;
-    while n < 6 {
-        let i = n;
-        n += 1;
+    let mut settings = [None; 6];
+    for i in 0..6 {
         settings[i] = setting_of(preambles[i], pollings[i], uniques[i]);
     }
     settings
 }
 
 // How many numbers a run gave, and in refusal the number of a refused start, or 0.
-fn end_run(ended: RunEnded, refusal: &mut u32) -> usize
+fn end_run(ended: Result<usize, Refusal>, refusal: &mut u32) -> usize
     ensures { EndsAs ended refusal result }
 {
     match ended {
-        RunEnded::Ran(n) => {
+        Ok(n) => {
             *refusal = 0;
             n
         }
-        RunEnded::Refused(why) => {
+        Err(why) => {
             *refusal = why.number();
             0
         }
@@ -80,16 +80,13 @@ pub extern "C" fn nengapiko_run(
         (settings_in preambles.now pollings.now uniques.now) primary secondary ticks.now events refusal result }
 {
     let profile = Profile {
-        sto: sto,
-        hold: hold,
-        rt2: rt2,
-        rt1p: rt1p,
-        rt1s: rt1s,
+        sto,
+        hold,
+        rt2,
+        rt1p,
+        rt1s,
     };
-    let starts = StartTicks {
-        primary: primary,
-        secondary: secondary,
-    };
+    let starts = StartTicks { primary, secondary };
     let settings = settings_of(preambles, pollings, uniques);
     let ended = link_run::late_run(limit, profile, retries, settings, starts, ticks, events);
     end_run(ended, refusal)

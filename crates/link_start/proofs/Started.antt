@@ -1,10 +1,11 @@
 -- A link whose start was accepted: each of its parties is one that its own start accepted.
-use Prim.Native.Nat.{ℕ, zero, suc, ◌+◌, ◌≤◌}
+use Prim.Native.Nat.{ℕ, suc, ◌+◌, ◌≤◌}
 use native.Mathlib.Omega.{arith}
 use mathlib.Core.Bool.{Bool, true, false}
 use mathlib.Core.List.{List, [], ◌∷◌}
 use mathlib.Core.Path.{◌≡◌, refl, sym, ap, subst, ◌∙◌}
 use lib.ListN.{length, get_or, replicate, length-replicate, get_or-replicate}
+use Rattle.std.specs.Prelude.{Option, Some, None}
 use Rattle.base.specs.Choice.{when◌then◌else◌, ◌outside◌to◌}
 use Rattle.base.proofs.Choices.{if_is_true, inside_low, inside_high}
 use Rattle.base.specs.Refusal.{Called, accepted, refused}
@@ -17,9 +18,8 @@ use Rattle.turns.specs.declared.Device.{Device}
 use Rattle.turns.specs.declared.Master.{Master}
 use Rattle.link_parties.specs.Stands.{any_master, devices_from}
 use Rattle.link_parties.specs.declared.Link.{Link}
-use Rattle.link_parties.specs.declared.Slot.{Slot}
 use Rattle.link_start.specs.Fresh.{rows_fresh, lent_fresh}
-use Rattle.link_start.specs.Start.{absent, lower, both, in_slot, device_slot, slot_starts, in_front, devices_start, primary_first, masters_start, fresh_link, link_starts, limit_taken, the_link, limited_starts}
+use Rattle.link_start.specs.Start.{absent, lower, both, in_slot, slot_starts, in_front, devices_start, primary_first, masters_start, fresh_link, link_starts, limit_taken, the_link, limited_starts}
 use Rattle.link_start.specs.declared.Setting.{Setting}
 
 -- ---- what was accepted was not refused
@@ -59,15 +59,16 @@ row_length n k m h =
     omega (arith, row, all)
 
 -- a slot that was accepted, in front of others
-slot_first : (p : Profile) (i : ℕ) (s : Setting) (slot : Slot) (slots : List Slot) → suc i ≤ 6 → slot_starts p s ≡ accepted slot
+slot_first : (p : Profile) (i : ℕ) (s : Option Setting) (slot : Option Device) (slots : List (Option Device)) → suc i ≤ 6 → slot_starts p s ≡ accepted slot
     → All (DeviceStarts p) (devices_from rows_fresh (suc i) slots) → All (DeviceStarts p) (devices_from rows_fresh i (slot ∷ slots))
-unfolding devices_from when◌then◌else◌
-slot_first p i s slot slots h v rest = by s.here v
+unfolding devices_from
+slot_first p i None slot slots h v rest = subst (λ (y : Option Device). All (DeviceStarts p) (devices_from rows_fresh i (y ∷ slots))) (accepted_same absent slot v) rest
+slot_first p i (Some s) slot slots h v rest = started (device_starts p s.preamble s.polling s.unique) refl v
   where
     started : (c : Called Device) → device_starts p s.preamble s.polling s.unique ≡ c → in_slot c ≡ accepted slot → All (DeviceStarts p) (devices_from rows_fresh i (slot ∷ slots))
     started (refused why) e w = absurd (unlike why slot w)
     started (accepted d) e w =
-        subst (λ (y : Slot). All (DeviceStarts p) (devices_from rows_fresh i (y ∷ slots))) (accepted_same _ slot w)
+        subst (λ (y : Option Device). All (DeviceStarts p) (devices_from rows_fresh i (y ∷ slots))) (accepted_same _ slot w)
         (and (record {
           preamble = s.preamble;
           polling = s.polling;
@@ -77,20 +78,16 @@ slot_first p i s slot slots h v rest = by s.here v
           content_room = row_length 6 i most_data h;
         }) rest)
 
-    by : (b : Bool) → (when b then device_slot p s else accepted absent) ≡ accepted slot → All (DeviceStarts p) (devices_from rows_fresh i (slot ∷ slots))
-    by true w = started (device_starts p s.preamble s.polling s.unique) refl w
-    by false w = subst (λ (y : Slot). All (DeviceStarts p) (devices_from rows_fresh i (y ∷ slots))) (accepted_same absent slot w) rest
-
-devices_started : (p : Profile) (i : ℕ) (ss : List Setting) (slots : List Slot) → i + length ss ≤ 6 → devices_start p ss ≡ accepted slots → All (DeviceStarts p) (devices_from rows_fresh i slots)
+devices_started : (p : Profile) (i : ℕ) (ss : List (Option Setting)) (slots : List (Option Device)) → i + length ss ≤ 6 → devices_start p ss ≡ accepted slots → All (DeviceStarts p) (devices_from rows_fresh i slots)
 unfolding devices_start devices_from
-devices_started p i [] slots h v = subst (λ (l : List Slot). All (DeviceStarts p) (devices_from rows_fresh i l)) (accepted_same [] slots v) none
+devices_started p i [] slots h v = subst (λ (l : List (Option Device)). All (DeviceStarts p) (devices_from rows_fresh i l)) (accepted_same [] slots v) none
 devices_started p i (s ∷ ss) slots h v =
     let b = both_accepted in_front (slot_starts p s) (devices_start p ss) slots v in
-    subst (λ (l : List Slot). All (DeviceStarts p) (devices_from rows_fresh i l)) b.makes
+    subst (λ (l : List (Option Device)). All (DeviceStarts p) (devices_from rows_fresh i l)) b.makes
     (slot_first p i s b.first b.second (omega (arith, h)) b.first_is (devices_started p (suc i) ss b.second (omega (arith, h)) b.second_is))
 
 -- a slot for each setting
-slots_each : (p : Profile) (ss : List Setting) (slots : List Slot) → devices_start p ss ≡ accepted slots → length slots ≡ length ss
+slots_each : (p : Profile) (ss : List (Option Setting)) (slots : List (Option Device)) → devices_start p ss ≡ accepted slots → length slots ≡ length ss
 unfolding devices_start
 slots_each p [] slots v = ap length (sym (accepted_same [] slots v))
 slots_each p (s ∷ ss) slots v =
@@ -99,18 +96,18 @@ slots_each p (s ∷ ss) slots v =
 
 -- ---- the link
 
-pub slots_started : (p : Profile) (retries : ℕ) (s : List Setting) (l : Link) → link_starts p retries s ≡ accepted l → length l.devices ≡ length s
+pub slots_started : (p : Profile) (retries : ℕ) (s : List (Option Setting)) (l : Link) → link_starts p retries s ≡ accepted l → length l.devices ≡ length s
 slots_started p retries s l e =
     let b = both_accepted fresh_link (masters_start p retries) (devices_start p s) l e in
     ap (λ (k : Link). length k.devices) (sym b.makes) ∙ slots_each p s b.second b.second_is
 
-module _ (p : Profile) (retries : ℕ) (s : List Setting) (six : length s ≡ 6) (l : Link) (e : link_starts p retries s ≡ accepted l) where
+module _ (p : Profile) (retries : ℕ) (s : List (Option Setting)) (six : length s ≡ 6) (l : Link) (e : link_starts p retries s ≡ accepted l) where
   parts : Both fresh_link (masters_start p retries) (devices_start p s) l
   parts = both_accepted fresh_link (masters_start p retries) (devices_start p s) l e
 
   slots : All (DeviceStarts p) (devices_from rows_fresh 0 l.devices)
   slots =
-      subst (λ (x : List Slot). All (DeviceStarts p) (devices_from rows_fresh 0 x)) (ap (λ (k : Link). k.devices) parts.makes)
+      subst (λ (x : List (Option Device)). All (DeviceStarts p) (devices_from rows_fresh 0 x)) (ap (λ (k : Link). k.devices) parts.makes)
       (devices_started p 0 s parts.second (omega (arith, six)) parts.second_is)
 
   pub masters_start_lem : (master_starts p true retries ≡ accepted (get_or l.masters 0 any_master)) × (master_starts p false retries ≡ accepted (get_or l.masters 1 any_master))
@@ -130,7 +127,7 @@ module _ (p : Profile) (retries : ℕ) (s : List Setting) (six : length s ≡ 6)
 
 -- ---- with a data limit
 
-pub limited_bounds : (limit : ℕ) (p : Profile) (retries : ℕ) (s : List Setting) (l : Link) → limited_starts limit p retries s ≡ accepted l → (fewest_answered ≤ limit) × (limit ≤ most_data)
+pub limited_bounds : (limit : ℕ) (p : Profile) (retries : ℕ) (s : List (Option Setting)) (l : Link) → limited_starts limit p retries s ≡ accepted l → (fewest_answered ≤ limit) × (limit ≤ most_data)
 unfolding limited_starts
 limited_bounds limit p retries s l e =
     let b = both_accepted the_link (limit_taken limit) (link_starts p retries s) l e in
@@ -141,7 +138,7 @@ limited_bounds limit p retries s l e =
     by false x k = refl
     by true x k = absurd (unlike 9 x (sym (if_is_true true (refused 9) (accepted tt) refl) ∙ k))
 
-pub limited_link : (limit : ℕ) (p : Profile) (retries : ℕ) (s : List Setting) (l : Link) → limited_starts limit p retries s ≡ accepted l → link_starts p retries s ≡ accepted l
+pub limited_link : (limit : ℕ) (p : Profile) (retries : ℕ) (s : List (Option Setting)) (l : Link) → limited_starts limit p retries s ≡ accepted l → link_starts p retries s ≡ accepted l
 unfolding limited_starts
 limited_link limit p retries s l e =
     let b = both_accepted the_link (limit_taken limit) (link_starts p retries s) l e in

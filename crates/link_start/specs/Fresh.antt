@@ -1,6 +1,6 @@
 -- How the code stands for what is to be believed.
 -- The lent rows of a link that has just started: zero bytes in each.
-use Rattle.std.specs.Prelude.{ℕ, List, replicate}
+use Rattle.std.specs.Prelude.{replicate}
 use Rattle.frame.specs.Limits.{most_data, longest_frame}
 use Rattle.turns.specs.Link as L
 use Rattle.link_parties.specs.Stands.{Rows, rows_of, link_of}

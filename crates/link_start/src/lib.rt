@@ -1,64 +1,29 @@
 // The start of a link.
-#![tactic(auto)]
+#![tactic(auto, using(base::proofs::Choices::choices))]
 
 ghost use Rattle.std.specs.Prelude.{◌≡◌};
-ghost use Rattle.base.specs.Refusal.{number, accepted, refused};
-ghost use Rattle.turns.specs.Master.{master_starts};
+ghost use Rattle.base.specs.Refusal.{number, refused, called_as};
 ghost use Rattle.link_parties.specs.Stands.{any_master};
-ghost use Rattle.link_start.specs.Start.{no_profile, any_device, absent, empty_link, lower, both, device_slot, slot_starts, devices_start, masters_start, made, answer_as, lowest, StartedIs, refused_link, LimitedIs};
+ghost use Rattle.link_start.specs.Start.{no_profile, absent, empty_link, lower, both, pair, slot_starts, devices_start, masters_start, link_starts, lowest, StartedIs, GivenIs, limit_taken, limited_starts, LimitedIs};
 
 use base::Refusal;
 use line::{Heard, Profile};
-use link_parties::{Link, Slot};
-use master::MasterStarted;
+use link_parties::Link;
 use turns::{Device, Master};
 
-// What a device is started with, where the slot has one.
+// What a device is started with.
 #[derive(Clone, Copy)]
 pub struct Setting {
-    pub here: bool,
     pub preamble: usize,
     pub polling: u8,
     pub unique: u64,
 }
 
-// What became of some starts: all were taken, or the lowest of their refusals.
-#[derive(Clone, Copy)]
-pub enum StartAnswer {
-    Started,
-    Refused(Refusal),
-}
-
-// What became of a link's start, and the link. Where it was refused, that is a link without a device.
+// What became of a link's start, and the link. Where it was refused, that is a link without a device: StartedIs promises it, so this is no Result.
 #[derive(Clone, Copy)]
 pub struct LinkStarted {
-    pub answer: StartAnswer,
+    pub answer: Result<(), Refusal>,
     pub link: Link,
-}
-
-// Parties whose start was taken; where it was refused, any value may stand there.
-#[derive(Clone, Copy)]
-struct MasterBegun {
-    master: Master,
-    answer: StartAnswer,
-}
-
-#[derive(Clone, Copy)]
-struct MastersBegun {
-    masters: [Master; 2],
-    answer: StartAnswer,
-}
-
-#[derive(Clone, Copy)]
-struct SlotBegun {
-    slot: Slot,
-    answer: StartAnswer,
-}
-
-#[derive(Clone, Copy)]
-struct DevicesBegun {
-    devices: [Slot; 6],
-    answer: StartAnswer,
 }
 
 // ---- where no party was started
@@ -78,35 +43,15 @@ fn no_profile() -> Profile
 fn any_master() -> Master
     ensures { result ≡ any_master }
 {
-    let profile = no_profile();
-    master::fresh_master(profile, true, 0)
-}
-
-fn any_device() -> Device
-    ensures { result ≡ any_device }
-{
-    let profile = no_profile();
-    device::fresh(profile, 0, 0, 0)
-}
-
-fn absent_slot() -> Slot
-    ensures { result ≡ absent }
-{
-    let device = any_device();
-    Slot {
-        device: device,
-        here: false,
-    }
+    master::fresh_master(no_profile(), true, 0)
 }
 
 fn empty_link() -> Link
     ensures { result ≡ empty_link }
 {
-    let master = any_master();
-    let slot = absent_slot();
     Link {
-        masters: [master; 2],
-        devices: [slot; 6],
+        masters: [any_master(); 2],
+        devices: [None; 6],
         line: Heard::Silence,
     }
 }
@@ -117,156 +62,131 @@ fn empty_link() -> Link
 fn lower_of(v: Refusal, w: Refusal) -> Refusal
     ensures { number result ≡ lower (number v) (number w) }
 {
-    let a = v.number();
-    let b = w.number();
-    if a <= b {
-        return v;
-    }
-    w
+    if v.number() <= w.number() { v } else { w }
 }
 
-fn lowest_with(v: Refusal, y: StartAnswer) -> StartAnswer
-    ensures { answer_as result ≡ lowest (refused (number v)) (answer_as y) }
+// The lowest refusal, with one more.
+fn lowest_with(v: Refusal, y: Result<(), Refusal>) -> Result<(), Refusal>
+    ensures { called_as result ≡ lowest (refused (number v)) (called_as y) }
 {
     match y {
-        StartAnswer::Started => StartAnswer::Refused(v),
-        StartAnswer::Refused(w) => StartAnswer::Refused(lower_of(v, w)),
+        Ok(()) => Err(v),
+        Err(w) => Err(lower_of(v, w)),
     }
 }
 
-fn lowest_of(x: StartAnswer, y: StartAnswer) -> StartAnswer
-    ensures { answer_as result ≡ lowest (answer_as x) (answer_as y) }
+// Both, or the lower of their refusals.
+fn both<A: Copy, B: Copy>(x: Result<A, Refusal>, y: Result<B, Refusal>) -> Result<(A, B), Refusal>
+    ensures { called_as result ≡ both pair (called_as x) (called_as y) }
 {
-    match x {
-        StartAnswer::Started => y,
-        StartAnswer::Refused(v) => lowest_with(v, y),
+    match (x, y) {
+        (Ok(a), Ok(b)) => Ok((a, b)),
+        (Err(v), Err(w)) => Err(lower_of(v, w)),
+        (Err(why), Ok(_)) | (Ok(_), Err(why)) => Err(why),
     }
 }
 
 // ---- the parties' starts
 
-fn master_begins(profile: Profile, primary: bool, retries: u8) -> MasterBegun
-    ensures { made result.master result.answer ≡ master_starts profile primary retries }
+fn masters_start(profile: Profile, retries: u8) -> Result<[Master; 2], Refusal>
+    ensures { called_as result ≡ masters_start profile retries }
 {
-    let m = master::start(profile, primary, retries);
-    match m {
-        MasterStarted::Started(x) => MasterBegun {
-            master: x,
-            answer: StartAnswer::Started,
-        },
-        MasterStarted::Refused(why) => MasterBegun {
-            master: any_master(),
-            answer: StartAnswer::Refused(why),
-        },
-    }
+    let primary = master::start(profile, true, retries);
+    let secondary = master::start(profile, false, retries);
+    let (p, s) = both(primary, secondary)?;
+    Ok([p, s])
 }
 
-fn masters_begin(profile: Profile, retries: u8) -> MastersBegun
-    ensures { made result.masters result.answer ≡ masters_start profile retries }
+fn slot_starts(profile: Profile, s: Option<Setting>) -> Result<Option<Device>, Refusal>
+    ensures { called_as result ≡ slot_starts profile s }
 {
-    let p = master_begins(profile, true, retries);
-    let s = master_begins(profile, false, retries);
-    let primary = p.master;
-    let secondary = s.master;
-    let x = p.answer;
-    let y = s.answer;
-    MastersBegun {
-        masters: [primary, secondary],
-        answer: lowest_of(x, y),
-    }
+    let Some(s) = s else {
+        return Ok(None);
+    };
+    let device = device::start(profile, s.preamble, s.polling, s.unique)?;
+    Ok(Some(device))
 }
 
-fn device_begins(profile: Profile, s: Setting) -> SlotBegun
-    ensures { made result.slot result.answer ≡ device_slot profile s }
+// The devices, from the last to the first, or the lowest refusal of those that were started.
+fn devices_start(
+    profile: Profile,
+    settings: [Option<Setting>; 6],
+) -> Result<[Option<Device>; 6], Refusal>
+    ensures { called_as result ≡ devices_start profile settings }
 {
-    let d = device::start(profile, s.preamble, s.polling, s.unique);
-    match d {
-        device::DeviceStarted::Started(x) => SlotBegun {
-            slot: Slot {
-                device: x,
-                here: true,
-            },
-            answer: StartAnswer::Started,
+    let mut slots = [None; 6];
+    let mut answer = Ok(());
+    for i in (0..6).rev() {
+        match slot_starts(profile, settings[i]) {
+            Ok(slot) => slots[i] = slot,
+            Err(why) => answer = lowest_with(why, answer),
+        }
+    }
+    answer?;
+    Ok(slots)
+}
+
+fn link_starts(
+    profile: Profile,
+    retries: u8,
+    settings: [Option<Setting>; 6],
+) -> Result<Link, Refusal>
+    ensures { called_as result ≡ link_starts profile retries settings }
+{
+    let masters = masters_start(profile, retries);
+    let devices = devices_start(profile, settings);
+    let (masters, devices) = both(masters, devices)?;
+    Ok(Link {
+        masters,
+        devices,
+        line: Heard::Silence,
+    })
+}
+
+// What is given for a start.
+fn given(x: Result<Link, Refusal>) -> LinkStarted
+    ensures { GivenIs (called_as x) result }
+{
+    match x {
+        Ok(link) => LinkStarted {
+            answer: Ok(()),
+            link,
         },
-        device::DeviceStarted::Refused(why) => SlotBegun {
-            slot: absent_slot(),
-            answer: StartAnswer::Refused(why),
-        },
-    }
-}
-
-fn slot_begins(profile: Profile, s: Setting) -> SlotBegun
-    ensures { made result.slot result.answer ≡ slot_starts profile s }
-{
-    if s.here {
-        return device_begins(profile, s);
-    }
-    let slot = absent_slot();
-    SlotBegun {
-        slot: slot,
-        answer: StartAnswer::Started,
-    }
-}
-
-// The devices, from the last to the first, and the lowest refusal of those that were started.
-fn devices_begin(profile: Profile, settings: [Setting; 6]) -> DevicesBegun
-    ensures { made result.devices result.answer ≡ devices_start profile settings }
-{
-    let none = absent_slot();
-    let mut slots = [none; 6];
-    let mut answer = StartAnswer::Started;
-    let mut n = 6;
-    while 0 < n {
-        let i = n - 1;
-        n = i;
-        let s = slot_begins(profile, settings[i]);
-        let slot = s.slot;
-        let one = s.answer;
-        slots[i] = slot;
-        answer = lowest_of(one, answer);
-    }
-    DevicesBegun {
-        devices: slots,
-        answer: answer,
-    }
-}
-
-// The fresh link of these parties, or the lowest of their starts' refusals: 2, 3 or 4.
-pub fn start(profile: Profile, retries: u8, settings: [Setting; 6]) -> LinkStarted
-    ensures { StartedIs profile retries settings result }
-{
-    let m = masters_begin(profile, retries);
-    let d = devices_begin(profile, settings);
-    let masters = m.masters;
-    let devices = d.devices;
-    let x = m.answer;
-    let y = d.answer;
-    let answer = lowest_of(x, y);
-    match answer {
-        StartAnswer::Started => LinkStarted {
-            answer: StartAnswer::Started,
-            link: Link {
-                masters: masters,
-                devices: devices,
-                line: Heard::Silence,
-            },
-        },
-        StartAnswer::Refused(why) => LinkStarted {
-            answer: StartAnswer::Refused(why),
+        Err(why) => LinkStarted {
+            answer: Err(why),
             link: empty_link(),
         },
     }
 }
 
-// A start that was refused.
-fn refused_link(why: Refusal) -> LinkStarted
-    ensures { result ≡ refused_link why }
+// The fresh link of these parties, or the lowest of their starts' refusals: 2, 3 or 4.
+pub fn start(profile: Profile, retries: u8, settings: [Option<Setting>; 6]) -> LinkStarted
+    ensures { StartedIs profile retries settings result }
 {
-    let link = empty_link();
-    LinkStarted {
-        answer: StartAnswer::Refused(why),
-        link: link,
+    given(link_starts(profile, retries, settings))
+}
+
+fn limit_taken(limit: usize) -> Result<(), Refusal>
+    ensures { called_as result ≡ limit_taken limit }
+{
+    if base::outside(limit, 2, 255) {
+        Err(Refusal::DataLength)
+    } else {
+        Ok(())
     }
+}
+
+#[tactic(auto, using(base::proofs::Choices::choices), unfolding(crate::specs::Start::limited_starts))]
+fn limited_starts(
+    limit: usize,
+    profile: Profile,
+    retries: u8,
+    settings: [Option<Setting>; 6],
+) -> Result<Link, Refusal>
+    ensures { called_as result ≡ limited_starts limit profile retries settings }
+{
+    let ((), link) = both(limit_taken(limit), link_starts(profile, retries, settings))?;
+    Ok(link)
 }
 
 // The same with a data limit: the lowest refusal is 2, 3, 4, or 9 for a limit outside 2 to 255. The link does not hold the limit: whoever starts it gives the same number to every `link_ticks::ticks` of it, as the runs of link_run do.
@@ -274,17 +194,9 @@ pub fn start_limited(
     limit: usize,
     profile: Profile,
     retries: u8,
-    settings: [Setting; 6],
+    settings: [Option<Setting>; 6],
 ) -> LinkStarted
     ensures { LimitedIs limit profile retries settings result }
 {
-    let started = start(profile, retries, settings);
-    let answer = started.answer;
-    if base::outside(limit, 2, 255) {
-        return match answer {
-            StartAnswer::Started => refused_link(Refusal::DataLength),
-            StartAnswer::Refused(why) => refused_link(lower_of(Refusal::DataLength, why)),
-        };
-    }
-    started
+    given(limited_starts(limit, profile, retries, settings))
 }

@@ -3,7 +3,7 @@ use Prim.Native.Nat.{ℕ, zero, suc, ◌-◌, ◌<◌}
 use native.Mathlib.Omega.{arith}
 use mathlib.Core.Bool.{Bool, true, false}
 use mathlib.Core.List.{List, [], ◌∷◌, ◌++◌}
-use mathlib.Core.Path.{◌≡◌, refl, sym, ap, ◌∙◌}
+use mathlib.Core.Path.{◌≡◌, refl, ap, ◌∙◌}
 use lib.ListN.{length, drop, get_or, replicate}
 use Rattle.base.specs.Choice.{when◌then◌else◌, ◌<?◌}
 use Rattle.base.proofs.Choices.{true_false}
@@ -11,7 +11,6 @@ use Rattle.line.specs.declared.Heard.{Heard}
 use Rattle.turns.proofs.Bursting.{if_both}
 use Rattle.turns.specs.Link.{DeviceSide, MasterStep, DeviceStep, LinkStep, sides, master_tick, device_tick, device_ticks, link_tick, link_after, run}
 use Rattle.turns.specs.Link as L
-use Rattle.turns.specs.Run.{no_tick}
 use Rattle.turns.specs.declared.CallResult.{CallResult}
 use Rattle.turns.specs.declared.DeviceTold.{DeviceTold}
 use Rattle.turns.specs.declared.MasterTold.{MasterTold}

@@ -14,7 +14,7 @@ use Rattle.link_parties.specs.declared.DeviceCallWithPart.{DeviceCallWithPart}
 use Rattle.link_parties.specs.declared.DeviceDid.{DeviceDid}
 use Rattle.link_parties.specs.declared.MasterCallWithPart.{MasterCallWithPart}
 use Rattle.link_parties.specs.declared.MasterDid.{MasterDid}
-use Rattle.link_ticks.specs.Ticks.{master_call_in, device_call_in, SendsByte, sends_none, sends_byte, CodeIs, master_host_told, device_host_told, answer_kept, master_told_kept, device_told_kept, master_did_by, device_did_by}
+use Rattle.link_ticks.specs.Ticks.{master_call_in, device_call_in, sends_none, sends_byte, CodeIs, master_host_told, device_host_told, answer_kept, master_told_kept, device_told_kept, master_did_by, device_did_by}
 
 pub master_tells_at : (p q : MasterTold) (b r : Bool) → p ≡ q → r ≡ master_host_told q b → r ≡ master_host_told p b
 master_tells_at p q b r e f = f ∙ ap (λ (x : MasterTold). master_host_told x b) (sym e)

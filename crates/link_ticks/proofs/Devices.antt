@@ -1,11 +1,12 @@
 -- The loop over the devices, from the last to the first: those that have ticked, and those that have not.
-use Prim.Native.Nat.{ℕ, suc, zero, ◌+◌, ◌-◌, ◌≤◌, ◌<◌}
+use Prim.Native.Nat.{ℕ, suc, ◌+◌, ◌-◌, ◌≤◌, ◌<◌}
 use native.Mathlib.Omega.{arith}
 use mathlib.Core.Bool.{Bool, true, false}
-use mathlib.Core.List.{List, [], ◌∷◌, map}
+use mathlib.Core.List.{List, [], ◌∷◌}
 use mathlib.Core.Path.{◌≡◌, refl, sym, ap, subst, ◌∙◌}
 use lib.ListN.{length, drop, get_or, set, replicate, length-set, length-map, length-replicate, get_or-replicate, get_or-map, drop_of_length-le}
 use lib.Seq.{drop-cons, get_or-set_same, get_or-set_other, set-get_or, map-set_same}
+use Rattle.std.specs.Prelude.{Option, Some, None, is_some}
 use Rattle.base.proofs.Choices.{true_false}
 use Rattle.line.specs.Reader.{taken, taken_data}
 use Rattle.line.specs.Reader as R
@@ -13,34 +14,32 @@ use Rattle.line.specs.declared.Event.TheVariants.{Nothing}
 use Rattle.line.specs.declared.Heard.{Heard}
 use Rattle.line.specs.declared.Heard.TheVariants.{Silence}
 use Rattle.line.specs.declared.Receiver.{Receiver}
-use Rattle.turns.specs.Link.{DeviceSide, DeviceStep, joins, sides, carried, device_tick, device_ticks}
-use Rattle.turns.specs.Link as L
+use Rattle.turns.specs.Link.{DeviceSide, DeviceStep, joins, sides, carried, device_tick}
 use Rattle.turns.specs.declared.Device.{Device}
 use Rattle.device_tick.specs.Tick as D
 use Rattle.device_tick.specs.declared.DeviceTicked.{DeviceTicked}
 use Rattle.party.specs.Numbers.{sent_number}
-use Rattle.link_parties.specs.Stands.{Rows, rows_of, device_at, if_here, devices_from, heres, device_call_of, device_calls_from, no_device_call}
+use Rattle.link_parties.specs.Stands.{Rows, rows_of, device_at, devices_from, heres, device_call_of}
 use Rattle.link_parties.specs.Part.{data_of}
-use Rattle.link_parties.specs.Ways.{device_way, counted_device, heard_device, in_slot}
+use Rattle.link_parties.specs.Ways.{device_way, counted_device, heard_device}
 use Rattle.link_parties.proofs.Ways.{quiet_device, with_device, device_counts_lem, device_hears_lem}
 use Rattle.link_parties.specs.declared.DeviceCallWithPart.{DeviceCallWithPart}
 use Rattle.link_parties.specs.declared.DeviceDid.{DeviceDid}
-use Rattle.link_parties.specs.declared.Slot.{Slot}
 use Rattle.link_parties.specs.declared.Way.{Way}
 use Rattle.link_parties.specs.declared.Way.TheVariants.{Counts, Hears}
 use Rattle.link_ticks.specs.Ticks.{device_host_told, devices_tell, on_here, device_code, SendsByte, sends_none, DevicesSendBytes, no_device, device_and, CodeIs, device_did_by, device_did, device_nothing, SlotStays}
-use Rattle.link_ticks.proofs.Lists.{Same, same_set, same_less, drop_set, any_default, on_here_lem, on_none, on_end}
+use Rattle.link_ticks.proofs.Lists.{Same, same_set, same_less, drop_set, any_default, on_here_lem, on_none}
 
 -- where the loop stands
 pub record At : Type 0 where
-  pub slots : List Slot
+  pub slots : List (Option Device)
   pub rows : Rows
   pub row : List ℕ
   pub dids : List DeviceDid
   pub told : Bool
   pub line : Heard
 
-abbrev pub at : List Slot → List (List ℕ) → List (List ℕ) → List (List ℕ) → List ℕ → List DeviceDid → Bool → Heard → At
+abbrev pub at : List (Option Device) → List (List ℕ) → List (List ℕ) → List (List ℕ) → List ℕ → List DeviceDid → Bool → Heard → At
 at slots frames bytes contents row dids told line = record { slots = slots; rows = rows_of frames bytes contents; row = row; dids = dids; told = told; line = line }
 
 -- a row of each kind is stored
@@ -48,23 +47,25 @@ abbrev pub stored : Rows → ℕ → List ℕ → List ℕ → List ℕ → Rows
 stored x i f y z = rows_of (set x.frames (i + 2) f) (set x.bytes (i + 2) y) (set x.contents i z)
 
 -- rows below are no device's further on
-pub below : (x : Rows) (i k : ℕ) (f y z : List ℕ) (ss : List Slot) → i < k → devices_from (stored x i f y z) k ss ≡ devices_from x k ss
+pub below : (x : Rows) (i k : ℕ) (f y z : List ℕ) (ss : List (Option Device)) → i < k → devices_from (stored x i f y z) k ss ≡ devices_from x k ss
 unfolding devices_from
 below x i k f y z [] h = refl
-below x i k f y z (s ∷ ss) h = λ n. if_here s.here
-    (D.side_of s.device
+below x i k f y z (None ∷ ss) h = below x i (suc k) f y z ss (omega arith)
+below x i k f y z (Some d ∷ ss) h = λ n.
+    D.side_of d
     (get_or-set_other x.frames (i + 2) (k + 2) f [] (λ q. omega (arith, q, h)) n)
     (get_or-set_other x.bytes (i + 2) (k + 2) y [] (λ q. omega (arith, q, h)) n)
-    (get_or-set_other x.contents i k z [] (λ q. omega (arith, q, h)) n))
-    (below x i (suc k) f y z ss (omega arith) n)
+    (get_or-set_other x.contents i k z [] (λ q. omega (arith, q, h)) n)
+    ∷ below x i (suc k) f y z ss (omega arith) n
 
 module _ (limit : ℕ) (heard : Heard) (put : List ℕ) (call : ℕ → DeviceCallWithPart) where
   abbrev pub step_at : Rows → ℕ → Device → DeviceStep
   step_at x i d = device_tick limit (device_at x i d) heard (device_call_of put (call i))
 
-  unfoldable pub steps_from : Rows → ℕ → List Slot → List DeviceStep
+  unfoldable pub steps_from : Rows → ℕ → List (Option Device) → List DeviceStep
   steps_from x i [] = []
-  steps_from x i (s ∷ ss) = if_here s.here (step_at x i s.device) (steps_from x (suc i) ss)
+  steps_from x i (None ∷ ss) = steps_from x (suc i) ss
+  steps_from x i (Some d ∷ ss) = step_at x i d ∷ steps_from x (suc i) ss
 
   abbrev pub steps : At → ℕ → List DeviceStep
   steps a n = steps_from a.rows n (drop n a.slots)
@@ -118,20 +119,20 @@ module _ (limit : ℕ) (heard : Heard) (put : List ℕ) (call : ℕ → DeviceCa
         dids_before = d;
         within = omega arith;
         blank = λ j h. ap (λ (l : List ℕ). get_or l j 0) w ∙ get_or-replicate {A = ℕ} 8 j 0 0 h;
-        sides_are = ap (devices_from a.rows 6) u ∙ ap (λ (ss : List Slot). sides (steps_from a.rows 6 ss)) (sym u);
+        sides_are = ap (devices_from a.rows 6) u ∙ ap (λ (ss : List (Option Device)). sides (steps_from a.rows 6 ss)) (sym u);
         flags = refl;
         absent_stay = λ j h. record { slot = λ x. refl; frame = refl; bytes = refl; contents = refl };
         codes_are =
             none_left a.row 8 r
-            ∙ ap (λ (ss : List Slot). on_here device_code (heres ss) (steps_from a.rows 6 ss) []) (sym u)
+            ∙ ap (λ (ss : List (Option Device)). on_here device_code (heres ss) (steps_from a.rows 6 ss) []) (sym u)
             ∙ ap (on_here device_code (heres (drop 6 a.slots)) (steps a 6)) (sym (none_left a.row 8 r));
-        bytes_sent = subst (λ (ss : List Slot). DevicesSendBytes (steps_from a.rows 6 ss)) (sym u) no_device;
+        bytes_sent = subst (λ (ss : List (Option Device)). DevicesSendBytes (steps_from a.rows 6 ss)) (sym u) no_device;
         dids_are =
             none_left a.dids 6 d
-            ∙ ap (λ (ss : List Slot). on_here device_did (heres ss) (steps_from a.rows 6 ss) []) (sym u)
+            ∙ ap (λ (ss : List (Option Device)). on_here device_did (heres ss) (steps_from a.rows 6 ss) []) (sym u)
             ∙ ap (on_here device_did (heres (drop 6 a.slots)) (steps a 6)) (sym (none_left a.dids 6 d));
-        line_is = e ∙ ap (λ (ss : List Slot). carried (steps_from a.rows 6 ss)) (sym u);
-        told_is = ap (λ (ss : List Slot). devices_tell (steps_from a.rows 6 ss) a.told) (sym u);
+        line_is = e ∙ ap (λ (ss : List (Option Device)). carried (steps_from a.rows 6 ss)) (sym u);
+        told_is = ap (λ (ss : List (Option Device)). devices_tell (steps_from a.rows 6 ss) a.told) (sym u);
         slots_left = λ j x h. refl;
         frames_left = λ j x h. refl;
         bytes_left = λ j x h. refl;
@@ -140,15 +141,15 @@ module _ (limit : ℕ) (heard : Heard) (put : List ℕ) (call : ℕ → DeviceCa
         dids_left = λ j x h. refl;
       }
 
-  module _ (a b : At) (i : ℕ) (d : Slot) (v : Ticking a b (suc i)) where
+  module _ (a b : At) (i : ℕ) (d : Option Device) (v : Ticking a b (suc i)) where
     in_six : i < 6
     in_six = omega (arith, v.within)
 
     -- the slots from this one on
-    first_slot : drop i a.slots ≡ get_or b.slots i d ∷ drop (suc i) a.slots
-    first_slot =
+    first_slot : (s : Option Device) → get_or b.slots i d ≡ s → drop i a.slots ≡ s ∷ drop (suc i) a.slots
+    first_slot s k =
         drop-cons a.slots i d (omega (arith, v.six_before, in_six))
-        ∙ ap (λ (s : Slot). s ∷ drop (suc i) a.slots) (sym (v.slots_left i d (omega arith)))
+        ∙ ap (λ (s : Option Device). s ∷ drop (suc i) a.slots) (sym (v.slots_left i d (omega arith)) ∙ k)
 
     -- its step, by what is lent to it now
     own_step : (e : Device) → step_at b.rows i e ≡ step_at a.rows i e
@@ -156,14 +157,16 @@ module _ (limit : ℕ) (heard : Heard) (put : List ℕ) (call : ℕ → DeviceCa
         (D.side_of e (v.frames_left (i + 2) [] (omega arith) n) (v.bytes_left (i + 2) [] (omega arith) n) (v.contents_left i [] (omega arith) n))
         heard (device_call_of put (call i))
 
-    steps_at : (h : Bool) → (get_or b.slots i d).here ≡ h → steps a i ≡ if_here h (step_at b.rows i (get_or b.slots i d).device) (steps a (suc i))
+    steps_past : get_or b.slots i d ≡ None → steps a i ≡ steps a (suc i)
     unfolding steps_from
-    steps_at h k =
-        ap (steps_from a.rows i) first_slot
-        ∙ (λ n. if_here (k n) (sym (own_step (get_or b.slots i d).device) n) (steps a (suc i)))
+    steps_past k = ap (steps_from a.rows i) (first_slot None k)
 
-    heres_at : (h : Bool) → (get_or b.slots i d).here ≡ h → heres (drop i a.slots) ≡ h ∷ heres (drop (suc i) a.slots)
-    heres_at h k = ap heres first_slot ∙ (λ n. k n ∷ heres (drop (suc i) a.slots))
+    steps_at : (e : Device) → get_or b.slots i d ≡ Some e → steps a i ≡ step_at b.rows i e ∷ steps a (suc i)
+    unfolding steps_from
+    steps_at e k = ap (steps_from a.rows i) (first_slot (Some e) k) ∙ (λ n. sym (own_step e) n ∷ steps a (suc i))
+
+    heres_at : (s : Option Device) → get_or b.slots i d ≡ s → heres (drop i a.slots) ≡ is_some s ∷ heres (drop (suc i) a.slots)
+    heres_at s k = ap heres (first_slot s k)
 
     codes_next : drop (suc (i + 2)) b.row ≡ on_here device_code (heres (drop (suc i) a.slots)) (steps a (suc i)) (drop (suc (i + 2)) a.row)
     codes_next =
@@ -171,7 +174,7 @@ module _ (limit : ℕ) (heard : Heard) (put : List ℕ) (call : ℕ → DeviceCa
         subst (λ (m : ℕ). drop m b.row ≡ on_here device_code (heres (drop (suc i) a.slots)) (steps a (suc i)) (drop m a.row)) k v.codes_are
 
     -- one that is not here
-    pub absent : (get_or b.slots i d).here ≡ false → Ticking a b i
+    pub absent : get_or b.slots i d ≡ None → Ticking a b i
     unfolding devices_from
     absent k = record {
       six = v.six;
@@ -187,24 +190,24 @@ module _ (limit : ℕ) (heard : Heard) (put : List ℕ) (call : ℕ → DeviceCa
       blank = v.blank;
       sides_are =
           ap (devices_from b.rows i) (drop-cons b.slots i d (omega (arith, v.six, in_six)))
-          ∙ (λ n. if_here (k n) (device_at b.rows i (get_or b.slots i d).device) (devices_from b.rows (suc i) (drop (suc i) b.slots)))
+          ∙ ap (λ (s : Option Device). devices_from b.rows i (s ∷ drop (suc i) b.slots)) k
           ∙ v.sides_are
-          ∙ ap sides (sym (steps_at false k));
+          ∙ ap sides (sym (steps_past k));
       flags = v.flags;
       absent_stay = v.absent_stay;
       codes_are =
           drop-cons b.row (i + 2) 0 (omega (arith, v.row_eight, in_six))
           ∙ (λ n. v.row_left (i + 2) 0 (omega arith) n ∷ codes_next n)
           ∙ sym (on_none device_code _ (steps a (suc i)) (get_or a.row (i + 2) 0) (drop (suc (i + 2)) a.row))
-          ∙ (λ n. on_here device_code (sym (heres_at false k) n) (sym (steps_at false k) n) (sym (drop-cons a.row (i + 2) 0 (omega (arith, v.row_before, in_six))) n));
-      bytes_sent = subst DevicesSendBytes (sym (steps_at false k)) v.bytes_sent;
+          ∙ (λ n. on_here device_code (sym (heres_at None k) n) (sym (steps_past k) n) (sym (drop-cons a.row (i + 2) 0 (omega (arith, v.row_before, in_six))) n));
+      bytes_sent = subst DevicesSendBytes (sym (steps_past k)) v.bytes_sent;
       dids_are =
           drop-cons b.dids i device_nothing (omega (arith, v.dids_six, in_six))
           ∙ (λ n. v.dids_left i device_nothing (omega arith) n ∷ v.dids_are n)
           ∙ sym (on_none device_did _ (steps a (suc i)) (get_or a.dids i device_nothing) (drop (suc i) a.dids))
-          ∙ (λ n. on_here device_did (sym (heres_at false k) n) (sym (steps_at false k) n) (sym (drop-cons a.dids i device_nothing (omega (arith, v.dids_before, in_six))) n));
-      line_is = v.line_is ∙ ap carried (sym (steps_at false k));
-      told_is = v.told_is ∙ ap (λ (ss : List DeviceStep). devices_tell ss a.told) (sym (steps_at false k));
+          ∙ (λ n. on_here device_did (sym (heres_at None k) n) (sym (steps_past k) n) (sym (drop-cons a.dids i device_nothing (omega (arith, v.dids_before, in_six))) n));
+      line_is = v.line_is ∙ ap carried (sym (steps_past k));
+      told_is = v.told_is ∙ ap (λ (ss : List DeviceStep). devices_tell ss a.told) (sym (steps_past k));
       slots_left = same_less (suc i) i b.slots a.slots v.slots_left (omega arith);
       frames_left = same_less (suc i + 2) (i + 2) b.rows.frames a.rows.frames v.frames_left (omega arith);
       bytes_left = same_less (suc i + 2) (i + 2) b.rows.bytes a.rows.bytes v.bytes_left (omega arith);
@@ -214,41 +217,38 @@ module _ (limit : ℕ) (heard : Heard) (put : List ℕ) (call : ℕ → DeviceCa
     }
 
     -- one that is here
-    module _ (k : (get_or b.slots i d).here ≡ true) (e : Slot) (h : e.here ≡ true) where
-      abbrev own : Device
-      own = (get_or b.slots i d).device
-
+    module _ (own : Device) (k : get_or b.slots i d ≡ Some own) (e : Device) where
       flag_here : get_or (heres a.slots) i true ≡ true
       flag_here =
           ap (λ (hs : List Bool). get_or hs i true) (sym v.flags)
-          ∙ any_default (heres b.slots) i true d.here (omega (arith, length-map b.slots (λ (s : Slot). s.here), v.six, in_six))
-          ∙ get_or-map (λ (s : Slot). s.here) b.slots i d
-          ∙ k
+          ∙ any_default (heres b.slots) i true (is_some d) (omega (arith, length-map b.slots (λ (s : Option Device). is_some s), v.six, in_six))
+          ∙ get_or-map (λ (s : Option Device). is_some s) b.slots i d
+          ∙ ap (λ (s : Option Device). is_some s) k
 
       -- so a slot without a device is another
       another : (j : ℕ) → get_or (heres a.slots) j true ≡ false → i ≡ j → ⊥
       another j gone same = true_false (sym flag_here ∙ ap (λ (n : ℕ). get_or (heres a.slots) n true) same ∙ gone)
 
-      others_stay : (f y z : List ℕ) (j : ℕ) → get_or (heres a.slots) j true ≡ false → SlotStays j a.slots a.rows (set b.slots i e) (stored b.rows i f y z)
+      others_stay : (f y z : List ℕ) (j : ℕ) → get_or (heres a.slots) j true ≡ false → SlotStays j a.slots a.rows (set b.slots i (Some e)) (stored b.rows i f y z)
       others_stay f y z j gone =
           let old = v.absent_stay j gone in
           record {
-            slot = λ x. get_or-set_other b.slots i j e x (λ q. another j gone (omega (arith, q))) ∙ old.slot x;
+            slot = λ x. get_or-set_other b.slots i j (Some e) x (λ q. another j gone (omega (arith, q))) ∙ old.slot x;
             frame = get_or-set_other b.rows.frames (i + 2) (j + 2) f [] (λ q. another j gone (omega (arith, q))) ∙ old.frame;
             bytes = get_or-set_other b.rows.bytes (i + 2) (j + 2) y [] (λ q. another j gone (omega (arith, q))) ∙ old.bytes;
             contents = get_or-set_other b.rows.contents i j z [] (λ q. another j gone (omega (arith, q))) ∙ old.contents;
           }
 
       pub acts : (f y z : List ℕ) (c : ℕ) (q : DeviceDid) (told : Bool) (line : Heard) (s : DeviceStep)
-          → s ≡ step_at b.rows i own → D.side_of e.device f y z ≡ s.side → c ≡ sent_number s.sent → SendsByte s.sent → q ≡ device_did s (get_or b.dids i device_nothing)
+          → s ≡ step_at b.rows i own → D.side_of e f y z ≡ s.side → c ≡ sent_number s.sent → SendsByte s.sent → q ≡ device_did s (get_or b.dids i device_nothing)
           → told ≡ device_host_told s.told b.told → line ≡ joins s.sent b.line
-          → Ticking a (record { slots = set b.slots i e; rows = stored b.rows i f y z; row = set b.row (i + 2) c; dids = set b.dids i q; told = told; line = line }) i
+          → Ticking a (record { slots = set b.slots i (Some e); rows = stored b.rows i f y z; row = set b.row (i + 2) c; dids = set b.dids i q; told = told; line = line }) i
       unfolding devices_from sides carried devices_tell
       acts f y z c q told line s p side_is code_is byte did_is told_is line_is =
-          let steps_are : steps a i ≡ s ∷ steps a (suc i) = steps_at true k ∙ ap (λ (x : DeviceStep). x ∷ steps a (suc i)) (sym p) in
+          let steps_are : steps a i ≡ s ∷ steps a (suc i) = steps_at own k ∙ ap (λ (x : DeviceStep). x ∷ steps a (suc i)) (sym p) in
           let x = stored b.rows i f y z in
           record {
-            six = length-set b.slots i e ∙ v.six;
+            six = length-set b.slots i (Some e) ∙ v.six;
             six_before = v.six_before;
             frames_eight = length-set b.rows.frames (i + 2) f ∙ v.frames_eight;
             bytes_eight = length-set b.rows.bytes (i + 2) y ∙ v.bytes_eight;
@@ -260,31 +260,30 @@ module _ (limit : ℕ) (heard : Heard) (put : List ℕ) (call : ℕ → DeviceCa
             within = omega (arith, v.within);
             blank = v.blank;
             sides_are =
-                ap (devices_from x i) (drop_set b.slots i e (omega (arith, v.six, in_six)))
-                ∙ (λ n. if_here (h n) (device_at x i e.device) (devices_from x (suc i) (drop (suc i) b.slots)))
-                ∙ (λ n. D.side_of e.device
+                ap (devices_from x i) (drop_set b.slots i (Some e) (omega (arith, v.six, in_six)))
+                ∙ (λ n. D.side_of e
                 (get_or-set_same b.rows.frames (i + 2) f [] (omega (arith, v.frames_eight, in_six)) n)
                 (get_or-set_same b.rows.bytes (i + 2) y [] (omega (arith, v.bytes_eight, in_six)) n)
                 (get_or-set_same b.rows.contents i z [] (omega (arith, v.contents_six, in_six)) n)
                 ∷ below b.rows i (suc i) f y z (drop (suc i) b.slots) (omega arith) n)
                 ∙ (λ n. side_is n ∷ v.sides_are n)
                 ∙ ap sides (sym steps_are);
-            flags = map-set_same (λ (u : Slot). u.here) b.slots i e d (h ∙ sym k) ∙ v.flags;
+            flags = map-set_same (λ (u : Option Device). is_some u) b.slots i (Some e) d (ap (λ (u : Option Device). is_some u) (sym k)) ∙ v.flags;
             absent_stay = others_stay f y z;
             codes_are =
                 drop_set b.row (i + 2) c (omega (arith, v.row_eight, in_six))
                 ∙ (λ n. code_is n ∷ codes_next n)
                 ∙ sym (on_here_lem device_code _ s (steps a (suc i)) (get_or a.row (i + 2) 0) (drop (suc (i + 2)) a.row))
-                ∙ (λ n. on_here device_code (sym (heres_at true k) n) (sym steps_are n) (sym (drop-cons a.row (i + 2) 0 (omega (arith, v.row_before, in_six))) n));
+                ∙ (λ n. on_here device_code (sym (heres_at (Some own) k) n) (sym steps_are n) (sym (drop-cons a.row (i + 2) 0 (omega (arith, v.row_before, in_six))) n));
             bytes_sent = subst DevicesSendBytes (sym steps_are) (device_and byte v.bytes_sent);
             dids_are =
                 drop_set b.dids i q (omega (arith, v.dids_six, in_six))
                 ∙ (λ n. (did_is ∙ ap (device_did s) (v.dids_left i device_nothing (omega arith))) n ∷ v.dids_are n)
                 ∙ sym (on_here_lem device_did _ s (steps a (suc i)) (get_or a.dids i device_nothing) (drop (suc i) a.dids))
-                ∙ (λ n. on_here device_did (sym (heres_at true k) n) (sym steps_are n) (sym (drop-cons a.dids i device_nothing (omega (arith, v.dids_before, in_six))) n));
+                ∙ (λ n. on_here device_did (sym (heres_at (Some own) k) n) (sym steps_are n) (sym (drop-cons a.dids i device_nothing (omega (arith, v.dids_before, in_six))) n));
             line_is = line_is ∙ ap (joins s.sent) v.line_is ∙ ap carried (sym steps_are);
             told_is = told_is ∙ ap (device_host_told s.told) v.told_is ∙ ap (λ (ss : List DeviceStep). devices_tell ss a.told) (sym steps_are);
-            slots_left = same_set (suc i) i i b.slots a.slots e v.slots_left (omega arith) (omega arith);
+            slots_left = same_set (suc i) i i b.slots a.slots (Some e) v.slots_left (omega arith) (omega arith);
             frames_left = same_set (suc i + 2) (i + 2) (i + 2) b.rows.frames a.rows.frames f v.frames_left (omega arith) (omega arith);
             bytes_left = same_set (suc i + 2) (i + 2) (i + 2) b.rows.bytes a.rows.bytes y v.bytes_left (omega arith) (omega arith);
             contents_left = same_set (suc i) i i b.rows.contents a.rows.contents z v.contents_left (omega arith) (omega arith);
@@ -293,64 +292,60 @@ module _ (limit : ℕ) (heard : Heard) (put : List ℕ) (call : ℕ → DeviceCa
           }
 
       -- one that sends, tells and answers nothing: only its state and its data buffer change
-      pub quiet : (y : List ℕ) → quiet_device (D.side_of e.device (get_or b.rows.frames (i + 2) []) y (get_or b.rows.contents i [])) ≡ step_at b.rows i own
-          → Ticking a (record { slots = set b.slots i e; rows = rows_of b.rows.frames (set b.rows.bytes (i + 2) y) b.rows.contents; row = b.row; dids = b.dids; told = b.told; line = b.line }) i
+      pub quiet : (y : List ℕ) → quiet_device (D.side_of e (get_or b.rows.frames (i + 2) []) y (get_or b.rows.contents i [])) ≡ step_at b.rows i own
+          → Ticking a (record { slots = set b.slots i (Some e); rows = rows_of b.rows.frames (set b.rows.bytes (i + 2) y) b.rows.contents; row = b.row; dids = b.dids; told = b.told; line = b.line }) i
       quiet y p =
           let f = get_or b.rows.frames (i + 2) [] in
           let z = get_or b.rows.contents i [] in
           let c : set b.row (i + 2) 0 ≡ b.row = ap (set b.row (i + 2)) (sym (v.row_left (i + 2) 0 (omega arith) ∙ v.blank (i + 2) (omega (arith, in_six)))) ∙ set-get_or b.row (i + 2) 0 in
           subst (λ (x : At). Ticking a x i)
-          (λ n. record { slots = set b.slots i e; rows = rows_of (set-get_or b.rows.frames (i + 2) [] n) (set b.rows.bytes (i + 2) y) (set-get_or b.rows.contents i [] n); row = c n; dids = set-get_or b.dids i device_nothing n; told = b.told; line = b.line })
-          (acts f y z 0 (get_or b.dids i device_nothing) b.told b.line (quiet_device (D.side_of e.device f y z)) p refl refl sends_none refl refl refl)
+          (λ n. record { slots = set b.slots i (Some e); rows = rows_of (set-get_or b.rows.frames (i + 2) [] n) (set b.rows.bytes (i + 2) y) (set-get_or b.rows.contents i [] n); row = c n; dids = set-get_or b.dids i device_nothing n; told = b.told; line = b.line })
+          (acts f y z 0 (get_or b.dids i device_nothing) b.told b.line (quiet_device (D.side_of e f y z)) p refl refl sends_none refl refl refl)
 
       -- and only its state
-      pub still : quiet_device (D.side_of e.device (get_or b.rows.frames (i + 2) []) (get_or b.rows.bytes (i + 2) []) (get_or b.rows.contents i [])) ≡ step_at b.rows i own
-          → Ticking a (record { slots = set b.slots i e; rows = b.rows; row = b.row; dids = b.dids; told = b.told; line = b.line }) i
+      pub still : quiet_device (D.side_of e (get_or b.rows.frames (i + 2) []) (get_or b.rows.bytes (i + 2) []) (get_or b.rows.contents i [])) ≡ step_at b.rows i own
+          → Ticking a (record { slots = set b.slots i (Some e); rows = b.rows; row = b.row; dids = b.dids; told = b.told; line = b.line }) i
       still p =
           subst (λ (x : At). Ticking a x i)
-          (λ n. record { slots = set b.slots i e; rows = rows_of b.rows.frames (set-get_or b.rows.bytes (i + 2) [] n) b.rows.contents; row = b.row; dids = b.dids; told = b.told; line = b.line })
+          (λ n. record { slots = set b.slots i (Some e); rows = rows_of b.rows.frames (set-get_or b.rows.bytes (i + 2) [] n) b.rows.contents; row = b.row; dids = b.dids; told = b.told; line = b.line })
           (quiet (get_or b.rows.bytes (i + 2) []) p)
 
   -- ---- a turn of the loop: the device with number n - 1
 
-  module _ (a b : At) (n : ℕ) (d : Slot) (v : Ticking a b n) (h : 0 < n) where
+  module _ (a b : At) (n : ℕ) (d : Option Device) (v : Ticking a b n) (h : 0 < n) where
     at_last : Ticking a b (suc (n - 1))
     at_last = let k : n ≡ suc (n - 1) = omega arith in subst (Ticking a b) k v
 
-    pub device_absent : (get_or b.slots (n - 1) d).here ≡ false → Ticking a b (n - 1)
+    pub device_absent : get_or b.slots (n - 1) d ≡ None → Ticking a b (n - 1)
     device_absent k = absent a b (n - 1) d at_last k
 
-    module _ (k : (get_or b.slots (n - 1) d).here ≡ true) (c : DeviceCallWithPart) (own : c ≡ call (n - 1)) where
-      abbrev this : Device
-      this = (get_or b.slots (n - 1) d).device
-
+    module _ (this : Device) (k : get_or b.slots (n - 1) d ≡ Some this) (c : DeviceCallWithPart) (own : c ≡ call (n - 1)) where
       abbrev lent : DeviceSide
       lent = device_at b.rows (n - 1) this
 
       as_called : (c : DeviceCallWithPart) → c ≡ call (n - 1) → device_tick limit lent heard (device_call_of put c) ≡ step_at b.rows (n - 1) this
       as_called c e = ap (λ (q : DeviceCallWithPart). device_tick limit lent heard (device_call_of put q)) e
 
-      pub device_counted : (w : Way) (e : Slot) (follows hears : Bool) (reader : Receiver) → w ≡ device_way this heard c.call follows hears reader → w ≡ Counts → e ≡ in_slot (counted_device this)
-          → Ticking a (record { slots = set b.slots (n - 1) e; rows = b.rows; row = b.row; dids = b.dids; told = b.told; line = b.line }) (n - 1)
+      pub device_counted : (w : Way) (e : Device) (follows hears : Bool) (reader : Receiver) → w ≡ device_way this heard c.call follows hears reader → w ≡ Counts → e ≡ counted_device this
+          → Ticking a (record { slots = set b.slots (n - 1) (Some e); rows = b.rows; row = b.row; dids = b.dids; told = b.told; line = b.line }) (n - 1)
       device_counted w e follows hears reader p q r =
-          subst (λ (s : Slot). Ticking a (record { slots = set b.slots (n - 1) s; rows = b.rows; row = b.row; dids = b.dids; told = b.told; line = b.line }) (n - 1)) (sym r)
-          (still a b (n - 1) d at_last k (in_slot (counted_device this)) refl (device_counts_lem limit lent heard c.call (data_of c.part put) follows hears reader (sym p ∙ q) ∙ as_called c own))
+          subst (λ (s : Device). Ticking a (record { slots = set b.slots (n - 1) (Some s); rows = b.rows; row = b.row; dids = b.dids; told = b.told; line = b.line }) (n - 1)) (sym r)
+          (still a b (n - 1) d at_last this k (counted_device this) (device_counts_lem limit lent heard c.call (data_of c.part put) follows hears reader (sym p ∙ q) ∙ as_called c own))
 
-      pub device_heard : (w : Way) (e : Slot) (r : Receiver) (y : List ℕ) (follows hears : Bool) (reader : Receiver) → w ≡ device_way this heard c.call follows hears reader → w ≡ Hears
+      pub device_heard : (w : Way) (e : Device) (r : Receiver) (y : List ℕ) (follows hears : Bool) (reader : Receiver) → w ≡ device_way this heard c.call follows hears reader → w ≡ Hears
           → (follows ≡ true → this.receiver ≡ reader) → (hears ≡ true → taken reader heard ≡ R.tells r Nothing)
-          → y ≡ taken_data this.receiver heard (get_or b.rows.bytes (n - 1 + 2) []) → e ≡ in_slot (heard_device this r)
-          → Ticking a (record { slots = set b.slots (n - 1) e; rows = rows_of b.rows.frames (set b.rows.bytes (n - 1 + 2) y) b.rows.contents; row = b.row; dids = b.dids; told = b.told; line = b.line }) (n - 1)
+          → y ≡ taken_data this.receiver heard (get_or b.rows.bytes (n - 1 + 2) []) → e ≡ heard_device this r
+          → Ticking a (record { slots = set b.slots (n - 1) (Some e); rows = rows_of b.rows.frames (set b.rows.bytes (n - 1 + 2) y) b.rows.contents; row = b.row; dids = b.dids; told = b.told; line = b.line }) (n - 1)
       device_heard w e r y follows hears reader p q has step l f =
-          subst (λ (s : Slot). Ticking a (record { slots = set b.slots (n - 1) s; rows = rows_of b.rows.frames (set b.rows.bytes (n - 1 + 2) y) b.rows.contents; row = b.row; dids = b.dids; told = b.told; line = b.line }) (n - 1)) (sym f)
-          (quiet a b (n - 1) d at_last k (in_slot (heard_device this r)) refl y
+          subst (λ (s : Device). Ticking a (record { slots = set b.slots (n - 1) (Some s); rows = rows_of b.rows.frames (set b.rows.bytes (n - 1 + 2) y) b.rows.contents; row = b.row; dids = b.dids; told = b.told; line = b.line }) (n - 1)) (sym f)
+          (quiet a b (n - 1) d at_last this k (heard_device this r) y
           (ap (λ (xs : List ℕ). quiet_device (with_device lent (heard_device this r) xs)) l ∙ device_hears_lem limit lent heard c.call (data_of c.part put) follows hears reader r (sym p ∙ q) has step ∙ as_called c own))
 
-      pub device_acted : (r : DeviceTicked) (f y z : List ℕ) (e : Slot) (x : ℕ) (q : DeviceDid) (u : DeviceDid) (told : Bool) (line : Heard)
+      pub device_acted : (r : DeviceTicked) (f y z : List ℕ) (x : ℕ) (q : DeviceDid) (u : DeviceDid) (told : Bool) (line : Heard)
           → D.DeviceTickIs limit this heard c.call (data_of c.part put) (get_or b.rows.frames (n - 1 + 2) []) (get_or b.rows.bytes (n - 1 + 2) []) (get_or b.rows.contents (n - 1) []) r f y z
-          → e ≡ in_slot r.device → CodeIs r.sent x → q ≡ device_did_by (get_or b.dids (n - 1) u) r.told r.result
+          → CodeIs r.sent x → q ≡ device_did_by (get_or b.dids (n - 1) u) r.told r.result
           → told ≡ device_host_told r.told b.told → line ≡ joins r.sent b.line
-          → Ticking a (record { slots = set b.slots (n - 1) e; rows = stored b.rows (n - 1) f y z; row = set b.row (n - 1 + 2) x; dids = set b.dids (n - 1) q; told = told; line = line }) (n - 1)
-      device_acted r f y z e x q u told line p e-is x-is q-is told_is line_is =
-          subst (λ (s : Slot). Ticking a (record { slots = set b.slots (n - 1) s; rows = stored b.rows (n - 1) f y z; row = set b.row (n - 1 + 2) x; dids = set b.dids (n - 1) q; told = told; line = line }) (n - 1)) (sym e-is)
-          (acts a b (n - 1) d at_last k (in_slot r.device) refl f y z x q told line (D.step_of r f y z) (p.step ∙ as_called c own) refl x-is.is x-is.byte
-          (q-is ∙ ap (λ (o : DeviceDid). device_did_by o r.told r.result) (any_default b.dids (n - 1) u device_nothing (omega (arith, v.dids_six, v.within, h)))) told_is line_is)
+          → Ticking a (record { slots = set b.slots (n - 1) (Some r.device); rows = stored b.rows (n - 1) f y z; row = set b.row (n - 1 + 2) x; dids = set b.dids (n - 1) q; told = told; line = line }) (n - 1)
+      device_acted r f y z x q u told line p x-is q-is told_is line_is =
+          acts a b (n - 1) d at_last this k r.device f y z x q told line (D.step_of r f y z) (p.step ∙ as_called c own) refl x-is.is x-is.byte
+          (q-is ∙ ap (λ (o : DeviceDid). device_did_by o r.told r.result) (any_default b.dids (n - 1) u device_nothing (omega (arith, v.dids_six, v.within, h)))) told_is line_is

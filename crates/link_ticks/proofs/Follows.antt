@@ -7,17 +7,18 @@ use mathlib.Core.List.{List}
 use mathlib.Core.Path.{◌≡◌, refl, sym, ap, subst, ◌∙◌}
 use lib.ListN.{length, get_or, set, replicate, length-set, length-replicate, get_or-replicate}
 use lib.Seq.{get_or-set_same, get_or-set_other}
+use Rattle.std.specs.Prelude.{Option, Some, None, is_some}
 use Rattle.base.proofs.Choices.{true_false}
-use Rattle.line.specs.Reader.{taken}
+use Rattle.line.specs.Reader.{taken, idle}
 use Rattle.line.specs.Reader as R
 use Rattle.line.specs.declared.Event.TheVariants.{Nothing}
 use Rattle.line.specs.declared.Heard.{Heard}
 use Rattle.line.specs.declared.Receiver.{Receiver}
+use Rattle.turns.specs.declared.Device.{Device}
 use Rattle.turns.specs.declared.Master.{Master}
 use Rattle.link_parties.specs.Readers.{step_of}
 use Rattle.link_parties.proofs.Readers.{quiet_step}
 use Rattle.link_parties.specs.declared.LineStep.{LineStep}
-use Rattle.link_parties.specs.declared.Slot.{Slot}
 use Rattle.link_ticks.proofs.Lists.{any_default}
 
 module _ {X : Type 0} (here : X → Bool) (reader-of : X → Receiver) (size : ℕ) where
@@ -117,11 +118,17 @@ pub line_quiet : (heard : Heard) (reader : Receiver) (s : LineStep) → s ≡ st
 line_quiet heard reader s e q =
     quiet_step (taken reader heard) s.reader (sym (ap (λ (x : LineStep). x.reader) e)) (sym (ap (λ (x : LineStep). x.quiet) e) ∙ q)
 
-abbrev pub is_here : Slot → Bool
-is_here s = s.here
+abbrev pub is_here : Option Device → Bool
+is_here s = is_some s
 
-abbrev pub device_reader : Slot → Receiver
-device_reader s = s.device.receiver
+-- a slot in which no device is found has none
+pub no_device_in : (s : Option Device) → ((d : Device) → s ≡ Some d → ⊥) → s ≡ None
+no_device_in None n = refl
+no_device_in (Some d) n = absurd (n d refl)
+
+abbrev pub device_reader : Option Device → Receiver
+device_reader None = idle
+device_reader (Some d) = d.receiver
 
 -- a master is always here
 abbrev pub always : Master → Bool

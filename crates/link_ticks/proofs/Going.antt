@@ -7,30 +7,28 @@ use borrow.Author.Tests.{ltb-false, ltb-true}
 use mathlib.Core.Bool.{Bool, true, false}
 use mathlib.Core.List.{List, [], ◌∷◌, ◌++◌, append-nil, append_assoc}
 use mathlib.Core.Path.{◌≡◌, refl, sym, ap, subst, ◌∙◌}
-use lib.ListN.{length, drop, get_or, set, replicate, length-append, length-set, length-replicate, get_or-replicate, drop_of_length-le}
+use lib.ListN.{length, drop, get_or, set, replicate, length-append, length-replicate, get_or-replicate, drop_of_length-le}
 use lib.Seq.{drop-cons, set_at}
-use Rattle.base.specs.Choice.{when◌then◌else◌, ◌<?◌, ◌=?◌}
+use Rattle.std.specs.Prelude.{Option, Some, None}
+use Rattle.base.specs.Choice.{when◌then◌else◌, ◌<?◌}
 use Rattle.base.proofs.Choices.{true_false, if_is_true, if_is_false, went_then, went_else}
 use Rattle.line.specs.declared.Heard.{Heard}
 use Rattle.line.specs.declared.Heard.TheVariants.{Silence}
 use Rattle.turns.specs.Link.{DeviceSide, DeviceStep, MasterStep, LinkStep, no_call, joins, sides, carried, device_tick, device_ticks, link_tick, link_after, run}
 use Rattle.turns.specs.Link as L
 use Rattle.turns.specs.Run.{EachTick, no_tick, tick_and}
+use Rattle.turns.specs.declared.Device.{Device}
 use Rattle.turns.specs.declared.Master.{Master}
 use Rattle.master.specs.Tick as M
 use Rattle.party.specs.Numbers.{sent_number}
-use Rattle.link_parties.specs.Stands.{Rows, rows_of, master_at, any_master, device_at, if_here, devices_from, link_of, heres, master_call_of, device_call_of, device_calls_from, calls_of, uncalled, no_master_call, no_device_call}
-use Rattle.link_parties.specs.declared.Calls.{Calls}
+use Rattle.link_parties.specs.Stands.{Rows, rows_of, any_master, device_at, devices_from, link_of, heres, master_call_of, device_call_of, device_calls_from, calls_of, uncalled, no_master_call, no_device_call}
 use Rattle.link_parties.specs.declared.DeviceCallWithPart.{DeviceCallWithPart}
 use Rattle.link_parties.specs.declared.DeviceDid.{DeviceDid}
-use Rattle.link_parties.specs.declared.Link.{Link}
 use Rattle.link_parties.specs.declared.MasterCallWithPart.{MasterCallWithPart}
 use Rattle.link_parties.specs.declared.MasterDid.{MasterDid}
-use Rattle.link_parties.specs.declared.Slot.{Slot}
-use Rattle.link_parties.specs.declared.Ticked.{Ticked}
 use Rattle.link_ticks.specs.Ticks.{master_host_told, a_host_told, devices_tell, up_to_told, calls_first, master_call_in, device_call_in, goes_on, at_most, steps_of, link_behind, on_here, device_code, device_did, codes, codes_of, SendsByte, SendBytes, master_did, master_nothing, device_nothing, masters_do, devices_do, masters_did, devices_did, link_with, calls_with, SlotStays, RunIs}
-use Rattle.link_ticks.proofs.Lists.{Same, any_default}
-use Rattle.link_ticks.proofs.Devices.{At, step_at, steps_from, Ticking, ticking_none}
+use Rattle.link_ticks.proofs.Lists.{any_default}
+use Rattle.link_ticks.proofs.Devices.{At, steps_from, Ticking, ticking_none}
 use Rattle.link_ticks.proofs.Masters.{MastersAt, step_of, line_from, told_from, MastersTicking, masters_none}
 
 -- ---- a tick's calls
@@ -43,27 +41,17 @@ abbrev pub master_call_at : ℕ → List MasterCallWithPart → ℕ → MasterCa
 master_call_at t cs i = master_call_in t (get_or cs i no_master_call)
 
 module _ (limit : ℕ) (heard : Heard) (put : List ℕ) (x : Rows) where
-  first_steps : (cs : List DeviceCallWithPart) (i : ℕ) (ss : List Slot) → steps_from limit heard put (device_call_at 0 cs) x i ss ≡ device_ticks limit heard (devices_from x i ss) (device_calls_from put cs i (heres ss))
+  first_steps : (cs : List DeviceCallWithPart) (i : ℕ) (ss : List (Option Device)) → steps_from limit heard put (device_call_at 0 cs) x i ss ≡ device_ticks limit heard (devices_from x i ss) (device_calls_from put cs i (heres ss))
   unfolding steps_from device_ticks devices_from device_calls_from when◌then◌else◌
   first_steps cs i [] = refl
-  first_steps cs i (s ∷ ss) = by s.here (first_steps cs (suc i) ss)
-    where
-      by : (h : Bool) → steps_from limit heard put (device_call_at 0 cs) x (suc i) ss ≡ device_ticks limit heard (devices_from x (suc i) ss) (device_calls_from put cs (suc i) (heres ss))
-          → if_here h (step_at limit heard put (device_call_at 0 cs) x i s.device) (steps_from limit heard put (device_call_at 0 cs) x (suc i) ss)
-          ≡ device_ticks limit heard (if_here h (device_at x i s.device) (devices_from x (suc i) ss)) (if_here h (device_call_of put (get_or cs i no_device_call)) (device_calls_from put cs (suc i) (heres ss)))
-      by true e = ap (λ (l : List DeviceStep). device_tick limit (device_at x i s.device) heard (device_call_of put (get_or cs i no_device_call)) ∷ l) e
-      by false e = e
+  first_steps cs i (None ∷ ss) = first_steps cs (suc i) ss
+  first_steps cs i (Some d ∷ ss) = ap (λ (l : List DeviceStep). device_tick limit (device_at x i d) heard (device_call_of put (get_or cs i no_device_call)) ∷ l) (first_steps cs (suc i) ss)
 
-  later_steps : (t : ℕ) (cs : List DeviceCallWithPart) (i : ℕ) (ss : List Slot) → steps_from limit heard put (device_call_at (suc t) cs) x i ss ≡ device_ticks limit heard (devices_from x i ss) []
+  later_steps : (t : ℕ) (cs : List DeviceCallWithPart) (i : ℕ) (ss : List (Option Device)) → steps_from limit heard put (device_call_at (suc t) cs) x i ss ≡ device_ticks limit heard (devices_from x i ss) []
   unfolding steps_from device_ticks devices_from when◌then◌else◌
   later_steps t cs i [] = refl
-  later_steps t cs i (s ∷ ss) = by s.here (later_steps t cs (suc i) ss)
-    where
-      by : (h : Bool) → steps_from limit heard put (device_call_at (suc t) cs) x (suc i) ss ≡ device_ticks limit heard (devices_from x (suc i) ss) []
-          → if_here h (step_at limit heard put (device_call_at (suc t) cs) x i s.device) (steps_from limit heard put (device_call_at (suc t) cs) x (suc i) ss)
-          ≡ device_ticks limit heard (if_here h (device_at x i s.device) (devices_from x (suc i) ss)) []
-      by true e = ap (λ (l : List DeviceStep). device_tick limit (device_at x i s.device) heard no_call ∷ l) e
-      by false e = e
+  later_steps t cs i (None ∷ ss) = later_steps t cs (suc i) ss
+  later_steps t cs i (Some d ∷ ss) = ap (λ (l : List DeviceStep). device_tick limit (device_at x i d) heard no_call ∷ l) (later_steps t cs (suc i) ss)
 
 -- the calls of the tick with this number
 abbrev pub calls_in : ℕ → List ℕ → List Bool → List MasterCallWithPart → List DeviceCallWithPart → L.Calls
@@ -71,14 +59,14 @@ calls_in zero put hs ms ds = calls_of put hs (calls_with ms ds)
 calls_in (suc t) put hs ms ds = uncalled
 
 -- what all do in it
-abbrev pub step_in : ℕ → ℕ → List ℕ → List MasterCallWithPart → List DeviceCallWithPart → Heard → Rows → List Master → List Slot → LinkStep
+abbrev pub step_in : ℕ → ℕ → List ℕ → List MasterCallWithPart → List DeviceCallWithPart → Heard → Rows → List Master → List (Option Device) → LinkStep
 step_in limit t put ms-calls ds-calls heard x ms ss = record {
   for_primary = step_of limit heard put (master_call_at t ms-calls) (record { masters = ms; rows = x; row = []; dids = []; told = false; line = Silence }) 0;
   for_secondary = step_of limit heard put (master_call_at t ms-calls) (record { masters = ms; rows = x; row = []; dids = []; told = false; line = Silence }) 1;
   for_devices = steps_from limit heard put (device_call_at t ds-calls) x 0 ss;
 }
 
-step_is : (limit t : ℕ) (put : List ℕ) (ms-calls : List MasterCallWithPart) (ds-calls : List DeviceCallWithPart) (heard : Heard) (x : Rows) (ms : List Master) (ss : List Slot)
+step_is : (limit t : ℕ) (put : List ℕ) (ms-calls : List MasterCallWithPart) (ds-calls : List DeviceCallWithPart) (heard : Heard) (x : Rows) (ms : List Master) (ss : List (Option Device))
     → step_in limit t put ms-calls ds-calls heard x ms ss ≡ link_tick limit (link_of (link_with ms ss heard) x) (calls_in t put (heres ss) ms-calls ds-calls)
 unfolding link_tick when◌then◌else◌
 step_is limit zero put ms-calls ds-calls heard x ms ss = λ n. record {
@@ -164,7 +152,7 @@ just_two (x ∷ y ∷ z ∷ xs) a b d h p q = absurd (omega (arith, h))
 -- where it stands
 pub record Stand : Type 0 where
   pub masters : List Master
-  pub slots : List Slot
+  pub slots : List (Option Device)
   pub line : Heard
   pub rows : Rows
   pub sent : List (List ℕ)
@@ -172,7 +160,7 @@ pub record Stand : Type 0 where
   pub devices_did_lem : List DeviceDid
   pub told : Bool
 
-abbrev pub standing : List Master → List Slot → Heard → List (List ℕ) → List (List ℕ) → List (List ℕ) → List (List ℕ) → List MasterDid → List DeviceDid → Bool → Stand
+abbrev pub standing : List Master → List (Option Device) → Heard → List (List ℕ) → List (List ℕ) → List (List ℕ) → List (List ℕ) → List MasterDid → List DeviceDid → Bool → Stand
 standing ms ss line frames bytes contents sent mdids ddids told = record { masters = ms; slots = ss; line = line; rows = rows_of frames bytes contents; sent = sent; masters_did_lem = mdids; devices_did_lem = ddids; told = told }
 
 abbrev pub link_now : Stand → L.Link
@@ -465,7 +453,7 @@ module _ (limit : ℕ) (put : List ℕ) (most : ℕ) (ms-calls : List MasterCall
 
   -- ---- where the loops begin
 
-  pub going_first : (ms : List Master) (ss : List Slot) (line : Heard) (frames bytes contents sent : List (List ℕ)) (x : MasterDid) (y : DeviceDid)
+  pub going_first : (ms : List Master) (ss : List (Option Device)) (line : Heard) (frames bytes contents sent : List (List ℕ)) (x : MasterDid) (y : DeviceDid)
       → length ms ≡ 2 → length ss ≡ 6 → length frames ≡ 8 → length bytes ≡ 8 → length contents ≡ 6 → length sent ≡ 64 → length ms-calls ≡ 2 → length ds-calls ≡ 6 → x ≡ master_nothing → y ≡ device_nothing
       → Going (standing ms ss line frames bytes contents sent (replicate 2 x) (replicate 6 y) false) (standing ms ss line frames bytes contents sent (replicate 2 x) (replicate 6 y) false) 0
   going_first ms ss line frames bytes contents sent x y m s f b z e r g p q =

@@ -6,24 +6,25 @@ use mathlib.Core.List.{List, [], ◌∷◌}
 use mathlib.Core.Path.{◌≡◌, refl, sym, ap, subst, ◌∙◌}
 use lib.ListN.{length, drop, get_or, set, length-set}
 use lib.Seq.{get_or-set_same, get_or-set_other, set-get_or, drop-set-lt}
+use Rattle.std.specs.Prelude.{Option, Some, None}
 use Rattle.line.specs.Reader.{taken, taken_data}
 use Rattle.line.specs.Reader as R
 use Rattle.line.specs.declared.Event.TheVariants.{Nothing}
 use Rattle.line.specs.declared.Heard.{Heard}
 use Rattle.line.specs.declared.Receiver.{Receiver}
 use Rattle.turns.specs.Link.{MasterSide, MasterStep, joins, master_tick}
+use Rattle.turns.specs.declared.Device.{Device}
 use Rattle.turns.specs.declared.Master.{Master}
 use Rattle.master.specs.Tick as M
 use Rattle.master.specs.declared.MasterTicked.{MasterTicked}
 use Rattle.device_tick.specs.Tick as D
 use Rattle.party.specs.Numbers.{sent_number}
-use Rattle.link_parties.specs.Stands.{Rows, rows_of, master_at, any_master, device_at, if_here, devices_from, master_call_of}
+use Rattle.link_parties.specs.Stands.{Rows, rows_of, master_at, any_master, devices_from, master_call_of}
 use Rattle.link_parties.specs.Part.{data_of}
 use Rattle.link_parties.specs.Ways.{master_way, counted_master, heard_master}
 use Rattle.link_parties.proofs.Ways.{quiet_master, with_master, master_counts_lem, master_hears_lem}
 use Rattle.link_parties.specs.declared.MasterCallWithPart.{MasterCallWithPart}
 use Rattle.link_parties.specs.declared.MasterDid.{MasterDid}
-use Rattle.link_parties.specs.declared.Slot.{Slot}
 use Rattle.link_parties.specs.declared.Way.{Way}
 use Rattle.link_parties.specs.declared.Way.TheVariants.{Counts, Hears}
 use Rattle.link_ticks.specs.Ticks.{master_host_told, SendsByte, sends_none, CodeIs, master_did_by, master_did, master_nothing}
@@ -45,15 +46,16 @@ abbrev pub kept : Rows → ℕ → List ℕ → List ℕ → Rows
 kept x i f y = rows_of (set x.frames i f) (set x.bytes i y) x.contents
 
 -- a master's rows are no device's
-pub above : (x : Rows) (i k : ℕ) (f y : List ℕ) (ss : List Slot) → i < k + 2 → devices_from (kept x i f y) k ss ≡ devices_from x k ss
+pub above : (x : Rows) (i k : ℕ) (f y : List ℕ) (ss : List (Option Device)) → i < k + 2 → devices_from (kept x i f y) k ss ≡ devices_from x k ss
 unfolding devices_from
 above x i k f y [] h = refl
-above x i k f y (s ∷ ss) h = λ n. if_here s.here
-    (D.side_of s.device
+above x i k f y (None ∷ ss) h = above x i (suc k) f y ss (omega arith)
+above x i k f y (Some d ∷ ss) h = λ n.
+    D.side_of d
     (get_or-set_other x.frames i (k + 2) f [] (λ q. omega (arith, q, h)) n)
     (get_or-set_other x.bytes i (k + 2) y [] (λ q. omega (arith, q, h)) n)
-    (get_or x.contents k []))
-    (above x i (suc k) f y ss (omega arith) n)
+    (get_or x.contents k [])
+    ∷ above x i (suc k) f y ss (omega arith) n
 
 -- from i on: i itself, or behind it
 from : (P : ℕ → Type 0) (i j : ℕ) → i ≤ j → P i → (suc i ≤ j → P j) → P j
@@ -97,7 +99,7 @@ module _ (limit : ℕ) (heard : Heard) (put : List ℕ) (call : ℕ → MasterCa
     pub contents_stay : b.rows.contents ≡ a.rows.contents
     pub frames_stay : (j : ℕ) → get_or b.rows.frames (j + 2) [] ≡ get_or a.rows.frames (j + 2) []
     pub bytes_stay : (j : ℕ) → get_or b.rows.bytes (j + 2) [] ≡ get_or a.rows.bytes (j + 2) []
-    pub devices_stay : (ss : List Slot) → devices_from b.rows 0 ss ≡ devices_from a.rows 0 ss
+    pub devices_stay : (ss : List (Option Device)) → devices_from b.rows 0 ss ≡ devices_from a.rows 0 ss
     pub row_stays : drop 2 b.row ≡ drop 2 a.row
     pub line_is : b.line ≡ line_from a n
     pub told_is : b.told ≡ told_from a n

@@ -1,6 +1,6 @@
 -- How the code stands for what is to be believed.
 -- Ticks of a link: one with calls, and more without calls, up to one in which a host is told something. They are a run of crates/turns/specs/Link.antt.
-use Rattle.std.specs.Prelude.{ℕ, zero, suc, ◌+◌, ◌<◌, Bool, true, false, List, [], ◌∷◌, ◌++◌, ◌≡◌, length, drop, get_or, replicate}
+use Rattle.std.specs.Prelude.{ℕ, zero, suc, ◌+◌, ◌<◌, Bool, true, false, List, [], ◌∷◌, ◌++◌, ◌≡◌, length, drop, get_or, replicate, Option}
 use Rattle.base.specs.Choice.{when◌then◌else◌, ◌<?◌}
 use Rattle.base.specs.Lent.{Lent, before, after}
 use Rattle.line.specs.declared.Heard.{Heard}
@@ -8,6 +8,7 @@ use Rattle.turns.specs.Link.{MasterStep, DeviceStep, LinkStep, link_after, run}
 use Rattle.turns.specs.Link as L
 use Rattle.turns.specs.Run.{EachTick}
 use Rattle.turns.specs.declared.CallResult.{CallResult}
+use Rattle.turns.specs.declared.Device.{Device}
 use Rattle.turns.specs.declared.DeviceTold.{DeviceTold}
 use Rattle.turns.specs.declared.Master.{Master}
 use Rattle.turns.specs.declared.MasterTold.{MasterTold}
@@ -21,7 +22,6 @@ use Rattle.link_parties.specs.declared.DeviceDid.{DeviceDid}
 use Rattle.link_parties.specs.declared.Link.{Link}
 use Rattle.link_parties.specs.declared.MasterCallWithPart.{MasterCallWithPart}
 use Rattle.link_parties.specs.declared.MasterDid.{MasterDid}
-use Rattle.link_parties.specs.declared.Slot.{Slot}
 use Rattle.link_parties.specs.declared.Ticked.{Ticked}
 
 -- ---- whether a host is told something in a tick
@@ -174,15 +174,15 @@ devices_did hs (s ∷ ss) ds = devices_did hs ss (devices_do hs s ds)
 
 -- ---- link and calls, taken apart
 
-abbrev pub link_with : List Master → List Slot → Heard → Link
+abbrev pub link_with : List Master → List (Option Device) → Heard → Link
 link_with masters devices line = record { masters = masters; devices = devices; line = line }
 
 abbrev pub calls_with : List MasterCallWithPart → List DeviceCallWithPart → Calls
 calls_with masters devices = record { masters = masters; devices = devices }
 
 -- a slot, what stands in it, and its rows of frames, bytes and contents are after the ticks what they were before
-pub record SlotStays (i : ℕ) (slots : List Slot) (x : Rows) (slots-after : List Slot) (x_after : Rows) : Type 0 where
-  pub slot : (d : Slot) → get_or slots-after i d ≡ get_or slots i d
+pub record SlotStays (i : ℕ) (slots : List (Option Device)) (x : Rows) (slots-after : List (Option Device)) (x_after : Rows) : Type 0 where
+  pub slot : (d : Option Device) → get_or slots-after i d ≡ get_or slots i d
   pub frame : get_or x_after.frames (i + 2) [] ≡ get_or x.frames (i + 2) []
   pub bytes : get_or x_after.bytes (i + 2) [] ≡ get_or x.bytes (i + 2) []
   pub contents : get_or x_after.contents i [] ≡ get_or x.contents i []

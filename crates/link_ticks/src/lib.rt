@@ -1,65 +1,48 @@
 // Ticks of a link: two masters and six slots for devices on one line. All parties tick in one function, so that no state is copied from tick to tick: docs/BENCHMARKS.md, "The link".
-#![tactic(auto)]
+#![tactic(auto, using(base::proofs::Choices::choices))]
 
 ghost use Rattle.std.specs.Prelude.{◌≡◌, length};
-ghost use Rattle.link_parties.specs.Ways.{in_slot};
 ghost use Rattle.link_ticks.specs.Ticks.{master_host_told, device_host_told, master_call_in, device_call_in, goes_on, link_with, calls_with, CodeIs, TicksAre};
 ghost use Rattle.link_ticks.specs.Ticks.{answer_kept, master_told_kept, device_told_kept, master_did_by, device_did_by, master_nothing, device_nothing};
 
 use line::Heard;
 use link_parties::{
-    Calls, DeviceCallWithPart, DeviceDid, Link, MasterCallWithPart, MasterDid, Slot, Ticked, Way,
+    Calls, DeviceCallWithPart, DeviceDid, Link, MasterCallWithPart, MasterDid, Ticked, Way,
 };
 use turns::{CallResult, Device, DeviceTold, Master, MasterTold, Sent};
-
-fn in_slot(d: Device) -> Slot
-    ensures { result ≡ in_slot d }
-{
-    Slot {
-        device: d,
-        here: true,
-    }
-}
 
 // The call in the tick with this number: only the first has calls.
 fn master_call(call: MasterCallWithPart, t: u16) -> MasterCallWithPart
     ensures { result ≡ master_call_in t call }
 {
     if t == 0 {
-        return call;
+        call
+    } else {
+        link_parties::no_master_call()
     }
-    link_parties::no_master_call()
 }
 
 fn device_call(call: DeviceCallWithPart, t: u16) -> DeviceCallWithPart
     ensures { result ≡ device_call_in t call }
 {
     if t == 0 {
-        return call;
+        call
+    } else {
+        link_parties::no_device_call()
     }
-    link_parties::no_device_call()
 }
 
 // Whether a host is told something, this included.
 fn master_tells(told: MasterTold, others: bool) -> bool
     ensures { result ≡ master_host_told told others }
 {
-    match told {
-        MasterTold::Nothing => others,
-        MasterTold::Answered(_) => true,
-        MasterTold::GivenUp(_) => true,
-        MasterTold::BroadcastSent => true,
-    }
+    others || !matches!(told, MasterTold::Nothing)
 }
 
 fn device_tells(told: DeviceTold, others: bool) -> bool
     ensures { result ≡ device_host_told told others }
 {
-    match told {
-        DeviceTold::Nothing => others,
-        DeviceTold::Request(_) => true,
-        DeviceTold::Broadcast(_) => true,
-    }
+    others || !matches!(told, DeviceTold::Nothing)
 }
 
 // What became of a call, where this is answered in a further tick.
@@ -68,8 +51,7 @@ fn answer_kept(old: CallResult, res: CallResult) -> CallResult
 {
     match res {
         CallResult::Nothing => old,
-        CallResult::Taken => CallResult::Taken,
-        CallResult::Refused(why) => CallResult::Refused(why),
+        _ => res,
     }
 }
 
@@ -78,9 +60,7 @@ fn master_told_kept(old: MasterTold, told: MasterTold) -> MasterTold
 {
     match told {
         MasterTold::Nothing => old,
-        MasterTold::Answered(w) => MasterTold::Answered(w),
-        MasterTold::GivenUp(n) => MasterTold::GivenUp(n),
-        MasterTold::BroadcastSent => MasterTold::BroadcastSent,
+        _ => told,
     }
 }
 
@@ -89,8 +69,7 @@ fn device_told_kept(old: DeviceTold, told: DeviceTold) -> DeviceTold
 {
     match told {
         DeviceTold::Nothing => old,
-        DeviceTold::Request(w) => DeviceTold::Request(w),
-        DeviceTold::Broadcast(w) => DeviceTold::Broadcast(w),
+        _ => told,
     }
 }
 
@@ -98,22 +77,18 @@ fn device_told_kept(old: DeviceTold, told: DeviceTold) -> DeviceTold
 fn master_did(old: MasterDid, told: MasterTold, res: CallResult) -> MasterDid
     ensures { result ≡ master_did_by old told res }
 {
-    let a = old.told;
-    let b = old.result;
     MasterDid {
-        told: master_told_kept(a, told),
-        result: answer_kept(b, res),
+        told: master_told_kept(old.told, told),
+        result: answer_kept(old.result, res),
     }
 }
 
 fn device_did(old: DeviceDid, told: DeviceTold, res: CallResult) -> DeviceDid
     ensures { result ≡ device_did_by old told res }
 {
-    let a = old.told;
-    let b = old.result;
     DeviceDid {
-        told: device_told_kept(a, told),
-        result: answer_kept(b, res),
+        told: device_told_kept(old.told, told),
+        result: answer_kept(old.result, res),
     }
 }
 
@@ -146,13 +121,7 @@ fn code(sent: Sent) -> u16
 fn goes_on(t: u16, most: u16, told: bool) -> bool
     ensures { result ≡ goes_on t most told }
 {
-    if told {
-        return false;
-    }
-    if t < most {
-        return t < 64;
-    }
-    false
+    !told && t < most && t < 64
 }
 
 // There is a row for each party: the arrays' types say so, and the promise below needs it in words.
@@ -161,11 +130,12 @@ fn rows_each(frames: &[[u8; 284]], bytes: &[[u8; 255]], contents: &[[u8; 255]], 
     ensures { (length frames.now ≡ 8) × (length bytes.now ≡ 8) × (length contents.now ≡ 6) × (length sent.now ≡ 64) }
 {}
 
+// Each part is a parameter of its own, and the counters fall by hand: the proof of these loops is written with both.
 // The ticks, with link and calls given part by part. In each the devices tick from the last to the first, then the masters, and the line joins what they send in that order. `reader` is the line's, and ms_follow and ds_follow say whose reader is known to equal it: whoever heard in the last tick as it did.
 fn ticks_of(
     limit: u8,
     masters: [Master; 2],
-    devices: [Slot; 6],
+    devices: [Option<Device>; 6],
     heard: Heard,
     requests: [MasterCallWithPart; 2],
     calls: [DeviceCallWithPart; 6],
@@ -202,33 +172,24 @@ fn ticks_of(
         while 0 < n {
             let i = n - 1;
             n = i;
-            let slot = ds[i];
-            if slot.here {
-                let d = slot.device;
+            if let Some(d) = &ds[i] {
                 let call = device_call(calls[i], t);
-                let way = link_parties::device_way(d, line, call, ds_follow[i], quiet, reader);
+                let way = link_parties::device_way(*d, line, call, ds_follow[i], quiet, reader);
                 match way {
                     Way::Counts => {
-                        let at = ds[i];
-                        let same = at.device;
-                        ds[i] = link_parties::counted_device(same);
+                        ds[i] = Some(link_parties::counted_device(*d));
                         ds_follow[i] = false;
                     }
                     Way::Hears => {
-                        let at = ds[i];
-                        let same = at.device;
-                        let own = same.receiver;
-                        link_parties::keep(own, line, &mut bytes[i + 2]);
-                        ds[i] = link_parties::heard_device(same, stepped);
+                        link_parties::keep(d.receiver, line, &mut bytes[i + 2]);
+                        ds[i] = Some(link_parties::heard_device(*d, stepped));
                         ds_follow[i] = true;
                     }
                     Way::Acts => {
-                        let at = ds[i];
-                        let same = at.device;
                         let did = ds_did[i];
                         let s = link_parties::device_tick(
                             limit,
-                            same,
+                            *d,
                             line,
                             call,
                             put,
@@ -236,11 +197,10 @@ fn ticks_of(
                             &mut bytes[i + 2],
                             &mut contents[i],
                         );
-                        let e = s.device;
                         let c = s.sent;
                         let x = s.told;
                         let a = s.result;
-                        ds[i] = in_slot(e);
+                        ds[i] = Some(s.device);
                         ds_follow[i] = false;
                         row[i + 2] = code(c);
                         ds_did[i] = device_did(did, x, a);
@@ -334,13 +294,18 @@ pub fn ticks(
 ) -> Ticked
     ensures { TicksAre most.data link calls put.now most.ticks frames bytes contents sent result }
 {
-    let masters = link.masters;
-    let devices = link.devices;
-    let line = link.line;
-    let requests = calls.masters;
-    let given = calls.devices;
     ticks_of(
-        most.data, masters, devices, line, requests, given, put, most.ticks, frames, bytes,
-        contents, sent,
+        most.data,
+        link.masters,
+        link.devices,
+        link.line,
+        calls.masters,
+        calls.devices,
+        put,
+        most.ticks,
+        frames,
+        bytes,
+        contents,
+        sent,
     )
 }

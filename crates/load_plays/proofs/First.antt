@@ -1,4 +1,5 @@
 -- Every play of thirteen records or more begins with the play of the opening: what comes behind it has no call before tick 400.
+use Rattle.std.specs.Prelude.{Option, Some, None}
 use Prim.Native.Nat.{ℕ, zero, suc, ◌+◌, ◌-◌, ◌≤◌, ◌<◌}
 use native.Mathlib.Omega.{arith}
 use mathlib.Core.Path.{◌≡◌, refl, ap, ap₂, ◌∙◌}
@@ -8,10 +9,9 @@ use Rattle.base.specs.Choice.{when◌then◌else◌, ◌=?◌}
 use Rattle.base.proofs.Choices.{if_is_false}
 use Rattle.frame.specs.Limits.{most_data}
 use Rattle.turns.specs.Link.{DeviceCall, gives_content, Link, LinkStep, Calls, link_tick, link_after, run}
-use Rattle.player_script.specs.Script.{is_of, wanted_at, master_call, device_call, calls_at, stop_of, calls_from}
+use Rattle.player_script.specs.Script.{is_of, call_of, wanted_at, master_call, device_call, calls_at, stop_of, calls_from}
 use Rattle.player_script.specs.declared.Entry.{Entry}
 use Rattle.player_script.specs.declared.ScriptCall.{ScriptCall}
-use Rattle.player_script.specs.declared.ScriptCall.TheVariants.{Nothing, Call}
 use Rattle.player.specs.Play.{ready_link}
 use Rattle.load_writer.specs.Load.{opening, mark, pair_tick, lower, upper, draw, drawn_from, laid, load}
 use Rattle.load_writer.proofs.Records.{lower_tick, Each, and, each_and, each_drawn}
@@ -57,7 +57,7 @@ load_is seed m = refl
 
 -- ---- their calls come later
 
-wanted_late : (t p : ℕ) (es : List Entry) → t < 400 → Late es → wanted_at t p es ≡ Nothing
+wanted_late : (t p : ℕ) (es : List Entry) → t < 400 → Late es → wanted_at t p es ≡ None
 unfolding wanted_at
 wanted_late t p [] h l = refl
 wanted_late t p (e ∷ es) h (and q l) = if_is_false (is_of t p e) _ _ (if_is_false (e.tick =? t) _ _ (ne_eqb e.tick t (λ s. omega (arith, h, q, s)))) ∙ wanted_late t p es h l
@@ -65,9 +65,9 @@ wanted_late t p (e ∷ es) h (and q l) = if_is_false (is_of t p e) _ _ (if_is_fa
 wanted_front : (t p : ℕ) (es fs : List Entry) → t < 400 → Late fs → wanted_at t p (es ++ fs) ≡ wanted_at t p es
 unfolding wanted_at
 wanted_front t p [] fs h l = wanted_late t p fs h l
-wanted_front t p (e ∷ es) fs h l = ap (λ (w : ScriptCall). when is_of t p e then Call e.action e.argument else w) (wanted_front t p es fs h l)
+wanted_front t p (e ∷ es) fs h l = ap (λ (w : Option ScriptCall). when is_of t p e then Some (call_of e) else w) (wanted_front t p es fs h l)
 
-abbrev given : ℕ → ScriptCall → DeviceCall
+abbrev given : ℕ → Option ScriptCall → DeviceCall
 given tick w = when tick =? 0 then gives_content 3 (0 ∷ 0 ∷ []) else device_call w
 
 calls_front : (t : ℕ) (es fs : List Entry) → t < 400 → Late fs → calls_at t (es ++ fs) ≡ calls_at t es

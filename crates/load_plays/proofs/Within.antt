@@ -1,4 +1,5 @@
 -- Every load is within demand 3's premises: only party 2 is ever told to burst, so at most one device bursts; and no master asks a command 11. So demand 3 holds of its play.
+use Rattle.std.specs.Prelude.{Option, Some, None}
 use Prim.Native.Nat.{ℕ, zero, suc, ◌+◌, ◌-◌, ◌%◌, ◌≤◌, ◌<◌}
 use native.Mathlib.Omega.{arith}
 use mathlib.Core.Path.{◌≡◌, refl, sym, subst, ◌∙◌}
@@ -23,10 +24,9 @@ use Rattle.turns.proofs.Masters.{if_cases}
 use Rattle.turns.proofs.Fresh.{valid}
 use Rattle.runs.proofs.NoTwoSend.{no_two_send}
 use Rattle.runs.proofs.Wait.{wait}
-use Rattle.player_script.specs.Script.{is_of, wanted_at, master_call, device_call, device_call_at, stop_of, calls_from}
+use Rattle.player_script.specs.Script.{is_of, call_of, wanted_at, master_call, device_call, device_call_at, stop_of, calls_from}
 use Rattle.player_script.specs.declared.Entry.{Entry}
 use Rattle.player_script.specs.declared.ScriptCall.{ScriptCall}
-use Rattle.player_script.specs.declared.ScriptCall.TheVariants.{Nothing, Call}
 use Rattle.player.specs.Play.{ready, ready_link}
 use Rattle.load_writer.specs.Load.{call, opening, mark, pair_tick, length_of, lower, upper_party, upper, stop_at, draw, load}
 use Rattle.load_writer.proofs.Records.{lower_either, Each, and, tests, each_front, each_load}
@@ -79,9 +79,9 @@ load_wishes seed n =
 
 -- ---- so are the calls
 
-data OtherWanted : ScriptCall → Type 0 where
-  nothing : OtherWanted Nothing
-  other : {a g : ℕ} → (a ≡ 4 → ⊥) → OtherWanted (Call a g)
+data OtherWanted : Option ScriptCall → Type 0 where
+  nothing : OtherWanted None
+  other : {w : ScriptCall} → (w.action ≡ 4 → ⊥) → OtherWanted (Some w)
 
 -- a record of this tick and party is this party's
 outer : (c x : Bool) → (when c then false else x) ≡ true → x ≡ true
@@ -95,13 +95,13 @@ party_is t p e h = eqb-true e.party p (outer (e.action =? 0) _ (chain_second (e.
 wanted_other : (t p : ℕ) (es : List Entry) → (p ≡ 2 → ⊥) → Wishes es → OtherWanted (wanted_at t p es)
 unfolding wanted_at
 wanted_other t p [] h w = nothing
-wanted_other t p (e ∷ es) h (and own w) = if_cases OtherWanted (is_of t p e) _ _ (λ q. other (λ four. h (sym (party_is t p e q) ∙ own four))) (λ q. wanted_other t p es h w)
+wanted_other t p (e ∷ es) h (and own w) = if_cases OtherWanted (is_of t p e) _ _ (λ q. other {w = call_of e} (λ four. h (sym (party_is t p e q) ∙ own four))) (λ q. wanted_other t p es h w)
 
-other_not_on : (w : ScriptCall) → OtherWanted w → NotOnCall (device_call w)
-other_not_on Nothing nothing = no_one
-other_not_on (Call a g) (other h) =
-    if_both NotOnCall (a =? 2) _ _ (replies same)
-    (subst NotOnCall (sym (if_is_false (a =? 4) (gives_answer On (replicate g 0)) (gives_answer Off (replicate g 0)) (ne_eqb a 4 h))) (replies off))
+other_not_on : (w : Option ScriptCall) → OtherWanted w → NotOnCall (device_call w)
+other_not_on None nothing = no_one
+other_not_on (Some w) (other h) =
+    if_both NotOnCall (w.action =? 2) _ _ (replies same)
+    (subst NotOnCall (sym (if_is_false (w.action =? 4) (gives_answer On (replicate w.argument 0)) (gives_answer Off (replicate w.argument 0)) (ne_eqb w.action 4 h))) (replies off))
 
 call_not_on : (t p : ℕ) (es : List Entry) → (p ≡ 2 → ⊥) → Wishes es → NotOnCall (device_call_at t p es)
 call_not_on t p es h w = if_both NotOnCall (t =? 0) _ _ given (other_not_on (wanted_at t p es) (wanted_other t p es h w))
@@ -120,9 +120,9 @@ calls_wish (suc n) t es w =
 
 -- ---- a script's masters ask commands 0 and 3
 
-asks_0_or_3 : (w : ScriptCall) → OtherCall (master_call w)
-asks_0_or_3 Nothing = asks_nothing
-asks_0_or_3 (Call a g) = if_both OtherCall (a =? 1) _ _ (asks_other (λ e. omega (arith, e))) (asks_other (λ e. omega (arith, e)))
+asks_0_or_3 : (w : Option ScriptCall) → OtherCall (master_call w)
+asks_0_or_3 None = asks_nothing
+asks_0_or_3 (Some w) = if_both OtherCall (w.action =? 1) _ _ (asks_other (λ e. omega (arith, e))) (asks_other (λ e. omega (arith, e)))
 
 calls_other : (n t : ℕ) (es : List Entry) → OtherCalls (calls_from t n es)
 unfolding calls_from

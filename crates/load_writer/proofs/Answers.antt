@@ -1,5 +1,6 @@
 -- The writer's answer, and the buffer by it.
-use Prim.Native.Nat.{ℕ, ◌-◌, ◌*◌, ◌≤◌, ◌<◌}
+use Rattle.std.specs.Prelude.{Result, Ok, Err}
+use Prim.Native.Nat.{ℕ, ◌*◌, ◌≤◌, ◌<◌}
 use native.Mathlib.Omega.{arith}
 use mathlib.Core.Bool.{false}
 use mathlib.Core.Path.{◌≡◌, refl, sym, ap, ◌∙◌}
@@ -9,12 +10,10 @@ use borrow.Author.Tests.{leb-true}
 use Rattle.base.specs.Choice.{when◌then◌else◌, ◌≤?◌, ◌=?◌, ◌outside◌to◌}
 use Rattle.base.specs.Store.{stored}
 use Rattle.base.specs.declared.Refusal.{Refusal}
-use Rattle.base.specs.Refusal.{number, Called, accepted, refused}
+use Rattle.base.specs.Refusal.{Called, accepted, refused, called_as}
 use Rattle.base.proofs.Choices.{if_at_most, if_above, went_then, went_else, inside_low, inside_high}
 use Rattle.load_writer.specs.Load.{load, script_bytes}
-use Rattle.load_writer.specs.Write.{most_records, by_room, load_answer, load_buffer, buffer_by, loaded_as}
-use Rattle.load_writer.specs.declared.Loaded.{Loaded}
-use Rattle.load_writer.specs.declared.Loaded.TheVariants.{To, Refused}
+use Rattle.load_writer.specs.Write.{most_records, by_room, load_answer, load_buffer, buffer_by, LoadIs}
 
 -- ---- the answer
 
@@ -30,20 +29,22 @@ pub room_short : (count room : ℕ) → room < 4 * count → refused 15 ≡ by_r
 room_short count room h = if_above (4 * count) room (refused 15) (accepted (4 * count)) (refused 15) h refl
 
 -- the buffer, by the answer
-pub buffer_to : (seed count end : ℕ) (buffer after : List ℕ) (r : Loaded) → r ≡ To end → loaded_as r ≡ load_answer seed count (length buffer) → after ≡ stored buffer 0 (script_bytes (load seed count)) → after ≡ load_buffer seed count buffer
+buffer_to : (seed count end : ℕ) (buffer after : List ℕ) (r : Result ℕ Refusal) → r ≡ Ok end → called_as r ≡ load_answer seed count (length buffer) → after ≡ stored buffer 0 (script_bytes (load seed count)) → after ≡ load_buffer seed count buffer
 unfolding load_buffer
-buffer_to seed count end buffer after r e q p = p ∙ ap (λ (c : Called ℕ). buffer_by c buffer (script_bytes (load seed count))) (ap loaded_as (sym e) ∙ q)
+buffer_to seed count end buffer after r e q p = p ∙ ap (λ (c : Called ℕ). buffer_by c buffer (script_bytes (load seed count))) (ap called_as (sym e) ∙ q)
 
-pub buffer_refused : (seed count : ℕ) (buffer : List ℕ) (why : Refusal) (r : Loaded) → r ≡ Refused why → loaded_as r ≡ load_answer seed count (length buffer) → buffer ≡ load_buffer seed count buffer
+buffer_refused : (seed count : ℕ) (buffer : List ℕ) (why : Refusal) (r : Result ℕ Refusal) → r ≡ Err why → called_as r ≡ load_answer seed count (length buffer) → buffer ≡ load_buffer seed count buffer
 unfolding load_buffer
-buffer_refused seed count buffer why r e q = ap (λ (c : Called ℕ). buffer_by c buffer (script_bytes (load seed count))) (ap loaded_as (sym e) ∙ q)
+buffer_refused seed count buffer why r e q = ap (λ (c : Called ℕ). buffer_by c buffer (script_bytes (load seed count))) (ap called_as (sym e) ∙ q)
 
 -- the answer that is passed on
-pub answer_to : (end : ℕ) (r : Loaded) (c : Called ℕ) → r ≡ To end → loaded_as r ≡ c → accepted end ≡ c
-answer_to end r c e q = ap loaded_as (sym e) ∙ q
+pub written : (seed count end : ℕ) (buffer after : List ℕ) (r : Result ℕ Refusal) → r ≡ Ok end → called_as r ≡ load_answer seed count (length buffer) → after ≡ stored buffer 0 (script_bytes (load seed count))
+    → LoadIs seed count buffer (Ok end) after
+written seed count end buffer after r e q p = record { answer = ap called_as (sym e) ∙ q; buffer_after = buffer_to seed count end buffer after r e q p }
 
-pub answer_refused : (n : ℕ) (why : Refusal) (r : Loaded) (c : Called ℕ) → r ≡ Refused why → n ≡ number why → loaded_as r ≡ c → refused n ≡ c
-answer_refused n why r c e p q = ap refused p ∙ ap loaded_as (sym e) ∙ q
+pub refusal_passed : (seed count : ℕ) (buffer : List ℕ) (why : Refusal) (r s : Result ℕ Refusal) → r ≡ Err why → s ≡ Err why → called_as r ≡ load_answer seed count (length buffer)
+    → LoadIs seed count buffer s buffer
+refusal_passed seed count buffer why r s e f q = record { answer = ap called_as (f ∙ sym e) ∙ q; buffer_after = buffer_refused seed count buffer why r e q }
 
 -- what an answer that is no refusal tells
 not_refused : (n end : ℕ) → ◌≡◌ {A = Called ℕ} (refused n) (accepted end) → ⊥
@@ -62,9 +63,9 @@ taken seed count room end e =
     let c = went_then (4 * count ≤? room) _ _ (accepted end) b.1 (not_refused 15 end) in
     record { some = inside_low count 1 most_records false (sym b.0) refl; most = inside_high count 1 most_records false (sym b.0) refl; fits_room = leb-true (4 * count) room c.0 }
 
-module _ (seed count room end : ℕ) (r : Loaded) (e : r ≡ To end) (q : loaded_as r ≡ load_answer seed count room) where
+module _ (seed count room end : ℕ) (r : Result ℕ Refusal) (e : r ≡ Ok end) (q : called_as r ≡ load_answer seed count room) where
   told : Taken count room
-  told = taken seed count room end (sym q ∙ ap loaded_as e)
+  told = taken seed count room end (sym q ∙ ap called_as e)
 
   pub some_records : 1 ≤ count
   some_records = told.some
@@ -75,4 +76,4 @@ module _ (seed count room end : ℕ) (r : Loaded) (e : r ≡ To end) (q : loaded
   pub script_fits : 4 * count ≤ room
   script_fits = told.fits_room
 
-pub ruleset writes = (refl, buffer_to, buffer_refused, answer_to, answer_refused, some_records, most_records_lem, script_fits)
+pub ruleset writes = (refl, some_records, most_records_lem, script_fits)

@@ -1,5 +1,5 @@
 -- The first numbers that seed 1 draws; and that no two numbers draw the same number: each of the three steps of xorshift32 can be undone.
-use Prim.Native.Nat.{ℕ, zero, suc, ◌+◌, ◌-◌, ◌*◌, ◌/◌, ◌%◌, ◌^◌, ◌<◌}
+use Prim.Native.Nat.{ℕ, zero, suc, ◌+◌, ◌*◌, ◌/◌, ◌%◌, ◌^◌, ◌<◌}
 use mathlib.Core.Path.{◌≡◌, refl, sym, ap, ap₂, ◌∙◌, subst}
 use native.Mathlib.Nat.{mod-lt, mod-one, lt_of_le_of_lt, mod-eq_of_lt, mul-mod_left, not-suc-le-zero, le_of_suc-le-suc, add-zero, div-add-mod'}
 use native.Mathlib.Omega.{arith}

@@ -1,13 +1,13 @@
 -- Records in the lent buffer, one behind the other: what is left, stored behind what stands there, gives the whole.
-use Prim.Native.Nat.{ℕ, zero, suc, ◌+◌, ◌-◌, ◌*◌, ◌/◌, ◌%◌, ◌≤◌, ◌<◌}
+use Prim.Native.Nat.{ℕ, zero, suc, ◌+◌, ◌-◌, ◌*◌, ◌≤◌, ◌<◌}
 use native.Mathlib.Omega.{arith}
 use mathlib.Core.Path.{◌≡◌, refl, sym, ap, ap₂, ◌∙◌}
 use mathlib.Core.List.{List, [], ◌∷◌, ◌++◌}
-use lib.ListN.{length, get_or, set, take, drop, length-set, length-take, length-drop, drop_of_length-le}
-use lib.Seq.{drop-cons, take-length, length-take-le}
+use lib.ListN.{length, get_or, take, drop, length-take, length-drop, drop_of_length-le}
+use lib.Seq.{drop-cons, drop-drop, take-length, length-take-le}
 use borrow.Rule.Slice.PartMut.{put_mid}
 use Rattle.base.specs.Store.{stored}
-use Rattle.base.proofs.Stores.{length_stored, stored_parts}
+use Rattle.base.proofs.Stores.{length_stored, stored_between, stored_parts}
 use Rattle.player_script.specs.declared.Entry.{Entry}
 use Rattle.load_writer.specs.Load.{draw, call, front, pair_tick, lower, upper, stop_at, drawn_from, laid, load, entry_bytes, script_bytes}
 use Rattle.load_writer.proofs.Bytes.{bytes_length}
@@ -15,28 +15,15 @@ use Rattle.load_writer.proofs.Places.{front_length}
 
 -- ---- in the buffer
 
-pub room_set : (n : ℕ) (xs : List ℕ) (j b : ℕ) → n ≤ length xs → n ≤ length (set xs j b)
-room_set n xs j b h = omega (arith, h, length-set xs j b)
-
-pub below_four : (at i n : ℕ) → at + 4 ≤ n → i < 4 → at + i < n
-below_four at i n h k = omega (arith, h, k)
+-- a record's bytes are copied to their place
+pub record_put : (out : List ℕ) (at k : ℕ) (bytes : List ℕ) (e : Entry) → k ≡ 4 → at + 4 ≤ length out → bytes ≡ entry_bytes e [] → put_mid at k out bytes ≡ stored out at (entry_bytes e [])
+record_put out at k bytes e s h p =
+    (λ i. take at out ++ (p i ++ drop (s i) (drop at out)))
+    ∙ ap (λ (l : List ℕ). take at out ++ (entry_bytes e [] ++ l)) (drop-drop 4 at out)
+    ∙ sym (stored_between out at (entry_bytes e []) h)
 
 four_on : (n : ℕ) → suc (suc (suc (suc n))) ≡ n + 4
 four_on n = omega arith
-
-pub record_put : (out : List ℕ) (at a b p g : ℕ) (e : Entry) → a ≡ e.tick / 256 → b ≡ e.tick % 256 → p ≡ e.party * 16 + e.action → g ≡ e.argument
-    → set (set (set (set out at a) (at + 1) b) (at + 2) p) (at + 3) g ≡ stored out at (entry_bytes e [])
-unfolding stored
-record_put out at a b p g e h k l m = λ i. set (set (set (set out at (h i)) (one at i) (k i)) (two at i) (l i)) (three at i) (m i)
-  where
-    one : (n : ℕ) → n + 1 ≡ suc n
-    one n = omega arith
-
-    two : (n : ℕ) → n + 2 ≡ suc (suc n)
-    two n = omega arith
-
-    three : (n : ℕ) → n + 3 ≡ suc (suc (suc n))
-    three n = omega arith
 
 -- a record, and the others behind it
 record_and : (e : Entry) (out rest : List ℕ) (at : ℕ) → stored (stored out at (entry_bytes e [])) (at + 4) rest ≡ stored out at (entry_bytes e rest)

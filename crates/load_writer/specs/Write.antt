@@ -1,12 +1,11 @@
 -- To be believed: what the engine must do, or what is claimed of it.
 -- The writer of a load. Document 02, item 4: "It refuses seed 0, no records or above 65,536 with 18, then a buffer too short with 15."
-use Rattle.std.specs.Prelude.{ℕ, ◌*◌, ◌≡◌, List, length}
+use Rattle.std.specs.Prelude.{ℕ, ◌*◌, ◌≡◌, List, length, Result}
 use Rattle.base.specs.Choice.{when◌then◌else◌, ◌≤?◌, ◌=?◌, ◌outside◌to◌}
 use Rattle.base.specs.Store.{stored}
-use Rattle.base.specs.Refusal.{number, Called, accepted, refused}
+use Rattle.base.specs.Refusal.{Called, accepted, refused, called_as}
 use Rattle.load_writer.specs.Load.{load, script_bytes}
-use Rattle.load_writer.specs.declared.Loaded.{Loaded}
-use Rattle.load_writer.specs.declared.Loaded.TheVariants.{To, Refused}
+use Rattle.base.specs.declared.Refusal.{Refusal}
 
 abbrev pub most_records : ℕ
 most_records = 65536
@@ -30,12 +29,7 @@ buffer_by (refused why) buffer script = buffer
 unfoldable pub load_buffer : ℕ → ℕ → List ℕ → List ℕ
 load_buffer seed count buffer = buffer_by (load_answer seed count (length buffer)) buffer (script_bytes (load seed count))
 
--- what the writer's answer says
-abbrev pub loaded_as : Loaded → Called ℕ
-loaded_as (To end) = accepted end
-loaded_as (Refused why) = refused (number why)
-
 -- what writing promises
-pub record LoadIs (seed count : ℕ) (buffer : List ℕ) (r : Loaded) (after : List ℕ) : Type 0 where
-  pub answer : loaded_as r ≡ load_answer seed count (length buffer)
+pub record LoadIs (seed count : ℕ) (buffer : List ℕ) (r : Result ℕ Refusal) (after : List ℕ) : Type 0 where
+  pub answer : called_as r ≡ load_answer seed count (length buffer)
   pub buffer_after : after ≡ load_buffer seed count buffer

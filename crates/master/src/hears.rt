@@ -1,5 +1,5 @@
 // What a master does on what it hears in a tick.
-ghost use Rattle.std.specs.Prelude.{◌≡◌, ◌-◌};
+ghost use Rattle.std.specs.Prelude.{◌≡◌};
 ghost use Rattle.line.specs.Reader.{idle, gapped, taken};
 ghost use Rattle.line.specs.declared.Heard.TheVariants.{Silence};
 ghost use Rattle.turns.specs.Master.{tells, after_frame, after_break, frame_goes_on, on_character, waited, rt1_ends, unless_ended, counts, counts_twice, with_reader, on_silence};
@@ -12,20 +12,22 @@ use turns::{Ending, Master, MasterTaken, MasterTold, Stage, Timer};
 fn after_frame(m: Master, r: Receiver, w: Whole, bytes: &[u8; 255]) -> MasterTaken
     ensures { result ≡ after_frame m r w bytes.now }
 {
-    let h = w.header;
-    let g = m.message;
-    let stage = g.stage;
-    let noted = m.noted;
-    let burst = master_rules::burst_after(m.burst, noted, h);
-    let address = master_rules::noted_after(noted, h);
-    let t = master_rules::timer_after(m, burst, h);
-    let ending = master_rules::if_awaiting(stage, g, master_rules::at_frame(m, w, bytes));
-    let message = ending.message;
-    let told = ending.told;
-    let master = master_rules::with_parts(m, r, burst, address, t, message);
+    let burst = master_rules::burst_after(m.burst, m.noted, w.header);
+    let ending = master_rules::if_awaiting(
+        m.message.stage,
+        m.message,
+        master_rules::at_frame(m, w, bytes),
+    );
     MasterTaken {
-        master: master,
-        told: told,
+        master: Master {
+            receiver: r,
+            burst,
+            noted: master_rules::noted_after(m.noted, w.header),
+            timer: master_rules::timer_after(m, burst, w.header),
+            message: ending.message,
+            ..m
+        },
+        told: ending.told,
         event: Event::Frame(w),
     }
 }
@@ -34,18 +36,16 @@ fn after_frame(m: Master, r: Receiver, w: Whole, bytes: &[u8; 255]) -> MasterTak
 pub fn after_break(m: Master, r: Receiver, event: Event) -> MasterTaken
     ensures { result ≡ after_break m r event }
 {
-    let g = m.message;
-    let stage = g.stage;
-    let noted = m.noted;
-    let t = master_rules::broken_timer(m);
-    let ending = master_rules::if_awaiting(stage, g, master_rules::at_break(m));
-    let message = ending.message;
-    let told = ending.told;
-    let master = master_rules::with_parts(m, r, m.burst, noted, t, message);
+    let ending = master_rules::if_awaiting(m.message.stage, m.message, master_rules::at_break(m));
     MasterTaken {
-        master: master,
-        told: told,
-        event: event,
+        master: Master {
+            receiver: r,
+            timer: master_rules::broken_timer(m),
+            message: ending.message,
+            ..m
+        },
+        told: ending.told,
+        event,
     }
 }
 
@@ -53,15 +53,11 @@ pub fn after_break(m: Master, r: Receiver, event: Event) -> MasterTaken
 fn inside_frame(m: Master, r: Receiver) -> MasterTaken
     ensures { result ≡ frame_goes_on m r }
 {
-    let noted = m.noted;
-    let g = m.message;
-    let stopped = master_rules::timer_of(0);
-    let master = master_rules::with_parts(m, r, m.burst, noted, stopped, g);
-    MasterTaken {
-        master: master,
-        told: MasterTold::Nothing,
-        event: Event::Nothing,
-    }
+    tells_nothing(Master {
+        receiver: r,
+        timer: master_rules::timer_of(0),
+        ..m
+    })
 }
 
 // After a character, by what the reader tells.
@@ -70,31 +66,17 @@ fn on_character(m: Master, r: Receiver, event: Event, bytes: &[u8; 255]) -> Mast
 {
     match event {
         Event::Nothing => inside_frame(m, r),
-        Event::PassedOver => after_break(m, r, Event::PassedOver),
-        Event::Broken => after_break(m, r, Event::Broken),
         Event::Frame(w) => after_frame(m, r, w, bytes),
-        Event::Damaged(w, h) => after_break(m, r, Event::Damaged(w, h)),
+        _ => after_break(m, r, event),
     }
-}
-
-// One tick less, down to 0.
-fn one_tick_less(n: u16) -> u16
-    ensures { result ≡ n - 1 }
-{
-    if 0 < n {
-        return n - 1;
-    }
-    0
 }
 
 fn waited_at(stage: Stage) -> Stage
     ensures { result ≡ waited stage }
 {
     match stage {
-        Stage::Free => Stage::Free,
-        Stage::Waiting => Stage::Waiting,
-        Stage::Sending(n) => Stage::Sending(n),
-        Stage::Awaiting(n) => Stage::Awaiting(one_tick_less(n)),
+        Stage::Awaiting(n) => Stage::Awaiting(n.saturating_sub(1)),
+        _ => stage,
     }
 }
 
@@ -102,22 +84,7 @@ fn waited_at(stage: Stage) -> Stage
 fn rt1_ends(stage: Stage) -> bool
     ensures { result ≡ rt1_ends stage }
 {
-    match stage {
-        Stage::Free => false,
-        Stage::Waiting => false,
-        Stage::Sending(_) => false,
-        Stage::Awaiting(n) => n <= 1,
-    }
-}
-
-fn without_window(t: Timer) -> Timer
-    ensures { result ≡ unless_ended Stage.Free t }
-{
-    Timer {
-        next: t.next,
-        window: 0,
-        quiet: t.quiet,
-    }
+    matches!(stage, Stage::Awaiting(n) if n <= 1)
 }
 
 // The window of a master whose message ended on RT1's end is left unused.
@@ -125,10 +92,8 @@ fn unless_ended(stage: Stage, t: Timer) -> Timer
     ensures { result ≡ unless_ended stage t }
 {
     match stage {
-        Stage::Free => without_window(t),
-        Stage::Waiting => t,
-        Stage::Sending(_) => t,
-        Stage::Awaiting(_) => t,
+        Stage::Free => Timer { window: 0, ..t },
+        _ => t,
     }
 }
 
@@ -136,15 +101,13 @@ fn unless_ended(stage: Stage, t: Timer) -> Timer
 fn counted_message(m: Master, told: MasterTold) -> Ending
     ensures { result ≡ counted_message m told }
 {
-    let g = m.message;
-    let stage = g.stage;
-    if rt1_ends(stage) {
-        return master_rules::at_break(m);
-    }
-    let message = master_rules::at_stage(g, waited_at(stage));
-    Ending {
-        message: message,
-        told: told,
+    if rt1_ends(m.message.stage) {
+        master_rules::at_break(m)
+    } else {
+        Ending {
+            message: master_rules::at_stage(m.message, waited_at(m.message.stage)),
+            told,
+        }
     }
 }
 
@@ -152,31 +115,28 @@ fn counted_message(m: Master, told: MasterTold) -> Ending
 fn counted_timer(m: Master, left: Stage) -> Timer
     ensures { result ≡ counted_timer m left }
 {
-    let g = m.message;
-    let stage = g.stage;
-    if rt1_ends(stage) {
-        return unless_ended(left, master_rules::timer_counted(m));
+    let timer = master_rules::timer_counted(m);
+    if rt1_ends(m.message.stage) {
+        unless_ended(left, timer)
+    } else {
+        timer
     }
-    master_rules::timer_counted(m)
 }
 
 // A silent tick.
 fn count(m: Master, told: MasterTold, event: Event) -> MasterTaken
     ensures { result ≡ counts m told event }
 {
-    let r = m.receiver;
-    let noted = m.noted;
-    let burst = master_rules::burst_counted(m);
     let ending = counted_message(m, told);
-    let message = ending.message;
-    let ended = ending.told;
-    let left = message.stage;
-    let t = counted_timer(m, left);
-    let master = master_rules::with_parts(m, r, burst, noted, t, message);
     MasterTaken {
-        master: master,
-        told: ended,
-        event: event,
+        master: Master {
+            burst: master_rules::burst_counted(m),
+            timer: counted_timer(m, ending.message.stage),
+            message: ending.message,
+            ..m
+        },
+        told: ending.told,
+        event,
     }
 }
 
@@ -184,64 +144,52 @@ fn count(m: Master, told: MasterTold, event: Event) -> MasterTaken
 fn with_reader(m: Master, r: Receiver) -> Master
     ensures { result ≡ with_reader m r }
 {
-    let noted = m.noted;
-    let t = m.timer;
-    let g = m.message;
-    master_rules::with_parts(m, r, m.burst, noted, t, g)
+    Master { receiver: r, ..m }
 }
 
 // A silent tick outside a frame is counted.
 fn silent_outside(m: Master) -> MasterTaken
     ensures { result ≡ counts (with_reader m idle) MasterTold.Nothing Event.Nothing }
 {
-    let r = line_reader::idle_reader();
-    count(with_reader(m, r), MasterTold::Nothing, Event::Nothing)
+    count(
+        with_reader(m, line_reader::idle_reader()),
+        MasterTold::Nothing,
+        Event::Nothing,
+    )
 }
 
 // A silent tick inside a frame that is passed over.
 fn passed_over(m: Master) -> MasterTaken
     ensures { result ≡ tells (with_reader m (gapped m.receiver)) MasterTold.Nothing Event.Nothing }
 {
-    let reader = m.receiver;
-    let r = line_reader::gapped_reader(reader);
-    let master = with_reader(m, r);
-    MasterTaken {
-        master: master,
-        told: MasterTold::Nothing,
-        event: Event::Nothing,
-    }
+    tells_nothing(with_reader(m, line_reader::gapped_reader(m.receiver)))
 }
 
 // Only the timer is counted: after a break no ACK is awaited.
 fn timer_ticked(m: Master) -> Master
     ensures { result ≡ timer_ticked m }
 {
-    let r = m.receiver;
-    let noted = m.noted;
-    let g = m.message;
-    let burst = master_rules::burst_counted(m);
-    let t = master_rules::timer_counted(m);
-    master_rules::with_parts(m, r, burst, noted, t, g)
+    Master {
+        burst: master_rules::burst_counted(m),
+        timer: master_rules::timer_counted(m),
+        ..m
+    }
 }
 
 // The second silent tick in a row breaks the frame, and both count.
 fn second_silent(m: Master) -> MasterTaken
     ensures { result ≡ counts_twice (after_break m idle Event.Broken).master (after_break m idle Event.Broken).told Event.Broken }
 {
-    let r = line_reader::idle_reader();
-    let b = after_break(m, r, Event::Broken);
-    let broken = b.master;
-    let told = b.told;
-    let twice = timer_ticked(timer_ticked(broken));
+    let broken = after_break(m, line_reader::idle_reader(), Event::Broken);
     MasterTaken {
-        master: twice,
-        told: told,
+        master: timer_ticked(timer_ticked(broken.master)),
+        told: broken.told,
         event: Event::Broken,
     }
 }
 
-// A master that hears nothing.
-fn hears_nothing(m: Master) -> MasterTaken
+// A master whose host is told nothing.
+fn tells_nothing(m: Master) -> MasterTaken
     ensures { result ≡ tells m MasterTold.Nothing Event.Nothing }
 {
     MasterTaken {
@@ -252,18 +200,17 @@ fn hears_nothing(m: Master) -> MasterTaken
 }
 
 // Hears silence.
+#[tactic(auto, using(crate::proofs::Takes::silences))]
 fn hears_silence(m: Master) -> MasterTaken
     ensures { result ≡ on_silence m (taken m.receiver Silence).receiver }
 {
-    let reader = m.receiver;
-    let place = reader.place;
-    if line_reader::is_inside(place) {
-        if reader.gap {
-            return second_silent(m);
-        }
-        return passed_over(m);
+    if !line_reader::is_inside(m.receiver.place) {
+        silent_outside(m)
+    } else if m.receiver.gap {
+        second_silent(m)
+    } else {
+        passed_over(m)
     }
-    silent_outside(m)
 }
 
 // Takes what was heard. The data of the frame being heard are kept in the lent bytes.
@@ -271,14 +218,11 @@ pub fn take(m: Master, heard: Heard, bytes: &mut [u8; 255]) -> MasterTaken
     ensures { MasterTakeIs m heard bytes.old result bytes.new }
 {
     if m.deaf {
-        return hears_nothing(m);
+        tells_nothing(m)
+    } else if party::is_silence(heard) {
+        hears_silence(m)
+    } else {
+        let taken = line_reader::take(m.receiver, heard, bytes);
+        on_character(m, taken.receiver, taken.event, bytes)
     }
-    if party::is_silence(heard) {
-        return hears_silence(m);
-    }
-    let reader = m.receiver;
-    let t = line_reader::take(reader, heard, bytes);
-    let r = t.receiver;
-    let event = t.event;
-    on_character(m, r, event, bytes)
 }

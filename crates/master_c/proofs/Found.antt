@@ -3,7 +3,7 @@ use Prim.Native.Nat.{ℕ, ◌/◌}
 use mathlib.Core.List.{List}
 use mathlib.Core.Path.{◌≡◌, refl, sym, subst}
 use lib.ListN.{length}
-use Rattle.base.specs.Choice.{when◌then◌else◌, ◌≤?◌, ◌=?◌}
+use Rattle.base.specs.Choice.{◌≤?◌, ◌=?◌}
 use Rattle.base.specs.Refusal.{Called, accepted, refused}
 use Rattle.frame.specs.Address.{byte_at}
 use Rattle.frame.specs.Frame.{frame_bytes}

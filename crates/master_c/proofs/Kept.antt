@@ -1,25 +1,19 @@
 -- `unpacked (packed limit m)` is m, for every master whose numbers are values of their types.
 use Prim.Native.Nat.{ℕ, ◌<◌, ◌^◌}
-use mathlib.Core.Bool.{Bool}
 use mathlib.Core.List.{List, ◌++◌}
-use mathlib.Core.Path.{◌≡◌, refl, sym, ap, subst, ◌∙◌}
+use mathlib.Core.Path.{◌≡◌, refl, sym, ap, ◌∙◌}
 use lib.ListN.{length}
 use native.Mathlib.Omega.{arith}
 use Rattle.base.specs.Choice.{when◌then◌else◌}
 use Rattle.base.specs.Store.{stored}
-use Rattle.line.specs.declared.Profile.{Profile}
-use Rattle.line.specs.declared.Receiver.{Receiver}
 use Rattle.turns.specs.declared.Master.{Master}
 use Rattle.turns.specs.declared.Message.{Message}
-use Rattle.turns.specs.declared.Noted.{Noted}
 use Rattle.turns.specs.declared.Stage.{Stage}
 use Rattle.turns.specs.declared.Stage.TheVariants.{Free, Waiting, Sending, Awaiting}
-use Rattle.turns.specs.declared.Timer.{Timer}
-use Rattle.state_words.specs.Fields.{number_at, flag_at}
-use Rattle.state_words.specs.Reader.{profile_at, receiver_words, receiver_at}
+use Rattle.state_words.specs.Reader.{receiver_words}
 use Rattle.state_words.proofs.Puts.{part_behind, all_put}
 use Rattle.state_words.proofs.Kept.{flag_kept, number_kept, case_kept, header_kept, profile_kept, receiver_kept}
-use Rattle.master_c.specs.Words.{stage_word, stage_by, stage_of, message_words, message_at, timer_at, noted_at, front_words, end_words, packed, unpacked, limit_at, StageFits, MessageFits, TimerFits, MasterFits}
+use Rattle.master_c.specs.Words.{stage_word, stage_by, stage_of, message_words, message_at, front_words, end_words, packed, unpacked, limit_at, StageFits, MessageFits, MasterFits}
 
 pub stage_kept : (s : Stage) → StageFits s → stage_of (stage_word s) ≡ s
 unfolding when◌then◌else◌
@@ -53,10 +47,6 @@ master_kept limit m f = λ i. record {
   message = message_kept m.message f.message i;
 }
 
--- the stage that a match has shown
-pub stage_shown : (s q : Stage) → s ≡ q → StageFits q → StageFits s
-stage_shown s q e f = subst StageFits (sym e) f
-
 -- packed, part by part
 pub limit_kept : (limit : ℕ) (m : Master) → limit < 2 ^ 8 → limit_at (packed limit m) ≡ limit
 limit_kept limit m f = number_kept 8 limit f
@@ -72,20 +62,3 @@ packed_is limit m before first second words front reader end f r e p q t n =
     let three : words ≡ stored before 0 ((front_words m ++ receiver_words m.receiver) ++ end_words limit m) =
     part_behind 28 before second words (front_words m ++ receiver_words m.receiver) (end_words limit m) two refl (t ∙ ap (λ (l : List ℕ). stored second 28 l) e) in
     all_put before words (packed limit m) three (sym n)
-
--- unpacked, part by part
-pub unpacked_is : (words : List ℕ) (primary deaf burst : Bool) (profile : Profile) (retries : ℕ) (timer : Timer) (receiver : Receiver) (noted : Noted) (message : Message)
-    → profile ≡ profile_at words 1 → timer ≡ timer_at words 9 → receiver ≡ receiver_at words 12 → noted ≡ noted_at words 28 → message ≡ message_at words 30
-    → primary ≡ flag_at words 0 → retries ≡ number_at 8 words 6 → deaf ≡ flag_at words 7 → burst ≡ flag_at words 8
-    → record { primary = primary; profile = profile; retries = retries; deaf = deaf; burst = burst; timer = timer; receiver = receiver; noted = noted; message = message } ≡ unpacked words
-unpacked_is words primary deaf burst profile retries timer receiver noted message p t r n g a b c d = λ i. record {
-  primary = a i;
-  profile = p i;
-  retries = b i;
-  deaf = c i;
-  burst = d i;
-  timer = t i;
-  receiver = r i;
-  noted = n i;
-  message = g i;
-}

@@ -1,23 +1,24 @@
 -- A tick by what its parts gave, and one with what was made of its arguments.
+use Rattle.std.specs.Prelude.{Option}
 use Prim.Native.Nat.{ℕ, ◌<◌, ◌^◌}
 use mathlib.Core.List.{List}
-use mathlib.Core.Path.{◌≡◌, ap, subst, ◌∙◌}
+use mathlib.Core.Path.{◌≡◌, ap, ◌∙◌}
 use Rattle.line.specs.declared.Heard.{Heard}
 use Rattle.turns.specs.Link.{MasterStep, master_tick}
 use Rattle.turns.specs.Master.{master_takes}
 use Rattle.turns.specs.Told.{master_tells}
 use Rattle.turns.specs.declared.Master.{Master}
 use Rattle.master.specs.Tick.{call_of, side_of, MasterTickIs}
-use Rattle.master.specs.declared.MasterCall.{MasterCall}
 use Rattle.master.specs.declared.MasterTicked.{MasterTicked}
 use Rattle.party.specs.Numbers.{sent_number, call_number}
 use Rattle.state_words.specs.Numbers.{tick_numbers}
 use Rattle.master_c.specs.Words.{packed, unpacked, limit_at, MasterFits}
 use Rattle.master_c.specs.Tick.{told_attempts, StepIs}
 use Rattle.master_c.proofs.Kept.{master_kept, limit_kept}
+use Rattle.turns.specs.declared.Request.{Request}
 
 -- a tick of the master that the words were
-pub tick_is : (limit : ℕ) (before frame bytes : List ℕ) (m : Master) (heard : Heard) (call : MasterCall) (put : List ℕ) (t : MasterTicked) (frame_after bytes_after words results : List ℕ) (sent told attempts r : ℕ)
+pub tick_is : (limit : ℕ) (before frame bytes : List ℕ) (m : Master) (heard : Heard) (call : Option Request) (put : List ℕ) (t : MasterTicked) (frame_after bytes_after words results : List ℕ) (sent told attempts r : ℕ)
     → limit ≡ limit_at before → limit < 2 ^ 8 → m ≡ unpacked before → MasterTickIs limit m heard call put frame bytes t frame_after bytes_after → MasterFits t.master → words ≡ packed limit t.master
     → results ≡ tick_numbers sent told attempts t.event → sent ≡ sent_number t.sent → told ≡ (master_tells t.told).number → attempts ≡ told_attempts t.told
     → r ≡ call_number t.result
@@ -37,13 +38,3 @@ tick_is limit before frame bytes m heard call put t frame_after bytes_after word
           ((v.found ∙ ap (λ (x : Master). (master_takes x heard bytes_after).event) d) i));
       returned = q ∙ ap (λ (s : MasterStep). call_number s.result) step;
     }
-
-abbrev Steps : List ℕ → List ℕ → List ℕ → List ℕ → List ℕ → List ℕ → List ℕ → List ℕ → ℕ → Heard → MasterCall → Type 0
-Steps before frame bytes put words frame_after bytes_after results r heard call =
-    StepIs (limit_at before) (master_tick (limit_at before) (side_of (unpacked before) frame bytes) heard (call_of call put)) (master_takes (unpacked before) heard bytes_after).event words frame_after bytes_after results r
-
-pub tick_called : (before frame bytes put words frame_after bytes_after results : List ℕ) (r : ℕ) (h heard : Heard) (c call : MasterCall) → h ≡ heard → c ≡ call
-    → Steps before frame bytes put words frame_after bytes_after results r h c → Steps before frame bytes put words frame_after bytes_after results r heard call
-tick_called before frame bytes put words frame_after bytes_after results r h heard c call d e v =
-    subst (λ (x : MasterCall). Steps before frame bytes put words frame_after bytes_after results r heard x) e
-    (subst (λ (x : Heard). Steps before frame bytes put words frame_after bytes_after results r x c) d v)

@@ -1,6 +1,6 @@
 -- How the code stands for what is to be believed.
 -- A master's tick, over its words and lent buffers.
-use Rattle.std.specs.Prelude.{ℕ, Bool, List, ◌≡◌}
+use Rattle.std.specs.Prelude.{ℕ, Bool, List, ◌≡◌, Option, Some, None}
 use Rattle.base.specs.Choice.{when◌then◌else◌}
 use Rattle.base.specs.Lent.{Lent, before, after}
 use Rattle.line.specs.declared.Event.{Event}
@@ -12,16 +12,16 @@ use Rattle.turns.specs.Told.{master_tells}
 use Rattle.turns.specs.declared.MasterTold.{MasterTold}
 use Rattle.turns.specs.declared.MasterTold.TheVariants.{Nothing, Answered, GivenUp, BroadcastSent}
 use Rattle.master.specs.Tick.{call_of, side_of}
-use Rattle.master.specs.declared.MasterCall.{MasterCall}
 use Rattle.party.specs.Numbers.{sent_number, call_number}
 use Rattle.state_words.specs.Numbers.{tick_numbers}
 use Rattle.master_c.specs.Words.{packed, unpacked, limit_at}
+use Rattle.turns.specs.declared.Request.{Request}
 
 -- the host's request, field by field, or none
-abbrev pub request_of : Bool → ℕ → ℕ → Bool → ℕ → ℕ → MasterCall
+abbrev pub request_of : Bool → ℕ → ℕ → Bool → ℕ → ℕ → Option Request
 request_of requests preamble revision long address command =
-    when requests then MasterCall.Requests (record { preamble = preamble; revision = revision; long = long; address = address; command = command })
-    else MasterCall.Nothing
+    when requests then Some (record { preamble = preamble; revision = revision; long = long; address = address; command = command })
+    else None
 
 -- the attempts of a message that is given up; 0 where the host is told anything else
 abbrev pub told_attempts : MasterTold → ℕ
@@ -41,7 +41,7 @@ pub record StepIs (limit : ℕ) (s : MasterStep) (event : Event) (words frame by
   pub returned : r ≡ call_number s.result
 
 -- the step of the master that the words stood for before the call, and what its reader found; the data of the host's request are `put`
-abbrev pub MasterTicks : Lent (List ℕ) → Lent (List ℕ) → Lent (List ℕ) → Heard → MasterCall → List ℕ → Lent (List ℕ) → ℕ → Type 0
+abbrev pub MasterTicks : Lent (List ℕ) → Lent (List ℕ) → Lent (List ℕ) → Heard → Option Request → List ℕ → Lent (List ℕ) → ℕ → Type 0
 MasterTicks words frame bytes heard call put results r =
     StepIs
     (limit_at (before words))

@@ -1,5 +1,5 @@
 // A master for programs in C: its state as words that the caller lends, and its tick.
-#![tactic(auto)]
+#![tactic(auto, using(base::proofs::Choices::choices))]
 
 ghost use Rattle.std.specs.Prelude.{◌<◌, ◌^◌, ◌≡◌};
 ghost use Rattle.line.specs.Heard.{heard_of};
@@ -9,33 +9,29 @@ ghost use Rattle.master_c.specs.Words.{StageFits, MessageFits, TimerFits, Master
 ghost use Rattle.master_c.specs.Tick.{told_attempts, request_of, MasterTicks};
 
 use line::Heard;
-use master::MasterCall;
 use turns::{Master, MasterTold, Message, Noted, Request, Stage, Timer};
 
+// A stage as a program in C keeps it: its number, and 16 times the number that it holds.
 fn stage_word(stage: Stage) -> u64
     ensures { result ≡ stage_word stage }
 {
     match stage {
         Stage::Free => 0,
         Stage::Waiting => 1,
-        Stage::Sending(n) => 2 + 16 * (n as u64),
-        Stage::Awaiting(n) => 3 + 16 * (n as u64),
+        Stage::Sending(n) => 2 + 16 * u64::from(n),
+        Stage::Awaiting(n) => 3 + 16 * u64::from(n),
     }
 }
 
 fn stage_by(number: u64, n: u16) -> Stage
     ensures { result ≡ stage_by number n }
 {
-    if number == 1 {
-        return Stage::Waiting;
+    match number {
+        1 => Stage::Waiting,
+        2 => Stage::Sending(n),
+        3 => Stage::Awaiting(n),
+        _ => Stage::Free,
     }
-    if number == 2 {
-        return Stage::Sending(n);
-    }
-    if number == 3 {
-        return Stage::Awaiting(n);
-    }
-    Stage::Free
 }
 
 fn stage_of(word: u64) -> Stage
@@ -47,12 +43,10 @@ fn stage_of(word: u64) -> Stage
 fn message_at(words: &[u64], place: u16) -> Message
     ensures { result ≡ message_at words.now place }
 {
-    let i = place as usize;
-    let header = state_words::header_at(words, place);
-    let stage = stage_of(state_words::word_at(words, i + 6));
+    let i = usize::from(place);
     Message {
-        header: header,
-        stage: stage,
+        header: state_words::header_at(words, place),
+        stage: stage_of(state_words::word_at(words, i + 6)),
         length: state_words::u16_at(words, i + 7),
         attempts: state_words::u16_at(words, i + 8),
     }
@@ -61,7 +55,7 @@ fn message_at(words: &[u64], place: u16) -> Message
 fn timer_at(words: &[u64], place: u16) -> Timer
     ensures { result ≡ timer_at words.now place }
 {
-    let i = place as usize;
+    let i = usize::from(place);
     Timer {
         next: state_words::u32_at(words, i),
         window: state_words::u32_at(words, i + 1),
@@ -72,7 +66,7 @@ fn timer_at(words: &[u64], place: u16) -> Timer
 fn noted_at(words: &[u64], place: u16) -> Noted
     ensures { result ≡ noted_at words.now place }
 {
-    let i = place as usize;
+    let i = usize::from(place);
     Noted {
         long: state_words::flag_at(words, i),
         address: state_words::word_at(words, i + 1),
@@ -83,65 +77,55 @@ fn noted_at(words: &[u64], place: u16) -> Noted
 pub fn unpack(words: &[u64; 40]) -> Master
     ensures { result ≡ unpacked words.now }
 {
-    let profile = state_words::profile_at(words, 1);
-    let timer = timer_at(words, 9);
-    let receiver = state_words::receiver_at(words, 12);
-    let noted = noted_at(words, 28);
-    let message = message_at(words, 30);
     Master {
         primary: state_words::flag_at(words, 0),
-        profile: profile,
+        profile: state_words::profile_at(words, 1),
         retries: state_words::u8_at(words, 6),
         deaf: state_words::flag_at(words, 7),
         burst: state_words::flag_at(words, 8),
-        timer: timer,
-        receiver: receiver,
-        noted: noted,
-        message: message,
+        timer: timer_at(words, 9),
+        receiver: state_words::receiver_at(words, 12),
+        noted: noted_at(words, 28),
+        message: message_at(words, 30),
     }
 }
 
 fn front_words(m: Master) -> [u64; 12]
     ensures { result ≡ front_words m }
 {
-    let p = m.profile;
-    let t = m.timer;
     [
-        m.primary as u64,
-        p.sto as u64,
-        p.hold as u64,
-        p.rt2 as u64,
-        p.rt1p as u64,
-        p.rt1s as u64,
-        m.retries as u64,
-        m.deaf as u64,
-        m.burst as u64,
-        t.next as u64,
-        t.window as u64,
-        t.quiet as u64,
+        u64::from(m.primary),
+        u64::from(m.profile.sto),
+        u64::from(m.profile.hold),
+        u64::from(m.profile.rt2),
+        u64::from(m.profile.rt1p),
+        u64::from(m.profile.rt1s),
+        u64::from(m.retries),
+        u64::from(m.deaf),
+        u64::from(m.burst),
+        u64::from(m.timer.next),
+        u64::from(m.timer.window),
+        u64::from(m.timer.quiet),
     ]
 }
 
 fn end_words(limit: u8, m: Master) -> [u64; 12]
     ensures { result ≡ end_words limit m }
 {
-    let n = m.noted;
     let g = m.message;
-    let h = g.header;
-    let stage = g.stage;
     [
-        n.long as u64,
-        n.address,
-        h.kind as u64,
-        h.long as u64,
-        h.primary as u64,
-        h.burst as u64,
-        h.address,
-        h.command as u64,
-        stage_word(stage),
-        g.length as u64,
-        g.attempts as u64,
-        limit as u64,
+        u64::from(m.noted.long),
+        m.noted.address,
+        u64::from(g.header.kind),
+        u64::from(g.header.long),
+        u64::from(g.header.primary),
+        u64::from(g.header.burst),
+        g.header.address,
+        u64::from(g.header.command),
+        stage_word(g.stage),
+        u64::from(g.length),
+        u64::from(g.attempts),
+        u64::from(limit),
     ]
 }
 
@@ -149,13 +133,9 @@ fn end_words(limit: u8, m: Master) -> [u64; 12]
 pub fn pack(words: &mut [u64; 40], limit: u8, m: Master)
     ensures { words.new ≡ packed limit m }
 {
-    let r = m.receiver;
-    let front = front_words(m);
-    let reader = state_words::receiver_words(r);
-    let end = end_words(limit, m);
-    state_words::put(words, 0, &front);
-    state_words::put(words, 12, &reader);
-    state_words::put(words, 28, &end);
+    state_words::put(words, 0, &front_words(m));
+    state_words::put(words, 12, &state_words::receiver_words(m.receiver));
+    state_words::put(words, 28, &end_words(limit, m));
 }
 
 // The data limit that some words hold.
@@ -165,52 +145,25 @@ pub fn limit_at(words: &[u64; 40]) -> u8
     state_words::u8_at(words, 39)
 }
 
-// The next six do nothing. The contract of each says that the numbers of a value are within their types, which the prover knows of a parameter; `master_kept` needs it.
-fn u16_fits(n: u16)
-    ensures { n < 2 ^ 16 }
-{}
-
+// The next three do nothing but call each other. The contract of each says that the numbers of a value are within their types, which the prover knows of a parameter; `master_kept` needs it.
+// A data limit is within its type.
 pub fn limit_fits(limit: u8)
     ensures { limit < 2 ^ 8 }
 {}
 
 fn stage_fits(stage: Stage)
     ensures { StageFits stage }
-{
-    match stage {
-        Stage::Free => {}
-        Stage::Waiting => {}
-        Stage::Sending(n) => u16_fits(n),
-        Stage::Awaiting(n) => u16_fits(n),
-    }
-}
-
-fn timer_fits(t: Timer)
-    ensures { TimerFits t }
 {}
 
-fn message_fits(g: Message)
-    ensures { MessageFits g }
-{
-    let header = g.header;
-    let stage = g.stage;
-    state_words::header_fits(header);
-    stage_fits(stage);
-}
-
+// Every number of a master is within its type.
 pub fn master_fits(m: Master)
     ensures { MasterFits m }
 {
-    let profile = m.profile;
-    let timer = m.timer;
-    let receiver = m.receiver;
-    let message = m.message;
-    state_words::profile_fits(profile);
-    timer_fits(timer);
-    state_words::receiver_fits(receiver);
-    message_fits(message);
+    state_words::receiver_fits(m.receiver);
+    stage_fits(m.message.stage);
 }
 
+// What a master tells its host, as the number that a program in C reads.
 pub fn told_number(told: MasterTold) -> u64
     ensures { result ≡ (master_tells told).number }
 {
@@ -222,14 +175,13 @@ pub fn told_number(told: MasterTold) -> u64
     }
 }
 
+// The attempts of a message that is given up, or 0, as a program in C reads them.
 pub fn told_attempts(told: MasterTold) -> u64
     ensures { result ≡ told_attempts told }
 {
     match told {
-        MasterTold::Nothing => 0,
-        MasterTold::Answered(_) => 0,
-        MasterTold::GivenUp(n) => n as u64,
-        MasterTold::BroadcastSent => 0,
+        MasterTold::GivenUp(n) => u64::from(n),
+        _ => 0,
     }
 }
 
@@ -239,32 +191,27 @@ fn tick(
     frame: &mut [u8; 284],
     bytes: &mut [u8; 255],
     heard: Heard,
-    call: MasterCall,
+    call: Option<Request>,
     put: &[u8],
     results: &mut [u64; 17],
 ) -> u32
     ensures { MasterTicks words frame bytes heard call put.now results result }
 {
-    let m = unpack(words);
     let limit = limit_at(words);
-    let t = master::tick(limit, m, heard, call, put, frame, bytes);
-    let next = t.master;
-    let sent = t.sent;
-    let told = t.told;
-    let event = t.event;
-    let result = t.result;
-    master_fits(next);
+    let t = master::tick(limit, unpack(words), heard, call, put, frame, bytes);
+    master_fits(t.master);
     limit_fits(limit);
-    pack(words, limit, next);
+    pack(words, limit, t.master);
     *results = state_words::tick_numbers(
-        party::sent_number(sent) as u64,
-        told_number(told),
-        told_attempts(told),
-        event,
+        u64::from(party::sent_number(t.sent)),
+        told_number(t.told),
+        told_attempts(t.told),
+        t.event,
     );
-    party::call_number(result)
+    party::call_number(t.result)
 }
 
+// The host's request of these fields, or none.
 pub fn request_of(
     requests: bool,
     preamble: usize,
@@ -272,19 +219,16 @@ pub fn request_of(
     long: bool,
     address: u64,
     command: u8,
-) -> MasterCall
+) -> Option<Request>
     ensures { result ≡ request_of requests preamble revision long address command }
 {
-    if requests {
-        return MasterCall::Requests(Request {
-            preamble: preamble,
-            revision: revision,
-            long: long,
-            address: address,
-            command: command,
-        });
-    }
-    MasterCall::Nothing
+    requests.then_some(Request {
+        preamble,
+        revision,
+        long,
+        address,
+        command,
+    })
 }
 
 // A tick of a master; returns 0, or the number of the request's refusal.

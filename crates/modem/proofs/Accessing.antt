@@ -1,5 +1,5 @@
 -- What an access leaves: what holds of a chip, and of what each access makes of it, holds after a list of accesses.
-use Rattle.std.proofs.Common.{◌≡◌, ℕ, ◌/◌, ◌%◌, Bool, true, false, List, [], ◌∷◌, sym, refl, subst}
+use Rattle.std.proofs.Common.{◌≡◌, ℕ, ◌/◌, ◌%◌, Bool, true, false, List, [], ◌∷◌, refl, subst}
 use Rattle.base.specs.Choice.{when◌then◌else◌, ◌<?◌, ◌=?◌}
 use Rattle.base.specs.Refusal.{accepted, refused}
 use Rattle.base.proofs.Choices.{true_false, went_else}

@@ -1,5 +1,5 @@
 -- The tick count over whatever happens to a chip: behind n ticks it is n more, modulo 2^32, and two readings of it give the ticks between them.
-use Rattle.std.proofs.Common.{◌≡◌, ℕ, ◌+◌, ◌%◌, ◌^◌, ◌<◌, Bool, true, false, List, [], ◌∷◌, refl, ap, ◌∙◌, ap₂, arith}
+use Rattle.std.proofs.Common.{◌≡◌, ℕ, ◌+◌, ◌%◌, ◌^◌, ◌<◌, Bool, true, false, [], ◌∷◌, refl, ap, ◌∙◌, ap₂, arith}
 use Rattle.base.specs.Choice.{when◌then◌else◌}
 use Rattle.modem.specs.Chip.{arrives, chip_after, elapsed}
 use Rattle.modem.specs.Accesses.{Access, reads, writes, accessed}

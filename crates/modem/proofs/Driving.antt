@@ -12,7 +12,7 @@ use Rattle.modem.specs.declared.Mark.{Mark}
 use Rattle.modem.specs.declared.Carried.{Carried}
 use Rattle.modem.specs.declared.Carried.TheVariants.{Nine}
 use Rattle.modem.specs.declared.Chip.{Chip}
-use Rattle.modem.proofs.Sentences.{parity_right, parity_wrong, StatusBits, status_bits}
+use Rattle.modem.proofs.Sentences.{parity_right, parity_wrong, status_bits}
 
 -- ---- what is heard
 

@@ -2,7 +2,6 @@
 use Rattle.std.proofs.Common.{◌≡◌, ℕ, Bool, true, false, List, [], ◌∷◌, sym, refl, ap, ◌∙◌, eqb-true}
 use Rattle.base.specs.Choice.{when◌then◌else◌}
 use Rattle.base.proofs.Choices.{true_false, if_is_false}
-use Rattle.line.specs.declared.Heard.{Heard}
 use Rattle.line.specs.declared.Heard.TheVariants.{Silence}
 use Rattle.modem.specs.Parity.{ninth}
 use Rattle.modem.specs.Chip.{fresh_chip, goes_out}

@@ -3,10 +3,10 @@ use Rattle.std.proofs.Common.{◌≡◌, ℕ, ◌+◌, ◌*◌, ◌/◌, ◌%◌
 use borrow.Author.Tests.{eqb-false}
 use lib.Count.{ones}
 use Rattle.base.specs.Choice.{when◌then◌else◌, ◌<?◌, ◌=?◌, bit}
-use Rattle.base.specs.Refusal.{Called, accepted, refused}
+use Rattle.base.specs.Refusal.{Called, refused}
 use Rattle.base.proofs.Choices.{true_false, if_is_true, if_is_false}
 use Rattle.modem.specs.Parity.{ninth, parity_kind, kind_of}
-use Rattle.modem.specs.Chip.{receives, arrives, interrupt, interrupt_ready, status, count_byte, controlled, loaded, data_written, chip_after, goes_out, elapsed}
+use Rattle.modem.specs.Chip.{receives, arrives, interrupt, interrupt_ready, status, count_byte, loaded, chip_after, goes_out, elapsed}
 use Rattle.modem.specs.Accesses.{register_read, register_written, looked_by, put_by, looks, puts}
 use Rattle.modem.specs.Driver.{other}
 use Rattle.modem.specs.declared.Mark.{Mark}

@@ -2,12 +2,10 @@
 -- Document 02, item 5: reads and writes of the registers. "It refuses a write to bytes 0, 3 and 4 to 7, and any byte above 7, with 19."
 use Rattle.std.specs.Prelude.{ℕ, false, List, [], ◌∷◌}
 use Rattle.base.specs.Choice.{when◌then◌else◌, ◌<?◌, ◌=?◌}
-use Rattle.base.specs.Refusal.{Called, accepted, refused, number}
+use Rattle.base.specs.Refusal.{Called, accepted, refused}
 use Rattle.modem.specs.Chip.{receives, register_at, controlled, data_written}
 use Rattle.modem.specs.declared.Chip.{Chip}
 use Rattle.modem.specs.declared.Looked.{Looked}
-use Rattle.modem.specs.declared.RegisterRead.{RegisterRead}
-use Rattle.modem.specs.declared.RegisterWritten.{RegisterWritten}
 
 -- "Reading byte 2 clears status bit 5."
 abbrev pub register_read : Chip → ℕ → Called Looked
@@ -21,15 +19,6 @@ register_written x n v =
     when n =? 1 then accepted (controlled x v) else
     when n =? 2 then accepted (data_written x v) else
     refused 19
-
--- what a read and a write answer, a refusal by its number
-abbrev pub read_as : RegisterRead → Called Looked
-read_as (RegisterRead.Value v x) = accepted (record { value = v; chip = x })
-read_as (RegisterRead.Refused why) = refused (number why)
-
-abbrev pub written_as : RegisterWritten → Called Chip
-written_as (RegisterWritten.Accepted x) = accepted x
-written_as (RegisterWritten.Refused why) = refused (number why)
 
 -- the value and the chip after a read: a refused one shows 0 and changes nothing
 abbrev pub looked_by : Chip → Called Looked → Looked

@@ -1,14 +1,15 @@
 // The modem chip of document 02, item 5: its registers, its tick, and a driver that hears and sends through them.
 //
 // In a tick: `arrive` with what the line carried in the tick before; then any reads and writes of registers; then `end_tick`, which says what goes out.
-#![tactic(auto)]
+#![tactic(auto, using(base::proofs::Choices::choices))]
 
 ghost use Rattle.std.specs.Prelude.{◌≡◌, ◌≤◌};
 ghost use Rattle.base.specs.Choice.{when◌then◌else◌};
 ghost use Rattle.modem.specs.Parity.{ninth, kind_of};
 ghost use Rattle.modem.specs.Chip.{fresh_chip, receives, arrives, interrupt, interrupt_ready, status_by, status, count_byte, register_at, controlled, loaded, tick_ends, elapsed};
-ghost use Rattle.modem.specs.Accesses.{read_as, register_read, written_as, register_written, looks, puts};
+ghost use Rattle.modem.specs.Accesses.{register_read, register_written, looks, puts};
 ghost use Rattle.modem.specs.Driver.{damaged_by, heard_from, hears, transmits, stays_silent};
+ghost use Rattle.base.specs.Refusal.{called_as};
 
 use base::Refusal;
 use line::{Damage, Heard};
@@ -21,7 +22,7 @@ pub enum Mark {
     Framing,
 }
 
-// What the line carries in a tick: nothing, or a character, its ninth bit and a mark.
+// What the line carries in a tick: nothing, or a character, its ninth bit and a mark. No Option, since the laws of the line name both cases.
 #[derive(Clone, Copy)]
 pub enum Carried {
     Silence,
@@ -50,20 +51,6 @@ pub struct Chip {
     pub kind: u8,
 }
 
-// What reading a register answers: its value, and the chip after the read.
-#[derive(Clone, Copy)]
-pub enum RegisterRead {
-    Value(u8, Chip),
-    Refused(Refusal),
-}
-
-// What writing a register answers.
-#[derive(Clone, Copy)]
-pub enum RegisterWritten {
-    Accepted(Chip),
-    Refused(Refusal),
-}
-
 // What a register shows, and the chip after the read.
 #[derive(Clone, Copy)]
 pub struct Looked {
@@ -89,24 +76,14 @@ pub struct ChipHeard {
 pub fn ninth_bit(c: u8) -> bool
     ensures { result ≡ ninth c }
 {
-    u8::count_ones(c) % 2 == 0
+    c.count_ones() % 2 == 0
 }
 
 // 0 where the ninth bit is right, 1 where it is wrong.
 fn parity_kind(c: u8, bit: bool) -> u8
     ensures { result ≡ kind_of c bit Mark.Sound }
 {
-    let right = ninth_bit(c);
-    if bit {
-        if right {
-            return 0;
-        }
-        return 1;
-    }
-    if right {
-        return 1;
-    }
-    0
+    if bit == ninth_bit(c) { 0 } else { 1 }
 }
 
 // The damage kind of what the line carried: a mark is kept.
@@ -120,6 +97,7 @@ fn kind_of(c: u8, bit: bool, mark: Mark) -> u8
     }
 }
 
+// A chip at its start: all is 0, but for ready.
 pub fn fresh() -> Chip
     ensures { result ≡ fresh_chip }
 {
@@ -137,41 +115,30 @@ pub fn fresh() -> Chip
     }
 }
 
-// A chip with these values for what it receives.
-fn receiving(x: Chip, carrier: bool, latest: u8, kind: u8, received: bool) -> Chip
-    ensures { result ≡ receives x carrier latest kind received }
-{
-    Chip {
-        count: x.count,
-        control: x.control,
-        latest: latest,
-        kind: kind,
-        carrier: carrier,
-        received: received,
-        ready: x.ready,
-        sending: x.sending,
-        outgoing: x.outgoing,
-        deaf: x.deaf,
-    }
-}
-
 // The kind that byte 3 shows for a character that arrives.
 fn kind_kept(x: Chip, c: u8, bit: bool, mark: Mark) -> u8
     ensures { result ≡ (when x.received then 2 else kind_of c bit mark) }
 {
-    if x.received {
-        return 2;
-    }
-    kind_of(c, bit, mark)
+    if x.received { 2 } else { kind_of(c, bit, mark) }
 }
 
 fn nine_arrive(x: Chip, c: u8, bit: bool, mark: Mark) -> Chip
     ensures { result ≡ arrives x (Carried.Nine c bit mark) }
 {
     if x.deaf {
-        return receiving(x, false, x.latest, x.kind, x.received);
+        Chip {
+            carrier: false,
+            ..x
+        }
+    } else {
+        Chip {
+            carrier: true,
+            latest: c,
+            kind: kind_kept(x, c, bit, mark),
+            received: true,
+            ..x
+        }
     }
-    receiving(x, true, c, kind_kept(x, c, bit, mark), true)
 }
 
 // A tick begins, with what the line carried in the tick before.
@@ -179,7 +146,10 @@ pub fn arrive(x: Chip, carried: Carried) -> Chip
     ensures { result ≡ arrives x carried }
 {
     match carried {
-        Carried::Silence => receiving(x, false, x.latest, x.kind, x.received),
+        Carried::Silence => Chip {
+            carrier: false,
+            ..x
+        },
         Carried::Nine(c, bit, mark) => nine_arrive(x, c, bit, mark),
     }
 }
@@ -187,35 +157,24 @@ pub fn arrive(x: Chip, carried: Carried) -> Chip
 fn interrupt_ready(x: Chip) -> bool
     ensures { result ≡ interrupt_ready x }
 {
-    if x.ready {
-        return x.control / 32 % 2 == 1;
-    }
-    false
+    x.ready && x.control / 32 % 2 == 1
 }
 
 // Status bit 3.
 fn interrupt_of(x: Chip) -> bool
     ensures { result ≡ interrupt x }
 {
-    if x.received {
-        if x.control / 64 % 2 == 1 {
-            return true;
-        }
-        return interrupt_ready(x);
-    }
-    interrupt_ready(x)
+    (x.received && x.control / 64 % 2 == 1) || interrupt_ready(x)
 }
 
 // A bit of the status byte.
 fn shown(on: bool, bit: u8) -> u8
     ensures { (result ≡ (when on then bit else 0)) × (result ≤ bit) }
 {
-    if on {
-        return bit;
-    }
-    0
+    if on { bit } else { 0 }
 }
 
+// The status byte, with the arithmetic of its definition.
 fn status_by(x: Chip, interrupting: bool) -> u8
     ensures { result ≡ status_by x interrupting }
 {
@@ -232,104 +191,69 @@ fn status_of(x: Chip) -> u8
     status_by(x, interrupt_of(x))
 }
 
-// A byte of the tick count, most significant first.
+// A byte of the tick count, most significant first, with the arithmetic of its definition.
 fn count_byte(count: u32, n: usize) -> u8
     ensures { result ≡ count_byte count n }
 {
-    if n == 4 {
-        return (count / 16777216 % 256) as u8;
+    match n {
+        4 => (count / 16777216 % 256) as u8,
+        5 => (count / 65536 % 256) as u8,
+        6 => (count / 256 % 256) as u8,
+        _ => (count % 256) as u8,
     }
-    if n == 5 {
-        return (count / 65536 % 256) as u8;
-    }
-    if n == 6 {
-        return (count / 256 % 256) as u8;
-    }
-    (count % 256) as u8
 }
 
 // What a register shows.
 fn register_at(x: Chip, n: usize) -> u8
     ensures { result ≡ register_at x n }
 {
-    if n == 0 {
-        return status_of(x);
+    match n {
+        0 => status_of(x),
+        1 => x.control,
+        2 => x.latest,
+        3 => x.kind,
+        _ => count_byte(x.count, n),
     }
-    if n == 1 {
-        return x.control;
-    }
-    if n == 2 {
-        return x.latest;
-    }
-    if n == 3 {
-        return x.kind;
-    }
-    count_byte(x.count, n)
 }
 
 // Reads a register. Reading byte 2 clears status bit 5.
-pub fn read(x: Chip, n: usize) -> RegisterRead
-    ensures { read_as result ≡ register_read x n }
+pub fn read(x: Chip, n: usize) -> Result<Looked, Refusal>
+    ensures { called_as result ≡ register_read x n }
 {
     if 7 < n {
-        return RegisterRead::Refused(Refusal::Register);
+        return Err(Refusal::Register);
     }
     let value = register_at(x, n);
-    if n == 2 {
-        return RegisterRead::Value(value, receiving(x, x.carrier, x.latest, x.kind, false));
-    }
-    RegisterRead::Value(value, x)
-}
-
-// A chip with another control byte.
-fn controlling(x: Chip, v: u8) -> Chip
-    ensures { result ≡ controlled x v }
-{
-    Chip {
-        count: x.count,
-        control: v / 32 * 32,
-        latest: x.latest,
-        kind: x.kind,
-        carrier: x.carrier,
-        received: x.received,
-        ready: x.ready,
-        sending: x.sending,
-        outgoing: x.outgoing,
-        deaf: x.deaf,
-    }
-}
-
-fn loading(x: Chip, sending: bool, outgoing: u8) -> Chip
-    ensures { result ≡ loaded x sending outgoing }
-{
-    Chip {
-        count: x.count,
-        control: x.control,
-        latest: x.latest,
-        kind: x.kind,
-        carrier: x.carrier,
-        received: x.received,
-        ready: false,
-        sending: sending,
-        outgoing: outgoing,
-        deaf: x.deaf,
-    }
+    let chip = if n == 2 {
+        Chip {
+            received: false,
+            ..x
+        }
+    } else {
+        x
+    };
+    Ok(Looked { value, chip })
 }
 
 // Writes a register.
-pub fn write(x: Chip, n: usize, v: u8) -> RegisterWritten
-    ensures { written_as result ≡ register_written x n v }
+pub fn write(x: Chip, n: usize, v: u8) -> Result<Chip, Refusal>
+    ensures { called_as result ≡ register_written x n v }
 {
-    if n == 1 {
-        return RegisterWritten::Accepted(controlling(x, v));
+    match n {
+        1 => Ok(Chip {
+            control: v / 32 * 32,
+            ..x
+        }),
+        2 if x.ready => Ok(Chip {
+            ready: false,
+            sending: x.control / 128 % 2 == 1,
+            outgoing: v,
+            ..x
+        }),
+        // a tick's later writes are lost
+        2 => Ok(x),
+        _ => Err(Refusal::Register),
     }
-    if n == 2 {
-        if x.ready {
-            return RegisterWritten::Accepted(loading(x, x.control / 128 % 2 == 1, v));
-        }
-        return RegisterWritten::Accepted(loading(x, x.sending, x.outgoing));
-    }
-    RegisterWritten::Refused(Refusal::Register)
 }
 
 // A tick ends: what goes out, and the chip after it.
@@ -337,34 +261,25 @@ pub fn end_tick(x: Chip) -> TickEnded
     ensures { result ≡ tick_ends x }
 {
     let chip = Chip {
-        count: std::num::wrapping_add_u32(x.count, 1),
-        control: x.control,
-        latest: x.latest,
-        kind: x.kind,
-        carrier: x.carrier,
-        received: x.received,
+        count: x.count.wrapping_add(1),
         ready: true,
         sending: false,
-        outgoing: x.outgoing,
         deaf: x.sending,
+        ..x
     };
-    if x.sending {
-        return TickEnded {
-            chip: chip,
-            carried: Carried::Nine(x.outgoing, ninth_bit(x.outgoing), Mark::Sound),
-        };
-    }
-    TickEnded {
-        chip: chip,
-        carried: Carried::Silence,
-    }
+    let carried = if x.sending {
+        Carried::Nine(x.outgoing, ninth_bit(x.outgoing), Mark::Sound)
+    } else {
+        Carried::Silence
+    };
+    TickEnded { chip, carried }
 }
 
 // Ticks from one reading of the tick count to a later one.
 pub fn elapsed_ticks(from: u32, to: u32) -> u32
     ensures { result ≡ elapsed from to }
 {
-    std::num::wrapping_sub_u32(to, from)
+    to.wrapping_sub(from)
 }
 
 // ---- the driver
@@ -373,40 +288,25 @@ pub fn elapsed_ticks(from: u32, to: u32) -> u32
 pub fn look(x: Chip, n: usize) -> Looked
     ensures { result ≡ looks x n }
 {
-    let result = read(x, n);
-    match result {
-        RegisterRead::Value(value, chip) => Looked {
-            value: value,
-            chip: chip,
-        },
-        RegisterRead::Refused(_) => Looked { value: 0, chip: x },
-    }
+    read(x, n).unwrap_or(Looked { value: 0, chip: x })
 }
 
 // Writes a register; a refused write changes nothing.
 pub fn put(x: Chip, n: usize, v: u8) -> Chip
     ensures { result ≡ puts x n v }
 {
-    let result = write(x, n, v);
-    match result {
-        RegisterWritten::Accepted(chip) => chip,
-        RegisterWritten::Refused(_) => x,
-    }
+    write(x, n, v).unwrap_or(x)
 }
 
 fn damaged_by(c: u8, kind: u8) -> Heard
     ensures { result ≡ damaged_by c kind }
 {
-    if kind == 0 {
-        return Heard::Character(c);
+    match kind {
+        0 => Heard::Character(c),
+        1 => Heard::Damaged(c, Damage::Parity),
+        2 => Heard::Damaged(c, Damage::Overrun),
+        _ => Heard::Damaged(c, Damage::Framing),
     }
-    if kind == 1 {
-        return Heard::Damaged(c, Damage::Parity);
-    }
-    if kind == 2 {
-        return Heard::Damaged(c, Damage::Overrun);
-    }
-    Heard::Damaged(c, Damage::Framing)
 }
 
 // What status, damage kind and character say was heard.
@@ -414,9 +314,10 @@ fn heard_from(status: u8, kind: u8, c: u8) -> Heard
     ensures { result ≡ heard_from status kind c }
 {
     if status / 32 % 2 == 1 {
-        return damaged_by(c, kind);
+        damaged_by(c, kind)
+    } else {
+        Heard::Silence
     }
-    Heard::Silence
 }
 
 // What was heard: status, byte 3, then byte 2 are read, in every tick.
@@ -426,11 +327,9 @@ pub fn hear(x: Chip) -> ChipHeard
     let status = look(x, 0);
     let kind = look(status.chip, 3);
     let character = look(kind.chip, 2);
-    let heard = heard_from(status.value, kind.value, character.value);
-    let chip = character.chip;
     ChipHeard {
-        chip: chip,
-        heard: heard,
+        chip: character.chip,
+        heard: heard_from(status.value, kind.value, character.value),
     }
 }
 

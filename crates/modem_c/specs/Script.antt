@@ -1,6 +1,6 @@
 -- How the code stands for what is to be believed.
 -- A script for the modem chip has two bytes for each access: 16 times the operation plus a low part, and a value. Each access gives a number.
-use Rattle.std.specs.Prelude.{ℕ, ◌+◌, ◌*◌, ◌/◌, ◌%◌, List, ◌≡◌}
+use Rattle.std.specs.Prelude.{ℕ, ◌+◌, ◌*◌, ◌/◌, ◌%◌, List}
 use Rattle.base.specs.Choice.{when◌then◌else◌, ◌<?◌, ◌=?◌}
 use Rattle.base.specs.Refusal.{Called, accepted, refused}
 use Rattle.recording.specs.Recording.{Ticked, trace}

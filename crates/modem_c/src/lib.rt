@@ -1,13 +1,13 @@
 // The modem chip for programs in C and Rust, run over a script of accesses, with a number for each.
-#![tactic(auto)]
+#![tactic(auto, using(base::proofs::Choices::choices))]
 
-ghost use Rattle.std.specs.Prelude.{◌≡◌};
+ghost use Rattle.std.specs.Prelude.{◌≡◌, ◌%◌, MatchResult};
+ghost use Rattle.base.specs.Refusal.{number};
 ghost use Rattle.recording.specs.Recording.{RunIs};
-ghost use Rattle.modem.specs.Chip.{goes_out, chip_after};
-ghost use Rattle.modem.specs.Accesses.{register_read, register_written};
-ghost use Rattle.modem_c.specs.Script.{gives, accessed_as, register_of, read_refusal, write_refusal, on_register, mark_of, out_number, out_character, counting, on_tick, accessed, answers};
+ghost use Rattle.modem_c.specs.Script.{accessed_as, register_of, on_register, mark_of, out_number, out_character, counting, on_tick, accessed, answers};
 
-use modem::{Carried, Chip, Mark, RegisterRead, RegisterWritten};
+use base::Refusal;
+use modem::{Carried, Chip, Mark};
 
 // The chip after an access, and what it gives.
 #[derive(Clone, Copy)]
@@ -20,28 +20,19 @@ fn register_of(low: u8) -> usize
     ensures { result ≡ register_of low }
 {
     if low < 10 {
-        return low as usize;
-    }
-    (low as usize) + 245
-}
-
-fn read_refusal(x: Chip, n: usize) -> u8
-    ensures { result ≡ read_refusal (register_read x n) }
-{
-    let result = modem::read(x, n);
-    match result {
-        RegisterRead::Value(_, _) => 0,
-        RegisterRead::Refused(why) => (why.number() % 256) as u8,
+        usize::from(low)
+    } else {
+        usize::from(low) + 245
     }
 }
 
-fn write_refusal(x: Chip, n: usize, v: u8) -> u8
-    ensures { result ≡ write_refusal (register_written x n v) }
+// 0, or the number of the refusal.
+fn refusal_number<T: Drop>(answer: Result<T, Refusal>) -> u8
+    ensures { MatchResult answer (λ given. result ≡ 0) (λ why. result ≡ number why % 256) }
 {
-    let result = modem::write(x, n, v);
-    match result {
-        RegisterWritten::Accepted(_) => 0,
-        RegisterWritten::Refused(why) => (why.number() % 256) as u8,
+    match answer {
+        Ok(_) => 0,
+        Err(why) => (why.number() % 256) as u8,
     }
 }
 
@@ -49,45 +40,33 @@ fn write_refusal(x: Chip, n: usize, v: u8) -> u8
 fn on_register(x: Chip, operation: u8, n: usize, v: u8) -> Accessed
     ensures { accessed_as result ≡ on_register x operation n v }
 {
-    if operation == 0 {
-        let looked = modem::look(x, n);
-        let chip = looked.chip;
-        return Accessed {
-            number: looked.value,
-            chip: chip,
-        };
-    }
-    if operation == 1 {
-        return Accessed {
-            number: read_refusal(x, n),
+    match operation {
+        0 => {
+            let looked = modem::look(x, n);
+            Accessed {
+                number: looked.value,
+                chip: looked.chip,
+            }
+        }
+        1 => Accessed {
+            number: refusal_number(modem::read(x, n)),
             chip: x,
-        };
-    }
-    Accessed {
-        number: write_refusal(x, n, v),
-        chip: modem::put(x, n, v),
+        },
+        _ => Accessed {
+            number: refusal_number(modem::write(x, n, v)),
+            chip: modem::put(x, n, v),
+        },
     }
 }
 
 fn mark_of(n: u8) -> Mark
     ensures { result ≡ mark_of n }
 {
-    if n == 1 {
-        return Mark::Overrun;
+    match n {
+        1 => Mark::Overrun,
+        2 => Mark::Framing,
+        _ => Mark::Sound,
     }
-    if n == 2 {
-        return Mark::Framing;
-    }
-    Mark::Sound
-}
-
-fn ninth_number(ninth: bool) -> u8
-    ensures { result ≡ out_number (Carried.Nine 0 ninth Mark.Sound) }
-{
-    if ninth {
-        return 2;
-    }
-    1
 }
 
 fn out_number(carried: Carried) -> u8
@@ -95,7 +74,8 @@ fn out_number(carried: Carried) -> u8
 {
     match carried {
         Carried::Silence => 0,
-        Carried::Nine(_, ninth, _) => ninth_number(ninth),
+        Carried::Nine(_, false, _) => 1,
+        Carried::Nine(_, true, _) => 2,
     }
 }
 
@@ -112,86 +92,41 @@ fn with_count(x: Chip, v: u8) -> Chip
     ensures { result ≡ counting x v }
 {
     Chip {
-        count: x.count % 16777216 * 256 + (v as u32),
-        control: x.control,
-        latest: x.latest,
-        kind: x.kind,
-        carrier: x.carrier,
-        received: x.received,
-        ready: x.ready,
-        sending: x.sending,
-        outgoing: x.outgoing,
-        deaf: x.deaf,
+        count: x.count % 16777216 * 256 + u32::from(v),
+        ..x
     }
-}
-
-// The tick ends.
-fn ended(x: Chip) -> Accessed
-    ensures { accessed_as result ≡ gives (out_number (goes_out x)) (chip_after x) }
-{
-    let t = modem::end_tick(x);
-    let carried = t.carried;
-    let chip = t.chip;
-    Accessed {
-        number: out_number(carried),
-        chip: chip,
-    }
-}
-
-// The character that goes out at the tick's end.
-fn character_out(x: Chip) -> u8
-    ensures { result ≡ out_character (goes_out x) }
-{
-    let t = modem::end_tick(x);
-    let carried = t.carried;
-    out_character(carried)
 }
 
 // Operations 3 to 15.
 fn on_tick(x: Chip, operation: u8, low: u8, v: u8) -> Accessed
     ensures { accessed_as result ≡ on_tick x operation low v }
 {
-    if operation == 3 {
-        return Accessed {
-            number: 0,
-            chip: modem::arrive(x, Carried::Silence),
-        };
-    }
-    if operation == 4 {
-        let mark = mark_of(low / 2);
-        return Accessed {
-            number: 0,
-            chip: modem::arrive(x, Carried::Nine(v, low % 2 == 1, mark)),
-        };
-    }
-    if operation == 5 {
-        return ended(x);
-    }
-    if operation == 6 {
-        return Accessed {
-            number: character_out(x),
-            chip: x,
-        };
-    }
-    if operation == 7 {
-        return Accessed {
-            number: 0,
-            chip: modem::fresh(),
-        };
-    }
-    Accessed {
-        number: 0,
-        chip: with_count(x, v),
-    }
+    let (number, chip) = match operation {
+        3 => (0, modem::arrive(x, Carried::Silence)),
+        4 => (
+            0,
+            modem::arrive(x, Carried::Nine(v, low % 2 == 1, mark_of(low / 2))),
+        ),
+        5 => {
+            let ended = modem::end_tick(x);
+            (out_number(ended.carried), ended.chip)
+        }
+        6 => (out_character(modem::end_tick(x).carried), x),
+        7 => (0, modem::fresh()),
+        _ => (0, with_count(x, v)),
+    };
+    Accessed { number, chip }
 }
 
+#[tactic(auto, using(base::proofs::Choices::choices), unfolding(crate::specs::Script::accessed))]
 fn access(x: Chip, first: u8, v: u8) -> Accessed
     ensures { accessed_as result ≡ accessed x first v }
 {
     if first / 16 < 3 {
-        return on_register(x, first / 16, register_of(first % 16), v);
+        on_register(x, first / 16, register_of(first % 16), v)
+    } else {
+        on_tick(x, first / 16, first % 16, v)
     }
-    on_tick(x, first / 16, first % 16, v)
 }
 
 // What each access of a script gives, from a fresh chip on: at the front of events, for as many accesses as both have room for. Returns their number.
@@ -200,17 +135,11 @@ pub extern "C" fn nengapiko_modem(script: &[u8], events: &mut [u8]) -> usize
     ensures { RunIs (answers script.now) events.old result events.new }
 {
     let mut x = modem::fresh();
-    let mut at = 0;
-    let mut i = 0;
-    while i < events.len() {
-        if script.len() - at < 2 {
-            return i;
-        }
-        let accessed = access(x, script[at], script[at + 1]);
+    let count = events.len().min(script.len() / 2);
+    for i in 0..count {
+        let accessed = access(x, script[2 * i], script[2 * i + 1]);
         events[i] = accessed.number;
         x = accessed.chip;
-        at += 2;
-        i += 1;
     }
-    i
+    count
 }

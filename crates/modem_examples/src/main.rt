@@ -4,140 +4,73 @@
 // Control bit 6 is set throughout. Printed are, for each tick in which the line carried something, the chip sends or the host calls: the registers after the tick's beginning, the status after the driver's reads and after its writes, what goes out with its ninth bit, what is told and what the call came to. The stored lines were worked out before the program ran: ticks and characters by document 01, the ninth bit, 1 where a character's ones are even, and the registers by document 02.
 #![tactic(auto)]
 
-use device::DeviceStarted;
 use device_tick::DeviceCall;
 use line::Profile;
-use master::{MasterCall, MasterStarted};
 use modem::{Carried, Chip, Mark};
 use modem_party::Arrival;
 use std::io;
 use texts::{put_bytes, put_decimal, put_field, put_hexadecimal};
 use turns::{CallResult, Device, DeviceTold, Master, MasterTold, Request, Wish};
 
-// What a host is told, by either party.
-#[derive(Clone, Copy)]
-enum Told {
-    Nothing,
-    Answered,
-    GivenUp,
-    BroadcastSent,
-    Request,
-    Broadcast,
-}
+// The STX of a primary, and the ACK that a device sends.
+const STX: [u8; 10] = [0xFF, 0xFF, 0xFF, 0xFF, 0xFF, 0x02, 0x80, 0x00, 0x00, 0x82];
 
-fn sound(c: u8) -> Carried {
-    Carried::Nine(c, modem::ninth_bit(c), Mark::Sound)
-}
+const ACK: [u8; 12] = [
+    0xFF, 0xFF, 0xFF, 0xFF, 0xFF, 0x06, 0x80, 0x00, 0x02, 0x00, 0x00, 0x84,
+];
 
-// The STX of a primary.
-fn stx_at(place: u8) -> Carried {
-    match place {
-        0..=4 => sound(0xFF),
-        5 => sound(0x02),
-        6 => sound(0x80),
-        7 => sound(0x00),
-        8 => sound(0x00),
-        9 => sound(0x82),
-        _ => Carried::Silence,
+// What the line carries in a tick of a frame that is sent from its first tick on.
+fn carries(frame: &[u8], first: u8, tick: u8) -> Carried {
+    if tick < first {
+        return Carried::Silence;
+    }
+    match frame.get(usize::from(tick - first)) {
+        Some(c) => Carried::Nine(*c, modem::ninth_bit(*c), Mark::Sound),
+        None => Carried::Silence,
     }
 }
 
-// It is sent in ticks 1 to 10.
+// The request is sent in ticks 1 to 10.
 fn request_at(tick: u8) -> Carried {
-    if tick < 1 {
-        return Carried::Silence;
-    }
-    stx_at(tick - 1)
+    carries(&STX, 1, tick)
 }
 
-// The ACK that a device sends.
-fn ack_at(place: u8) -> Carried {
-    match place {
-        0..=4 => sound(0xFF),
-        5 => sound(0x06),
-        6 => sound(0x80),
-        7 => sound(0x00),
-        8 => sound(0x02),
-        9 => sound(0x00),
-        10 => sound(0x00),
-        11 => sound(0x84),
-        _ => Carried::Silence,
-    }
-}
-
-// The same, with both data bytes damaged.
-fn damaged_at(place: u8) -> Carried {
-    match place {
-        9 => Carried::Nine(0x00, false, Mark::Sound),
-        10 => Carried::Nine(0x00, true, Mark::Framing),
-        _ => ack_at(place),
-    }
-}
-
-// It is sent in ticks 44 to 55, damaged, and in ticks 100 to 111.
+// The answer is sent in ticks 44 to 55, with both data bytes damaged, and in ticks 100 to 111.
 fn answer_at(tick: u8) -> Carried {
-    if tick < 44 {
-        return Carried::Silence;
+    match tick {
+        53 => Carried::Nine(0x00, false, Mark::Sound),
+        54 => Carried::Nine(0x00, true, Mark::Framing),
+        0..=99 => carries(&ACK, 44, tick),
+        _ => carries(&ACK, 100, tick),
     }
-    if tick < 100 {
-        return damaged_at(tick - 44);
-    }
-    ack_at(tick - 100)
 }
 
-fn call_at(tick: u8) -> MasterCall {
-    let wanted = Request {
-        preamble: 5,
-        revision: 7,
-        long: false,
-        address: 0,
-        command: 0,
-    };
+fn call_at(tick: u8) -> Option<Request> {
     match tick {
-        0 => MasterCall::Requests(wanted),
-        59 => MasterCall::Requests(wanted),
-        _ => MasterCall::Nothing,
+        0 | 59 => Some(Request {
+            preamble: 5,
+            revision: 7,
+            long: false,
+            address: 0,
+            command: 0,
+        }),
+        _ => None,
     }
 }
 
 fn answers_at(tick: u8) -> DeviceCall {
     match tick {
-        0 => DeviceCall::Answers(Wish::Same),
-        12 => DeviceCall::Answers(Wish::Same),
+        0 | 12 => DeviceCall::Answers(Wish::Same),
         _ => DeviceCall::Nothing,
     }
 }
 
 fn is_silence(carried: Carried) -> bool {
-    match carried {
-        Carried::Silence => true,
-        Carried::Nine(_, _, _) => false,
-    }
-}
-
-fn is_called(res: CallResult) -> bool {
-    match res {
-        CallResult::Nothing => false,
-        CallResult::Taken => true,
-        CallResult::Refused(_) => true,
-    }
+    matches!(carried, Carried::Silence)
 }
 
 fn is_shown(carried: Carried, sent: Carried, res: CallResult) -> bool {
-    if is_silence(carried) {
-        if is_silence(sent) {
-            return is_called(res);
-        }
-        return true;
-    }
-    true
-}
-
-fn put_bit(bit: bool, out: &mut [u8], at: usize) -> usize {
-    if bit {
-        return put_bytes(b" 1", out, at);
-    }
-    put_bytes(b" 0", out, at)
+    !is_silence(carried) || !is_silence(sent) || !matches!(res, CallResult::Nothing)
 }
 
 // What goes out, with its ninth bit.
@@ -147,36 +80,25 @@ fn put_sent(sent: Carried, out: &mut [u8], at: usize) -> usize {
         Carried::Nine(c, ninth, _) => {
             let mut place = put_bytes(b"      ", out, at);
             place = put_hexadecimal(true, c, out, place);
-            put_bit(ninth, out, place)
+            put_field(b" ", texts::bit(ninth), out, place)
         }
     }
 }
 
-fn told_by_master(told: MasterTold) -> Told {
+fn told_by_master(told: MasterTold) -> &'static [u8] {
     match told {
-        MasterTold::Nothing => Told::Nothing,
-        MasterTold::Answered(_) => Told::Answered,
-        MasterTold::GivenUp(_) => Told::GivenUp,
-        MasterTold::BroadcastSent => Told::BroadcastSent,
+        MasterTold::Nothing => b"",
+        MasterTold::Answered(_) => b" answered",
+        MasterTold::GivenUp(_) => b" given up",
+        MasterTold::BroadcastSent => b" broadcast sent",
     }
 }
 
-fn told_by_device(told: DeviceTold) -> Told {
+fn told_by_device(told: DeviceTold) -> &'static [u8] {
     match told {
-        DeviceTold::Nothing => Told::Nothing,
-        DeviceTold::Request(_) => Told::Request,
-        DeviceTold::Broadcast(_) => Told::Broadcast,
-    }
-}
-
-fn put_told(told: Told, out: &mut [u8], at: usize) -> usize {
-    match told {
-        Told::Nothing => at,
-        Told::Answered => put_bytes(b" answered", out, at),
-        Told::GivenUp => put_bytes(b" given up", out, at),
-        Told::BroadcastSent => put_bytes(b" broadcast sent", out, at),
-        Told::Request => put_bytes(b" request", out, at),
-        Told::Broadcast => put_bytes(b" broadcast", out, at),
+        DeviceTold::Nothing => b"",
+        DeviceTold::Request(_) => b" request",
+        DeviceTold::Broadcast(_) => b" broadcast",
     }
 }
 
@@ -185,7 +107,7 @@ fn put_answer(res: CallResult, out: &mut [u8], at: usize) -> usize {
         CallResult::Nothing => put_bytes(b"\n", out, at),
         CallResult::Taken => put_bytes(b" taken\n", out, at),
         CallResult::Refused(why) => {
-            let place = put_field(b" refused ", why as u64, out, at);
+            let place = put_field(b" refused ", u64::from(why), out, at);
             put_bytes(b"\n", out, place)
         }
     }
@@ -194,15 +116,14 @@ fn put_answer(res: CallResult, out: &mut [u8], at: usize) -> usize {
 // A register, after some spaces.
 fn put_register(spaces: &[u8], x: Chip, n: usize, out: &mut [u8], at: usize) -> usize {
     let place = put_bytes(spaces, out, at);
-    let looked = modem::look(x, n);
-    put_hexadecimal(true, looked.value, out, place)
+    put_hexadecimal(true, modem::look(x, n).value, out, place)
 }
 
 // A tick in three digits.
 fn put_tick(tick: u8, out: &mut [u8]) -> usize {
-    let mut place = put_decimal((tick / 100) as u64, out, 0);
-    place = put_decimal((tick / 10 % 10) as u64, out, place);
-    put_decimal((tick % 10) as u64, out, place)
+    let mut place = put_decimal(u64::from(tick / 100), out, 0);
+    place = put_decimal(u64::from(tick / 10 % 10), out, place);
+    put_decimal(u64::from(tick % 10), out, place)
 }
 
 // Status, control, data and kind.
@@ -232,123 +153,106 @@ fn written(x: Chip, sent: Carried) -> Chip {
 // The status after the driver's reads, and after its writes.
 fn put_status(x: Chip, sent: Carried, out: &mut [u8], at: usize) -> usize {
     let h = modem::hear(x);
-    let chip = h.chip;
-    let place = put_register(b"  ", chip, 0, out, at);
-    put_register(b"   ", written(chip, sent), 0, out, place)
+    let place = put_register(b"  ", h.chip, 0, out, at);
+    put_register(b"   ", written(h.chip, sent), 0, out, place)
 }
 
-fn print_tick(
-    rt: &impl Print,
+// A party's tick behind its chip: what arrived, what goes out, what is told and what the call came to.
+#[derive(Clone, Copy)]
+struct Shown {
     tick: u8,
-    x: Chip,
+    arrival: Arrival,
     sent: Carried,
-    told: Told,
-    res: CallResult,
-    out: &mut [u8],
-) -> io::Result<()> {
-    let mut place = put_tick(tick, out);
-    place = put_first(x, out, place);
-    place = put_count(x, out, place);
-    place = put_status(x, sent, out, place);
-    place = put_sent(sent, out, place);
-    place = put_told(told, out, place);
-    place = put_answer(res, out, place);
-    rt.write_all(texts::front(out, place))
+    told: &'static [u8],
+    result: CallResult,
 }
 
-fn show(
-    rt: &impl Print,
-    tick: u8,
-    x: Chip,
-    carried: Carried,
-    sent: Carried,
-    told: Told,
-    res: CallResult,
-) -> io::Result<()> {
-    if is_shown(carried, sent, res) {
-        let mut out = [0u8; 4096];
-        print_tick(
-            rt,
-            tick,
-            modem::arrive(x, carried),
-            sent,
-            told,
-            res,
-            &mut out,
-        )?;
+fn show(rt: &impl Print, s: Shown) -> io::Result<()> {
+    if !is_shown(s.arrival.carried, s.sent, s.result) {
+        return Ok(());
     }
-    Ok(())
+    let mut out = [0u8; 4096];
+    let x = modem::arrive(s.arrival.chip, s.arrival.carried);
+    let mut place = put_tick(s.tick, &mut out);
+    place = put_first(x, &mut out, place);
+    place = put_count(x, &mut out, place);
+    place = put_status(x, s.sent, &mut out, place);
+    place = put_sent(s.sent, &mut out, place);
+    place = put_bytes(s.told, &mut out, place);
+    place = put_answer(s.result, &mut out, place);
+    rt.write_all(texts::front(&out, place))
 }
 
 // What the line carries: what the chip sends, or else the other party's character.
 fn joined(sent: Carried, others: Carried) -> Carried {
     match sent {
         Carried::Silence => others,
-        Carried::Nine(c, ninth, mark) => Carried::Nine(c, ninth, mark),
+        Carried::Nine(..) => sent,
     }
 }
 
-fn run_master(
-    rt: &impl Print,
-    start: Master,
-    frame: &mut [u8; 284],
-    bytes: &mut [u8; 255],
-) -> io::Result<()> {
-    let mut x = modem::put(modem::fresh(), 1, 64);
-    let mut m = start;
+fn run_master(rt: &impl Print, start: Master) -> io::Result<()> {
+    let mut frame = [0u8; 284];
+    let mut bytes = [0u8; 255];
+    let mut chip = modem::put(modem::fresh(), 1, 64);
     let mut carried = Carried::Silence;
-    let mut next = 0;
-    while next < 113 {
-        let tick = next;
-        next += 1;
-        let call = call_at(tick);
-        let arrival = Arrival {
-            chip: x,
-            carried: carried,
+    let mut m = start;
+    for tick in 0..113 {
+        let arrival = Arrival { chip, carried };
+        let b = modem_party::master_tick(
+            255,
+            arrival,
+            m,
+            call_at(tick),
+            &[],
+            &mut frame,
+            &mut bytes,
+        );
+        let shown = Shown {
+            tick,
+            arrival,
+            sent: b.ended.carried,
+            told: told_by_master(b.ticked.told),
+            result: b.ticked.result,
         };
-        let b = modem_party::master_tick(255, arrival, m, call, &[], frame, bytes);
-        let ticked = b.ticked;
-        let ended = b.ended;
-        let sent = ended.carried;
-        let told = ticked.told;
-        let result = ticked.result;
-        show(rt, tick, x, carried, sent, told_by_master(told), result)?;
-        carried = joined(sent, answer_at(tick));
-        x = ended.chip;
-        m = ticked.master;
+        show(rt, shown)?;
+        carried = joined(b.ended.carried, answer_at(tick));
+        chip = b.ended.chip;
+        m = b.ticked.master;
     }
     Ok(())
 }
 
-fn run_device(
-    rt: &impl Print,
-    start: Device,
-    contents: &mut [u8; 255],
-    frame: &mut [u8; 284],
-    bytes: &mut [u8; 255],
-) -> io::Result<()> {
-    let mut x = modem::put(modem::fresh(), 1, 64);
-    let mut d = start;
+fn run_device(rt: &impl Print, start: Device) -> io::Result<()> {
+    let mut contents = [0u8; 255];
+    let mut frame = [0u8; 284];
+    let mut bytes = [0u8; 255];
+    let mut chip = modem::put(modem::fresh(), 1, 64);
     let mut carried = Carried::Silence;
-    let mut next = 0;
-    while next < 26 {
-        let tick = next;
-        next += 1;
-        let call = answers_at(tick);
-        let arrival = Arrival {
-            chip: x,
-            carried: carried,
+    let mut d = start;
+    for tick in 0..26 {
+        let arrival = Arrival { chip, carried };
+        let b = modem_party::device_tick(
+            255,
+            arrival,
+            d,
+            answers_at(tick),
+            &[0, 0],
+            &mut contents,
+            &mut frame,
+            &mut bytes,
+        );
+        let shown = Shown {
+            tick,
+            arrival,
+            sent: b.ended.carried,
+            told: told_by_device(b.ticked.told),
+            result: b.ticked.result,
         };
-        let b = modem_party::device_tick(255, arrival, d, call, &[0, 0], contents, frame, bytes);
-        let ticked = b.ticked;
-        let ended = b.ended;
-        let sent = ended.carried;
-        let told = ticked.told;
-        let result = ticked.result;
-        show(rt, tick, x, carried, sent, told_by_device(told), result)?;
-        carried = joined(sent, request_at(tick));
-        x = ended.chip;
-        d = ticked.device;
+        show(rt, shown)?;
+        carried = joined(b.ended.carried, request_at(tick));
+        chip = b.ended.chip;
+        d = b.ticked.device;
     }
     Ok(())
 }
@@ -359,24 +263,19 @@ fn print_head(rt: &impl Print, party: &[u8]) -> io::Result<()> {
 }
 
 fn show_primary(rt: &impl Print) -> io::Result<()> {
-    let mut frame = [0u8; 284];
-    let mut bytes = [0u8; 255];
-    let MasterStarted::Started(m) = master::start(Profile::fsk(), true, 3) else {
+    let Ok(m) = master::start(Profile::fsk(), true, 3) else {
         return Ok(());
     };
     print_head(rt, b"primary\n")?;
-    run_master(rt, m, &mut frame, &mut bytes)
+    run_master(rt, m)
 }
 
 fn show_device(rt: &impl Print) -> io::Result<()> {
-    let mut contents = [0u8; 255];
-    let mut frame = [0u8; 284];
-    let mut bytes = [0u8; 255];
-    let DeviceStarted::Started(d) = device::start(Profile::fsk(), 5, 0, 2) else {
+    let Ok(d) = device::start(Profile::fsk(), 5, 0, 2) else {
         return Ok(());
     };
     print_head(rt, b"device\n")?;
-    run_device(rt, d, &mut contents, &mut frame, &mut bytes)
+    run_device(rt, d)
 }
 
 fn main(rt: HostRuntime) -> io::Result<()> {

@@ -1,6 +1,6 @@
 -- Two runs, computed, with the STX of Unread.antt. With further accesses of every kind in every tick, which spare what is heard and sent, the device's host is told the request as without the chip. With one that does not, a read of byte 2 before status in the tick of the check byte, it is not.
 use Prim.Native.Nat.{ℕ}
-use mathlib.Core.Bool.{true, false}
+use mathlib.Core.Bool.{false}
 use mathlib.Core.List.{List, [], ◌∷◌, ◌++◌}
 use mathlib.Core.Path.{◌≡◌, refl, sym}
 use lib.Count.{ones}

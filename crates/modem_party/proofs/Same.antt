@@ -1,5 +1,4 @@
 -- Document 02, item 5: a party behind the chip does, tick for tick, what it does without it. For any party that is deaf after its own sending, and any further accesses that spare what is heard and sent.
-use Prim.Native.Nat.{ℕ}
 use mathlib.Core.Bool.{Bool, true, false}
 use mathlib.Core.List.{List, [], ◌∷◌}
 use mathlib.Core.Path.{◌≡◌, refl, sym, ap, ap₂, subst, ◌∙◌}
@@ -16,7 +15,7 @@ use Rattle.modem.specs.declared.TickEnded.{TickEnded}
 use Rattle.modem.proofs.Driving.{wire_heard, deaf_heard, arrived_ready, arrived_sending}
 use Rattle.modem.proofs.Among.{among_ready, among_sending, among_read, spared_heard, silent_nothing, silence_out, character_out, silent_read, character_read, alone_spares}
 use Rattle.turns.specs.declared.Sent.{Sent}
-use Rattle.modem_party.specs.Behind.{Step, Tick, plain, HearsNot, says, says_among, closes, heard_in, OnLine, on_line, chipped, wire_sent, wired, Rests, Spared, none, and, BehindSame, BehindIs}
+use Rattle.modem_party.specs.Behind.{Step, Tick, plain, HearsNot, says, says_among, closes, heard_in, OnLine, on_line, chipped, wire_sent, wired, Rests, none, and, BehindSame, BehindIs}
 
 -- ---- what the driver does with what a party sends
 

@@ -1,4 +1,5 @@
 -- Laws by which the ticks behind a chip are proved.
+use Rattle.std.specs.Prelude.{Option}
 use Prim.Native.Nat.{ℕ}
 use mathlib.Core.List.{List}
 use mathlib.Core.Path.{◌≡◌, refl, sym, ap, subst, ◌∙◌}
@@ -10,9 +11,7 @@ use Rattle.modem.specs.declared.ChipHeard.{ChipHeard}
 use Rattle.modem.specs.declared.TickEnded.{TickEnded}
 use Rattle.turns.specs.declared.Master.{Master}
 use Rattle.turns.specs.declared.Device.{Device}
-use Rattle.turns.specs.declared.Sent.{Sent}
 use Rattle.master.specs.Tick as M
-use Rattle.master.specs.declared.MasterCall as MC
 use Rattle.master.specs.declared.MasterTicked.{MasterTicked}
 use Rattle.device_tick.specs.Tick as D
 use Rattle.device_tick.specs.declared.DeviceCall as DC
@@ -22,12 +21,9 @@ use Rattle.modem_party.specs.Ticks.{master_done, master_step, master_deaf, devic
 use Rattle.modem_party.proofs.Same.{made_behind}
 use Rattle.modem_party.proofs.Masters.{master_hears_not}
 use Rattle.modem_party.proofs.Devices.{device_hears_not}
+use Rattle.turns.specs.declared.Request.{Request}
 
--- a definition by cases, at the case that a `match` has told
-pub says_at : (x : Chip) (p q : Sent) (r : Chip) → p ≡ q → r ≡ says x q → r ≡ says x p
-says_at x p q r e f = f ∙ ap (says x) (sym e)
-
-module _ (limit : ℕ) (x : Chip) (w : Carried) (m : Master) (call : MC.MasterCall) (put frame bytes frame_after bytes_after : List ℕ) (z y : Chip) (g : ChipHeard) (t : MasterTicked) (e : TickEnded) where
+module _ (limit : ℕ) (x : Chip) (w : Carried) (m : Master) (call : Option Request) (put frame bytes frame_after bytes_after : List ℕ) (z y : Chip) (g : ChipHeard) (t : MasterTicked) (e : TickEnded) where
   pub master_behind : z ≡ arrives x w → g ≡ hears z → M.MasterTickIs limit m g.heard call put frame bytes t frame_after bytes_after → y ≡ says g.chip t.sent → e ≡ tick_ends y
       → MasterBehindIs limit x w m call put frame bytes (record { ticked = t; ended = e }) frame_after bytes_after
   master_behind p q i k n = record {
@@ -43,4 +39,4 @@ module _ (limit : ℕ) (x : Chip) (w : Carried) (d : Device) (call : DC.DeviceCa
     behind = made_behind (device_step limit) device_deaf (device_hears_not limit) x w (D.side_of d frame bytes contents) (D.call_of call put) z y g (device_done (D.step_of t frame_after bytes_after contents_after)) e p q (ap device_done i.step) k n;
   }
 
-pub ruleset ticks = (refl, says_at, master_behind, device_behind)
+pub ruleset ticks = (refl, master_behind, device_behind)

@@ -1,6 +1,6 @@
 -- How the code stands for what is to be believed.
 -- A tick of a master and of a device behind a chip, by `master_tick` and `device_tick` of crates/turns/specs/Link.antt.
-use Rattle.std.specs.Prelude.{ℕ, Bool, List}
+use Rattle.std.specs.Prelude.{ℕ, Bool, List, Option}
 use Rattle.base.specs.Lent.{Lent, before, after}
 use Rattle.line.specs.declared.Heard.{Heard}
 use Rattle.modem.specs.Chip.{arrives}
@@ -11,12 +11,12 @@ use Rattle.turns.specs.Link.{MasterCall, MasterSide, MasterStep, master_tick, De
 use Rattle.turns.specs.declared.Master.{Master}
 use Rattle.turns.specs.declared.Device.{Device}
 use Rattle.master.specs.Tick as M
-use Rattle.master.specs.declared.MasterCall as MC
 use Rattle.device_tick.specs.Tick as D
 use Rattle.device_tick.specs.declared.DeviceCall as DC
 use Rattle.modem_party.specs.Behind.{Step, BehindSame, BehindIs}
 use Rattle.modem_party.specs.declared.MasterBehind.{MasterBehind}
 use Rattle.modem_party.specs.declared.DeviceBehind.{DeviceBehind}
+use Rattle.turns.specs.declared.Request.{Request}
 
 -- ---- the two parties; all that a tick tells is the whole step
 
@@ -47,13 +47,13 @@ DeviceSame limit = BehindSame (device_step limit) device_deaf
 
 -- ---- what a tick of the code promises: the party's tick, each frame that its reader found in it, and what holds of any party behind a chip
 
-pub record MasterBehindIs (limit : ℕ) (x : Chip) (w : Carried) (m : Master) (call : MC.MasterCall) (put frame bytes : List ℕ)
+pub record MasterBehindIs (limit : ℕ) (x : Chip) (w : Carried) (m : Master) (call : Option Request) (put frame bytes : List ℕ)
     (r : MasterBehind) (frame_after bytes_after : List ℕ) : Type 0 where
   pub ticks : M.MasterTickIs limit m (hears (arrives x w)).heard call put frame bytes r.ticked frame_after bytes_after
   pub behind : BehindIs (master_step limit) master_deaf x w (M.side_of m frame bytes) (M.call_of call put)
       (master_done (M.step_of r.ticked frame_after bytes_after)) r.ended
 
-abbrev pub MasterTicks : ℕ → Chip → Carried → Master → MC.MasterCall → List ℕ → Lent (List ℕ) → Lent (List ℕ) → MasterBehind → Type 0
+abbrev pub MasterTicks : ℕ → Chip → Carried → Master → Option Request → List ℕ → Lent (List ℕ) → Lent (List ℕ) → MasterBehind → Type 0
 MasterTicks limit x w m call put frame bytes r = MasterBehindIs limit x w m call put (before frame) (before bytes) r (after frame) (after bytes)
 
 pub record DeviceBehindIs (limit : ℕ) (x : Chip) (w : Carried) (d : Device) (call : DC.DeviceCall) (put frame bytes contents : List ℕ)

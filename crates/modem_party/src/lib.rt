@@ -8,7 +8,7 @@ ghost use Rattle.modem_party.specs.Ticks.{MasterTicks, DeviceTicks};
 use device_tick::DeviceTicked;
 use master::MasterTicked;
 use modem::{Carried, Chip, TickEnded};
-use turns::{Device, Master, Sent};
+use turns::{Device, Master, Request, Sent};
 
 // A chip, and what the line carried in the tick before.
 #[derive(Clone, Copy)]
@@ -46,25 +46,17 @@ pub fn master_tick(
     limit: u8,
     arrival: Arrival,
     m: Master,
-    call: master::MasterCall,
+    call: Option<Request>,
     put: &[u8],
     frame: &mut [u8; 284],
     bytes: &mut [u8; 255],
 ) -> MasterBehind
     ensures { MasterTicks limit arrival.chip arrival.carried m call put.now frame bytes result }
 {
-    let x = arrival.chip;
-    let carried = arrival.carried;
-    let h = modem::hear(modem::arrive(x, carried));
-    let chip = h.chip;
-    let heard = h.heard;
-    let ticked = master::tick(limit, m, heard, call, put, frame, bytes);
-    let sent = ticked.sent;
-    let ended = modem::end_tick(say(chip, sent));
-    MasterBehind {
-        ticked: ticked,
-        ended: ended,
-    }
+    let h = modem::hear(modem::arrive(arrival.chip, arrival.carried));
+    let ticked = master::tick(limit, m, h.heard, call, put, frame, bytes);
+    let ended = modem::end_tick(say(h.chip, ticked.sent));
+    MasterBehind { ticked, ended }
 }
 
 // A tick of a device behind a chip, on a link with this data limit. Lent is what a device's tick is lent.
@@ -80,16 +72,8 @@ pub fn device_tick(
 ) -> DeviceBehind
     ensures { DeviceTicks limit arrival.chip arrival.carried d call put.now frame bytes contents result }
 {
-    let x = arrival.chip;
-    let carried = arrival.carried;
-    let h = modem::hear(modem::arrive(x, carried));
-    let chip = h.chip;
-    let heard = h.heard;
-    let ticked = device_tick::tick(limit, d, heard, call, put, contents, frame, bytes);
-    let sent = ticked.sent;
-    let ended = modem::end_tick(say(chip, sent));
-    DeviceBehind {
-        ticked: ticked,
-        ended: ended,
-    }
+    let h = modem::hear(modem::arrive(arrival.chip, arrival.carried));
+    let ticked = device_tick::tick(limit, d, h.heard, call, put, contents, frame, bytes);
+    let ended = modem::end_tick(say(h.chip, ticked.sent));
+    DeviceBehind { ticked, ended }
 }

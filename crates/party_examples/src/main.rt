@@ -7,19 +7,18 @@
 //     dc        the device's host gives burst content: command 3 with that many zero bytes
 //     M.. D..   the master or the device hears what it would hear damaged by parity (p), overrun (o) or framing (f), with the bits of the number changed; silence (s); or the character of the number (c)
 //     oc        a third party sends the character of the number
-#![tactic(auto)]
+#![tactic(auto, using(base::proofs::Choices::choices))]
 
 mod show;
 
-use device::DeviceStarted;
-use device_tick::DeviceTicked;
+use device_tick::{DeviceCall, DeviceTicked};
 use line::{Damage, Event, Heard, Profile};
-use master::{MasterStarted, MasterTicked};
-use show::Reception;
+use master::MasterTicked;
+use show::{Log, Reception};
 use std::io;
 use turns::{CallResult, Device, DeviceTold, Master, MasterTold, Request, Sent, Wish};
 
-// An order of a script: a letter for what is done, 0 for none, and its number.
+// An order of a script: a letter for what is done, and its number.
 #[derive(Clone, Copy)]
 struct Order {
     what: u8,
@@ -50,43 +49,43 @@ struct Both {
     d: DeviceSide,
     to_m: Reception,
     to_d: Reception,
-    log: [u16; 3000],
+    log: Log,
 }
 
 fn three_digits(a: u8, b: u8, c: u8) -> u16 {
-    ((a % 16) as u16) * 100 + ((b % 16) as u16) * 10 + ((c % 16) as u16)
+    u16::from(a % 16) * 100 + u16::from(b % 16) * 10 + u16::from(c % 16)
 }
 
 // The order of this tick for this party, if there is one.
-fn look(script: &[u8], tick: u16, whom: u8) -> Order {
-    let mut at = 0;
-    while 8 <= script.len() - at {
-        if script[at + 3] == whom {
-            if three_digits(script[at], script[at + 1], script[at + 2]) == tick {
-                return Order {
-                    what: script[at + 4],
-                    number: texts::byte_of(script[at + 5], script[at + 6]),
-                };
-            }
+fn look(script: &[u8], tick: u16, whom: u8) -> Option<Order> {
+    for order in script.chunks_exact(8) {
+        let [a, b, c, party, what, high, low, _] = order else {
+            return None;
+        };
+        if *party == whom && three_digits(*a, *b, *c) == tick {
+            let number = texts::byte_of(*high, *low);
+            // a letter 0 is no order
+            return Some(Order {
+                what: *what,
+                number,
+            })
+            .filter(|o| o.what != 0);
         }
-        at += 8;
     }
-    Order { what: 0, number: 0 }
+    None
 }
 
 fn character_of(h: Heard) -> u8 {
     match h {
         Heard::Silence => 0,
-        Heard::Character(c) => c,
-        Heard::Damaged(c, _) => c,
+        Heard::Character(c) | Heard::Damaged(c, _) => c,
     }
 }
 
 // What is heard after an order has changed it.
 fn altered(h: Heard, o: Order) -> Heard {
-    let what = o.what;
     let damaged = character_of(h) ^ o.number;
-    match what {
+    match o.what {
         b'p' => Heard::Damaged(damaged, Damage::Parity),
         b'o' => Heard::Damaged(damaged, Damage::Overrun),
         b'f' => Heard::Damaged(damaged, Damage::Framing),
@@ -98,202 +97,140 @@ fn altered(h: Heard, o: Order) -> Heard {
 
 // What the line carries where two may send.
 fn carried(a: Sent, b: Sent) -> Heard {
-    match a {
-        Sent::Silent => match b {
-            Sent::Silent => Heard::Silence,
-            Sent::Character(c) => Heard::Character(c),
-        },
-        Sent::Character(c) => match b {
-            Sent::Silent => Heard::Character(c),
-            Sent::Character(_) => Heard::Damaged(0, Damage::Framing),
-        },
+    match (a, b) {
+        (Sent::Silent, Sent::Silent) => Heard::Silence,
+        (Sent::Character(c), Sent::Silent) | (Sent::Silent, Sent::Character(c)) => {
+            Heard::Character(c)
+        }
+        (Sent::Character(_), Sent::Character(_)) => Heard::Damaged(0, Damage::Framing),
     }
 }
 
 // What a party hears of this tick in the next one.
 fn hears(script: &[u8], tick: u16, whom: u8, a: Sent, b: Sent) -> Reception {
-    let o = look(script, tick, whom);
-    Reception {
-        heard: altered(carried(a, b), o),
-        changed: o.what != 0,
+    let heard = carried(a, b);
+    match look(script, tick, whom) {
+        Some(order) => Reception {
+            heard: altered(heard, order),
+            changed: true,
+        },
+        None => Reception {
+            heard,
+            changed: false,
+        },
     }
 }
 
 // What a third party sends.
 fn other_sends(script: &[u8], tick: u16) -> Sent {
-    let o = look(script, tick, b'o');
-    if o.what == 0 {
-        return Sent::Silent;
+    match look(script, tick, b'o') {
+        Some(order) => Sent::Character(order.number),
+        None => Sent::Silent,
     }
-    Sent::Character(o.number)
 }
 
-fn wanted(long: bool, address: u8, command: u8) -> master::MasterCall {
-    master::MasterCall::Requests(Request {
+fn request(long: bool, address: u8, command: u8) -> Request {
+    Request {
         preamble: 5,
         revision: 7,
-        long: long,
-        address: address as u64,
-        command: command,
-    })
+        long,
+        address: u64::from(address),
+        command,
+    }
 }
 
-fn master_call(o: Order) -> master::MasterCall {
-    let what = o.what;
-    match what {
-        b'r' => wanted(false, o.number, 0),
-        b'u' => wanted(true, o.number, 3),
-        b't' => wanted(true, o.number, 11),
-        _ => master::MasterCall::Nothing,
+fn master_call(order: Option<Order>) -> Option<Request> {
+    let o = order?;
+    match o.what {
+        b'r' => Some(request(false, o.number, 0)),
+        b'u' => Some(request(true, o.number, 3)),
+        b't' => Some(request(true, o.number, 11)),
+        _ => None,
     }
 }
 
 // A request of command 0 has one data byte, one of command 11 a tag of six, one of command 3 none.
-fn data_count(o: Order) -> usize {
-    if o.what == b'r' {
-        return 1;
+fn master_data(order: Option<Order>) -> &'static [u8] {
+    match order {
+        Some(Order { what: b'r', .. }) => &[5],
+        Some(Order { what: b't', .. }) => &[5; 6],
+        _ => &[],
     }
-    if o.what == b't' {
-        return 6;
-    }
-    0
 }
 
-fn master_ticks(side: MasterSide, input: Reception, script: &[u8], tick: u16) -> MasterSide {
-    let t = side.ticked;
-    let mut frame = side.frame;
-    let mut bytes = side.bytes;
-    let heard = input.heard;
-    let o = look(script, tick, b'm');
-    let fives = [5u8; 6];
-    let put = texts::front(&fives, data_count(o));
-    let ticked = master::tick(
+fn master_ticks(side: &mut MasterSide, heard: Heard, script: &[u8], tick: u16) {
+    let order = look(script, tick, b'm');
+    side.ticked = master::tick(
         255,
-        t.master,
+        side.ticked.master,
         heard,
-        master_call(o),
-        put,
-        &mut frame,
-        &mut bytes,
+        master_call(order),
+        master_data(order),
+        &mut side.frame,
+        &mut side.bytes,
     );
-    MasterSide {
-        ticked: ticked,
-        frame: frame,
-        bytes: bytes,
+}
+
+fn device_call(order: Option<Order>) -> DeviceCall {
+    let Some(o) = order else {
+        return DeviceCall::Nothing;
+    };
+    match o.what {
+        b'a' => DeviceCall::Answers(Wish::Same),
+        b'n' => DeviceCall::Answers(Wish::On),
+        b'f' => DeviceCall::Answers(Wish::Off),
+        b'c' => DeviceCall::Content(3),
+        _ => DeviceCall::Nothing,
     }
 }
 
-fn device_call(o: Order) -> device_tick::DeviceCall {
-    let what = o.what;
-    match what {
-        b'a' => device_tick::DeviceCall::Answers(Wish::Same),
-        b'n' => device_tick::DeviceCall::Answers(Wish::On),
-        b'f' => device_tick::DeviceCall::Answers(Wish::Off),
-        b'c' => device_tick::DeviceCall::Content(3),
-        _ => device_tick::DeviceCall::Nothing,
-    }
-}
-
-fn device_ticks(side: DeviceSide, input: Reception, script: &[u8], tick: u16) -> DeviceSide {
-    let t = side.ticked;
-    let mut contents = side.contents;
-    let mut frame = side.frame;
-    let mut bytes = side.bytes;
-    let heard = input.heard;
-    let o = look(script, tick, b'd');
+fn device_ticks(side: &mut DeviceSide, heard: Heard, script: &[u8], tick: u16) {
+    let order = look(script, tick, b'd');
     let zeros = [0u8; 255];
-    let put = texts::front(&zeros, o.number as usize);
-    let call = device_call(o);
-    let ticked = device_tick::tick(
+    let count = order.map_or(0, |o| o.number);
+    side.ticked = device_tick::tick(
         255,
-        t.device,
+        side.ticked.device,
         heard,
-        call,
-        put,
-        &mut contents,
-        &mut frame,
-        &mut bytes,
+        device_call(order),
+        texts::front(&zeros, usize::from(count)),
+        &mut side.contents,
+        &mut side.frame,
+        &mut side.bytes,
     );
-    DeviceSide {
-        ticked: ticked,
-        contents: contents,
-        frame: frame,
-        bytes: bytes,
-    }
 }
 
-fn noted(sent: Sent) -> u16 {
-    match sent {
-        Sent::Silent => 0,
-        Sent::Character(c) => 256 + c as u16,
-    }
-}
-
-// The log with what the three send in this tick.
-fn note(before: [u16; 3000], by_m: Sent, by_d: Sent, by_o: Sent, tick: u16) -> [u16; 3000] {
-    let mut log = before;
-    let at = tick as usize;
+// Notes what the three send in this tick.
+fn note(log: &mut Log, by_m: Sent, by_d: Sent, by_o: Sent, tick: u16) {
+    let at = usize::from(tick);
     if at < 1000 {
-        log[at] = noted(by_m);
-        log[at + 1000] = noted(by_d);
-        log[at + 2000] = noted(by_o);
-    }
-    log
-}
-
-// Both after a tick, by what each and a third party sends.
-fn behind(m: MasterSide, d: DeviceSide, log: [u16; 3000], script: &[u8], tick: u16) -> Both {
-    let m_ticked = m.ticked;
-    let d_ticked = d.ticked;
-    let by_m = m_ticked.sent;
-    let by_d = d_ticked.sent;
-    let by_o = other_sends(script, tick);
-    Both {
-        m: m,
-        d: d,
-        to_m: hears(script, tick, b'M', by_d, by_o),
-        to_d: hears(script, tick, b'D', by_m, by_o),
-        log: note(log, by_m, by_d, by_o, tick),
+        log.master[at] = party::sent_number(by_m);
+        log.device[at] = party::sent_number(by_d);
+        log.other[at] = party::sent_number(by_o);
     }
 }
 
-fn show_both(
-    rt: &impl Print,
-    tick: u16,
-    to_m: Reception,
-    to_d: Reception,
-    b: Both,
-) -> io::Result<()> {
-    let m = b.m;
-    let d = b.d;
-    let log = b.log;
-    let m_ticked = m.ticked;
-    let d_ticked = d.ticked;
-    let of_ack = m.bytes;
-    let of_stx = d.bytes;
-    show::show_speeches(rt, tick, &log)?;
-    show::show_tick(rt, tick, to_m, to_d, m_ticked, d_ticked, of_ack, of_stx)
-}
-
-fn tick_both(rt: &impl Print, b: Both, tick: u16, script: &[u8]) -> io::Result<Both> {
+fn tick_both(rt: &impl Print, b: &mut Both, tick: u16, script: &[u8]) -> io::Result<()> {
     let to_m = b.to_m;
     let to_d = b.to_d;
-    let log = b.log;
-    let m = master_ticks(b.m, to_m, script, tick);
-    let d = device_ticks(b.d, to_d, script, tick);
-    let next = behind(m, d, log, script, tick);
-    show_both(rt, tick, to_m, to_d, next)?;
-    Ok(next)
+    master_ticks(&mut b.m, to_m.heard, script, tick);
+    device_ticks(&mut b.d, to_d.heard, script, tick);
+    let by_m = b.m.ticked.sent;
+    let by_d = b.d.ticked.sent;
+    let by_o = other_sends(script, tick);
+    b.to_m = hears(script, tick, b'M', by_d, by_o);
+    b.to_d = hears(script, tick, b'D', by_m, by_o);
+    note(&mut b.log, by_m, by_d, by_o, tick);
+    show::show_speeches(rt, tick, &b.log)?;
+    show::show_master(rt, tick, to_m, b.m.ticked, &b.m.bytes)?;
+    show::show_device(rt, tick, to_d, b.d.ticked, &b.d.bytes)
 }
 
 // Runs both for so many ticks.
 fn run(rt: &impl Print, start: Both, ticks: u16, script: &[u8]) -> io::Result<()> {
     let mut b = start;
-    let mut next = 0;
-    while next < ticks {
-        let tick = next;
-        next += 1;
-        b = tick_both(rt, b, tick, script)?;
+    for tick in 0..ticks {
+        tick_both(rt, &mut b, tick, script)?;
     }
     Ok(())
 }
@@ -337,40 +274,40 @@ fn both_of(m: Master, d: Device) -> Both {
         d: device_side(d),
         to_m: silence,
         to_d: silence,
-        log: [0; 3000],
+        log: Log {
+            master: [0; 1000],
+            device: [0; 1000],
+            other: [0; 1000],
+        },
     }
 }
 
 // A primary, and a device with polling address 0 and unique address 2.
 fn scene(rt: &impl Print, ticks: u16, script: &[u8]) -> io::Result<()> {
     let profile = Profile::fsk();
-    let MasterStarted::Started(m) = master::start(profile, true, 3) else {
+    let Ok(m) = master::start(profile, true, 3) else {
         return Ok(());
     };
-    let DeviceStarted::Started(d) = device::start(profile, 5, 0, 2) else {
+    let Ok(d) = device::start(profile, 5, 0, 2) else {
         return Ok(());
     };
     run(rt, both_of(m, d), ticks, script)
 }
 
 fn line(rt: &impl Print, words: &[u8]) -> io::Result<()> {
-    if 4 <= words.len() {
-        if words[3] == b':' {
-            return scene(rt, three_digits(words[0], words[1], words[2]), &words[4..]);
-        }
+    match words {
+        [a, b, c, b':', script @ ..] => scene(rt, three_digits(*a, *b, *c), script),
+        _ => rt.write_all(words),
     }
-    rt.write_all(words)
 }
 
+// The lines of a text; what stands behind the last line's end is passed over.
 fn lines(rt: &impl Print, words: &[u8]) -> io::Result<()> {
     let mut start = 0;
-    let mut i = 0;
-    while i < words.len() {
-        let at = i;
-        i += 1;
-        if words[at] == b'\n' {
-            line(rt, &words[start..i])?;
-            start = i;
+    for (i, c) in words.iter().enumerate() {
+        if *c == b'\n' {
+            line(rt, &words[start..=i])?;
+            start = i + 1;
         }
     }
     Ok(())

@@ -4,7 +4,7 @@
 use base::Refusal;
 use player::{Playing, Told};
 use player_input::{Input, ROOM};
-use player_script::{Form, SizedForm};
+use player_script::Form;
 use std::env::Env;
 use std::io;
 use std::io::Read;
@@ -18,14 +18,11 @@ fn argument(rt: &impl Env) -> usize {
 
 // The size of a record: 4 without an argument, and none with more than one.
 fn record_size(rt: &impl Env) -> usize {
-    let n = program_files::argument_count(rt);
-    if n < 2 {
-        return 4;
+    match program_files::argument_count(rt) {
+        0 | 1 => 4,
+        2 => argument(rt),
+        _ => 0,
     }
-    if n == 2 {
-        return argument(rt);
-    }
-    0
 }
 
 // A piece of the play, written.
@@ -74,10 +71,10 @@ fn print_play(rt: &impl Print, told: Told, script: &[u8]) -> io::Result<()> {
 // A script of this form.
 fn play_form(rt: &impl Print, form: Form, script: &[u8]) -> io::Result<()> {
     if player_script::is_good(form, script) {
-        let told = player::told_of(form, script);
-        return print_play(rt, told, script);
+        print_play(rt, player::told_of(form, script), script)
+    } else {
+        player_input::print_refusal(rt, Refusal::BadScript)
     }
-    player_input::print_refusal(rt, Refusal::BadScript)
 }
 
 // The script on standard input; one longer than the room is refused with 16 or 15.
@@ -87,8 +84,7 @@ fn play_input<R: Read>(
     reader: &mut R,
     script: &mut [u8; ROOM],
 ) -> io::Result<()> {
-    let input = player_input::read(form, reader, script);
-    match input {
+    match player_input::read(form, reader, script) {
         Input::Whole(n) => play_form(rt, form, texts::front(script, n)),
         Input::LongGood(_) => player_input::print_refusal(rt, Refusal::BufferShort),
         Input::LongBad => player_input::print_refusal(rt, Refusal::BadScript),
@@ -97,9 +93,8 @@ fn play_input<R: Read>(
 
 fn main(rt: HostRuntime) -> io::Result<()> {
     let mut script = [0u8; ROOM];
-    let sized = player_script::form_of(record_size(&rt));
-    match sized {
-        SizedForm::Is(form) => play_input(&rt, form, &mut rt.stdin(), &mut script),
-        SizedForm::Refused(why) => player_input::print_refusal(&rt, why),
+    match player_script::form_of(record_size(&rt)) {
+        Ok(form) => play_input(&rt, form, &mut rt.stdin(), &mut script),
+        Err(why) => player_input::print_refusal(&rt, why),
     }
 }

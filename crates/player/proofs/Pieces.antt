@@ -1,22 +1,20 @@
 -- A play in pieces: what a piece leaves; and the theorem that the header line and the pieces are the listing.
 use Prim.Native.Nat.{ℕ, ◌+◌, ◌-◌, ◌≤◌, ◌<◌}
 use native.Mathlib.Omega.{arith}
-use borrow.Author.Tests.{lt-ltb, ltb-true, ltb-false, leb-true, leb-false}
+use borrow.Author.Tests.{ltb-true, ltb-false, leb-true, leb-false}
 use mathlib.Core.Bool.{Bool, true, false}
-use mathlib.Core.List.{List, [], ◌∷◌, ◌++◌, append_assoc}
+use mathlib.Core.List.{List, [], ◌++◌, append_assoc}
 use mathlib.Core.Path.{◌≡◌, refl, sym, ap, subst, ◌∙◌}
-use lib.ListN.{length, take, length-append}
+use lib.ListN.{length, length-append}
 use Rattle.base.specs.Choice.{when◌then◌else◌, ◌<?◌, ◌≤?◌}
 use Rattle.base.specs.Store.{stored}
 use Rattle.base.proofs.Choices.{true_false, went_else}
 use Rattle.base.proofs.Stores.{stored_front, stored_none}
-use Rattle.texts.specs.Put.{Out, out_of, put, PutIs}
+use Rattle.texts.specs.Put.{Out, out_of, PutIs}
 use Rattle.texts.proofs.Puts.{put_then, put_front}
-use Rattle.player_script.specs.Script.{records_in, good_in}
-use Rattle.player_script.specs.declared.Form.{Form}
 use Rattle.player_listing.specs.Text.{head_line, lines_text}
 use Rattle.link_parties.specs.Stands.{Rows}
-use Rattle.player.specs.Ticks.{text_left, lines_of, Stands, PlaysOn, Onward, at_front, has_room, lines_room}
+use Rattle.player.specs.Ticks.{text_left, lines_of, Stands, PlaysOn, Onward, at_front, has_room}
 use Rattle.player.specs.Pieces.{told_of, first_play, Piece, PieceIs, Written, over, next, PiecesJoin}
 use Rattle.player.specs.declared.Playing.{Playing}
 use Rattle.player.specs.declared.Told.{Told}

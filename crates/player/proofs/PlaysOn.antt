@@ -1,15 +1,17 @@
 -- Some ticks of a play print what they would print one by one: those of a link that rests, and those that `link_ticks` takes.
-use Prim.Native.Nat.{ℕ, zero, suc, ◌+◌, ◌-◌, ◌≤◌, ◌<◌}
+use Prim.Native.Nat.{ℕ, suc, ◌+◌, ◌-◌, ◌≤◌, ◌<◌}
 use native.Mathlib.Omega.{arith}
 use borrow.Author.Tests.{ltb-false, ltb-true}
 use mathlib.Core.Bool.{Bool, true, false}
 use mathlib.Core.Path.{◌≡◌, refl, sym, ap, subst, ◌∙◌}
 use mathlib.Core.List.{List, [], ◌∷◌, map}
 use lib.ListN.{length, take, get_or, replicate, length-map}
+use Rattle.std.specs.Prelude.{Option, Some, None}
 use Rattle.base.specs.Choice.{when◌then◌else◌, ◌<?◌}
 use Rattle.turns.specs.Link.{LinkStep, run}
 use Rattle.turns.specs.Link as L
 use Rattle.turns.specs.Run.{EachTick}
+use Rattle.turns.specs.declared.Device.{Device}
 use Rattle.turns.specs.declared.Sent.{Sent}
 use Rattle.turns.specs.declared.Sent.TheVariants.{Silent}
 use Rattle.player_script.specs.declared.Form.{Form}
@@ -28,12 +30,11 @@ use Rattle.player_listing.specs.Rows.{rows_sent, rows_listed, heard_so_far, all_
 use Rattle.player_listing.specs.declared.Monitor.{Monitor}
 use Rattle.player_listing.proofs.Listens.{ticks_silent}
 use Rattle.player_listing.proofs.Lengths.{text_most}
-use Rattle.texts.specs.Put.{Out, out_of, put, PutIs}
+use Rattle.texts.specs.Put.{Out, PutIs}
 use Rattle.texts.proofs.Puts.{put_length, put_front}
 use Rattle.link_parties.specs.Stands.{Rows, link_of, heres, calls_of, uncalled}
 use Rattle.link_parties.specs.declared.Calls.{Calls}
 use Rattle.link_parties.specs.declared.Link.{Link}
-use Rattle.link_parties.specs.declared.Slot.{Slot}
 use Rattle.link_parties.specs.declared.Ticked.{Ticked}
 use Rattle.link_ticks.specs.Ticks.{up_to_told, calls_first, at_most, steps_of, link_behind, RunIs}
 use Rattle.link_rests.specs.Rests.{slot_rested, link_rests, link_rested}
@@ -48,9 +49,10 @@ use Rattle.player.proofs.Sent.{SixTick, six_run, six_here, listed_sent, silent_r
 
 -- ---- a link that rests
 
-here_still : (n : ℕ) (ss : List Slot) → heres (map (slot_rested n) ss) ≡ heres ss
+here_still : (n : ℕ) (ss : List (Option Device)) → heres (map (slot_rested n) ss) ≡ heres ss
 here_still n [] = refl
-here_still n (s ∷ ss) = ap (λ (hs : List Bool). s.here ∷ hs) (here_still n ss)
+here_still n (None ∷ ss) = ap (λ (hs : List Bool). false ∷ hs) (here_still n ss)
+here_still n (Some d ∷ ss) = ap (λ (hs : List Bool). true ∷ hs) (here_still n ss)
 
 pub quiet_heard : all_heard (replicate 8 quiet_monitor) ≡ replicate 8 quiet_monitor
 unfolding all_heard heard_so_far when◌then◌else◌

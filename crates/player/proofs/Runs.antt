@@ -1,4 +1,5 @@
 -- Laws of the runs that a script gives: ticks without a call, the first ticks of a run, and their lines.
+use Rattle.std.specs.Prelude.{None}
 use Prim.Native.Nat.{ℕ, zero, suc, ◌+◌, ◌-◌, ◌≤◌, ◌<◌}
 use native.Mathlib.Omega.{arith}
 use mathlib.Core.Bool.{Bool, true, false}
@@ -14,7 +15,6 @@ use Rattle.turns.specs.Link as L
 use Rattle.turns.specs.declared.Sent.{Sent}
 use Rattle.player_script.specs.Script.{wanted_at, master_call, device_call, device_call_at, calls_at, calls_from}
 use Rattle.player_script.specs.declared.Entry.{Entry}
-use Rattle.player_script.specs.declared.ScriptCall.TheVariants.{Nothing}
 use Rattle.player_listing.specs.Sents.{sent_of, sent_in}
 use Rattle.player_listing.specs.Lines.{lines_from, monitors_from}
 use Rattle.player_listing.specs.Text.{lines_text}
@@ -35,10 +35,10 @@ unnamed heard (x ∷ xs) (suc n) = ap (λ (ss : List DeviceStep). device_tick 25
 
 -- nothing is wanted in so many ticks from this one on
 abbrev pub WantsNone : List Entry → ℕ → ℕ → Type 0
-WantsNone es tick n = (i party : ℕ) → i < n → wanted_at (tick + i) party es ≡ Nothing
+WantsNone es tick n = (i party : ℕ) → i < n → wanted_at (tick + i) party es ≡ None
 
 module _ (es : List Entry) where
-  module _ (tick : ℕ) (later : 0 < tick) (wants_none : (party : ℕ) → wanted_at tick party es ≡ Nothing) where
+  module _ (tick : ℕ) (later : 0 < tick) (wants_none : (party : ℕ) → wanted_at tick party es ≡ None) where
     not_called : (party : ℕ) → device_call_at tick party es ≡ no_call
     not_called party = if_is_false (tick =? 0) _ (device_call (wanted_at tick party es)) (ne_eqb tick 0 (λ z. omega (arith, z, later))) ∙ ap device_call (wants_none party)
 
@@ -57,11 +57,11 @@ module _ (es : List Entry) where
   uncalled_run zero tick l h w = refl
   uncalled_run (suc n) tick l h w =
       let here : tick + 0 ≡ tick = omega arith in
-      let now = none_called tick h (λ party. subst (λ (t : ℕ). wanted_at t party es ≡ Nothing) here (w 0 party (omega arith))) l in
+      let now = none_called tick h (λ party. subst (λ (t : ℕ). wanted_at t party es ≡ None) here (w 0 party (omega arith))) l in
       (λ i. sym now i ∷ run 255 (link_after (sym now i)) (replicate n uncalled))
       ∙ ap (λ (ss : List LinkStep). link_tick 255 l (calls_at tick es) ∷ ss)
       (uncalled_run n (tick + 1) (link_after (link_tick 255 l (calls_at tick es))) (omega arith)
-      (λ i party k. let next : tick + suc i ≡ tick + 1 + i = omega arith in subst (λ (t : ℕ). wanted_at t party es ≡ Nothing) next (w (suc i) party (omega arith))))
+      (λ i party k. let next : tick + suc i ≡ tick + 1 + i = omega arith in subst (λ (t : ℕ). wanted_at t party es ≡ None) next (w (suc i) party (omega arith))))
 
   -- a tick with its calls, and those behind it
   pub first_run : (n tick : ℕ) (l : L.Link) → WantsNone es (tick + 1) (n - 1) → run 255 l (calls_first n (calls_at tick es)) ≡ run 255 l (calls_from tick n es)

@@ -1,25 +1,26 @@
 -- What the parties sent in the ticks of a run of six devices: from the rows of numbers, and where nobody sends.
-use Prim.Native.Nat.{ℕ, zero, suc, ◌+◌, ◌-◌, ◌%◌, ◌≤◌, ◌<◌}
+use Prim.Native.Nat.{ℕ, zero, suc, ◌+◌, ◌-◌, ◌%◌, ◌≤◌}
 use native.Mathlib.Omega.{arith}
 use mathlib.Core.Bool.{Bool, true, false}
-use mathlib.Core.Path.{◌≡◌, refl, sym, ap, subst, ◌∙◌}
+use mathlib.Core.Path.{◌≡◌, refl, sym, ap, ◌∙◌}
 use mathlib.Core.List.{List, [], ◌∷◌, ◌++◌, map}
 use lib.ListN.{length, take, drop, replicate}
 use lib.Seq.{take-append_seam}
 use borrow.Author.Tests.{ltb-false}
+use Rattle.std.specs.Prelude.{Option, Some, None}
 use Rattle.base.specs.Choice.{when◌then◌else◌, ◌<?◌}
-use Rattle.base.proofs.Choices.{if_below, if_not_below}
+use Rattle.base.proofs.Choices.{true_false, if_below, if_not_below}
 use Rattle.line.specs.declared.Heard.{Heard}
 use Rattle.turns.specs.Link.{DeviceCall, DeviceSide, DeviceStep, Calls, LinkStep, device_tick, device_ticks, sides, link_tick, link_after, run}
 use Rattle.turns.specs.Link as L
 use Rattle.turns.specs.Run.{EachTick, no_tick, tick_and, count, device_senders, senders}
+use Rattle.turns.specs.declared.Device.{Device}
 use Rattle.turns.specs.declared.Sent.{Sent}
 use Rattle.turns.specs.declared.Sent.TheVariants.{Silent, Character}
 use Rattle.player_listing.specs.Sents.{devices_sent, sent_of, sent_in}
 use Rattle.player_listing.specs.Rows.{sent_for, row_sent, rows_sent, lesser, rows_listed}
 use Rattle.party.specs.Numbers.{sent_number}
-use Rattle.link_parties.specs.Stands.{Rows, device_at, if_here, devices_from, heres, uncalled}
-use Rattle.link_parties.specs.declared.Slot.{Slot}
+use Rattle.link_parties.specs.Stands.{Rows, devices_from, heres, uncalled}
 use Rattle.link_ticks.specs.Ticks.{on_here, device_code, codes, codes_of, SendsByte, sends_none, sends_byte, DevicesSendBytes, no_device, device_and, SendBytes}
 use Rattle.link_rests.specs.Uncalled.{uncalled_tick, after_ticks}
 use Rattle.player.proofs.Runs.{rests_later}
@@ -53,24 +54,23 @@ unfolding run
 six_run [] l e = no_tick
 six_run (c ∷ cs) l e = tick_and (six_on l c e) (six_run cs (link_after (link_tick 255 l c)) (six_behind l c e))
 
-all_here : (x : Rows) (i n : ℕ) (ss : List Slot) → heres ss ≡ replicate n true → length (devices_from x i ss) ≡ n
+all_here : (x : Rows) (i n : ℕ) (ss : List (Option Device)) → heres ss ≡ replicate n true → length (devices_from x i ss) ≡ n
 unfolding devices_from
 all_here x i zero [] e = refl
 all_here x i (suc n) [] e = let k : ◌≡◌ {A = ℕ} 0 (suc (length {A = Bool} (replicate n true))) = ap length e in absurd (omega (arith, k))
 all_here x i zero (s ∷ ss) e = let k : suc (length (heres ss)) ≡ 0 = ap length e in absurd (omega (arith, k))
-all_here x i (suc n) (s ∷ ss) e =
-    (λ j. length (if_here (ap first e j) (device_at x i s.device) (devices_from x (suc i) ss)))
-    ∙ ap suc (all_here x (suc i) n ss (ap others e))
+all_here x i (suc n) (None ∷ ss) e = absurd (true_false (sym (ap first e)))
   where
     first : List Bool → Bool
     first [] = true
     first (b ∷ bs) = b
-
+all_here x i (suc n) (Some d ∷ ss) e = ap suc (all_here x (suc i) n ss (ap others e))
+  where
     others : List Bool → List Bool
     others [] = []
     others (b ∷ bs) = bs
 
-pub six_here : (x : Rows) (ss : List Slot) → heres ss ≡ replicate 6 true → length (devices_from x 0 ss) ≡ 6
+pub six_here : (x : Rows) (ss : List (Option Device)) → heres ss ≡ replicate 6 true → length (devices_from x 0 ss) ≡ 6
 six_here x ss e = all_here x 0 6 ss e
 
 -- ---- the rows of numbers

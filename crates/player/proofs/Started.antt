@@ -1,25 +1,24 @@
 -- The link that stands ready: its start is accepted, every slot has its device, and it is the definition's.
-use Prim.Native.Nat.{ℕ, zero, ◌-◌, ◌≤◌}
+use Prim.Native.Nat.{ℕ, ◌-◌, ◌≤◌}
 use native.Mathlib.Omega.{arith}
 use mathlib.Core.Bool.{true}
 use mathlib.Core.Path.{◌≡◌, refl, sym, ap, subst, ◌∙◌}
-use mathlib.Core.List.{List, [], ◌∷◌, ◌++◌}
+use mathlib.Core.List.{List, [], ◌∷◌}
 use lib.ListN.{replicate}
+use Rattle.std.specs.Prelude.{Option, Some}
 use Rattle.base.specs.Choice.{when◌then◌else◌}
 use Rattle.base.specs.Refusal.{accepted}
 use Rattle.texts.specs.Put.{PutIs}
 use Rattle.texts.proofs.Puts.{put_then}
 use Rattle.line.specs.Profile.{fsk_profile}
 use Rattle.line.specs.declared.Profile.{Profile}
-use Rattle.turns.specs.Link as L
 use Rattle.player_script.specs.declared.Form.{Form}
 use Rattle.player_script.specs.Script.{records_in, good_in, stop_of}
 use Rattle.player_script.proofs.Ticks.{reads_start}
 use Rattle.player_listing.specs.Lines.{quiet_monitor}
-use Rattle.player_listing.specs.Rows.{all_heard}
 use Rattle.player_listing.specs.Text.{head_line}
 use Rattle.player_listing.specs.declared.Monitor.{Monitor}
-use Rattle.link_parties.specs.Stands.{devices_from, heres}
+use Rattle.link_parties.specs.Stands.{devices_from}
 use Rattle.link_parties.specs.declared.Link.{Link}
 use Rattle.link_start.specs.Fresh.{rows_fresh, lent_fresh}
 use Rattle.link_start.specs.Start.{devices_start, link_starts, link_or, StartedIs}
@@ -35,14 +34,14 @@ use Rattle.player.proofs.PlaysOn.{quiet_heard}
 
 -- ---- the start
 
-pub settings_are : (a b c d e f : Setting) → a ≡ setting_of 2 → b ≡ setting_of 3 → c ≡ setting_of 4 → d ≡ setting_of 5 → e ≡ setting_of 6 → f ≡ setting_of 7 → a ∷ b ∷ c ∷ d ∷ e ∷ f ∷ [] ≡ settings
-settings_are a b c d e f p q r s t u = λ i. p i ∷ q i ∷ r i ∷ s i ∷ t i ∷ u i ∷ []
+pub settings_are : (a b c d e f : Setting) → a ≡ setting_of 2 → b ≡ setting_of 3 → c ≡ setting_of 4 → d ≡ setting_of 5 → e ≡ setting_of 6 → f ≡ setting_of 7 → Some a ∷ Some b ∷ Some c ∷ Some d ∷ Some e ∷ Some f ∷ [] ≡ settings
+settings_are a b c d e f p q r s t u = λ i. Some (p i) ∷ Some (q i) ∷ Some (r i) ∷ Some (s i) ∷ Some (t i) ∷ Some (u i) ∷ []
 
 all_accepted : link_starts fsk_profile 3 settings ≡ accepted ready_start
 unfolding when◌then◌else◌ devices_start
 all_accepted = refl
 
-pub ready_start_lem : (p : Profile) (s : List Setting) (r : LinkStarted) → p ≡ fsk_profile → s ≡ settings → StartedIs p 3 s r → r.link ≡ ready_start
+pub ready_start_lem : (p : Profile) (s : List (Option Setting)) (r : LinkStarted) → p ≡ fsk_profile → s ≡ settings → StartedIs p 3 s r → r.link ≡ ready_start
 ready_start_lem p s r e f is = is.link_is ∙ (λ i. link_or (link_starts (e i) 3 (f i))) ∙ ap link_or all_accepted
 
 -- ---- its play

@@ -1,21 +1,19 @@
 -- The whole play: a refused record size, a bad script, or the listing.
+use Rattle.std.specs.Prelude.{Result, Ok, Err}
 use Prim.Native.Nat.{ℕ}
 use native.Mathlib.Omega.{arith}
 use mathlib.Core.Bool.{Bool, true, false}
 use mathlib.Core.Path.{◌≡◌, refl, sym, ap, subst, ◌∙◌}
 use mathlib.Core.List.{List, [], ◌∷◌}
 use Rattle.base.specs.Choice.{when◌then◌else◌, ◌=?◌}
-use Rattle.base.specs.Refusal.{number, Called, accepted, refused}
+use Rattle.base.specs.Refusal.{number, Called, accepted, refused, called_as}
 use Rattle.base.specs.declared.Refusal.{Refusal}
 use Rattle.base.proofs.Choices.{if_is_false, went_else}
 use Rattle.texts.specs.Decimal.{decimal_of}
 use Rattle.texts.specs.Put.{PutIs}
 use Rattle.texts.proofs.Puts.{put_same}
-use Rattle.player_script.specs.Script.{form_of, sized_as, records_in, good_in}
-use Rattle.player_script.specs.declared.Entry.{Entry}
+use Rattle.player_script.specs.Script.{form_of, records_in, good_in}
 use Rattle.player_script.specs.declared.Form.{Form}
-use Rattle.player_script.specs.declared.SizedForm.{SizedForm}
-use Rattle.player_script.specs.declared.SizedForm.TheVariants.{Is, Refused}
 use Rattle.player.specs.Play.{listing, output_of, play, sized_taken, play_sized}
 use Rattle.player.proofs.Turned.{play_good}
 
@@ -56,16 +54,16 @@ size_output : 50 ∷ 52 ∷ 10 ∷ [] ≡ output_of (refused 24)
 unfolding decimal_of when◌then◌else◌
 size_output = refl
 
-pub sized_plays : (size : ℕ) (script before : List ℕ) (r : ℕ) (after : List ℕ) (form : Form) (s : SizedForm) → s ≡ Is form → sized_as s ≡ form_of size
+pub sized_plays : (size : ℕ) (script before : List ℕ) (r : ℕ) (after : List ℕ) (form : Form) (s : Result Form Refusal) → s ≡ Ok form → called_as s ≡ form_of size
     → PutIs (play form script) before 0 r after → PutIs (play_sized size script) before 0 r after
 unfolding play_sized play
-sized_plays size script before r after form s e q p = put_same _ _ before 0 r after p (ap (λ (c : Called Form). output_of (sized_taken c script)) (ap sized_as (sym e) ∙ q))
+sized_plays size script before r after form s e q p = put_same _ _ before 0 r after p (ap (λ (c : Called Form). output_of (sized_taken c script)) (ap called_as (sym e) ∙ q))
 
-pub size_refused : (size : ℕ) (script before : List ℕ) (r : ℕ) (after : List ℕ) (why : Refusal) (s : SizedForm) → s ≡ Refused why → sized_as s ≡ form_of size
+pub size_refused : (size : ℕ) (script before : List ℕ) (r : ℕ) (after : List ℕ) (why : Refusal) (s : Result Form Refusal) → s ≡ Err why → called_as s ≡ form_of size
     → PutIs (50 ∷ 52 ∷ 10 ∷ []) before 0 r after → PutIs (play_sized size script) before 0 r after
 unfolding play_sized
 size_refused size script before r after why s e q p =
-    let same : refused (number why) ≡ form_of size = ap sized_as (sym e) ∙ q in
+    let same : refused (number why) ≡ form_of size = ap called_as (sym e) ∙ q in
     put_same _ _ before 0 r after p (size_output ∙ ap (λ (n : ℕ). output_of (refused n)) (sym (only_24 size (number why) (sym same))) ∙ ap (λ (c : Called Form). output_of (sized_taken c script)) same)
 
 pub ruleset sizes = (refl, sized_plays, size_refused)

@@ -1,23 +1,23 @@
 -- Inner contracts: nothing that is to be believed rests on them.
 -- The code's link that stands ready, and the settings that start it.
-use Rattle.std.specs.Prelude.{ℕ, ◌-◌, true, false, List, [], ◌∷◌}
+use Rattle.std.specs.Prelude.{ℕ, ◌-◌, true, false, List, [], ◌∷◌, Option, Some}
 use Rattle.line.specs.Profile.{fsk_profile}
 use Rattle.line.specs.declared.Heard.TheVariants.{Silence}
 use Rattle.turns.specs.Master.{fresh_master}
 use Rattle.turns.specs.Device.{fresh_device}
+use Rattle.turns.specs.declared.Device.{Device}
 use Rattle.link_parties.specs.Ways.{in_slot}
 use Rattle.link_parties.specs.declared.Link.{Link}
-use Rattle.link_parties.specs.declared.Slot.{Slot}
 use Rattle.link_start.specs.declared.Setting.{Setting}
 
 -- "2 to 7 devices with polling address party − 2 and unique address equal to the party"; "preamble 5"
 abbrev pub setting_of : ℕ → Setting
-setting_of party = record { here = true; preamble = 5; polling = party - 2; unique = party }
+setting_of party = record { preamble = 5; polling = party - 2; unique = party }
 
-abbrev pub settings : List Setting
-settings = setting_of 2 ∷ setting_of 3 ∷ setting_of 4 ∷ setting_of 5 ∷ setting_of 6 ∷ setting_of 7 ∷ []
+abbrev pub settings : List (Option Setting)
+settings = Some (setting_of 2) ∷ Some (setting_of 3) ∷ Some (setting_of 4) ∷ Some (setting_of 5) ∷ Some (setting_of 6) ∷ Some (setting_of 7) ∷ []
 
-abbrev pub slot_of : ℕ → Slot
+abbrev pub slot_of : ℕ → Option Device
 slot_of party = in_slot (fresh_device fsk_profile 5 (party - 2) party)
 
 -- "FSK, R 3"

@@ -1,5 +1,5 @@
 // The player: it plays a script on a link and lists the frames that were sent to the end.
-#![tactic(auto)]
+#![tactic(auto, using(base::proofs::Choices::choices))]
 
 ghost use Rattle.std.specs.Prelude.{◌≡◌, true, ◌+◌, ◌≤◌, ◌<◌, length};
 ghost use Rattle.texts.specs.Put.{PutIs};
@@ -14,7 +14,7 @@ use link_parties::Link;
 use link_start::Setting;
 use link_ticks::Most;
 use player_listing::Monitors;
-use player_script::{Form, SizedForm};
+use player_script::Form;
 
 // What a play is told of its script: the form of its records, and its stop's tick.
 #[derive(Clone, Copy)]
@@ -44,21 +44,17 @@ fn tick_fits(tick: u32)
 {}
 
 // So many ticks of a link that rests.
+#[tactic(auto, using(base::proofs::Choices::choices, crate::proofs::PlaysOn::rested_is))]
 fn rest_on(p: Playing, ticks: u32) -> Playing
     requires { p.tick + ticks < 4294967296 }
     ensures { (result ≡ rested_for ticks p) × (length p.monitors ≡ 8) }
 {
-    let l = p.link;
-    let heard = p.monitors;
-    monitor_each(heard);
-    let link = link_rests::link_rested(l, ticks);
-    let monitors = player_listing::quiet_monitors();
+    monitor_each(p.monitors);
     Playing {
-        link: link,
-        monitors: monitors,
+        link: link_rests::link_rested(p.link, ticks),
+        monitors: player_listing::quiet_monitors(),
         tick: p.tick + ticks,
-        next: p.next,
-        at: p.at,
+        ..p
     }
 }
 
@@ -66,10 +62,7 @@ fn rest_on(p: Playing, ticks: u32) -> Playing
 fn few_of(ticks: u32) -> u16
     ensures { (result ≤ ticks) × (result < 64) }
 {
-    if ticks < 64 {
-        return ticks as u16;
-    }
-    63
+    ticks.min(63) as u16
 }
 
 // The tick with its calls and those after it that have none, up to one in which a host is told something.
@@ -87,33 +80,29 @@ fn tick_on(
     ensures { OnwardIs told script.now p frames bytes contents out result }
 {
     let put = [0u8; 255];
-    let l = p.link;
-    let monitors = p.monitors;
-    let form = told.form;
-    let stop = told.stop;
-    tick_fits(stop);
-    let wanted = player_script::calls_at(form, script, p.next, p.tick as usize);
+    tick_fits(told.stop);
+    let wanted = player_script::calls_at(told.form, script, p.next, p.tick as usize);
     let calls = player_calls::calls_of(p.tick as usize, wanted);
-    let free = player_script::free_ticks(form, script, wanted.next, p.tick + 1, stop);
+    let free = player_script::free_ticks(told.form, script, wanted.next, p.tick + 1, told.stop);
     let few = few_of(free);
     let most = Most {
         ticks: few + 1,
         data: 255,
     };
-    let t = link_ticks::ticks(most, l, calls, &put, frames, bytes, contents, sent);
-    let h = player_listing::list_ticks(monitors, p.tick, t.count, sent, out, p.at);
-    let link = t.link;
-    let heard = h.monitors;
+    let t = link_ticks::ticks(most, p.link, calls, &put, frames, bytes, contents, sent);
+    let heard = player_listing::list_ticks(p.monitors, p.tick, t.count, sent, out, p.at);
+    // An array that is a field moves by a variable.
+    let monitors = heard.monitors;
     Playing {
-        link: link,
-        monitors: heard,
+        link: t.link,
+        monitors,
         tick: p.tick + (t.count as u32),
         next: wanted.next,
-        at: h.at,
+        at: heard.at,
     }
 }
 
-// One tick or more: as many as the link rests for, or some of its ticks.
+// One tick or more: as many as the link rests for, or some of its ticks. The buffers go one by one, as the promises name them.
 fn onward(
     p: Playing,
     told: Told,
@@ -127,18 +116,13 @@ fn onward(
     requires { p.tick < told.stop }
     ensures { OnwardIs told script.now p frames bytes contents out result }
 {
-    let l = p.link;
-    let form = told.form;
-    let stop = told.stop;
-    tick_fits(stop);
-    let free = player_script::free_ticks(form, script, p.next, p.tick, stop);
-    if 0 < free {
-        if link_rests::link_rests(l) {
-            return rest_on(p, free);
-        }
-        return tick_on(p, told, script, frames, bytes, contents, sent, out);
+    tick_fits(told.stop);
+    let free = player_script::free_ticks(told.form, script, p.next, p.tick, told.stop);
+    if 0 < free && link_rests::link_rests(p.link) {
+        rest_on(p, free)
+    } else {
+        tick_on(p, told, script, frames, bytes, contents, sent, out)
     }
-    tick_on(p, told, script, frames, bytes, contents, sent, out)
 }
 
 // The ticks up to the stop's; returns the place after their lines in the output.
@@ -154,11 +138,10 @@ fn play_from(
     requires { Stands told.form script.now start × (start.tick ≤ told.stop) }
     ensures { PlaysAll told script.now start frames bytes contents out result }
 {
-    let mut sent: [[u16; 8]; 64] = [[0; 8]; 64];
+    let mut sent = [[0u16; 8]; 64];
     let mut p = start;
     while p.tick < told.stop {
-        let next = onward(p, told, script, frames, bytes, contents, &mut sent, out);
-        p = next;
+        p = onward(p, told, script, frames, bytes, contents, &mut sent, out);
     }
     p.at
 }
@@ -167,25 +150,14 @@ fn play_from(
 fn has_room(length: usize, at: usize) -> bool
     ensures { result ≡ has_room length at }
 {
-    if length < at {
-        return false;
-    }
-    2560 <= length - at
+    at <= length && 2560 <= length - at
 }
 
 // A play whose output starts again at the buffer's front.
 fn at_front(p: Playing) -> Playing
     ensures { result ≡ at_front p }
 {
-    let link = p.link;
-    let monitors = p.monitors;
-    Playing {
-        link: link,
-        monitors: monitors,
-        tick: p.tick,
-        next: p.next,
-        at: 0,
-    }
+    Playing { at: 0, ..p }
 }
 
 // A piece of a play: its ticks, until it is over or the output has no room for the lines of 64 more. Their lines stand at the output's front.
@@ -200,15 +172,10 @@ pub fn play_on(
 ) -> Playing
     ensures { PieceOf told script.now start frames bytes contents out result }
 {
-    let mut sent: [[u16; 8]; 64] = [[0; 8]; 64];
+    let mut sent = [[0u16; 8]; 64];
     let mut p = at_front(start);
-    while p.tick < told.stop {
-        if has_room(out.len(), p.at) {
-            let next = onward(p, told, script, frames, bytes, contents, &mut sent, out);
-            p = next;
-        } else {
-            return p;
-        }
+    while p.tick < told.stop && has_room(out.len(), p.at) {
+        p = onward(p, told, script, frames, bytes, contents, &mut sent, out);
     }
     p
 }
@@ -219,41 +186,41 @@ fn setting(party: u8) -> Setting
     ensures { result ≡ setting_of party }
 {
     Setting {
-        here: true,
         preamble: 5,
         polling: party - 2,
         unique: party as u64,
     }
 }
 
-fn settings_of() -> [Setting; 6]
+#[tactic(auto, using(base::proofs::Choices::choices, crate::proofs::Started::settings_are))]
+fn settings_of() -> [Option<Setting>; 6]
     ensures { result ≡ settings }
 {
-    let a = setting(2);
-    let b = setting(3);
-    let c = setting(4);
-    let d = setting(5);
-    let e = setting(6);
-    let f = setting(7);
-    [a, b, c, d, e, f]
+    [
+        Some(setting(2)),
+        Some(setting(3)),
+        Some(setting(4)),
+        Some(setting(5)),
+        Some(setting(6)),
+        Some(setting(7)),
+    ]
 }
 
 // The link that stands ready. No refusal applies to its start.
+#[tactic(auto, using(base::proofs::Choices::choices, crate::proofs::Started::ready_start_lem))]
 fn ready_link() -> Link
     ensures { result ≡ ready_start }
 {
-    let profile = Profile::fsk();
-    let list = settings_of();
-    let started = link_start::start(profile, 3, list);
-    started.link
+    link_start::start(Profile::fsk(), 3, settings_of()).link
 }
 
 // What a play is told of a script of this form.
+#[tactic(auto, using(base::proofs::Choices::choices, crate::proofs::Started::told_is))]
 pub fn told_of(form: Form, script: &[u8]) -> Told
     ensures { result ≡ told_of form script.now }
 {
     Told {
-        form: form,
+        form,
         stop: player_script::stop_tick(form, script),
     }
 }
@@ -262,15 +229,12 @@ pub fn told_of(form: Form, script: &[u8]) -> Told
 pub fn play_begin(out: &mut [u8]) -> Playing
     ensures { Begun out.old result out.new }
 {
-    let link = ready_link();
-    let monitors = player_listing::quiet_monitors();
-    let at = player_listing::put_head(out, 0);
     Playing {
-        link: link,
-        monitors: monitors,
+        link: ready_link(),
+        monitors: player_listing::quiet_monitors(),
         tick: 0,
         next: 0,
-        at: at,
+        at: player_listing::put_head(out, 0),
     }
 }
 
@@ -292,18 +256,18 @@ fn play_form(form: Form, script: &[u8], out: &mut [u8]) -> usize
     ensures { PutIs (play form script.now) out.old 0 result out.new }
 {
     if player_script::is_good(form, script) {
-        return play_good(form, script, out);
+        play_good(form, script, out)
+    } else {
+        texts::put_bytes(b"16\n", out, 0)
     }
-    texts::put_bytes(b"16\n", out, 0)
 }
 
 // Plays a script whose records have so many bytes into any output: it puts what is printed, as much as there is room for, and returns how much that is.
 pub fn play_into(size: usize, script: &[u8], out: &mut [u8]) -> usize
     ensures { PutIs (play_sized size script.now) out.old 0 result out.new }
 {
-    let sized = player_script::form_of(size);
-    match sized {
-        SizedForm::Is(form) => play_form(form, script, out),
-        SizedForm::Refused(_) => texts::put_bytes(b"24\n", out, 0),
+    match player_script::form_of(size) {
+        Ok(form) => play_form(form, script, out),
+        Err(_) => texts::put_bytes(b"24\n", out, 0),
     }
 }

@@ -1,7 +1,7 @@
 // The calls of a tick that a script wants, for the link. Their data are the first of so many zero bytes.
-#![tactic(auto)]
+#![tactic(auto, using(base::proofs::Choices::choices, crate::proofs::Wanteds::wanteds))]
 
-ghost use Rattle.std.specs.Prelude.{◌≡◌};
+ghost use Rattle.std.specs.Prelude.{◌≡◌, Some};
 ghost use Rattle.player_calls.specs.Calls.{zeros, master_call_for, request_with, device_call_for, answer_with, device_call_in, calls_for};
 
 use device_tick::DeviceCall;
@@ -23,36 +23,35 @@ fn zeros(n: u8) -> Part
 fn request_with(long: bool, address: u8, command: u8) -> MasterCallWithPart
     ensures { result ≡ request_with long address command }
 {
-    let part = zeros(0);
-    let q = turns::Request {
-        preamble: 5,
-        revision: 7,
-        long: long,
-        address: address as u64,
-        command: command,
-    };
     MasterCallWithPart {
-        call: master::MasterCall::Requests(q),
-        part: part,
+        call: Some(turns::Request {
+            preamble: 5,
+            revision: 7,
+            long,
+            address: address as u64,
+            command,
+        }),
+        part: zeros(0),
     }
 }
 
 // A master's action.
-fn request_for(action: u8, argument: u8) -> MasterCallWithPart
-    ensures { result ≡ master_call_for (ScriptCall.Call action argument) }
+fn request_for(w: ScriptCall) -> MasterCallWithPart
+    ensures { result ≡ master_call_for (Some w) }
 {
-    if action == 1 {
-        return request_with(false, argument, 0);
+    if w.action == 1 {
+        request_with(false, w.argument, 0)
+    } else {
+        request_with(true, w.argument, 3)
     }
-    request_with(true, argument, 3)
 }
 
-fn master_call(w: ScriptCall) -> MasterCallWithPart
+fn master_call(w: Option<ScriptCall>) -> MasterCallWithPart
     ensures { result ≡ master_call_for w }
 {
     match w {
-        ScriptCall::Nothing => link_parties::no_master_call(),
-        ScriptCall::Call(action, argument) => request_for(action, argument),
+        None => link_parties::no_master_call(),
+        Some(w) => request_for(w),
     }
 }
 
@@ -60,73 +59,60 @@ fn master_call(w: ScriptCall) -> MasterCallWithPart
 fn answer_with(wish: Wish, count: u8) -> DeviceCallWithPart
     ensures { result ≡ answer_with wish count }
 {
-    let part = zeros(count);
     DeviceCallWithPart {
         call: DeviceCall::Answers(wish),
-        part: part,
+        part: zeros(count),
     }
 }
 
 // A device's action.
-fn answer_for(action: u8, argument: u8) -> DeviceCallWithPart
-    ensures { result ≡ device_call_for (ScriptCall.Call action argument) }
+fn answer_for(w: ScriptCall) -> DeviceCallWithPart
+    ensures { result ≡ device_call_for (Some w) }
 {
-    if action == 2 {
-        return answer_with(Wish::Same, argument);
-    }
-    if action == 4 {
-        return answer_with(Wish::On, argument);
-    }
-    answer_with(Wish::Off, argument)
+    let wish = match w.action {
+        2 => Wish::Same,
+        4 => Wish::On,
+        _ => Wish::Off,
+    };
+    answer_with(wish, w.argument)
 }
 
-fn device_call(w: ScriptCall) -> DeviceCallWithPart
+fn device_call(w: Option<ScriptCall>) -> DeviceCallWithPart
     ensures { result ≡ device_call_for w }
 {
     match w {
-        ScriptCall::Nothing => link_parties::no_device_call(),
-        ScriptCall::Call(action, argument) => answer_for(action, argument),
+        None => link_parties::no_device_call(),
+        Some(w) => answer_for(w),
     }
 }
 
 // A device's burst content in tick 0, and its action in every other tick.
-fn call_in(tick: usize, w: ScriptCall) -> DeviceCallWithPart
+fn call_in(tick: usize, w: Option<ScriptCall>) -> DeviceCallWithPart
     ensures { result ≡ device_call_in tick w }
 {
     if tick == 0 {
-        let part = zeros(2);
-        return DeviceCallWithPart {
+        DeviceCallWithPart {
             call: DeviceCall::Content(3),
-            part: part,
-        };
+            part: zeros(2),
+        }
+    } else {
+        device_call(w)
     }
-    device_call(w)
 }
 
 // The calls of a tick.
 pub fn calls_of(tick: usize, t: ScriptTick) -> Calls
     ensures { result ≡ calls_for tick t }
 {
-    let a = t.primary;
-    let b = t.secondary;
-    let c = t.device2;
-    let d = t.device3;
-    let e = t.device4;
-    let f = t.device5;
-    let g = t.device6;
-    let h = t.device7;
-    let primary = master_call(a);
-    let secondary = master_call(b);
-    let device2 = call_in(tick, c);
-    let device3 = call_in(tick, d);
-    let device4 = call_in(tick, e);
-    let device5 = call_in(tick, f);
-    let device6 = call_in(tick, g);
-    let device7 = call_in(tick, h);
-    let masters = [primary, secondary];
-    let devices = [device2, device3, device4, device5, device6, device7];
     Calls {
-        masters: masters,
-        devices: devices,
+        masters: [master_call(t.calls[0]), master_call(t.calls[1])],
+        devices: [
+            call_in(tick, t.calls[2]),
+            call_in(tick, t.calls[3]),
+            call_in(tick, t.calls[4]),
+            call_in(tick, t.calls[5]),
+            call_in(tick, t.calls[6]),
+            call_in(tick, t.calls[7]),
+        ],
     }
 }

@@ -1,5 +1,5 @@
 -- Which scripts fit the other form, and that the stop's tick decides it.
-use Prim.Native.Nat.{ℕ, zero, suc, ◌+◌, ◌*◌, ◌%◌, ◌≤◌, ◌<◌}
+use Prim.Native.Nat.{ℕ, suc, ◌+◌, ◌*◌, ◌%◌, ◌≤◌, ◌<◌}
 use native.Mathlib.Omega.{arith}
 use borrow.Author.Tests.{lt-ltb, le-ltb, ltb-true, ltb-false}
 use mathlib.Core.Bool.{Bool, true, false}
@@ -7,8 +7,8 @@ use mathlib.Core.List.{List, [], ◌∷◌}
 use mathlib.Core.Path.{◌≡◌, refl, sym, ◌∙◌}
 use Rattle.base.specs.Choice.{when◌then◌else◌, ◌<?◌}
 use Rattle.base.proofs.Choices.{true_false, if_is_false, went_else}
-use Rattle.player_script.specs.Script.{records_of, long_records_of, records_in, good_in, stop_of}
-use Rattle.player_script.specs.Reads.{Rising, Reads}
+use Rattle.player_script.specs.Script.{records_of, long_records_of, records_in, stop_of}
+use Rattle.player_script.specs.Reads.{Rising}
 use Rattle.player_script.proofs.Ticks.{reads_start}
 use Rattle.player_script.specs.declared.Entry.{Entry}
 use Rattle.player_script.specs.declared.Form.{Form}

@@ -1,19 +1,19 @@
 -- Turning keeps every value: the records of what was turned are those that were turned, and turning back gives the very bytes.
-use Prim.Native.Nat.{ℕ, zero, suc, ◌+◌, ◌*◌, ◌/◌, ◌%◌, ◌≤◌, ◌<◌}
+use Prim.Native.Nat.{ℕ, suc, ◌+◌, ◌*◌, ◌/◌, ◌%◌, ◌<◌}
 use native.Mathlib.Omega.{arith}
 use mathlib.Core.Bool.{true}
-use mathlib.Core.List.{List, [], ◌∷◌, ◌++◌}
-use mathlib.Core.Path.{◌≡◌, refl, sym, ap, ◌∙◌}
+use mathlib.Core.List.{List, [], ◌∷◌}
+use mathlib.Core.Path.{◌≡◌, refl, ap, ◌∙◌}
 use lib.ListN.{length}
 use borrow.Author.Tests.{eq-eqb, eqb-true}
-use Rattle.base.specs.Choice.{when◌then◌else◌, ◌=?◌}
+use Rattle.base.specs.Choice.{◌=?◌}
 use Rattle.base.proofs.Choices.{if_is_true}
 use Rattle.base.proofs.Tables.{chain_first, chain_second}
 use Rattle.player_script.specs.Script.{entry_of, long_entry_of, width, records_of, long_records_of, records_in, is_good, good_in}
 use Rattle.player_script.specs.declared.Entry.{Entry}
 use Rattle.player_script.specs.declared.Form.{Form}
 use Rattle.player_script.specs.declared.Form.TheVariants.{Old, New}
-use Rattle.player_convert.specs.Turn.{entry_bytes, turned, Sayable, none, more}
+use Rattle.player_convert.specs.Turn.{turned, Sayable, none, more}
 use Rattle.player_convert.specs.Kept.{Bytes}
 
 entry_same : (e : Entry) (t p a : ℕ) → t ≡ e.tick → p ≡ e.party → a ≡ e.action → ◌≡◌ {A = Entry} (record { tick = t; party = p; action = a; argument = e.argument }) e

@@ -1,13 +1,16 @@
 -- The loop that narrows: what is left to be put gives what the whole gives.
-use Prim.Native.Nat.{ℕ, zero, suc, ◌+◌, ◌-◌, ◌*◌, ◌/◌, ◌%◌, ◌≤◌, ◌<◌}
+use Prim.Native.Nat.{ℕ, suc, ◌+◌, ◌-◌, ◌*◌, ◌/◌, ◌%◌, ◌≤◌, ◌<◌}
 use native.Mathlib.Omega.{arith}
 use mathlib.Core.List.{List, [], ◌∷◌, ◌++◌}
 use mathlib.Core.Path.{◌≡◌, refl, sym, ap, subst, ◌∙◌}
-use lib.ListN.{length, get_or, set, drop, length-set, length-drop}
+use lib.ListN.{length, get_or, take, drop}
+use borrow.Rule.Slice.PartMut.{put_mid}
 use Rattle.base.specs.Store.{stored}
+use Rattle.base.proofs.Stores.{length_stored}
+use Rattle.player_convert.proofs.Copies.{put_stored}
 use Rattle.player_script.specs.Script.{width, long_entry_of, records_in}
 use Rattle.player_script.specs.Walk.{long_entry_at, entry_in}
-use Rattle.player_script.proofs.Records.{records_more, records_none}
+use Rattle.player_script.proofs.Records.{four_more, records_more, records_none}
 use Rattle.player_script.specs.declared.Entry.{Entry}
 use Rattle.player_script.specs.declared.Form.TheVariants.{Old, New}
 use Rattle.player_convert.specs.Turn.{entry_bytes, turned, Sayable, more}
@@ -65,29 +68,34 @@ module _ (script xs ys : List ℕ) (at to : ℕ) (v : Narrowing script xs ys at 
         ap (turned Old) first_record
         ∙ ap (λ (l : List ℕ). l ++ rest) (narrowed (get_or script at 0) (get_or script (at + 1) 0) (get_or script (at + 2) 0) (get_or script (at + 3) 0) (get_or script (at + 4) 0) (get_or script (at + 5) 0) (first_tick _ _ fits_first) (bytes (at + 2)) (bytes (at + 3)))
 
-    pub narrow_more : Narrowing script xs (set (set (set (set ys to (get_or script (at + 2) 0)) (to + 1) (get_or script (at + 3) 0)) (to + 2) (get_or script (at + 4) 0)) (to + 3) (get_or script (at + 5) 0)) (at + 6) (to + 4)
-    unfolding stored rest
-    narrow_more =
-        let z1 : List ℕ = set ys to (get_or script (at + 2) 0) in
-        let z2 : List ℕ = set z1 (to + 1) (get_or script (at + 3) 0) in
-        let z3 : List ℕ = set z2 (to + 2) (get_or script (at + 4) 0) in
-        let k1 : to + 1 ≡ suc to = omega arith in
-        let k2 : to + 2 ≡ suc (suc to) = omega arith in
-        let k3 : to + 3 ≡ suc (suc (suc to)) = omega arith in
-        let k4 : to + 4 ≡ suc (suc (suc (suc to))) = omega arith in
-        record {
-          within = six_left;
-          whole = omega (arith, v.whole, six_left);
-          place = omega (arith, v.place);
-          room = v.room;
-          same_length = length-set z3 (to + 3) (get_or script (at + 5) 0) ∙ length-set z2 (to + 2) (get_or script (at + 4) 0) ∙ length-set z1 (to + 1) (get_or script (at + 3) 0) ∙ length-set ys to (get_or script (at + 2) 0) ∙ v.same_length;
-          fits = fits_rest _ _ fits_first;
-          count = omega (arith, v.count, ap length first_is);
-          left =
-              (λ i. stored (set (set (set (set ys to (get_or script (at + 2) 0)) (k1 i) (get_or script (at + 3) 0)) (k2 i) (get_or script (at + 4) 0)) (k3 i) (get_or script (at + 5) 0)) (k4 i) rest)
-              ∙ ap (stored ys to) (sym first_is)
-              ∙ v.left;
-        }
+    abbrev narrow_bytes : List ℕ
+    narrow_bytes = get_or script (at + 2) 0 ∷ get_or script (at + 3) 0 ∷ get_or script (at + 4) 0 ∷ get_or script (at + 5) 0 ∷ []
+
+    module _ (k : ℕ) (part : List ℕ) (four : k ≡ 4) (bytes_are : part ≡ take 4 (drop (at + 2) script)) where
+      record_is : put_mid to k ys part ≡ stored ys to narrow_bytes
+      record_is =
+          let three : at + 2 + 1 ≡ at + 3 = omega arith in
+          let next : at + 2 + 2 ≡ at + 4 = omega arith in
+          let last : at + 2 + 3 ≡ at + 5 = omega arith in
+          put_stored ys to k part narrow_bytes four
+          (bytes_are ∙ ap (take 4) (four_more script (at + 2) (omega (arith, six_left)))
+          ∙ (λ i. get_or script (at + 2) 0 ∷ get_or script (three i) 0 ∷ get_or script (next i) 0 ∷ get_or script (last i) 0 ∷ []))
+          four_room
+
+      pub narrow_more : Narrowing script xs (put_mid to k ys part) (at + 6) (to + 4)
+      unfolding stored rest
+      narrow_more =
+          let behind : to + 4 ≡ suc (suc (suc (suc to))) = omega arith in
+          record {
+            within = six_left;
+            whole = omega (arith, v.whole, six_left);
+            place = omega (arith, v.place);
+            room = v.room;
+            same_length = ap length record_is ∙ length_stored ys to narrow_bytes ∙ v.same_length;
+            fits = fits_rest _ _ fits_first;
+            count = omega (arith, v.count, ap length first_is);
+            left = (λ i. stored (record_is i) (behind i) rest) ∙ ap (stored ys to) (sym first_is) ∙ v.left;
+          }
 
 pub narrow_ended : (script xs ys : List ℕ) (at to : ℕ) → Narrowing script xs ys at to → length script ≤ at
     → (to ≡ length (turned Old (records_in New script))) × (ys ≡ stored xs 0 (turned Old (records_in New script)))
@@ -97,35 +105,4 @@ narrow_ended script xs ys at to v h =
     let nothing : turned Old (records_in New (drop at script)) ≡ [] = ap (turned Old) none_left in
     (omega (arith, v.count, ap length nothing), sym (ap (stored ys to) nothing) ∙ v.left)
 
-module _ (script xs ys : List ℕ) (at to : ℕ) (v : Narrowing script xs ys at to) (h : at < length script) where
-  pub put_0 : to < length ys
-  put_0 = omega (arith, four_room script xs ys at to v h)
-
-  pub put_1 : to + 1 < length ys
-  put_1 = omega (arith, four_room script xs ys at to v h)
-
-  pub put_2 : to + 2 < length ys
-  put_2 = omega (arith, four_room script xs ys at to v h)
-
-  pub put_3 : to + 3 < length ys
-  put_3 = omega (arith, four_room script xs ys at to v h)
-
-  pub put_last : (a b c : ℕ) → to + 3 < length (set (set (set ys to a) (to + 1) b) (to + 2) c)
-  put_last a b c =
-      let z1 : List ℕ = set ys to a in
-      let z2 : List ℕ = set z1 (to + 1) b in
-      omega (arith, four_room script xs ys at to v h, length-set z2 (to + 2) c, length-set z1 (to + 1) b, length-set ys to a)
-
-  pub take_2 : at + 2 < length script
-  take_2 = omega (arith, six_left script xs ys at to v h)
-
-  pub take_3 : at + 3 < length script
-  take_3 = omega (arith, six_left script xs ys at to v h)
-
-  pub take_4 : at + 4 < length script
-  take_4 = omega (arith, six_left script xs ys at to v h)
-
-  pub take_5 : at + 5 < length script
-  take_5 = omega (arith, six_left script xs ys at to v h)
-
-pub ruleset narrowings = (refl, narrow_begun, six_left, four_room, put_0, put_1, put_2, put_3, take_2, take_3, take_4, take_5)
+pub ruleset narrowings = (refl, narrow_begun, six_left, four_room)

@@ -1,8 +1,8 @@
 -- Theorems: the claims of specs/Kept, and a run of each.
-use Prim.Native.Nat.{ℕ, ◌%◌, ◌≤◌, ◌<◌}
+use Prim.Native.Nat.{ℕ, ◌%◌}
 use native.Mathlib.Omega.{arith}
 use borrow.Author.Tests.{le-ltb}
-use mathlib.Core.Bool.{Bool, true, false}
+use mathlib.Core.Bool.{true, false}
 use mathlib.Core.List.{List, [], ◌∷◌}
 use mathlib.Core.Path.{◌≡◌, refl, sym, ap, ◌∙◌}
 use lib.ListN.{length}
@@ -10,11 +10,10 @@ use Rattle.base.specs.Choice.{when◌then◌else◌, ◌<?◌}
 use Rattle.base.specs.Refusal.{Called, accepted, refused}
 use Rattle.base.proofs.Choices.{if_is_true, if_is_false, went_then, went_else}
 use Rattle.player_script.specs.Script.{width, records_of, long_records_of, records_in, is_in, is_good, good_in}
-use Rattle.player_script.specs.declared.Entry.{Entry}
 use Rattle.player_script.specs.declared.Form.{Form}
 use Rattle.player_script.specs.declared.Form.TheVariants.{Old, New}
-use Rattle.player_convert.specs.Turn.{turned, other, most_tick, any_above, by_room, by_ticks, converted, Sayable}
-use Rattle.player_convert.specs.Kept.{KeptBy, TurnKeeps, Bytes, ThereAndBack}
+use Rattle.player_convert.specs.Turn.{turned, other, most_tick, any_above, by_room, by_ticks, converted}
+use Rattle.player_convert.specs.Kept.{TurnKeeps, Bytes, ThereAndBack}
 use Rattle.player_convert.proofs.Kept.{old_bytes, new_bytes, good_turns, good_whole}
 use Rattle.player_convert.proofs.Fits.{fits_other, own_fits, none_above}
 

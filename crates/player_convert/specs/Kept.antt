@@ -1,8 +1,8 @@
 -- To be believed: what the engine must do, or what is claimed of it.
 -- Document 02, item 11: "with every value kept". What is claimed of every script that was turned. That it plays to the same listing is claimed in crates/player/specs/Turned.antt.
-use Rattle.std.specs.Prelude.{ℕ, ◌≤◌, ◌<◌, Bool, true, false, List, ◌≡◌, length, get_or}
+use Rattle.std.specs.Prelude.{ℕ, ◌≤◌, ◌<◌, true, List, ◌≡◌, length, get_or}
 use Rattle.base.specs.Choice.{◌<?◌}
-use Rattle.base.specs.Refusal.{Called, accepted}
+use Rattle.base.specs.Refusal.{accepted}
 use Rattle.player_script.specs.Script.{records_in, good_in, stop_of}
 use Rattle.player_script.specs.declared.Form.{Form}
 use Rattle.player_convert.specs.Turn.{other, any_above, converted}

@@ -1,15 +1,14 @@
 -- To be believed: what the engine must do, or what is claimed of it.
 -- Document 02, item 11: "Old scripts turn into new ones, and new ones whose ticks fit back, with every value kept, and play to the same listing."
-use Rattle.std.specs.Prelude.{ℕ, ◌+◌, ◌*◌, ◌/◌, ◌%◌, ◌≤◌, ◌<◌, Bool, true, false, List, [], ◌∷◌, ◌++◌, ◌≡◌, length}
+use Rattle.std.specs.Prelude.{ℕ, ◌+◌, ◌*◌, ◌/◌, ◌%◌, ◌≤◌, ◌<◌, Bool, true, false, List, [], ◌∷◌, ◌++◌, ◌≡◌, length, Result}
 use Rattle.base.specs.Choice.{when◌then◌else◌, ◌<?◌}
 use Rattle.base.specs.Store.{stored}
-use Rattle.base.specs.Refusal.{number, Called, accepted, refused}
+use Rattle.base.specs.Refusal.{Called, accepted, refused, called_as}
 use Rattle.player_script.specs.Script.{form_of, records_in, good_in}
 use Rattle.player_script.specs.declared.Entry.{Entry}
 use Rattle.player_script.specs.declared.Form.{Form}
 use Rattle.player_script.specs.declared.Form.TheVariants.{Old, New}
-use Rattle.player_convert.specs.declared.Converted.{Converted}
-use Rattle.player_convert.specs.declared.Converted.TheVariants.{To, Refused}
+use Rattle.base.specs.declared.Refusal.{Refusal}
 
 -- a record's bytes, most significant first
 abbrev pub entry_bytes : Form → Entry → List ℕ
@@ -60,10 +59,6 @@ conversion size script room = converted_in (form_of size) script room
 
 -- ---- what the code promises
 
-abbrev pub converted_as : Converted → Called ℕ
-converted_as (To end) = accepted end
-converted_as (Refused why) = refused (number why)
-
 abbrev pub length_in : Called (List ℕ) → Called ℕ
 length_in (accepted bytes) = accepted (length bytes)
 length_in (refused why) = refused why
@@ -74,8 +69,8 @@ lent_after (accepted bytes) out = stored out 0 bytes
 lent_after (refused why) out = out
 
 -- the answer is the result's length or the refusal
-pub record ConvertIs (c : Called (List ℕ)) (out : List ℕ) (r : Converted) (after : List ℕ) : Type 0 where
-  pub answer : converted_as r ≡ length_in c
+pub record ConvertIs (c : Called (List ℕ)) (out : List ℕ) (r : Result ℕ Refusal) (after : List ℕ) : Type 0 where
+  pub answer : called_as r ≡ length_in c
   pub bytes : after ≡ lent_after c out
 
 -- ---- the loops

@@ -1,4 +1,5 @@
 -- Room after room: the loop that keeps a room's end, and that each room's calls take places, of which there are eight in each of 2^32 ticks.
+use Rattle.std.specs.Prelude.{Option, Some}
 use Prim.Native.Nat.{ℕ, ◌+◌, ◌-◌, ◌≤◌, ◌<◌}
 use native.Mathlib.Omega.{arith}
 use mathlib.Core.List.{List, ◌++◌}
@@ -10,8 +11,6 @@ use Rattle.base.proofs.Stores.{length_stored, stored_front, Storing, storing_non
 use Rattle.player_script.specs.Script.{records_in}
 use Rattle.player_script.specs.Pieces.{Gone, up_to, walked_by, walked_as}
 use Rattle.player_script.specs.declared.Form.{Form}
-use Rattle.player_script.specs.declared.Walked.{Walked}
-use Rattle.player_script.specs.declared.Walked.TheVariants.{UpTo}
 use Rattle.player_script.proofs.Records.{width_some, records_more}
 use Rattle.player_script.proofs.Places.{places, most_places, Placed, walk_places}
 use Rattle.player_input.specs.Input.{piece_of, end_kept, EndStays}
@@ -69,8 +68,8 @@ reading_begun room marks h k = record { long = h; slots = k }
 abbrev pub places_left : ℕ → List ℕ → ℕ
 places_left last marks = 34359738377 - places last marks
 
-module _ (f : Form) (room marks after : List ℕ) (last tick : ℕ) (r : Walked) (v : Reading room marks)
-    (q : walked_as r after ≡ walked_by (up_to last marks) (records_in f (piece_of room))) (k : r ≡ UpTo tick) where
+module _ (f : Form) (room marks after : List ℕ) (last tick : ℕ) (r : Option ℕ) (v : Reading room marks)
+    (q : walked_as r after ≡ walked_by (up_to last marks) (records_in f (piece_of room))) (k : r ≡ Some tick) where
   -- a piece has a record
   some_record : 1 ≤ length (records_in f (piece_of room))
   some_record =
@@ -79,7 +78,7 @@ module _ (f : Form) (room marks after : List ℕ) (last tick : ℕ) (r : Walked)
 
   placed : Placed last marks (length (records_in f (piece_of room))) tick after
   unfolding walked_as
-  placed = walk_places last marks (records_in f (piece_of room)) tick after v.slots (sym q ∙ ap (λ (x : Walked). walked_as x after) k)
+  placed = walk_places last marks (records_in f (piece_of room)) tick after v.slots (sym q ∙ ap (λ (x : Option ℕ). walked_as x after) k)
 
   pub room_less : last < 4294967296 → places_left tick after < places_left last marks
   room_less h = omega (arith, some_record, placed.taken, most_places last marks v.slots)

@@ -7,7 +7,7 @@ ghost use Rattle.player_script.specs.Pieces.{up_to, walked_by, walked_as};
 ghost use Rattle.player_input.specs.Input.{held_in, end_kept, EndStays, end_of};
 
 use base::Refusal;
-use player_script::{Form, Walked};
+use player_script::Form;
 use std::io;
 use std::io::Read;
 
@@ -17,7 +17,7 @@ pub const ROOM: usize = 3_145_740;
 // The bytes of a full room that are walked before more is read: whole records of either form.
 const PIECE: usize = 3_145_728;
 
-// A script on standard input: so many bytes; or longer than the room, and then good, with its stop's tick, or bad.
+// A script on standard input: so many bytes; or longer than the room, and then good, with its stop's tick, or bad. Three cases, so no Option or Result.
 #[derive(Clone, Copy)]
 pub enum Input {
     Whole(usize),
@@ -31,21 +31,26 @@ pub fn print_refusal(rt: &impl Print, why: Refusal) -> io::Result<()> {
 }
 
 // The first bytes of a room, so many, are walked as calls.
-fn walk_front(form: Form, room: &[u8], count: usize, last: usize, marks: &mut [usize; 8]) -> Walked
+#[tactic(auto, using(crate::proofs::Rooms::front_walked))]
+fn walk_front(
+    form: Form,
+    room: &[u8],
+    count: usize,
+    last: usize,
+    marks: &mut [usize; 8],
+) -> Option<usize>
     ensures { walked_as result marks.new ≡ walked_by (up_to last marks.old) (records_in form (take count room.now)) }
 {
     player_script::walk(form, texts::front(room, count), last, marks)
 }
 
-// Its other bytes, at least one record, go to the front.
+// Its other bytes, at least one record, go to the front: within one slice, so byte by byte.
 fn keep_end(room: &mut [u8])
     requires { length room.old ≡ 3145740 }
     ensures { room.new ≡ end_kept room.old }
 {
-    let mut i = 0;
-    while i < 12 {
+    for i in 0..12 {
         room[i] = room[PIECE + i];
-        i += 1;
     }
 }
 
@@ -59,13 +64,15 @@ fn read_more<R: Read>(reader: &mut R, room: &mut [u8]) -> usize
 }
 
 // What the last bytes of a script tell of it, after the pieces that were walked.
+#[tactic(auto, using(crate::proofs::Told::ends))]
 fn end_of(form: Form, rest: &[u8], last: usize, marks: &mut [usize; 8]) -> Input
     ensures { result ≡ end_of form (up_to last marks.old) rest.now }
 {
     if player_script::good_after(form, rest, last, marks) {
-        return Input::LongGood(player_script::stop_tick(form, rest));
+        Input::LongGood(player_script::stop_tick(form, rest))
+    } else {
+        Input::LongBad
     }
-    Input::LongBad
 }
 
 // A script that fills the room, read to its end or to a bad record. No tick is above 32 bits, so the loop is left by a return.
@@ -76,11 +83,10 @@ fn read_long<R: Read>(form: Form, reader: &mut R, room: &mut [u8]) -> Input
     let mut marks = [0usize; 8];
     let mut last = 0;
     while last < 4_294_967_296 {
-        let walked = walk_front(form, room, PIECE, last, &mut marks);
-        match walked {
-            Walked::Bad => return Input::LongBad,
-            Walked::UpTo(tick) => last = tick,
-        }
+        let Some(tick) = walk_front(form, room, PIECE, last, &mut marks) else {
+            return Input::LongBad;
+        };
+        last = tick;
         let n = read_more(reader, room);
         if n < PIECE {
             return end_of(form, texts::front(room, 12 + n), last, &mut marks);
@@ -95,7 +101,8 @@ pub fn read<R: Read>(form: Form, reader: &mut R, script: &mut [u8; ROOM]) -> Inp
 {
     let n = program_files::read_full(reader, script);
     if n < ROOM {
-        return Input::Whole(n);
+        Input::Whole(n)
+    } else {
+        read_long(form, reader, script)
     }
-    read_long(form, reader, script)
 }

@@ -18,7 +18,6 @@ use Rattle.line.specs.declared.Event.TheVariants.{Nothing, PassedOver, Broken, F
 use Rattle.line.specs.declared.Receiver.{Receiver}
 use Rattle.line.specs.declared.Taken.{Taken}
 use Rattle.line.specs.declared.Whole.{Whole}
-use Rattle.line.specs.declared.FrameDamage.{FrameDamage}
 use Rattle.turns.specs.Run.{count}
 use Rattle.turns.specs.declared.Sent.{Sent}
 use Rattle.turns.specs.declared.Sent.TheVariants.{Silent}
@@ -77,22 +76,21 @@ module _ (tick party count : ℕ) (alone : Bool) (t : Taken) (before : List ℕ)
       (subst (λ (x : PartyLines). PartyIs x before at (goes_on t.receiver count alone).monitor at before) (sym q)
       (party_none (goes_on t.receiver count alone).monitor (goes_on t.receiver count alone).monitor before at refl))
 
-  pub told_nothing : t.event ≡ Nothing → GoesOn
-  told_nothing p = goes Nothing p refl
-
-  pub told_passed_over : t.event ≡ PassedOver → GoesOn
-  told_passed_over p = goes PassedOver p refl
-
-  pub told_broken : t.event ≡ Broken → GoesOn
-  told_broken p = goes Broken p refl
-
-  pub told_damaged : (w : Whole) (m : FrameDamage) → t.event ≡ Damaged w m → GoesOn
-  told_damaged w m p = goes (Damaged w m) p refl
-
   pub told_frame : (w : Whole) (f : Monitor) (r : ℕ) (after : List ℕ) → t.event ≡ Frame w → PartyIs (frame_ends (line_of tick party w.header count) alone) before at f r after → PartyIs (ends_with tick party count alone t) before at f r after
   told_frame w f r after p q = by_event (Frame w) f r after p q
 
-pub ruleset tells = (refl, told_nothing, told_passed_over, told_broken, told_damaged, told_frame)
+  -- whatever is no frame
+  pub told_other : ((w : Whole) → t.event ≡ Frame w → ⊥) → GoesOn
+  told_other n = go t.event refl
+    where
+      go : (e : Event) → t.event ≡ e → GoesOn
+      go Nothing p = goes Nothing p refl
+      go PassedOver p = goes PassedOver p refl
+      go Broken p = goes Broken p refl
+      go (Damaged w m) p = goes (Damaged w m) p refl
+      go (Frame w) p = absurd (n w p)
+
+pub ruleset tells = (refl, told_frame)
 
 -- a character
 pub hears : (tick party : ℕ) (lone : Bool) (e : Monitor) (c : ℕ) (n : ℕ) (alone : Bool) (t : Taken) (before after : List ℕ) (at : ℕ) (f : Monitor) (r : ℕ)

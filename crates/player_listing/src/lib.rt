@@ -1,12 +1,12 @@
 // The player's output: a monitor for each party that listens to what it sends, and the lines of the frames that it hears, put as text into a lent buffer.
-#![tactic(auto)]
+#![tactic(auto, using(base::proofs::Choices::choices))]
 
 ghost use Rattle.std.specs.Prelude.{◌≡◌, [], ◌∷◌, length, replicate, ◌<◌, ◌+◌};
 ghost use Rattle.texts.specs.Put.{PutIs};
 ghost use Rattle.player_listing.specs.Lines.{line_of, quiet_monitor, frame_ends, ends_with, one_more, listens};
 ghost use Rattle.player_listing.specs.Text.{decimal, head_line, type_name, master_digit, word, line_text};
 ghost use Rattle.player_listing.specs.Promises.{PartyIs};
-ghost use Rattle.player_listing.specs.Rows.{lesser, rows_listed, heard_so_far, RowIs, RowsAre};
+ghost use Rattle.player_listing.specs.Rows.{rows_listed, heard_so_far, RowIs, RowsAre};
 
 use frame::Header;
 use line::{Event, Receiver, Taken};
@@ -55,96 +55,93 @@ pub fn put_head(out: &mut [u8], at: usize) -> usize
 }
 
 // The name of a frame type.
+#[tactic(auto, using(base::proofs::Choices::choices, texts::proofs::Puts::put_same))]
 fn put_type(frame: u8, out: &mut [u8], at: usize) -> usize
     ensures { PutIs (type_name frame) out.old at result out.new }
 {
     if frame == frame::STX {
-        return put_bytes(b"STX", out, at);
+        put_bytes(b"STX", out, at)
+    } else if frame == frame::ACK {
+        put_bytes(b"ACK", out, at)
+    } else {
+        put_bytes(b"BACK", out, at)
     }
-    if frame == frame::ACK {
-        return put_bytes(b"ACK", out, at);
-    }
-    put_bytes(b"BACK", out, at)
 }
 
 // A frame's master: 0 is the primary.
 fn master_digit(primary: bool) -> u8
     ensures { result ≡ master_digit primary }
 {
-    if primary {
-        return b'0';
-    }
-    b'1'
+    if primary { b'0' } else { b'1' }
 }
 
 // The words of a line, each with a space after it.
+#[tactic(auto, using(base::proofs::Choices::choices, texts::proofs::Puts::put_then))]
 fn put_number_word(n: u32, out: &mut [u8], at: usize) -> usize
     ensures { PutIs (word (decimal n)) out.old at result out.new }
 {
-    let place = put_decimal(n, out, at);
-    put_byte(b' ', out, place)
+    let at = put_decimal(n, out, at);
+    put_byte(b' ', out, at)
 }
 
+#[tactic(auto, using(base::proofs::Choices::choices, texts::proofs::Puts::put_then))]
 pub fn put_type_word(frame: u8, out: &mut [u8], at: usize) -> usize
     ensures { PutIs (word (type_name frame)) out.old at result out.new }
 {
-    let place = put_type(frame, out, at);
-    put_byte(b' ', out, place)
+    let at = put_type(frame, out, at);
+    put_byte(b' ', out, at)
 }
 
+#[tactic(auto, using(base::proofs::Choices::choices, crate::proofs::Words::put_word))]
 pub fn put_master_word(primary: bool, out: &mut [u8], at: usize) -> usize
     ensures { PutIs (word (master_digit primary ∷ [])) out.old at result out.new }
 {
-    let digit = master_digit(primary);
-    let place = put_byte(digit, out, at);
-    put_byte(b' ', out, place)
+    let at = put_byte(master_digit(primary), out, at);
+    put_byte(b' ', out, at)
 }
 
 // The line of a frame: the tick of its last character, its sender, its type, its master, and its length in characters.
+#[tactic(auto, using(base::proofs::Choices::choices, crate::proofs::Words::put_line))]
 fn put_line(tick: u32, party: u16, header: Header, length: u16, out: &mut [u8], at: usize) -> usize
     ensures { PutIs (line_text (line_of tick party header length)) out.old at result out.new }
 {
-    let frame = header.kind;
-    let primary = header.primary;
-    let a = put_number_word(tick, out, at);
-    let b = put_number_word(party as u32, out, a);
-    let c = put_type_word(frame, out, b);
-    let d = put_master_word(primary, out, c);
-    let e = put_decimal(length as u32, out, d);
-    put_byte(b'\n', out, e)
+    let at = put_number_word(tick, out, at);
+    let at = put_number_word(party as u32, out, at);
+    let at = put_type_word(header.kind, out, at);
+    let at = put_master_word(header.primary, out, at);
+    let at = put_decimal(length as u32, out, at);
+    put_byte(b'\n', out, at)
 }
 
 // A monitor that has heard nothing of a frame.
+#[tactic(auto, using(base::proofs::Choices::choices, crate::proofs::Listens::quiet))]
 fn quiet_monitor() -> Monitor
     ensures { result ≡ quiet_monitor }
 {
-    let r = line_reader::idle_reader();
     Monitor {
-        receiver: r,
+        receiver: line_reader::idle_reader(),
         count: 0,
         alone: true,
     }
 }
 
 // The monitors before the first tick.
+#[tactic(auto, using(base::proofs::Choices::choices, crate::proofs::Listens::quiet))]
 pub fn quiet_monitors() -> Monitors
     ensures { result ≡ replicate 8 quiet_monitor }
 {
-    let e = quiet_monitor();
-    [e; 8]
+    [quiet_monitor(); 8]
 }
 
 // One more character, up to the largest count.
 fn one_more(n: u16) -> u16
     ensures { result ≡ one_more n }
 {
-    if n < 65535 {
-        return n + 1;
-    }
-    65535
+    n.saturating_add(1)
 }
 
 // A frame that its sender sent to the end.
+#[tactic(auto, using(base::proofs::Choices::choices, crate::proofs::Listens::ends))]
 fn frame_ends(
     tick: u32,
     party: u16,
@@ -156,21 +153,19 @@ fn frame_ends(
 ) -> MonitorHeard
     ensures { PartyIs (frame_ends (line_of tick party header length) alone) out.old at result.monitor result.at out.new }
 {
-    let monitor = quiet_monitor();
-    if alone {
-        let place = put_line(tick, party, header, length, out, at);
-        return MonitorHeard {
-            monitor: monitor,
-            at: place,
-        };
-    }
+    let at = if alone {
+        put_line(tick, party, header, length, out, at)
+    } else {
+        at
+    };
     MonitorHeard {
-        monitor: monitor,
-        at: at,
+        monitor: quiet_monitor(),
+        at,
     }
 }
 
 // A monitor after a character, by what its reader tells.
+#[tactic(auto, using(base::proofs::Choices::choices, crate::proofs::Listens::tells))]
 fn ends_with(
     tick: u32,
     party: u16,
@@ -182,30 +177,21 @@ fn ends_with(
 ) -> MonitorHeard
     ensures { PartyIs (ends_with tick party count alone t) out.old at result.monitor result.at out.new }
 {
-    let r = t.receiver;
-    let event = t.event;
-    let monitor = Monitor {
-        receiver: r,
-        count: count,
-        alone: alone,
-    };
-    let on = MonitorHeard {
-        monitor: monitor,
-        at: at,
-    };
-    match event {
-        Event::Nothing => on,
-        Event::PassedOver => on,
-        Event::Broken => on,
-        Event::Frame(w) => {
-            let header = w.header;
-            frame_ends(tick, party, header, count, alone, out, at)
-        }
-        Event::Damaged(_, _) => on,
+    match t.event {
+        Event::Frame(w) => frame_ends(tick, party, w.header, count, alone, out, at),
+        _ => MonitorHeard {
+            monitor: Monitor {
+                receiver: t.receiver,
+                count,
+                alone,
+            },
+            at,
+        },
     }
 }
 
-// A party sends a character.
+// A party sends a character. The tick and the party go one by one, as the definition `listens` takes them.
+#[tactic(auto, using(base::proofs::Choices::choices, crate::proofs::Listens::listening))]
 fn hear(
     tick: u32,
     party: u16,
@@ -217,53 +203,27 @@ fn hear(
 ) -> MonitorHeard
     ensures { PartyIs (listens tick party lone monitor (Sent.Character c)) out.old at result.monitor result.at out.new }
 {
-    let r = monitor.receiver;
-    let t = line_reader::heard_character(r, c);
+    let t = line_reader::heard_character(monitor.receiver, c);
     let count = one_more(monitor.count);
-    let alone = base::both(monitor.alone, lone);
-    ends_with(tick, party, count, alone, t, out, at)
-}
-
-// The smaller of two numbers.
-fn lesser_of(a: u32, b: u32) -> u32
-    ensures { result ≡ lesser a b }
-{
-    if a < b {
-        return a;
-    }
-    b
+    ends_with(tick, party, count, monitor.alone && lone, t, out, at)
 }
 
 // How many of 64 rows are listed from this tick on.
+#[tactic(auto, using(base::proofs::Choices::choices, crate::proofs::Rows::listed_of))]
 fn rows_listed(tick: u32, count: u16) -> u32
     ensures { result ≡ rows_listed tick count }
 {
-    let most = lesser_of(count as u32, 64);
-    lesser_of(most, 4294967295 - tick)
+    (count as u32).min(64).min(4294967295 - tick)
 }
 
-// There are eight numbers in a row, and 64 rows: the arrays' types say so, and the promises below need it in words.
-fn eight_numbers(row: &[u16])
-    requires { length row.now ≡ 8 }
-    ensures { length row.now ≡ 8 }
-{}
-
-fn all_rows(rows: &[[u16; 8]])
-    requires { length rows.now ≡ 64 }
-    ensures { length rows.now ≡ 64 }
-{}
-
 // Whether at most one party sends in a tick.
+#[tactic(auto, using(base::proofs::Choices::choices, crate::proofs::Rows::counted))]
 fn row_is_lone(row: &[u16; 8]) -> bool
     ensures { RowIs row.now result }
 {
-    eight_numbers(row);
     let mut n: usize = 0;
-    let mut i = 0;
-    while i < 8 {
-        let c = row[i];
-        i += 1;
-        if 256 <= c {
+    for c in row {
+        if 256 <= *c {
             n += 1;
         }
     }
@@ -271,13 +231,11 @@ fn row_is_lone(row: &[u16; 8]) -> bool
 }
 
 // What a monitor has heard of a frame.
+#[tactic(auto, using(base::proofs::Choices::choices, crate::proofs::Rows::so_far))]
 fn heard_so_far(m: Monitor) -> Monitor
     ensures { result ≡ heard_so_far m }
 {
-    if m.count == 0 {
-        return quiet_monitor();
-    }
-    m
+    if m.count == 0 { quiet_monitor() } else { m }
 }
 
 // So many ticks from this one on: the monitors after them, and the lines of the frames that ended in them, put into the output.
@@ -292,29 +250,29 @@ pub fn list_ticks(
 ) -> Listened
     ensures { RowsAre monitors tick count sent.now out at result }
 {
-    all_rows(sent);
-    let most = rows_listed(tick, count);
     let mut list = monitors;
     let mut place = at;
-    let mut k: u32 = 0;
-    while k < most {
-        let lone = row_is_lone(&sent[k as usize]);
-        let mut next = 0;
-        while next < 8 {
-            let i = next;
-            next += 1;
-            let c = sent[k as usize][i];
-            if 256 <= c {
+    for k in 0..rows_listed(tick, count) {
+        let row = &sent[k as usize];
+        let lone = row_is_lone(row);
+        for (i, c) in row.iter().enumerate() {
+            if 256 <= *c {
                 let begun = heard_so_far(list[i]);
-                let h = hear(tick + k, i as u16, lone, begun, (c % 256) as u8, out, place);
-                let behind = h.monitor;
-                list[i] = behind;
-                place = h.at;
+                let heard = hear(
+                    tick + k,
+                    i as u16,
+                    lone,
+                    begun,
+                    (*c % 256) as u8,
+                    out,
+                    place,
+                );
+                list[i] = heard.monitor;
+                place = heard.at;
             } else if 0 < list[i].count {
                 list[i] = quiet_monitor();
             }
         }
-        k += 1;
     }
     Listened {
         monitors: list,

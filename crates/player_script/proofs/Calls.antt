@@ -1,45 +1,65 @@
 -- A walk over the records of a tick: its calls are those of `wanted_at`, and what is left of it gives what the whole gives.
-use Prim.Native.Nat.{ℕ, ◌+◌, ◌-◌, ◌*◌, ◌≤◌, ◌<◌}
+use Rattle.std.specs.Prelude.{Option, Some, None}
+use Rattle.std.specs.Option.{option_or}
+use Prim.Native.Nat.{ℕ, zero, suc, ◌+◌, ◌-◌, ◌≤◌, ◌<◌}
 use native.Mathlib.Omega.{arith}
 use mathlib.Core.Bool.{Bool, true, false}
 use mathlib.Core.Path.{◌≡◌, refl, sym, ap, ◌∙◌}
 use mathlib.Core.List.{List, [], ◌∷◌}
-use lib.ListN.{length, drop}
+use lib.ListN.{length, drop, get_or, set}
 use borrow.Author.Tests.{eq-eqb, ne_eqb}
 use Rattle.base.specs.Choice.{when◌then◌else◌, ◌=?◌}
 use Rattle.base.proofs.Choices.{if_true, if_false, if_is_true, if_is_false}
-use Rattle.player_script.specs.Script.{width, records_in, wanted_at, leading, tick_of, place_behind, tick_at}
-use Rattle.player_script.specs.Walk.{entry_in, wanted_by, kept, with_record, no_calls}
+use Rattle.player_script.specs.Script.{width, records_in, call_of, wanted_at, leading, tick_of, place_behind, tick_at}
+use Rattle.player_script.specs.Walk.{entry_in, wanted_by, kept, kept_from, with_record, no_calls}
 use Rattle.player_script.specs.declared.Entry.{Entry}
 use Rattle.player_script.specs.declared.Form.{Form}
 use Rattle.player_script.specs.declared.ScriptTick.{ScriptTick}
 use Rattle.player_script.specs.declared.ScriptCall.{ScriptCall}
-use Rattle.player_script.specs.declared.ScriptCall.TheVariants.{Nothing, Call}
 use Rattle.player_script.proofs.Records.{width_some, records_more, records_none}
 
 -- ---- one record
 
-pub kept_own : (before : ScriptCall) (own : Bool) (w : ScriptCall) → before ≡ Nothing → own ≡ true → w ≡ kept before own w
-kept_own before own w e t = if_true own w w Nothing t refl ∙ ap (λ (b : ScriptCall). kept b own w) (sym e)
+-- the record's call comes last
+kept_own : (before : Option ScriptCall) (own : Bool) (w : Option ScriptCall) → own ≡ true → option_or before w ≡ kept before own w
+kept_own None own w t = if_true own w w None t refl
+kept_own (Some before) own w t = refl
 
-pub kept_none : (before : ScriptCall) (own : Bool) (w : ScriptCall) → before ≡ Nothing → own ≡ false → Nothing ≡ kept before own w
-kept_none before own w e f = if_false own Nothing w Nothing f refl ∙ ap (λ (b : ScriptCall). kept b own w) (sym e)
+kept_other : (before : Option ScriptCall) (own : Bool) (w : Option ScriptCall) → own ≡ false → before ≡ kept before own w
+kept_other None own w f = if_false own None w None f refl
+kept_other (Some before) own w f = refl
 
--- the code makes the eight one by one, from what the record wants
-pub with_record_lem : (w : ℕ) (t : ScriptTick) (e : Entry) (x a0 a1 a2 a3 a4 a5 a6 a7 : ScriptCall) → x ≡ wanted_by e
-    → a0 ≡ kept t.primary (e.party =? 0) x
-    → a1 ≡ kept t.secondary (e.party =? 1) x
-    → a2 ≡ kept t.device2 (e.party =? 2) x
-    → a3 ≡ kept t.device3 (e.party =? 3) x
-    → a4 ≡ kept t.device4 (e.party =? 4) x
-    → a5 ≡ kept t.device5 (e.party =? 5) x
-    → a6 ≡ kept t.device6 (e.party =? 6) x
-    → a7 ≡ kept t.device7 (e.party =? 7) x
-    → record { primary = a0; secondary = a1; device2 = a2; device3 = a3; device4 = a4; device5 = a5; device6 = a6; device7 = a7; next = t.next + w } ≡ with_record w t e
+-- the parties from this number on, none of them the record's
+kept_others : (party : ℕ) (e : Entry) (cs : List (Option ScriptCall)) → ((k : ℕ) → k < length cs → party + k ≡ e.party → ⊥) → cs ≡ kept_from party e cs
+unfolding kept_from
+kept_others party e [] n = refl
+kept_others party e (c ∷ cs) n =
+    let other : (e.party =? party) ≡ false = ne_eqb e.party party (λ q. n 0 (omega arith) (omega arith)) in
+    λ i. kept_other c (e.party =? party) (wanted_by e) other i ∷ kept_others (party + 1) e cs (λ k h q. n (k + 1) (omega arith) (omega arith)) i
+
+kept_at : (party k : ℕ) (e : Entry) (cs : List (Option ScriptCall)) → party + k ≡ e.party → k < length cs → set cs k (option_or (get_or cs k None) (wanted_by e)) ≡ kept_from party e cs
+unfolding kept_from
+kept_at party k e [] p h = absurd (omega arith)
+kept_at party zero e (c ∷ cs) p h =
+    let own : (e.party =? party) ≡ true = eq-eqb e.party party (omega arith) in
+    λ i. kept_own c (e.party =? party) (wanted_by e) own i ∷ kept_others (party + 1) e cs (λ k l q. omega arith) i
+kept_at party (suc k) e (c ∷ cs) p h =
+    let other : (e.party =? party) ≡ false = ne_eqb e.party party (λ q. omega arith) in
+    λ i. kept_other c (e.party =? party) (wanted_by e) other i ∷ kept_at (party + 1) k e cs (omega arith) (omega arith) i
+
+-- the code sets the call of the record's party
+pub with_record_own : (w : ℕ) (t : ScriptTick) (e : Entry) (x c : Option ScriptCall) → length t.calls ≡ 8 → e.party < 8 → x ≡ wanted_by e → c ≡ option_or (get_or t.calls e.party None) x
+    → record { calls = set t.calls e.party c; next = t.next + w } ≡ with_record w t e
 unfolding with_record
-with_record_lem w t e x a0 a1 a2 a3 a4 a5 a6 a7 p h0 h1 h2 h3 h4 h5 h6 h7 = λ i. record { primary = (h0 ∙ ap (kept t.primary (e.party =? 0)) p) i; secondary = (h1 ∙ ap (kept t.secondary (e.party =? 1)) p) i; device2 = (h2 ∙ ap (kept t.device2 (e.party =? 2)) p) i; device3 = (h3 ∙ ap (kept t.device3 (e.party =? 3)) p) i; device4 = (h4 ∙ ap (kept t.device4 (e.party =? 4)) p) i; device5 = (h5 ∙ ap (kept t.device5 (e.party =? 5)) p) i; device6 = (h6 ∙ ap (kept t.device6 (e.party =? 6)) p) i; device7 = (h7 ∙ ap (kept t.device7 (e.party =? 7)) p) i; next = t.next + w }
+with_record_own w t e x c s h p q =
+    let own : c ≡ option_or (get_or t.calls e.party None) (wanted_by e) = q ∙ ap (option_or (get_or t.calls e.party None)) p in
+    λ i. record { calls = (ap (set t.calls e.party) own ∙ kept_at 0 e.party e t.calls (omega arith) (omega arith)) i; next = t.next + w }
 
-pub ruleset keeps = (kept_own, kept_none)
+pub with_record_other : (w : ℕ) (t : ScriptTick) (e : Entry) → length t.calls ≡ 8 → 8 ≤ e.party → record { calls = t.calls; next = t.next + w } ≡ with_record w t e
+unfolding with_record
+with_record_other w t e s h = λ i. record { calls = kept_others 0 e t.calls (λ k l q. omega arith) i; next = t.next + w }
+
+pub ruleset keeps = (refl, with_record_own, with_record_other)
 
 -- ---- the records of a tick
 
@@ -48,38 +68,52 @@ walked w tick [] t = t
 walked w tick (e ∷ es) t = when e.tick =? tick then walked w tick es (with_record w t e) else t
 
 -- a party's call, and where it has none the later one
-abbrev first : ScriptCall → ScriptCall → ScriptCall
+abbrev first : Option ScriptCall → Option ScriptCall → Option ScriptCall
 first before later = kept before true later
 
-first_none : (w : ScriptCall) → first w Nothing ≡ w
+first_none : (w : Option ScriptCall) → first w None ≡ w
 unfolding when◌then◌else◌
-first_none Nothing = refl
-first_none (Call a b) = refl
+first_none None = refl
+first_none (Some w) = refl
 
 -- the record's call comes before the later ones
-kept_first : (before : ScriptCall) (own stop : Bool) (a b : ℕ) (later : ScriptCall)
-    → first (kept before own (when stop then Nothing else Call a b)) later ≡ first before (when (when true then (when stop then false else own) else false) then Call a b else later)
+kept_first : (before : Option ScriptCall) (own stop : Bool) (w : ScriptCall) (later : Option ScriptCall)
+    → first (kept before own (when stop then None else Some w)) later ≡ first before (when (when true then (when stop then false else own) else false) then Some w else later)
 unfolding when◌then◌else◌
-kept_first (Call x y) own stop a b later = refl
-kept_first Nothing true true a b later = refl
-kept_first Nothing true false a b later = refl
-kept_first Nothing false true a b later = refl
-kept_first Nothing false false a b later = refl
+kept_first (Some x) own stop w later = refl
+kept_first None true true w later = refl
+kept_first None true false w later = refl
+kept_first None false true w later = refl
+kept_first None false false w later = refl
 
-module _ (w : ℕ) (f : ScriptTick → ScriptCall) (party : ℕ) (one : (t : ScriptTick) (e : Entry) → f (with_record w t e) ≡ kept (f t) (e.party =? party) (wanted_by e)) where
-  walked_party : (tick : ℕ) (es : List Entry) (t : ScriptTick) → f (walked w tick es t) ≡ first (f t) (wanted_at tick party (leading tick es))
-  unfolding walked leading wanted_at when◌then◌else◌
-  walked_party tick [] t = sym (first_none (f t))
-  walked_party tick (e ∷ es) t = go (e.tick =? tick) refl (walked_party tick es (with_record w t e))
-    where
-      go : (b : Bool) → (e.tick =? tick) ≡ b → f (walked w tick es (with_record w t e)) ≡ first (f (with_record w t e)) (wanted_at tick party (leading tick es))
-          → f (when b then walked w tick es (with_record w t e) else t) ≡ first (f t) (wanted_at tick party (when b then e ∷ leading tick es else []))
-      go false q rest = sym (first_none (f t))
-      go true q rest =
-          rest
-          ∙ ap (λ (x : ScriptCall). first x (wanted_at tick party (leading tick es))) (one t e)
-          ∙ kept_first (f t) (e.party =? party) (e.action =? 0) e.action e.argument (wanted_at tick party (leading tick es))
-          ∙ ap (λ (b : Bool). first (f t) (when (when b then (when e.action =? 0 then false else e.party =? party) else false) then Call e.action e.argument else (wanted_at tick party (leading tick es)))) (sym q)
+-- the same for the parties from this number on
+firsts : ℕ → ℕ → List Entry → List (Option ScriptCall) → List (Option ScriptCall)
+firsts party tick es [] = []
+firsts party tick es (c ∷ cs) = first c (wanted_at tick party es) ∷ firsts (party + 1) tick es cs
+
+firsts_none : (party tick : ℕ) (cs : List (Option ScriptCall)) → firsts party tick [] cs ≡ cs
+unfolding firsts wanted_at
+firsts_none party tick [] = refl
+firsts_none party tick (c ∷ cs) = λ i. first_none c i ∷ firsts_none (party + 1) tick cs i
+
+firsts_kept : (party tick : ℕ) (e : Entry) (es : List Entry) (cs : List (Option ScriptCall)) → (e.tick =? tick) ≡ true → firsts party tick es (kept_from party e cs) ≡ firsts party tick (e ∷ es) cs
+unfolding firsts kept_from wanted_at
+firsts_kept party tick e es [] q = refl
+firsts_kept party tick e es (c ∷ cs) q =
+    let here : first (kept c (e.party =? party) (wanted_by e)) (wanted_at tick party es) ≡ first c (wanted_at tick party (e ∷ es)) =
+    kept_first c (e.party =? party) (e.action =? 0) (call_of e) (wanted_at tick party es)
+    ∙ ap (λ (b : Bool). first c (when (when b then (when e.action =? 0 then false else e.party =? party) else false) then Some (call_of e) else wanted_at tick party es)) (sym q) in
+    λ i. here i ∷ firsts_kept (party + 1) tick e es cs q i
+
+walked_calls : (w tick : ℕ) (es : List Entry) (t : ScriptTick) → (walked w tick es t).calls ≡ firsts 0 tick (leading tick es) t.calls
+unfolding walked leading with_record when◌then◌else◌
+walked_calls w tick [] t = sym (firsts_none 0 tick t.calls)
+walked_calls w tick (e ∷ es) t = go (e.tick =? tick) refl (walked_calls w tick es (with_record w t e))
+  where
+    go : (b : Bool) → (e.tick =? tick) ≡ b → (walked w tick es (with_record w t e)).calls ≡ firsts 0 tick (leading tick es) (kept_from 0 e t.calls)
+        → (when b then walked w tick es (with_record w t e) else t).calls ≡ firsts 0 tick (when b then e ∷ leading tick es else []) t.calls
+    go false q rest = sym (firsts_none 0 tick t.calls)
+    go true q rest = rest ∙ firsts_kept 0 tick e (leading tick es) t.calls q
 
 walked_next : (w tick : ℕ) (es : List Entry) (t : ScriptTick) → (walked w tick es t).next ≡ place_behind w t.next (leading tick es)
 unfolding walked leading with_record place_behind when◌then◌else◌
@@ -92,18 +126,8 @@ walked_next w tick (e ∷ es) t = go (e.tick =? tick) (walked_next w tick es (wi
     go true rest = rest
 
 pub walked_all : (w at tick : ℕ) (es : List Entry) → walked w tick es (no_calls at) ≡ tick_of tick (leading tick es) (place_behind w at (leading tick es))
-unfolding with_record when◌then◌else◌
-walked_all w at tick es = λ i. record {
-  primary = walked_party w (λ (t : ScriptTick). t.primary) 0 (λ t e. refl) tick es (no_calls at) i;
-  secondary = walked_party w (λ (t : ScriptTick). t.secondary) 1 (λ t e. refl) tick es (no_calls at) i;
-  device2 = walked_party w (λ (t : ScriptTick). t.device2) 2 (λ t e. refl) tick es (no_calls at) i;
-  device3 = walked_party w (λ (t : ScriptTick). t.device3) 3 (λ t e. refl) tick es (no_calls at) i;
-  device4 = walked_party w (λ (t : ScriptTick). t.device4) 4 (λ t e. refl) tick es (no_calls at) i;
-  device5 = walked_party w (λ (t : ScriptTick). t.device5) 5 (λ t e. refl) tick es (no_calls at) i;
-  device6 = walked_party w (λ (t : ScriptTick). t.device6) 6 (λ t e. refl) tick es (no_calls at) i;
-  device7 = walked_party w (λ (t : ScriptTick). t.device7) 7 (λ t e. refl) tick es (no_calls at) i;
-  next = walked_next w tick es (no_calls at) i;
-}
+unfolding firsts when◌then◌else◌
+walked_all w at tick es = λ i. record { calls = walked_calls w tick es (no_calls at) i; next = walked_next w tick es (no_calls at) i }
 
 -- ---- the walk over the script's bytes
 

@@ -1,4 +1,5 @@
 -- Ticks that have no record: what the code finds, and that nothing is wanted in them.
+use Rattle.std.specs.Prelude.{Option, None}
 use Prim.Native.Nat.{ℕ, ◌+◌, ◌-◌, ◌≤◌, ◌<◌}
 use native.Mathlib.Decide.{dec_lt}
 use native.Mathlib.Omega.{arith}
@@ -14,8 +15,6 @@ use Rattle.player_script.specs.Reads.{Rising, none, more, Reads}
 use Rattle.player_script.specs.Walk.{entry_in, free_before, free_ticks}
 use Rattle.player_script.specs.declared.Entry.{Entry}
 use Rattle.player_script.specs.declared.Form.{Form}
-use Rattle.player_script.specs.declared.ScriptCall.{ScriptCall}
-use Rattle.player_script.specs.declared.ScriptCall.TheVariants.{Nothing}
 use Rattle.player_script.proofs.Records.{width_some, records_more, records_none}
 use Rattle.player_script.proofs.Ticks.{later_none}
 
@@ -72,7 +71,7 @@ pub record Free (f : Form) (script : List ℕ) (at tick stop ticks : ℕ) : Type
   pub some_tick : 0 < ticks → 0 < tick
   pub before_it : 0 < ticks → tick + ticks ≤ stop
   pub reads_on : (n : ℕ) → n ≤ ticks → Reads f script at (tick + n)
-  pub wants_none : (n party : ℕ) → n < ticks → wanted_at (tick + n) party (records_in f script) ≡ Nothing
+  pub wants_none : (n party : ℕ) → n < ticks → wanted_at (tick + n) party (records_in f script) ≡ None
 
 -- the earlier of a record's tick and the stop's
 earlier_low : (next stop : ℕ) → (when next <? stop then next else stop) ≤ next

@@ -48,7 +48,8 @@ pub ruleset forms = (refl, width_at, old_width, new_width, old_fits, new_fits, o
 
 -- ---- the first record
 
-four_more : (script : List ℕ) (at : ℕ) → at + 4 ≤ length script
+-- the next four bytes
+pub four_more : (script : List ℕ) (at : ℕ) → at + 4 ≤ length script
     → drop at script ≡ get_or script at 0 ∷ get_or script (at + 1) 0 ∷ get_or script (at + 2) 0 ∷ get_or script (at + 3) 0 ∷ drop (at + 4) script
 four_more script at h =
     simp (add-one, add-two, add-three, add-four)

@@ -1,4 +1,5 @@
 -- Reading a good script tick by tick: what `tick_at` gives at each place is what the whole script wants in that tick.
+use Rattle.std.specs.Prelude.{Option, Some, None}
 use Prim.Native.Nat.{ℕ, zero, suc, ◌+◌, ◌%◌, ◌≤◌, ◌<◌}
 use native.Mathlib.Decide.{dec_le}
 use native.Mathlib.Omega.{arith}
@@ -10,14 +11,13 @@ use borrow.Author.Tests.{eqb-true, eqb-false, ne_eqb}
 use Rattle.base.specs.Choice.{when◌then◌else◌, ◌=?◌}
 use Rattle.base.proofs.Choices.{if_is_false}
 use Rattle.base.proofs.Tables.{chain_second}
-use Rattle.player_script.specs.Script.{width, records_in, called_before, is_good, good_in, is_of, wanted_at, leading, tick_of, place_behind, tick_at}
+use Rattle.player_script.specs.Script.{width, records_in, called_before, is_good, good_in, is_of, call_of, wanted_at, leading, tick_of, place_behind, tick_at}
 use Rattle.player_script.specs.Walk.{entry_in}
 use Rattle.player_script.specs.Reads.{Rising, none, more, Reads}
 use Rattle.player_script.specs.declared.Entry.{Entry}
 use Rattle.player_script.specs.declared.Form.{Form}
 use Rattle.player_script.specs.declared.ScriptTick.{ScriptTick}
 use Rattle.player_script.specs.declared.ScriptCall.{ScriptCall}
-use Rattle.player_script.specs.declared.ScriptCall.TheVariants.{Nothing, Call}
 use Rattle.player_script.proofs.Good.{good_end, good_call}
 use Rattle.player_script.proofs.Records.{width_some, records_more, records_none}
 
@@ -83,7 +83,7 @@ other_tick : (tick party : ℕ) (e : Entry) (es : List Entry) → (e.tick ≡ ti
 unfolding wanted_at
 other_tick tick party e es n = if_is_false (is_of tick party e) _ _ (if_is_false (e.tick =? tick) _ _ (ne_eqb e.tick tick n))
 
-pub later_none : (low tick party : ℕ) (es : List Entry) → Rising low es → tick < low → wanted_at tick party es ≡ Nothing
+pub later_none : (low tick party : ℕ) (es : List Entry) → Rising low es → tick < low → wanted_at tick party es ≡ None
 unfolding wanted_at
 later_none low tick party [] none h = refl
 later_none low tick party (e ∷ es) (more l r) h = other_tick tick party e es (λ q. omega arith) ∙ later_none e.tick tick party es r (omega arith)
@@ -96,7 +96,7 @@ leading_all tick party (e ∷ es) (more l r) = go (e.tick =? tick) refl (λ q. l
   where
     go : (t : Bool) → (e.tick =? tick) ≡ t → ((e.tick =? tick) ≡ true → wanted_at tick party (leading tick es) ≡ wanted_at tick party es)
         → wanted_at tick party (when t then e ∷ leading tick es else []) ≡ wanted_at tick party (e ∷ es)
-    go true q rest = ap (λ (w : ScriptCall). when is_of tick party e then Call e.action e.argument else w) (rest q)
+    go true q rest = ap (λ (w : Option ScriptCall). when is_of tick party e then Some (call_of e) else w) (rest q)
     go false q rest = sym (other_tick tick party e es (eqb-false e.tick tick q) ∙ later_none e.tick tick party es r (above e tick l q))
 
 -- the leading records want nothing in later ticks
@@ -127,17 +127,10 @@ module _ (f : Form) (script : List ℕ) (at tick : ℕ) (t : ScriptTick) (v : Re
   -- what is read in this tick is what the whole script wants in it
   pub reads_tick : t ≡ tick_of tick (records_in f script) t.next
   unfolding tick_at
-  reads_tick = λ i. record {
-    primary = (ap (λ (x : ScriptTick). x.primary) e ∙ wanted 0) i;
-    secondary = (ap (λ (x : ScriptTick). x.secondary) e ∙ wanted 1) i;
-    device2 = (ap (λ (x : ScriptTick). x.device2) e ∙ wanted 2) i;
-    device3 = (ap (λ (x : ScriptTick). x.device3) e ∙ wanted 3) i;
-    device4 = (ap (λ (x : ScriptTick). x.device4) e ∙ wanted 4) i;
-    device5 = (ap (λ (x : ScriptTick). x.device5) e ∙ wanted 5) i;
-    device6 = (ap (λ (x : ScriptTick). x.device6) e ∙ wanted 6) i;
-    device7 = (ap (λ (x : ScriptTick). x.device7) e ∙ wanted 7) i;
-    next = t.next;
-  }
+  reads_tick =
+      let all : (tick_of tick (leading tick (records_in f (drop at script))) t.next).calls ≡ (tick_of tick (records_in f script) t.next).calls =
+      λ i. wanted 0 i ∷ wanted 1 i ∷ wanted 2 i ∷ wanted 3 i ∷ wanted 4 i ∷ wanted 5 i ∷ wanted 6 i ∷ wanted 7 i ∷ [] in
+      λ i. record { calls = (ap (λ (x : ScriptTick). x.calls) e ∙ all) i; next = t.next }
 
   -- and reading goes on behind it with the next tick
   next_is : records_in f (drop t.next script) ≡ behind tick (records_in f (drop at script))

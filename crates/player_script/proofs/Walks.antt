@@ -1,4 +1,5 @@
 -- A walk over the calls of a script: what is left of it gives what the whole gives; and the records that end with the stop.
+use Rattle.std.specs.Prelude.{Option, Some, None}
 use Prim.Native.Nat.{ℕ, ◌+◌, ◌-◌, ◌%◌, ◌≤◌, ◌<◌}
 use native.Mathlib.Omega.{arith}
 use mathlib.Core.Bool.{Bool, true, false}
@@ -12,8 +13,6 @@ use Rattle.player_script.specs.Walk.{entry_in}
 use Rattle.player_script.specs.declared.Entry.{Entry}
 use Rattle.player_script.specs.declared.Form.{Form}
 use Rattle.player_script.specs.declared.Form.TheVariants.{Old, New}
-use Rattle.player_script.specs.declared.Walked.{Walked}
-use Rattle.player_script.specs.declared.Walked.TheVariants.{Bad, UpTo}
 use Rattle.player_script.proofs.Records.{width_some, records_more, records_none, records_last, records_append}
 use Rattle.player_script.proofs.Good.{call_party, call_falls, call_none, call_twice, call_more}
 
@@ -42,17 +41,17 @@ module _ (f : Form) (piece : List ℕ) (since : ℕ) (before marks : List ℕ) (
       sym v.left ∙ ap (walked_by (up_to last marks)) (records_more f piece at (walk_within f piece at w same h))
       ∙ ap (λ (x : Entry). walked_by (with_call last marks x) (records_in f (drop (at + width f) piece))) (sym p)
 
-  ends_bad : with_call last marks e ≡ bad → walked_as Bad marks ≡ walked_by (up_to since before) (records_in f piece)
+  ends_bad : with_call last marks e ≡ bad → walked_as None marks ≡ walked_by (up_to since before) (records_in f piece)
   unfolding walked_as
   ends_bad q = sym (left_is ∙ ap (λ (g : Gone). walked_by g (records_in f (drop (at + width f) piece))) q ∙ bad_stays (records_in f (drop (at + width f) piece)))
 
-  pub walk_falls : e.tick < last → walked_as Bad marks ≡ walked_by (up_to since before) (records_in f piece)
+  pub walk_falls : e.tick < last → walked_as None marks ≡ walked_by (up_to since before) (records_in f piece)
   walk_falls l = ends_bad (call_falls last marks e l)
 
-  pub walk_no_call : (r : Bool) → last ≤ e.tick → r ≡ is_call e → r ≡ false → walked_as Bad marks ≡ walked_by (up_to since before) (records_in f piece)
+  pub walk_no_call : (r : Bool) → last ≤ e.tick → r ≡ is_call e → r ≡ false → walked_as None marks ≡ walked_by (up_to since before) (records_in f piece)
   walk_no_call r l q t = ends_bad (call_none last marks e l (sym q ∙ t))
 
-  pub walk_twice : (r : Bool) → last ≤ e.tick → r ≡ is_call e → r ≡ true → get_or marks e.party 0 ≡ e.tick + 1 → walked_as Bad marks ≡ walked_by (up_to since before) (records_in f piece)
+  pub walk_twice : (r : Bool) → last ≤ e.tick → r ≡ is_call e → r ≡ true → get_or marks e.party 0 ≡ e.tick + 1 → walked_as None marks ≡ walked_by (up_to since before) (records_in f piece)
   walk_twice r l q t s = ends_bad (call_twice last marks e l (sym q ∙ t) s)
 
   pub walk_more : (r : Bool) → last ≤ e.tick → r ≡ is_call e → r ≡ true → (get_or marks e.party 0 ≡ e.tick + 1 → ⊥) → Passing f piece since before (set marks e.party (e.tick + 1)) e.tick (at + w)
@@ -63,7 +62,7 @@ module _ (f : Form) (piece : List ℕ) (since : ℕ) (before marks : List ℕ) (
   }
 
 pub walk_ended : (f : Form) (piece : List ℕ) (since : ℕ) (before marks : List ℕ) (last at w : ℕ) → w ≡ width f → Passing f piece since before marks last at → length piece - at < w
-    → walked_as (UpTo last) marks ≡ walked_by (up_to since before) (records_in f piece)
+    → walked_as (Some last) marks ≡ walked_by (up_to since before) (records_in f piece)
 unfolding walked_as walked_by
 walk_ended f piece since before marks last at w p v h = ap (walked_by (up_to last marks)) (sym (records_none f piece at (omega (arith, p, h, v.within, width_some f)))) ∙ v.left
 
@@ -90,7 +89,7 @@ rest_none f gone rest w p h = sym (ap (rest_good gone) (records_none f rest 0 (o
 pub rest_within : (f : Form) (n w : ℕ) → w ≡ width f → w ≤ n → n - w + width f ≤ n
 rest_within f n w p h = omega (arith, p, h)
 
-module _ (f : Form) (rest : List ℕ) (since w : ℕ) (marks after : List ℕ) (r : Walked) (same : w ≡ width f) (even : length rest % width f ≡ 0) (h : w ≤ length rest)
+module _ (f : Form) (rest : List ℕ) (since w : ℕ) (marks after : List ℕ) (r : Option ℕ) (same : w ≡ width f) (even : length rest % width f ≡ 0) (h : w ≤ length rest)
     (q : walked_as r after ≡ walked_by (up_to since marks) (records_in f (take (length rest - w) rest))) where
   calls_whole : length (take (length rest - w) rest) % width f ≡ 0
   calls_whole = ap (λ (n : ℕ). n % width f) (length-take-le (length rest - w) rest (omega arith)) ∙ less_whole f (length rest) w same even h
@@ -109,12 +108,12 @@ module _ (f : Form) (rest : List ℕ) (since w : ℕ) (marks after : List ℕ) (
       ∙ rest_append (up_to since marks) (records_in f (take (length rest - w) rest)) (entry_in f rest (length rest - w)) []
       ∙ ap (λ (g : Gone). ends_after g (entry_in f rest (length rest - w))) (sym q)
 
-  pub rest_bad : r ≡ Bad → false ≡ rest_good (up_to since marks) (records_in f rest)
+  pub rest_bad : r ≡ None → false ≡ rest_good (up_to since marks) (records_in f rest)
   unfolding walked_as
-  rest_bad k = sym (judged ∙ ap (λ (x : Walked). ends_after (walked_as x after) (entry_in f rest (length rest - w))) k)
+  rest_bad k = sym (judged ∙ ap (λ (x : Option ℕ). ends_after (walked_as x after) (entry_in f rest (length rest - w))) k)
 
-  pub rest_stop : (last : ℕ) (e : Entry) (b : Bool) → r ≡ UpTo last → e ≡ entry_in f rest (length rest - w) → b ≡ stops_after last e → b ≡ rest_good (up_to since marks) (records_in f rest)
+  pub rest_stop : (last : ℕ) (e : Entry) (b : Bool) → r ≡ Some last → e ≡ entry_in f rest (length rest - w) → b ≡ stops_after last e → b ≡ rest_good (up_to since marks) (records_in f rest)
   unfolding walked_as
-  rest_stop last e b k p s = s ∙ ap (stops_after last) p ∙ sym (judged ∙ ap (λ (x : Walked). ends_after (walked_as x after) (entry_in f rest (length rest - w))) k)
+  rest_stop last e b k p s = s ∙ ap (stops_after last) p ∙ sym (judged ∙ ap (λ (x : Option ℕ). ends_after (walked_as x after) (entry_in f rest (length rest - w))) k)
 
 pub ruleset rests = (refl, rest_none, rest_within, rest_bad, rest_stop)

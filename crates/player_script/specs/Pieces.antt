@@ -1,12 +1,10 @@
 -- How the code stands for what is to be believed.
 -- A script read in pieces, since it may be longer than any buffer: what is kept of the records gone by, and that the whole is good just if the last piece is good after them.
-use Rattle.std.specs.Prelude.{ℕ, ◌+◌, ◌%◌, ◌≤◌, Bool, false, List, [], ◌∷◌, ◌++◌, ◌≡◌, length, get_or, set, replicate}
+use Rattle.std.specs.Prelude.{ℕ, ◌+◌, ◌%◌, ◌≤◌, Bool, false, List, [], ◌∷◌, ◌++◌, ◌≡◌, length, get_or, set, replicate, Option, Some, None}
 use Rattle.base.specs.Choice.{when◌then◌else◌, ◌<?◌, ◌=?◌}
 use Rattle.player_script.specs.Script.{width, records_in, is_stop, is_call, good_in, stop_of}
 use Rattle.player_script.specs.declared.Entry.{Entry}
 use Rattle.player_script.specs.declared.Form.{Form}
-use Rattle.player_script.specs.declared.Walked.{Walked}
-use Rattle.player_script.specs.declared.Walked.TheVariants.{Bad, UpTo}
 
 -- what is kept of records that must be calls: that one of them is bad; or the tick of the last, and for each party a mark, one more than the tick of its last call and 0 before its first
 pub data Gone : Type 0 where
@@ -51,9 +49,9 @@ unfoldable pub good_after : Form → Gone → List ℕ → Bool
 good_after f gone rest = when length rest % width f =? 0 then rest_good gone (records_in f rest) else false
 
 -- what the code says of a walk, with the marks that it leaves
-unfoldable pub walked_as : Walked → List ℕ → Gone
-walked_as Bad marks = bad
-walked_as (UpTo last) marks = up_to last marks
+unfoldable pub walked_as : Option ℕ → List ℕ → Gone
+walked_as None marks = bad
+walked_as (Some last) marks = up_to last marks
 
 -- ---- claims
 

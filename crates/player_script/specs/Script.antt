@@ -1,18 +1,15 @@
 -- To be believed: what the engine must do, or what is claimed of it.
 -- Document 01, "The player", the script: its records, what makes it good, and the calls of each tick.
-use Rattle.std.specs.Prelude.{ℕ, zero, suc, ◌+◌, ◌*◌, ◌/◌, ◌%◌, Bool, true, false, List, [], ◌∷◌, length, get_or, drop, replicate}
+use Rattle.std.specs.Prelude.{ℕ, zero, suc, ◌+◌, ◌*◌, ◌/◌, ◌%◌, Bool, true, false, List, [], ◌∷◌, length, get_or, drop, replicate, Option, Some, None}
 use Rattle.base.specs.Choice.{when◌then◌else◌, ◌<?◌, ◌=?◌}
-use Rattle.base.specs.Refusal.{number, Called, accepted, refused}
+use Rattle.base.specs.Refusal.{Called, accepted, refused}
 use Rattle.turns.specs.Link.{MasterCall, no_request, requests, DeviceCall, no_call, gives_answer, gives_content, Calls}
 use Rattle.turns.specs.declared.Wish.TheVariants.{Same, On, Off}
 use Rattle.player_script.specs.declared.Entry.{Entry}
 use Rattle.player_script.specs.declared.Form.{Form}
 use Rattle.player_script.specs.declared.Form.TheVariants.{Old, New}
-use Rattle.player_script.specs.declared.SizedForm.{SizedForm}
-use Rattle.player_script.specs.declared.SizedForm.TheVariants.{Is, Refused}
 use Rattle.player_script.specs.declared.ScriptTick.{ScriptTick}
 use Rattle.player_script.specs.declared.ScriptCall.{ScriptCall}
-use Rattle.player_script.specs.declared.ScriptCall.TheVariants.{Nothing, Call}
 
 -- "Script records are 4 bytes, most significant first: tick 16 bits, party 4, action 4, argument 8."
 abbrev pub entry_of : ℕ → ℕ → ℕ → ℕ → Entry
@@ -49,11 +46,6 @@ width New = 6
 -- the form whose records have so many bytes: "It refuses a record size other than 4 or 6 with 24"
 unfoldable pub form_of : ℕ → Called Form
 form_of size = when size =? 4 then accepted Old else when size =? 6 then accepted New else refused 24
-
--- what the code's answer to a size says
-abbrev pub sized_as : SizedForm → Called Form
-sized_as (Is f) = accepted f
-sized_as (Refused why) = refused (number why)
 
 -- the size that a program's argument says, the digit 4 or 6; any other word says none, which is 24 too
 abbrev pub digit_size : ℕ → ℕ
@@ -117,24 +109,28 @@ good_in f script = when length script % width f =? 0 then is_good 0 [] (records_
 abbrev pub is_of : ℕ → ℕ → Entry → Bool
 is_of tick party e = when e.tick =? tick then (when e.action =? 0 then false else e.party =? party) else false
 
+-- the call of a record
+abbrev pub call_of : Entry → ScriptCall
+call_of e = record { action = e.action; argument = e.argument }
+
 -- what a script wants of a party in a tick
-unfoldable pub wanted_at : ℕ → ℕ → List Entry → ScriptCall
-wanted_at tick party [] = Nothing
-wanted_at tick party (e ∷ es) = when is_of tick party e then Call e.action e.argument else wanted_at tick party es
+unfoldable pub wanted_at : ℕ → ℕ → List Entry → Option ScriptCall
+wanted_at tick party [] = None
+wanted_at tick party (e ∷ es) = when is_of tick party e then Some (call_of e) else wanted_at tick party es
 
 -- "FSK, R 3, preamble 5"
-abbrev pub master_call : ScriptCall → MasterCall
-master_call Nothing = no_request
-master_call (Call action argument) =
-    when action =? 1 then requests (record { preamble = 5; revision = 7; long = false; address = argument; command = 0 }) []
-    else requests (record { preamble = 5; revision = 7; long = true; address = argument; command = 3 }) []
+abbrev pub master_call : Option ScriptCall → MasterCall
+master_call None = no_request
+master_call (Some w) =
+    when w.action =? 1 then requests (record { preamble = 5; revision = 7; long = false; address = w.argument; command = 0 }) []
+    else requests (record { preamble = 5; revision = 7; long = true; address = w.argument; command = 3 }) []
 
 -- "2 device answers with that many zero bytes"
-abbrev pub device_call : ScriptCall → DeviceCall
-device_call Nothing = no_call
-device_call (Call action argument) =
-    when action =? 2 then gives_answer Same (replicate argument 0) else
-    when action =? 4 then gives_answer On (replicate argument 0) else gives_answer Off (replicate argument 0)
+abbrev pub device_call : Option ScriptCall → DeviceCall
+device_call None = no_call
+device_call (Some w) =
+    when w.action =? 2 then gives_answer Same (replicate w.argument 0) else
+    when w.action =? 4 then gives_answer On (replicate w.argument 0) else gives_answer Off (replicate w.argument 0)
 
 -- "Burst content is command 3 with two zero bytes": each device's call of tick 0, where an answer could only be refused
 abbrev pub device_call_at : ℕ → ℕ → List Entry → DeviceCall
@@ -169,14 +165,9 @@ leading tick (e ∷ es) = when e.tick =? tick then e ∷ leading tick es else []
 -- what these records want of each party in a tick, and the place where reading goes on
 abbrev pub tick_of : ℕ → List Entry → ℕ → ScriptTick
 tick_of tick es next = record {
-  primary = wanted_at tick 0 es;
-  secondary = wanted_at tick 1 es;
-  device2 = wanted_at tick 2 es;
-  device3 = wanted_at tick 3 es;
-  device4 = wanted_at tick 4 es;
-  device5 = wanted_at tick 5 es;
-  device6 = wanted_at tick 6 es;
-  device7 = wanted_at tick 7 es;
+  calls =
+      wanted_at tick 0 es ∷ wanted_at tick 1 es ∷ wanted_at tick 2 es ∷ wanted_at tick 3 es
+      ∷ wanted_at tick 4 es ∷ wanted_at tick 5 es ∷ wanted_at tick 6 es ∷ wanted_at tick 7 es ∷ [];
   next = next;
 }
 

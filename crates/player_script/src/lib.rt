@@ -1,11 +1,12 @@
 // The player's script: whether it is good, its stop's tick, and the calls of each tick.
-#![tactic(auto)]
+#![tactic(auto, using(base::proofs::Choices::choices))]
 
 ghost use Rattle.std.specs.Prelude.{◌≡◌, ◌+◌, ◌-◌, ◌%◌, ◌<◌, ◌≤◌, length};
 ghost use Rattle.base.specs.Choice.{when◌then◌else◌, ◌<?◌};
-ghost use Rattle.player_script.specs.Script.{entry_of, long_entry_of, width, records_in, is_stop, is_masters, is_devices, is_call, good_in, stop_of, tick_at, form_of, sized_as, digit_size, size_in};
+ghost use Rattle.player_script.specs.Script.{entry_of, long_entry_of, width, records_in, is_stop, is_masters, is_devices, is_call, good_in, stop_of, tick_at, form_of, size_in};
 ghost use Rattle.player_script.specs.Pieces.{up_to, walked_by, walked_as, stops_after, rest_good, good_after};
-ghost use Rattle.player_script.specs.Walk.{entry_at, long_entry_at, entry_in, wanted_by, kept, with_record, no_calls, free_ticks};
+ghost use Rattle.player_script.specs.Walk.{entry_at, long_entry_at, entry_in, wanted_by, with_record, no_calls, free_ticks};
+ghost use Rattle.base.specs.Refusal.{called_as};
 
 use base::Refusal;
 
@@ -14,13 +15,6 @@ use base::Refusal;
 pub enum Form {
     Old,
     New,
-}
-
-// The form of records of so many bytes, or a refusal.
-#[derive(Clone, Copy)]
-pub enum SizedForm {
-    Is(Form),
-    Refused(Refusal),
 }
 
 // A record of a script.
@@ -32,71 +26,46 @@ pub struct Entry {
     pub argument: u8,
 }
 
-// Where a walk over a script's calls stands: one is bad, or the last call's tick.
+// What a script wants of a party in a tick: an action and its argument.
 #[derive(Clone, Copy)]
-pub enum Walked {
-    Bad,
-    UpTo(usize),
-}
-
-// What a script wants of a party in a tick.
-#[derive(Clone, Copy)]
-pub enum ScriptCall {
-    Nothing,
-    // an action and its argument
-    Call(u8, u8),
+pub struct ScriptCall {
+    pub action: u8,
+    pub argument: u8,
 }
 
 // What a script wants of each party in a tick, and the place after that tick's records.
 #[derive(Clone, Copy)]
 pub struct ScriptTick {
-    pub primary: ScriptCall,
-    pub secondary: ScriptCall,
-    pub device2: ScriptCall,
-    pub device3: ScriptCall,
-    pub device4: ScriptCall,
-    pub device5: ScriptCall,
-    pub device6: ScriptCall,
-    pub device7: ScriptCall,
+    // 0 primary, 1 secondary, then the devices
+    pub calls: [Option<ScriptCall>; 8],
     pub next: usize,
 }
 
 // The form whose records have so many bytes. Another size than 4 or 6 is refused with 24.
-pub fn form_of(size: usize) -> SizedForm
-    ensures { sized_as result ≡ form_of size }
+#[tactic(auto, using(base::proofs::Choices::choices), unfolding(crate::specs::Script::form_of))]
+pub fn form_of(size: usize) -> Result<Form, Refusal>
+    ensures { called_as result ≡ form_of size }
 {
-    if size == 4 {
-        return SizedForm::Is(Form::Old);
+    match size {
+        4 => Ok(Form::Old),
+        6 => Ok(Form::New),
+        _ => Err(Refusal::RecordSize),
     }
-    if size == 6 {
-        return SizedForm::Is(Form::New);
-    }
-    SizedForm::Refused(Refusal::RecordSize)
 }
 
-fn digit_size(c: u8) -> usize
-    ensures { result ≡ digit_size c }
-{
-    if c == b'4' {
-        return 4;
-    }
-    if c == b'6' {
-        return 6;
-    }
-    0
-}
-
-// The record size that a word says, for programs that are told it; 0 for a word that says none.
+// The record size that a word says, for programs that are told it; 0 for a word that says none, as the definition has it.
 pub fn size_in(word: &[u8]) -> usize
     ensures { result ≡ size_in word.now }
 {
-    if word.len() == 1 {
-        return digit_size(word[0]);
+    match word {
+        [b'4'] => 4,
+        [b'6'] => 6,
+        _ => 0,
     }
-    0
 }
 
 // How many bytes a record has.
+#[tactic(auto, using(base::proofs::Choices::choices, crate::proofs::Records::forms))]
 fn width(form: Form) -> usize
     ensures { (result ≡ width form) × (4 ≤ result) × (result ≤ 6) }
 {
@@ -130,6 +99,7 @@ fn long_entry_of(a: u8, b: u8, c: u8, d: u8, e: u8, f: u8) -> Entry
     }
 }
 
+// Two functions, since the definitions take four bytes and six, one by one.
 fn old_at(script: &[u8], at: usize) -> Entry
     requires { at + 4 ≤ length script.now }
     ensures { (result ≡ entry_at script.now at) × (result.tick < 4294967296) × (result.party < 16) }
@@ -152,6 +122,7 @@ fn new_at(script: &[u8], at: usize) -> Entry
 }
 
 // The record at a place.
+#[tactic(auto, using(base::proofs::Choices::choices, crate::proofs::Records::forms))]
 fn entry_at(form: Form, script: &[u8], at: usize) -> Entry
     requires { at + width form ≤ length script.now }
     ensures { (result ≡ entry_in form script.now at) × (result.tick < 4294967296) × (result.party < 16) }
@@ -165,87 +136,61 @@ fn entry_at(form: Form, script: &[u8], at: usize) -> Entry
 fn is_masters(action: u8) -> bool
     ensures { result ≡ is_masters action }
 {
-    if action == 1 {
-        return true;
-    }
-    action == 3
+    action == 1 || action == 3
 }
 
 fn is_devices(action: u8) -> bool
     ensures { result ≡ is_devices action }
 {
-    if action == 2 {
-        return true;
-    }
-    if action == 4 {
-        return true;
-    }
-    action == 5
+    action == 2 || action == 4 || action == 5
 }
 
 fn is_call(e: Entry) -> bool
     ensures { result ≡ is_call e }
 {
     if e.party < 2 {
-        return is_masters(e.action);
+        is_masters(e.action)
+    } else {
+        e.party < 8 && is_devices(e.action)
     }
-    if e.party < 8 {
-        return is_devices(e.action);
-    }
-    false
 }
 
 fn is_stop(e: Entry) -> bool
     ensures { result ≡ is_stop e }
 {
-    if e.action == 0 {
-        if e.party == 0 {
-            return e.argument == 0;
-        }
-        return false;
-    }
-    false
+    e.action == 0 && e.party == 0 && e.argument == 0
 }
 
 // Walks on over records that must be calls, after calls up to this tick. Of each party, marks holds one more than the tick of its last call, and 0 before the first.
-pub fn walk(form: Form, piece: &[u8], since: usize, marks: &mut [usize; 8]) -> Walked
+#[tactic(auto, using(base::proofs::Choices::choices, crate::proofs::Walks::passes))]
+pub fn walk(form: Form, piece: &[u8], since: usize, marks: &mut [usize; 8]) -> Option<usize>
     ensures { walked_as result marks.new ≡ walked_by (up_to since marks.old) (records_in form piece.now) }
 {
     let w = width(form);
     let mut last = since;
     let mut at = 0;
+    // The place jumps by a record's width.
     while piece.len() - at >= w {
         let e = entry_at(form, piece, at);
-        let tick = e.tick;
-        let party = e.party;
-        if tick < last {
-            return Walked::Bad;
+        if e.tick < last || !is_call(e) || marks[e.party] == e.tick + 1 {
+            return None;
         }
-        if is_call(e) {
-            if marks[party] == tick + 1 {
-                return Walked::Bad;
-            }
-            marks[party] = tick + 1;
-            last = tick;
-            at += w;
-        } else {
-            return Walked::Bad;
-        }
+        marks[e.party] = e.tick + 1;
+        last = e.tick;
+        at += w;
     }
-    Walked::UpTo(last)
+    Some(last)
 }
 
 // Whether a record is the stop, after calls up to this tick.
 fn stops_after(last: usize, e: Entry) -> bool
     ensures { result ≡ stops_after last e }
 {
-    if e.tick < last {
-        return false;
-    }
-    is_stop(e)
+    last <= e.tick && is_stop(e)
 }
 
 // Whether the records that are left are good: calls, and the stop.
+#[tactic(auto, using(base::proofs::Choices::choices, crate::proofs::Walks::rests, base::proofs::Stores::take_length_is))]
 fn rest_good(form: Form, rest: &[u8], since: usize, marks: &mut [usize; 8]) -> bool
     requires { length rest.now % width form ≡ 0 }
     ensures { result ≡ rest_good (up_to since marks.old) (records_in form rest.now) }
@@ -255,10 +200,9 @@ fn rest_good(form: Form, rest: &[u8], since: usize, marks: &mut [usize; 8]) -> b
         return false;
     }
     let at = rest.len() - w;
-    let walked = walk(form, &rest[..at], since, marks);
-    match walked {
-        Walked::Bad => false,
-        Walked::UpTo(last) => stops_after(last, entry_at(form, rest, at)),
+    match walk(form, &rest[..at], since, marks) {
+        None => false,
+        Some(last) => stops_after(last, entry_at(form, rest, at)),
     }
 }
 
@@ -266,14 +210,11 @@ fn rest_good(form: Form, rest: &[u8], since: usize, marks: &mut [usize; 8]) -> b
 pub fn good_after(form: Form, rest: &[u8], since: usize, marks: &mut [usize; 8]) -> bool
     ensures { result ≡ good_after form (up_to since marks.old) rest.now }
 {
-    let w = width(form);
-    if rest.len() % w == 0 {
-        return rest_good(form, rest, since, marks);
-    }
-    false
+    rest.len() % width(form) == 0 && rest_good(form, rest, since, marks)
 }
 
 // Whether a script is good.
+#[tactic(auto, using(base::proofs::Choices::choices, crate::proofs::Good::whole))]
 pub fn is_good(form: Form, script: &[u8]) -> bool
     ensures { result ≡ good_in form script.now }
 {
@@ -281,67 +222,45 @@ pub fn is_good(form: Form, script: &[u8]) -> bool
     good_after(form, script, 0, &mut marks)
 }
 
-// The stop's tick: that of the last whole record, and 0 where there is none.
+// The stop's tick: that of the last whole record, and 0 where there is none, as the definition has it.
+#[tactic(auto, using(base::proofs::Choices::choices, crate::proofs::Records::stops))]
 pub fn stop_tick(form: Form, script: &[u8]) -> u32
     ensures { result ≡ stop_of (records_in form script.now) }
 {
     let w = width(form);
-    let left = script.len() % w;
-    if script.len() - left == 0 {
-        return 0;
+    let whole = script.len() - script.len() % w;
+    if whole == 0 {
+        0
+    } else {
+        entry_at(form, script, whole - w).tick as u32
     }
-    let e = entry_at(form, script, script.len() - left - w);
-    e.tick as u32
 }
 
-fn wanted_by(e: Entry) -> ScriptCall
+fn wanted_by(e: Entry) -> Option<ScriptCall>
     ensures { result ≡ wanted_by e }
 {
     if e.action == 0 {
-        return ScriptCall::Nothing;
-    }
-    ScriptCall::Call(e.action, e.argument)
-}
-
-// A party's call stays; a party that has none takes w, if it is its own.
-fn kept(before: ScriptCall, own: bool, w: ScriptCall) -> ScriptCall
-    ensures { result ≡ kept before own w }
-{
-    match before {
-        ScriptCall::Call(_, _) => before,
-        ScriptCall::Nothing => {
-            if own {
-                return w;
-            }
-            ScriptCall::Nothing
-        }
+        None
+    } else {
+        Some(ScriptCall {
+            action: e.action,
+            argument: e.argument,
+        })
     }
 }
 
-// One record more of the tick.
+// One record more of the tick: a party's call stays, and a party that has none takes the record's, if it is its own.
+#[tactic(auto, using(base::proofs::Choices::choices, crate::proofs::Calls::keeps))]
 fn with_record(w: usize, t: ScriptTick, e: Entry) -> ScriptTick
     requires { t.next + w < 18446744073709551616 }
     ensures { result ≡ with_record w t e }
 {
-    let p = e.party;
-    let c = wanted_by(e);
-    let primary = t.primary;
-    let secondary = t.secondary;
-    let device2 = t.device2;
-    let device3 = t.device3;
-    let device4 = t.device4;
-    let device5 = t.device5;
-    let device6 = t.device6;
-    let device7 = t.device7;
+    let mut calls = t.calls;
+    if e.party < 8 {
+        calls[e.party] = calls[e.party].or(wanted_by(e));
+    }
     ScriptTick {
-        primary: kept(primary, p == 0, c),
-        secondary: kept(secondary, p == 1, c),
-        device2: kept(device2, p == 2, c),
-        device3: kept(device3, p == 3, c),
-        device4: kept(device4, p == 4, c),
-        device5: kept(device5, p == 5, c),
-        device6: kept(device6, p == 6, c),
-        device7: kept(device7, p == 7, c),
+        calls,
         next: t.next + w,
     }
 }
@@ -351,19 +270,13 @@ fn no_calls(at: usize) -> ScriptTick
     ensures { result ≡ no_calls at }
 {
     ScriptTick {
-        primary: ScriptCall::Nothing,
-        secondary: ScriptCall::Nothing,
-        device2: ScriptCall::Nothing,
-        device3: ScriptCall::Nothing,
-        device4: ScriptCall::Nothing,
-        device5: ScriptCall::Nothing,
-        device6: ScriptCall::Nothing,
-        device7: ScriptCall::Nothing,
+        calls: [None; 8],
         next: at,
     }
 }
 
 // What a script wants of each party in a tick, read from a place on, and the place after that tick's records.
+#[tactic(auto, using(base::proofs::Choices::choices, crate::proofs::Calls::walks))]
 pub fn calls_at(form: Form, script: &[u8], at: usize, tick: usize) -> ScriptTick
     ensures { result ≡ tick_at form script.now at tick }
 {
@@ -372,13 +285,13 @@ pub fn calls_at(form: Form, script: &[u8], at: usize, tick: usize) -> ScriptTick
     if script.len() < at {
         return t;
     }
+    // The place jumps by a record's width.
     while script.len() - t.next >= w {
         let e = entry_at(form, script, t.next);
-        if e.tick == tick {
-            t = with_record(w, t, e);
-        } else {
+        if e.tick != tick {
             return t;
         }
+        t = with_record(w, t, e);
     }
     t
 }
@@ -388,35 +301,24 @@ fn free_before(next: usize, tick: u32, stop: u32) -> u32
     requires { next < 4294967296 }
     ensures { result ≡ (when next <? stop then next else stop) - tick }
 {
-    if next < (stop as usize) {
-        return ticks_to(next as u32, tick);
-    }
-    ticks_to(stop, tick)
-}
-
-fn ticks_to(end: u32, tick: u32) -> u32
-    ensures { result ≡ end - tick }
-{
-    if tick < end {
-        return end - tick;
-    }
-    0
+    let end = if next < (stop as usize) {
+        next as u32
+    } else {
+        stop
+    };
+    end.saturating_sub(tick)
 }
 
 // How many ticks from this one on have no record, before the stop. The next record stands at this place.
+#[tactic(auto, using(base::proofs::Choices::choices, crate::proofs::Free::frees))]
 pub fn free_ticks(form: Form, script: &[u8], at: usize, tick: u32, stop: u32) -> u32
     ensures { result ≡ free_ticks form script.now at tick stop }
 {
-    let w = width(form);
     if tick == 0 {
-        return 0;
+        0
+    } else if script.len() < at || script.len() - at < width(form) {
+        stop.saturating_sub(tick)
+    } else {
+        free_before(entry_at(form, script, at).tick, tick, stop)
     }
-    if script.len() < at {
-        return ticks_to(stop, tick);
-    }
-    if script.len() - at < w {
-        return ticks_to(stop, tick);
-    }
-    let e = entry_at(form, script, at);
-    free_before(e.tick, tick, stop)
 }

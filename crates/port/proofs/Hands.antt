@@ -1,5 +1,5 @@
 -- Theorem: a device that is not awake has no request in hand and is not deaf (specs/Listening). A request is in hand for at most 87 quiet ticks, and a device dozes after 20,946.
-use Prim.Native.Nat.{ℕ, ◌+◌, ◌-◌, ◌≤◌, ◌<◌}
+use Prim.Native.Nat.{ℕ, ◌+◌, ◌-◌, ◌≤◌}
 use native.Mathlib.Omega.{arith}
 use mathlib.Core.Path.{◌≡◌, refl, sym, ap, subst, ◌∙◌}
 use mathlib.Core.Bool.{Bool, true, false}
@@ -11,7 +11,6 @@ use Rattle.base.specs.Refusal.{Called, accepted, refused}
 use Rattle.base.proofs.Choices.{if_is_true, if_is_false}
 use Rattle.frame.specs.Delimiter.{stx}
 use Rattle.line.specs.Gaps.{IsCharacter, is_sound, is_with_damage}
-use Rattle.line.specs.Profile.{infrared_profile}
 use Rattle.line.specs.Reader.{inside_frame, taken, idle}
 use Rattle.line.specs.declared.Event.{Event}
 use Rattle.line.specs.declared.Event.TheVariants.{Nothing, PassedOver, Broken, Frame, Damaged}
@@ -38,7 +37,7 @@ use Rattle.turns.proofs.Silent.{ready_outside, device_outside}
 use Rattle.port.specs.Numbers.{doze_ticks}
 use Rattle.port.specs.Device.{is_undamaged, wakes, quiet_after, listens_on, unless_quiet, is_idle, hears_wake_up, reads, hears_by, awake, too_late, port_device_takes, port_answered, port_device_sends, port_device_starts}
 use Rattle.port.specs.Device as P
-use Rattle.port.specs.Ticks.{PortCall, no_call, gives_answer, PortDeviceSide, PortDeviceStep, DeviceInput, with_device, heard_frame, device_data, device_called, port_device_tick, port_device_run}
+use Rattle.port.specs.Ticks.{PortCall, no_call, gives_answer, PortDeviceSide, DeviceInput, with_device, heard_frame, device_data, device_called, port_device_tick, port_device_run}
 use Rattle.port.specs.Listening as L
 use Rattle.port.specs.Listening.{manner, reading, HasNothing, NothingInHand, NothingWhileResting}
 use Rattle.port.specs.Waking.{after_ticks}

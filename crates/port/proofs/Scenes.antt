@@ -1,7 +1,8 @@
 -- Computed scenes at the ticks where document 02, item 13, turns: T+52 and T+53, T+87 and T+88; 20,946 and 20,947 ticks after an answer; 20,946 quiet ticks; three bytes that wake and two that do not.
-use Prim.Native.Nat.{ℕ, zero, suc, ◌-◌}
+use Rattle.std.specs.Prelude.{None}
+use Prim.Native.Nat.{ℕ, ◌-◌}
 use mathlib.Core.Path.{◌≡◌, refl}
-use mathlib.Core.Bool.{Bool, true, false}
+use mathlib.Core.Bool.{true, false}
 use mathlib.Core.List.{List, [], ◌∷◌, ◌++◌}
 use lib.ListN.{replicate}
 use Rattle.base.specs.Choice.{when◌then◌else◌}
@@ -10,28 +11,24 @@ use Rattle.frame.specs.Check.{xor_from}
 use Rattle.frame.specs.Delimiter.{stx, delimiter_of}
 use Rattle.frame.specs.Frame.{frame_bytes, preamble_bytes, body_bytes, protected_bytes, header_bytes}
 use Rattle.frame.specs.Write.{write_buffer, write_answer}
-use Rattle.frame.specs.declared.Header.{Header}
 use Rattle.line.specs.Profile.{infrared_profile}
 use Rattle.line.specs.Reader.{taken, taken_data, silent_inside, at_idle, at_preamble, at_first, at_address, at_expansion, at_command, at_count, at_data, at_check, idle}
 use Rattle.line.specs.declared.Heard.{Heard}
 use Rattle.line.specs.declared.Heard.TheVariants.{Silence, Character}
 use Rattle.turns.specs.Device.{fresh_device, device_takes, device_sends, answered}
-use Rattle.turns.specs.Link.{no_request, requests}
+use Rattle.turns.specs.Link.{requests}
 use Rattle.turns.specs.Master.{fresh_master, master_takes, master_sends, requested, requested_up_to, sends, opened}
 use Rattle.turns.specs.declared.CallResult.{CallResult}
-use Rattle.turns.specs.declared.Master.{Master}
 use Rattle.turns.specs.declared.Sent.{Sent}
 use Rattle.turns.specs.declared.Sent.TheVariants.{Silent}
 use Rattle.turns.specs.declared.Wish.TheVariants.{Same}
-use Rattle.port.specs.Numbers.{doze_ticks}
-use Rattle.port.specs.Master.{after_port_frame, port_master_takes, port_requested, port_master_sends}
+use Rattle.port.specs.Master.{port_master_takes, port_requested, port_master_sends}
 use Rattle.port.specs.Device.{port_device_takes, port_answered, port_device_sends}
 use Rattle.port.specs.Listening.{Manner, reading, passing_over, dozing, manner}
 use Rattle.port.specs.Ticks.{PortMasterSide, PortMasterStep, MasterInput, port_master_tick, port_master_run, no_call, gives_answer, PortDeviceSide, PortDeviceStep, DeviceInput, port_device_tick, port_device_run}
 use Rattle.port.specs.Waking.{after_ticks}
 use Rattle.port.specs.declared.Ear.{Ear}
 use Rattle.port.specs.declared.Ear.TheVariants.{Awake, Dozes}
-use Rattle.port.specs.declared.WakeUp.TheVariants.{Off}
 
 -- ---- a device's answer: the request's last character is in tick T, and taken in T+1
 
@@ -88,7 +85,7 @@ three_wake = (refl, refl, refl, refl)
 -- its message waits, its window is open, and the last tick was so many ticks after the answer
 unfoldable pub master : ℕ → PortMasterSide
 master since = record {
-  master = record { master = (sends (fresh_master infrared_profile true 3) false (opened infrared_profile) (fresh_master infrared_profile true 3).message idle Silent).master; since = since; wake = Off };
+  master = record { master = (sends (fresh_master infrared_profile true 3) false (opened infrared_profile) (fresh_master infrared_profile true 3).message idle Silent).master; since = since; wake = None };
   frame = replicate 284 0;
   bytes = [];
 }

@@ -1,4 +1,5 @@
 -- Theorem: the characters of every attempt are the wake-up and then the STX, or the STX alone, as specs/Sending says.
+use Rattle.std.specs.Prelude.{Option, Some, None}
 use Prim.Native.Nat.{ℕ, zero, suc, ◌+◌, ◌-◌, ◌≤◌, ◌<◌}
 use native.Mathlib.Omega.{arith}
 use mathlib.Core.Path.{◌≡◌, refl, sym, ap, subst, ◌∙◌}
@@ -20,7 +21,6 @@ use Rattle.line.specs.Reader.{no_damage}
 use Rattle.line.specs.declared.Event.{Event}
 use Rattle.line.specs.declared.Event.TheVariants.{Nothing, PassedOver, Broken, Frame, Damaged}
 use Rattle.line.specs.declared.Heard.{Heard}
-use Rattle.line.specs.declared.Whole.{Whole}
 use Rattle.line.proofs.Hearing.{whole_message}
 use Rattle.turns.specs.Attempts.{MessageLog, no_message, in_hand, most_sent, Reports, no_report, behind_report, stx_header, Asked, asks_nothing}
 use Rattle.turns.specs.Attempts as Q
@@ -33,11 +33,10 @@ use Rattle.turns.specs.declared.Master.{Master}
 use Rattle.turns.specs.declared.MasterSent.{MasterSent}
 use Rattle.turns.specs.declared.MasterTaken.{MasterTaken}
 use Rattle.turns.specs.declared.MasterTold.{MasterTold}
-use Rattle.turns.specs.declared.Message.{Message}
 use Rattle.turns.specs.declared.Sent.{Sent}
 use Rattle.turns.specs.declared.Sent.TheVariants.{Silent, Character}
 use Rattle.turns.specs.declared.Stage.{Stage}
-use Rattle.turns.specs.declared.Stage.TheVariants.{Free, Waiting, Sending, Awaiting}
+use Rattle.turns.specs.declared.Stage.TheVariants.{Free, Waiting, Awaiting}
 use Rattle.turns.proofs.Attempts as A
 use Rattle.turns.proofs.Masters.{if_cases, holds, with_message, new_message}
 use Rattle.port.specs.Numbers.{doze_ticks, wake_up_length}
@@ -46,8 +45,6 @@ use Rattle.port.specs.Master as P
 use Rattle.port.specs.Sending as S
 use Rattle.port.specs.Sending.{wake_up_bytes, answer_among, attempt, SentAsSaid, WakeUpsAsSaid}
 use Rattle.port.specs.Ticks.{PortMasterSide, PortMasterStep, MasterInput, master_data, with_master, port_master_sent, master_called, master_calls, port_master_tick}
-use Rattle.port.specs.declared.WakeUp.{WakeUp}
-use Rattle.port.specs.declared.WakeUp.TheVariants.{Off, Left}
 use Rattle.port.specs.declared.PortMaster.{PortMaster}
 use Rattle.port.specs.declared.PortMasterSent.{PortMasterSent}
 use Rattle.port.specs.declared.PortMasterTaken.{PortMasterTaken}
@@ -85,9 +82,9 @@ port_took retries frame {log} m heard bytes same p = go t.event
 -- ---- what the port's master is between two ticks
 
 data Speaks (retries : ℕ) (frame : List ℕ) (x : PortMaster) : MessageLog → Type 0 where
-  plain : {log : MessageLog} → x.wake ≡ Off → A.Phase retries frame x.master.message log → Speaks retries frame x log
+  plain : {log : MessageLog} → x.wake ≡ None → A.Phase retries frame x.master.message log → Speaks retries frame x log
   -- it sends its wake-up
-  waking : {w : List ℕ} {b : Bool} (k : ℕ) → x.wake ≡ Left k → x.master.deaf ≡ true → x.master.message.stage ≡ Waiting → 0 < x.master.timer.window
+  waking : {w : List ℕ} {b : Bool} (k : ℕ) → x.wake ≡ Some k → x.master.deaf ≡ true → x.master.message.stage ≡ Waiting → 0 < x.master.timer.window
       → A.Held frame x.master.message.length x.master.message.header w b → x.master.message.attempts < most_sent retries b
       → Speaks retries frame x (in_hand w b (wake_up_bytes k ++ w) x.master.message.attempts)
 
@@ -152,21 +149,21 @@ module _ (retries : ℕ) (frame : List ℕ) (found : List Event) where
       same_retries = refl;
     }
 
-    off_sends : {log : MessageLog} → y.wake ≡ Off → Counts doze_ticks y.since found → A.Phase retries frame y.master.message log → SentIs y log (port_master_sends y frame)
+    off_sends : {log : MessageLog} → y.wake ≡ None → Counts doze_ticks y.since found → A.Phase retries frame y.master.message log → SentIs y log (port_master_sends y frame)
     unfolding port_master_sends master_sends
-    off_sends {log} off count p = subst (λ (w : WakeUp). SentIs y log (P.sends_by y frame w)) (sym off) (by p)
+    off_sends {log} off count p = subst (λ (w : Option ℕ). SentIs y log (P.sends_by y frame w)) (sym off) (by p)
       where
         there : {log : MessageLog} → A.Phase retries frame y.master.message log → A.SentIs retries frame y.master log (master_sends y.master frame)
         there p = A.sends_any retries frame y.master same p
 
         -- a master that begins nothing wakes nobody
-        bare : {log : MessageLog} → begins y.master y.master.message.stage ≡ false → SentIs y log (sends_plain y frame) → SentIs y log (P.sends_by y frame Off)
+        bare : {log : MessageLog} → begins y.master y.master.message.stage ≡ false → SentIs y log (sends_plain y frame) → SentIs y log (P.sends_by y frame None)
         bare {log} f s = subst (SentIs y log) (sym (if_is_false (wakes_first y) _ _ (if_is_false (begins y.master y.master.message.stage) _ _ f))) s
 
         quiet : {log : MessageLog} (z : Stage) → y.master.message.stage ≡ z → (M.sends_by y.master frame z).sent ≡ Silent → A.Phase retries frame y.master.message log → SentIs y log (sends_plain y frame)
         quiet z e s p = plainly (there p) (λ w b n c i j. absurd (silent_character c (sym s ∙ ap (λ (k : Stage). (M.sends_by y.master frame k).sent) (sym e) ∙ j)))
 
-        by : {log : MessageLog} → A.Phase retries frame y.master.message log → SentIs y log (P.sends_by y frame Off)
+        by : {log : MessageLog} → A.Phase retries frame y.master.message log → SentIs y log (P.sends_by y frame None)
         by (A.is_free e) = bare (ap (begins y.master) e) (quiet Free e refl (A.is_free e))
         by (A.awaits k e h some most) = bare (ap (begins y.master) e) (quiet (Awaiting k) e refl (A.awaits k e h some most))
         by (A.sending {w} {b} {n} k e below h a most) =
@@ -180,7 +177,7 @@ module _ (retries : ℕ) (frame : List ℕ) (found : List Event) where
             never v c m i = let z : suc (length (drop (suc k) w)) ≡ 0 = ap length (sym (drop-cons w k 0 below) ∙ ap left_of i) in omega arith
         by (A.waits {w} {b} e h most) = window (0 <? y.master.timer.window) refl
           where
-            window : (t : Bool) → (0 <? y.master.timer.window) ≡ t → SentIs y (in_hand w b [] y.master.message.attempts) (P.sends_by y frame Off)
+            window : (t : Bool) → (0 <? y.master.timer.window) ≡ t → SentIs y (in_hand w b [] y.master.message.attempts) (P.sends_by y frame None)
             window false q = bare (ap (begins y.master) e ∙ q) (quiet Waiting e (ap (λ (s : MasterSent). s.sent) (if_is_false (0 <? y.master.timer.window) _ _ q)) (A.waits e h most))
             window true q =
                 let is : wakes_first y ≡ (doze_ticks <? y.since) = if_is_true (begins y.master y.master.message.stage) _ _ (ap (begins y.master) e ∙ q) in
@@ -189,11 +186,11 @@ module _ (retries : ℕ) (frame : List ℕ) (found : List Event) where
                 (λ f. plainly (there (A.waits e h most)) (λ v c n d i j. if_is_true (answer_among doze_ticks found) _ _ (one_among doze_ticks y.since found count (sym is ∙ f))))
 
     -- its wake-up goes on, or the STX begins behind it
-    waking_sends : {w : List ℕ} {b : Bool} (k : ℕ) → y.wake ≡ Left k → y.master.message.stage ≡ Waiting → 0 < y.master.timer.window
+    waking_sends : {w : List ℕ} {b : Bool} (k : ℕ) → y.wake ≡ Some k → y.master.message.stage ≡ Waiting → 0 < y.master.timer.window
         → A.Held frame y.master.message.length y.master.message.header w b → y.master.message.attempts < most_sent retries b
         → SentIs y (in_hand w b (wake_up_bytes k ++ w) y.master.message.attempts) (port_master_sends y frame)
     unfolding port_master_sends wake_up_bytes when◌then◌else◌
-    waking_sends {w} {b} k left e o h most = subst (λ (v : WakeUp). SentIs y (in_hand w b (wake_up_bytes k ++ w) y.master.message.attempts) (P.sends_by y frame v)) (sym left) (by k)
+    waking_sends {w} {b} k left e o h most = subst (λ (v : Option ℕ). SentIs y (in_hand w b (wake_up_bytes k ++ w) y.master.message.attempts) (P.sends_by y frame v)) (sym left) (by k)
       where
         long : 1 < length w
         long = omega (arith, h.held.speaks.long)
@@ -202,7 +199,7 @@ module _ (retries : ℕ) (frame : List ℕ) (found : List Event) where
         rest zero = omega arith
         rest (suc j) = omega arith
 
-        by : (k : ℕ) → SentIs y (in_hand w b (wake_up_bytes k ++ w) y.master.message.attempts) (P.sends_by y frame (Left k))
+        by : (k : ℕ) → SentIs y (in_hand w b (wake_up_bytes k ++ w) y.master.message.attempts) (P.sends_by y frame (Some k))
         by zero =
             let a = A.sends_any retries frame y.master same (A.waits e h most) in
             let c = open_sends e o in
@@ -212,7 +209,7 @@ module _ (retries : ℕ) (frame : List ℕ) (found : List Event) where
             (record {
               after = in_hand w b (wake_up_bytes j ++ w) y.master.message.attempts;
               sends = next (wake_up_character (suc j)) w (wake_up_bytes j ++ w) b y.master.message.attempts (rest j);
-              phase = waking j (ap Left (one_less j)) refl e o h most;
+              phase = waking j (ap Some (one_less j)) refl e o h most;
               same_primary = refl;
               same_retries = refl;
             })
@@ -231,9 +228,9 @@ sends_since : (x : PortMaster) (frame : List ℕ) → (port_master_sends x frame
 unfolding port_master_sends
 sends_since x frame = go x.wake
   where
-    go : (w : WakeUp) → (P.sends_by x frame w).master.since ≡ x.since
-    go Off = if_cases (λ (s : PortMasterSent). s.master.since ≡ x.since) (wakes_first x) _ _ (λ q. refl) (λ q. refl)
-    go (Left n) = if_cases (λ (s : PortMasterSent). s.master.since ≡ x.since) (n =? 0) _ _ (λ q. refl) (λ q. refl)
+    go : (w : Option ℕ) → (P.sends_by x frame w).master.since ≡ x.since
+    go None = if_cases (λ (s : PortMasterSent). s.master.since ≡ x.since) (wakes_first x) _ _ (λ q. refl) (λ q. refl)
+    go (Some n) = if_cases (λ (s : PortMasterSent). s.master.since ≡ x.since) (n =? 0) _ _ (λ q. refl) (λ q. refl)
 
 counts_took : (y : PortMaster) (heard : Heard) (bytes : List ℕ) (past : List Event) → Counts doze_ticks y.since past
     → Counts doze_ticks (port_master_takes y heard bytes).master.since ((port_master_takes y heard bytes).event ∷ past)
@@ -243,7 +240,7 @@ counts_took y heard bytes past c = counts_next doze_ticks y.since past (took y.m
 waiting_free : Waiting ≡ Free → ⊥
 waiting_free e = let z : ◌≡◌ {A = ℕ} 0 1 = cc in omega arith
 
-none_speaks : {retries : ℕ} {frame : List ℕ} {x : PortMaster} {log : MessageLog} → Speaks retries frame x log → x.master.message.stage ≡ Free → (x.wake ≡ Off) × (log ≡ no_message)
+none_speaks : {retries : ℕ} {frame : List ℕ} {x : PortMaster} {log : MessageLog} → Speaks retries frame x log → x.master.message.stage ≡ Free → (x.wake ≡ None) × (log ≡ no_message)
 none_speaks (plain off p) e = (off, A.none_in_hand p e)
 none_speaks (waking k left deaf st o h most) e = absurd (waiting_free (sym st ∙ e))
 
@@ -361,7 +358,7 @@ record Fresh (primary : Bool) (retries : ℕ) (x : PortMaster) : Type 0 where
   primary_is : x.master.primary ≡ primary
   retries_are : x.master.retries ≡ retries
   since_is : x.since ≡ doze_ticks + 1
-  off : x.wake ≡ Off
+  off : x.wake ≡ None
   free : x.master.message.stage ≡ Free
 
 fresh : (primary : Bool) (retries : ℕ) (x : PortMaster) → port_master_starts primary retries ≡ accepted x → Fresh primary retries x

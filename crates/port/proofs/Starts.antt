@@ -1,4 +1,5 @@
 -- Theorem: a waiting message starts in time (specs/Starts). The number that falls is the silent ticks to the timer's end.
+use Rattle.std.specs.Prelude.{Option, Some, None}
 use Prim.Native.Nat.{ℕ, suc, ◌+◌, ◌-◌, ◌≤◌, ◌<◌}
 use native.Mathlib.Omega.{arith}
 use mathlib.Core.Path.{◌≡◌, refl, sym, ap, subst, ◌∙◌}
@@ -6,7 +7,7 @@ use mathlib.Core.Bool.{Bool, true, false}
 use mathlib.Core.List.{List, [], ◌∷◌}
 use lib.ListN.{length}
 use borrow.Author.Tests.{ltb-true, ltb-false, lt-ltb}
-use Rattle.base.specs.Choice.{when◌then◌else◌, ◌<?◌, ◌=?◌, ◌outside◌to◌}
+use Rattle.base.specs.Choice.{◌<?◌, ◌=?◌, ◌outside◌to◌}
 use Rattle.base.specs.Refusal.{Called, accepted, refused}
 use Rattle.base.specs.Store.{stored}
 use Rattle.base.proofs.Choices.{if_is_true, if_is_false}
@@ -37,8 +38,6 @@ use Rattle.port.specs.Master.{begins, wakes_first, sends_wake_up, sends_plain, p
 use Rattle.port.specs.Master as P
 use Rattle.port.specs.Ticks.{PortMasterSide, PortMasterStep, MasterInput, master_data, with_master, master_called, master_calls, port_master_tick, port_master_run}
 use Rattle.port.specs.Starts.{rt1, StartsWithin, starts, last, waits, anew, IsWaiting, EachStarts, no_more, and, StartsInTime}
-use Rattle.port.specs.declared.WakeUp.{WakeUp}
-use Rattle.port.specs.declared.WakeUp.TheVariants.{Off, Left}
 use Rattle.port.specs.declared.PortMaster.{PortMaster}
 use Rattle.port.specs.declared.PortMasterTaken.{PortMasterTaken}
 use Rattle.port.specs.declared.PortMasterSent.{PortMasterSent}
@@ -48,11 +47,11 @@ use Rattle.port.proofs.Taking.{own_is, Calm, Ends, runs, is_inside, passed, Stay
 
 pub data Phase (x : PortMaster) : Type 0 where
   -- it is not sending
-  listens : Calm x.master → x.wake ≡ Off → Still x.master.message.stage → Ends rt1 x.master → Phase x
+  listens : Calm x.master → x.wake ≡ None → Still x.master.message.stage → Ends rt1 x.master → Phase x
   -- it sends its STX
-  speaks : (n : ℕ) → Calm x.master → x.wake ≡ Off → x.master.deaf ≡ true → x.master.message.stage ≡ Sending n → Phase x
+  speaks : (n : ℕ) → Calm x.master → x.wake ≡ None → x.master.deaf ≡ true → x.master.message.stage ≡ Sending n → Phase x
   -- it sends its wake-up: the message waits in an open window
-  wakes : (n : ℕ) → Calm x.master → x.wake ≡ Left n → x.master.deaf ≡ true → x.master.message.stage ≡ Waiting → 0 < x.master.timer.window → Phase x
+  wakes : (n : ℕ) → Calm x.master → x.wake ≡ Some n → x.master.deaf ≡ true → x.master.message.stage ≡ Waiting → 0 < x.master.timer.window → Phase x
 
 ends_later : {d e : ℕ} {m : Master} → d ≤ e → Ends d m → Ends e m
 ends_later h (runs o low high) = runs o low (omega arith)
@@ -71,18 +70,18 @@ record Spoke (s : PortMasterSent) : Type 0 where
   sent_is : s.sent ≡ Sent.Character c
   phase : Phase s.master
   -- no message waits behind it that has not begun
-  begun_it : s.master.master.message.stage ≡ Waiting → s.master.wake ≡ Off → ⊥
+  begun_it : s.master.master.message.stage ≡ Waiting → s.master.wake ≡ None → ⊥
 
 -- what comes of sending: nothing is sent, and then no message waits in an open window; or a character
 data Sends (x : PortMaster) (s : PortMasterSent) : Type 0 where
-  silent : s.sent ≡ Silent → s.master.master ≡ rested x.master → s.master.wake ≡ Off → (x.master.message.stage ≡ Waiting → x.master.timer.window ≡ 0) → Sends x s
+  silent : s.sent ≡ Silent → s.master.master ≡ rested x.master → s.master.wake ≡ None → (x.master.message.stage ≡ Waiting → x.master.timer.window ≡ 0) → Sends x s
   speaks_out : Spoke s → Sends x s
 
 -- a character of the STX
 stx_phase : (x : PortMaster) (frame : List ℕ) (n attempts : ℕ) → Calm x.master
-    → Phase (record { master = (sends_at x.master frame n attempts).master; since = x.since; wake = Off })
+    → Phase (record { master = (sends_at x.master frame n attempts).master; since = x.since; wake = None })
 stx_phase x frame n attempts c =
-    if_cases (λ (s : MasterSent). Phase (record { master = s.master; since = x.since; wake = Off })) (n + 1 <? x.master.message.length) _ _
+    if_cases (λ (s : MasterSent). Phase (record { master = s.master; since = x.since; wake = None })) (n + 1 <? x.master.message.length) _ _
     (λ q. speaks (n + 1) (record { profile_is = c.profile_is; no_burst = c.no_burst }) refl refl refl)
     (λ q. listens (record { profile_is = c.profile_is; no_burst = c.no_burst }) refl (is_awaiting _) (runs refl (omega (arith, next)) (omega (arith, next))))
   where
@@ -94,7 +93,7 @@ stx_phase x frame n attempts c =
 sending_waiting : (n : ℕ) → Sending n ≡ Waiting → ⊥
 sending_waiting n e = let z : ◌≡◌ {A = ℕ} 0 1 = cc in omega arith
 
-left_off : (n : ℕ) → Left n ≡ Off → ⊥
+left_off : (n : ℕ) → Some n ≡ None → ⊥
 left_off n e = let z : ◌≡◌ {A = ℕ} 0 1 = cc in omega arith
 
 stx_begun : (m : Master) (frame : List ℕ) (n attempts : ℕ) → (sends_at m frame n attempts).master.message.stage ≡ Waiting → ⊥
@@ -109,14 +108,14 @@ module _ (x : PortMaster) (frame : List ℕ) (c : Calm x.master) where
   plain_begins : x.master.message.stage ≡ Waiting → 0 < x.master.timer.window → Spoke (sends_plain x frame)
   unfolding master_sends
   plain_begins e w =
-      subst (λ (s : MasterSent). Spoke (record { master = record { master = s.master; since = x.since; wake = Off }; sent = s.sent }))
+      subst (λ (s : MasterSent). Spoke (record { master = record { master = s.master; since = x.since; wake = None }; sent = s.sent }))
       (sym (ap (M.sends_by x.master frame) e ∙ if_is_true (0 <? x.master.timer.window) _ _ (lt-ltb 0 x.master.timer.window w)))
       (record { c = byte_at frame 0; sent_is = stx_sends x.master frame 0 _; phase = stx_phase x frame 0 _ c; begun_it = λ w o. stx_begun x.master frame 0 _ w })
 
   plain_goes : (n : ℕ) → x.master.message.stage ≡ Sending n → Spoke (sends_plain x frame)
   unfolding master_sends
   plain_goes n e =
-      subst (λ (s : MasterSent). Spoke (record { master = record { master = s.master; since = x.since; wake = Off }; sent = s.sent }))
+      subst (λ (s : MasterSent). Spoke (record { master = record { master = s.master; since = x.since; wake = None }; sent = s.sent }))
       (sym (ap (M.sends_by x.master frame) e))
       (record { c = byte_at frame n; sent_is = stx_sends x.master frame n _; phase = stx_phase x frame n _ c; begun_it = λ w o. stx_begun x.master frame n _ w })
 
@@ -124,7 +123,7 @@ module _ (x : PortMaster) (frame : List ℕ) (c : Calm x.master) where
       → (x.master.message.stage ≡ Waiting → x.master.timer.window ≡ 0) → Sends x (sends_plain x frame)
   unfolding master_sends
   plain_rests s e f shut =
-      subst (λ (s : MasterSent). Sends x (record { master = record { master = s.master; since = x.since; wake = Off }; sent = s.sent }))
+      subst (λ (s : MasterSent). Sends x (record { master = record { master = s.master; since = x.since; wake = None }; sent = s.sent }))
       (sym (ap (M.sends_by x.master frame) e ∙ f))
       (silent refl refl refl shut)
 
@@ -132,41 +131,41 @@ module _ (x : PortMaster) (frame : List ℕ) (c : Calm x.master) where
   wake_up_sends n e w = record { c = wake_up_character n; sent_is = refl; phase = wakes (n - 1) (record { profile_is = c.profile_is; no_burst = c.no_burst }) refl refl e w; begun_it = λ z o. left_off (n - 1) o }
 
   -- no wake-up is being sent
-  off_sends : x.wake ≡ Off → Still x.master.message.stage → Sends x (port_master_sends x frame)
+  off_sends : x.wake ≡ None → Still x.master.message.stage → Sends x (port_master_sends x frame)
   unfolding port_master_sends
-  off_sends off v = subst (λ (w : WakeUp). Sends x (P.sends_by x frame w)) (sym off) (go x.master.message.stage refl v)
+  off_sends off v = subst (λ (w : Option ℕ). Sends x (P.sends_by x frame w)) (sym off) (go x.master.message.stage refl v)
     where
       -- a master that begins nothing wakes nobody
-      plainly : begins x.master x.master.message.stage ≡ false → Sends x (sends_plain x frame) → Sends x (P.sends_by x frame Off)
+      plainly : begins x.master x.master.message.stage ≡ false → Sends x (sends_plain x frame) → Sends x (P.sends_by x frame None)
       plainly f s = subst (Sends x) (sym (if_is_false (wakes_first x) _ _ (if_is_false (begins x.master x.master.message.stage) _ _ f))) s
 
-      by_recent : x.master.message.stage ≡ Waiting → 0 < x.master.timer.window → Sends x (P.sends_by x frame Off)
+      by_recent : x.master.message.stage ≡ Waiting → 0 < x.master.timer.window → Sends x (P.sends_by x frame None)
       by_recent e w = if_cases (Sends x) (wakes_first x) _ _ (λ q. speaks_out (wake_up_sends wake_up_length e w)) (λ q. speaks_out (plain_begins e w))
 
-      open_or_shut : x.master.message.stage ≡ Waiting → (t : Bool) → (0 <? x.master.timer.window) ≡ t → Sends x (P.sends_by x frame Off)
+      open_or_shut : x.master.message.stage ≡ Waiting → (t : Bool) → (0 <? x.master.timer.window) ≡ t → Sends x (P.sends_by x frame None)
       open_or_shut e true q = by_recent e (ltb-true 0 x.master.timer.window q)
       open_or_shut e false q =
           plainly (ap (begins x.master) e ∙ q)
           (plain_rests Waiting e (if_is_false (0 <? x.master.timer.window) _ _ q) (λ z. omega (arith, ltb-false 0 x.master.timer.window q)))
 
-      go : (s : Stage) → x.master.message.stage ≡ s → Still s → Sends x (P.sends_by x frame Off)
+      go : (s : Stage) → x.master.message.stage ≡ s → Still s → Sends x (P.sends_by x frame None)
       go Free e is_free = plainly (ap (begins x.master) e) (plain_rests Free e refl (λ z. absurd (free_waiting (sym e ∙ z))))
       go Waiting e is_waiting = open_or_shut e (0 <? x.master.timer.window) refl
       go (Awaiting n) e (is_awaiting k) = plainly (ap (begins x.master) e) (plain_rests (Awaiting n) e refl (λ z. absurd (awaiting_waiting n (sym e ∙ z))))
       go (Sending _) e x4 = elim x4 [ ]
 
   -- its STX is being sent
-  speaking_sends : (n : ℕ) → x.wake ≡ Off → x.master.message.stage ≡ Sending n → Spoke (port_master_sends x frame)
+  speaking_sends : (n : ℕ) → x.wake ≡ None → x.master.message.stage ≡ Sending n → Spoke (port_master_sends x frame)
   unfolding port_master_sends
   speaking_sends n off e =
-      subst (λ (w : WakeUp). Spoke (P.sends_by x frame w)) (sym off)
+      subst (λ (w : Option ℕ). Spoke (P.sends_by x frame w)) (sym off)
       (subst Spoke (sym (if_is_false (wakes_first x) _ _ (if_is_false (begins x.master x.master.message.stage) _ _ (ap (begins x.master) e)))) (plain_goes n e))
 
   -- its wake-up is
-  waking_sends : (n : ℕ) → x.wake ≡ Left n → x.master.message.stage ≡ Waiting → 0 < x.master.timer.window → Spoke (port_master_sends x frame)
+  waking_sends : (n : ℕ) → x.wake ≡ Some n → x.master.message.stage ≡ Waiting → 0 < x.master.timer.window → Spoke (port_master_sends x frame)
   unfolding port_master_sends
   waking_sends n left e w =
-      subst (λ (w : WakeUp). Spoke (P.sends_by x frame w)) (sym left)
+      subst (λ (w : Option ℕ). Spoke (P.sends_by x frame w)) (sym left)
       (if_cases Spoke (n =? 0) _ _ (λ q. plain_begins e w) (λ q. wake_up_sends n e w))
 
 -- ---- the host's request
@@ -226,7 +225,7 @@ heard_is limit x heard (requests q put) = go (port_requested limit t.master.mast
 -- not sending, behind what was heard
 record Listening (d : ℕ) (y : PortMaster) : Type 0 where
   calm : Calm y.master
-  off : y.wake ≡ Off
+  off : y.wake ≡ None
   still : Still y.master.message.stage
   ends : Ends d y.master
 
@@ -242,7 +241,7 @@ sending_free n e = let z : ◌≡◌ {A = ℕ} 0 1 = cc in omega arith
 -- a message that waits, with a timer that ends within d silent ticks
 pub record Waits (d : ℕ) (x : PortMaster) : Type 0 where
   pub calm : Calm x.master
-  pub off : x.wake ≡ Off
+  pub off : x.wake ≡ None
   pub hears : x.master.deaf ≡ false
   pub waiting : x.master.message.stage ≡ Waiting
   pub ends : Ends d x.master
@@ -280,7 +279,7 @@ module _ (limit : ℕ) (small : limit ≤ 255) where
   taken_by x heard = port_master_takes x.master heard (master_data x heard)
 
   -- what every tick keeps
-  heard_listening : (x : PortMasterSide) (heard : Heard) → Calm x.master.master → x.master.wake ≡ Off → Still x.master.master.message.stage → Ends rt1 x.master.master → Listening rt1 (taken_by x heard).master
+  heard_listening : (x : PortMasterSide) (heard : Heard) → Calm x.master.master → x.master.wake ≡ None → Still x.master.master.message.stage → Ends rt1 x.master.master → Listening rt1 (taken_by x heard).master
   unfolding port_master_takes
   heard_listening x heard c off v ends = go x.master.master.deaf refl
     where

@@ -21,7 +21,7 @@ use Rattle.line.specs.declared.Whole.{Whole}
 use Rattle.line.proofs.Gaps.{goes_within, silent_ticks}
 use Rattle.turns.specs.Party.{is_broadcast}
 use Rattle.turns.specs.declared.Ending.{Ending}
-use Rattle.turns.specs.Master.{EndedForMaster, inside, broken, own_rt1, timer, timer_after, ended_by, to_itself, with_reader, after_break, on_character, on_heard, master_takes, counts, counts_twice, opened, count_clear, timer_counted, burst_counted, unless_ended, rt1_ends, waited, if_awaiting, fails, ends, at_break, at_frame, answers_message}
+use Rattle.turns.specs.Master.{EndedForMaster, broken, own_rt1, timer, timer_after, ended_by, to_itself, with_reader, after_break, on_character, on_heard, master_takes, counts, counts_twice, opened, count_clear, timer_counted, burst_counted, unless_ended, rt1_ends, waited, if_awaiting, at_break, at_frame, answers_message}
 use Rattle.turns.specs.declared.Master.{Master}
 use Rattle.turns.specs.declared.MasterTaken.{MasterTaken}
 use Rattle.turns.specs.declared.MasterTold.{MasterTold}

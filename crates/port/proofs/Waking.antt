@@ -1,5 +1,5 @@
 -- Theorem: a wake-up is heard (specs/Waking). Two pairs 0x00, 0xFF lead a device from every ear to one that passes over with 0xFF directly before, and each further pair keeps it there.
-use Prim.Native.Nat.{ℕ, zero, suc, ◌+◌, ◌*◌, ◌%◌}
+use Prim.Native.Nat.{ℕ, zero, suc, ◌*◌, ◌%◌}
 use native.Mathlib.Omega.{arith}
 use mathlib.Core.Path.{◌≡◌, refl, sym, ap, subst, ◌∙◌}
 use mathlib.Core.Bool.{Bool, true, false}

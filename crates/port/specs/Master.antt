@@ -1,6 +1,6 @@
 -- To be believed: what the engine must do, or what is claimed of it.
 -- Document 02, item 13: the master of the infrared port. It is document 01's master (crates/turns/specs/Master.antt) except for what stands here: what a frame does, the request's preamble, and the wake-up.
-use Rattle.std.specs.Prelude.{ℕ, ◌+◌, ◌-◌, ◌%◌, Bool, true, false, List}
+use Rattle.std.specs.Prelude.{ℕ, ◌+◌, ◌-◌, ◌%◌, Bool, true, false, List, Option, Some, None}
 use Rattle.base.specs.Choice.{when◌then◌else◌, ◌<?◌, ◌≤?◌, ◌=?◌}
 use Rattle.base.specs.Refusal.{Called, accepted, refused}
 use Rattle.frame.specs.Delimiter.{ack, back}
@@ -11,7 +11,7 @@ use Rattle.line.specs.declared.Event.TheVariants.{Nothing, PassedOver, Broken, F
 use Rattle.line.specs.declared.Heard.{Heard}
 use Rattle.line.specs.declared.Receiver.{Receiver}
 use Rattle.line.specs.declared.Whole.{Whole}
-use Rattle.turns.specs.Master.{timer, tells, after_break, master_with, ended_by, timer_after, if_awaiting, at_frame, master_takes, requested, sends, master_sends, master_starts}
+use Rattle.turns.specs.Master.{tells, after_break, master_with, ended_by, timer_after, if_awaiting, at_frame, master_takes, requested, sends, master_sends, master_starts}
 use Rattle.turns.specs.declared.Master.{Master}
 use Rattle.turns.specs.declared.MasterTaken.{MasterTaken}
 use Rattle.turns.specs.declared.Request.{Request}
@@ -20,8 +20,6 @@ use Rattle.turns.specs.declared.Sent.TheVariants.{Silent}
 use Rattle.turns.specs.declared.Stage.{Stage}
 use Rattle.turns.specs.declared.Stage.TheVariants.{Free, Waiting, Sending, Awaiting}
 use Rattle.port.specs.Numbers.{port_preamble, doze_ticks, wake_up_length}
-use Rattle.port.specs.declared.WakeUp.{WakeUp}
-use Rattle.port.specs.declared.WakeUp.TheVariants.{Off, Left}
 use Rattle.port.specs.declared.PortMaster.{PortMaster}
 use Rattle.port.specs.declared.PortMasterTaken.{PortMasterTaken}
 use Rattle.port.specs.declared.PortMasterSent.{PortMasterSent}
@@ -94,19 +92,19 @@ deafened m = (sends m true m.timer m.message m.receiver Silent).master
 -- a character of the wake-up; meanwhile the message waits in its open window
 abbrev pub sends_wake_up : PortMaster → ℕ → PortMasterSent
 sends_wake_up x n =
-    record { master = record { master = deafened x.master; since = x.since; wake = Left (n - 1) }; sent = Sent.Character (wake_up_character n) }
+    record { master = record { master = deafened x.master; since = x.since; wake = Some (n - 1) }; sent = Sent.Character (wake_up_character n) }
 
 -- what document 01's master sends
 abbrev pub sends_plain : PortMaster → List ℕ → PortMasterSent
 sends_plain x frame = record {
-  master = record { master = (master_sends x.master frame).master; since = x.since; wake = Off };
+  master = record { master = (master_sends x.master frame).master; since = x.since; wake = None };
   sent = (master_sends x.master frame).sent;
 }
 
 -- "the message directly behind"
-abbrev pub sends_by : PortMaster → List ℕ → WakeUp → PortMasterSent
-sends_by x frame Off = when wakes_first x then sends_wake_up x wake_up_length else sends_plain x frame
-sends_by x frame (Left n) = when n =? 0 then sends_plain x frame else sends_wake_up x n
+abbrev pub sends_by : PortMaster → List ℕ → Option ℕ → PortMasterSent
+sends_by x frame None = when wakes_first x then sends_wake_up x wake_up_length else sends_plain x frame
+sends_by x frame (Some n) = when n =? 0 then sends_plain x frame else sends_wake_up x n
 
 unfoldable pub port_master_sends : PortMaster → List ℕ → PortMasterSent
 port_master_sends x frame = sends_by x frame x.wake
@@ -114,7 +112,7 @@ port_master_sends x frame = sends_by x frame x.wake
 -- ---- start: no answer was heard, and no wake-up is being sent
 
 abbrev pub master_started : Called Master → Called PortMaster
-master_started (accepted m) = accepted (record { master = m; since = doze_ticks + 1; wake = Off })
+master_started (accepted m) = accepted (record { master = m; since = doze_ticks + 1; wake = None })
 master_started (refused why) = refused why
 
 abbrev pub port_master_starts : Bool → ℕ → Called PortMaster

@@ -1,6 +1,6 @@
 -- To be believed: what the engine must do, or what is claimed of it.
 -- Document 02, item 13: "A waiting message (its wake-up, if any) starts within RT1 + 1 ticks of the port's last character or its acceptance, the later counting." This is claimed of the master for every list of what it hears and what its host asks. The proof is in proofs/Starts.
-use Rattle.std.specs.Prelude.{ℕ, suc, ◌+◌, ◌≤◌, Bool, ◌≡◌, List, [], ◌∷◌}
+use Rattle.std.specs.Prelude.{ℕ, suc, ◌+◌, ◌≤◌, Bool, ◌≡◌, List, [], ◌∷◌, None}
 use Rattle.base.specs.Refusal.{accepted}
 use Rattle.line.specs.Gaps.{IsCharacter}
 use Rattle.line.specs.declared.Heard.TheVariants.{Silence}
@@ -9,7 +9,6 @@ use Rattle.turns.specs.declared.Sent.TheVariants.{Silent, Character}
 use Rattle.turns.specs.declared.Stage.TheVariants.{Waiting}
 use Rattle.line.specs.Profile.{infrared_profile}
 use Rattle.port.specs.Master.{port_master_starts}
-use Rattle.port.specs.declared.WakeUp.TheVariants.{Off}
 use Rattle.port.specs.Ticks.{PortMasterSide, PortMasterStep, MasterInput, port_master_run}
 
 abbrev pub rt1 : ℕ
@@ -31,7 +30,7 @@ pub data StartsWithin : ℕ → List PortMasterStep → Type 0 where
 -- after this tick a message waits, for its first attempt or for a retry that is due, and nothing of it has been sent
 pub record IsWaiting (s : PortMasterStep) : Type 0 where
   pub waits : s.side.master.master.message.stage ≡ Waiting
-  pub no_wake_up : s.side.master.wake ≡ Off
+  pub no_wake_up : s.side.master.wake ≡ None
 
 -- every message that was taken; and every retry, from the tick that makes it due on
 pub data EachStarts : List PortMasterStep → Type 0 where

@@ -1,7 +1,7 @@
 // The infrared port of document 02, item 13: what its master and its devices hold from tick to tick. The rules by which they change are the definitions in specs/.
 #![tactic(auto)]
 
-use line::{Event, Heard};
+use line::{Event, FrameDamage, Heard};
 use turns::{Device, DeviceTold, Master, MasterTold, Sent};
 
 // The quiet ticks after which a device dozes, and the ticks after an answer in which no wake-up is needed.
@@ -16,25 +16,26 @@ pub const PREAMBLE: usize = 5;
 // STO of commands 0 and 11.
 pub const IDENTITY_STO: u16 = 52;
 
-// What a master does for its wake-up.
-#[derive(Clone, Copy)]
-pub enum WakeUp {
-    // none is being sent
-    Off,
-    // so many characters of it are still to be sent; after the last the STX begins
-    Left(u16),
-}
+// The damage of a frame that has none: a BACK is told as damaged with it.
+pub const NO_DAMAGE: FrameDamage = FrameDamage {
+    parity: false,
+    overrun: false,
+    framing: false,
+    address: false,
+    check: false,
+};
 
 // A master of the port.
 #[derive(Clone, Copy)]
 pub struct PortMaster {
     pub master: Master,
     // ticks since an answer's last character, this one included; 20,947 where there are more, and where none was heard
+    // (a number and no Option, since the definition `since_after` counts it and programs in C hold it as a word)
     pub since: u16,
-    pub wake: WakeUp,
+    pub wake: Option<u16>,
 }
 
-// A master after what it heard, and what it tells.
+// A master after what it heard, and what it tells. It and the three like it are no generics of those in turns, since the definitions in specs/ name each.
 #[derive(Clone, Copy)]
 pub struct PortMasterTaken {
     pub master: PortMaster,

@@ -1,4 +1,5 @@
 -- A tick by what its parts gave, and one with what was made of its arguments: of the port's master, and of a device of the port.
+use Rattle.std.specs.Prelude.{Option}
 use Prim.Native.Nat.{ℕ, ◌<◌, ◌^◌}
 use mathlib.Core.List.{List}
 use mathlib.Core.Path.{◌≡◌, refl, ap, subst, ◌∙◌}
@@ -7,7 +8,6 @@ use Rattle.turns.specs.Told.{master_tells, device_tells}
 use Rattle.party.specs.Numbers.{sent_number, call_number}
 use Rattle.state_words.specs.Numbers.{tick_numbers}
 use Rattle.master.specs.Tick.{call_of}
-use Rattle.master.specs.declared.MasterCall.{MasterCall}
 use Rattle.master_c.specs.Tick.{told_attempts}
 use Rattle.master_c.specs.Words as MasterWords
 use Rattle.master_c.proofs.Kept as MasterKept
@@ -21,15 +21,16 @@ use Rattle.port_master.specs.declared.PortMasterTicked.{PortMasterTicked}
 use Rattle.port_device.specs.Ticks as D
 use Rattle.port_device.specs.Ticks.{PortDeviceTickIs}
 use Rattle.port_device.specs.declared.PortDeviceTicked.{PortDeviceTicked}
-use Rattle.port_device.specs.declared.PortCall.{PortCall}
 use Rattle.port_c.specs.Words.{master_words, unpacked_master, device_words, unpacked_device}
 use Rattle.port_c.specs.Fits.{PortMasterFits, PortDeviceFits}
 use Rattle.port_c.specs.Tick.{MasterStepIs, DeviceStepIs}
 use Rattle.port_c.proofs.Kept.{port_master_kept, port_device_kept}
+use Rattle.turns.specs.declared.Request.{Request}
+use Rattle.turns.specs.declared.Wish.{Wish}
 
 -- ---- the master
 
-pub master_tick_is : (limit : ℕ) (words port frame bytes : List ℕ) (x : PortMaster) (heard : Heard) (call : MasterCall) (put : List ℕ) (t : PortMasterTicked) (frame_after bytes_after words-after port-after results : List ℕ) (sent told attempts r : ℕ)
+pub master_tick_is : (limit : ℕ) (words port frame bytes : List ℕ) (x : PortMaster) (heard : Heard) (call : Option Request) (put : List ℕ) (t : PortMasterTicked) (frame_after bytes_after words-after port-after results : List ℕ) (sent told attempts r : ℕ)
     → limit ≡ MasterWords.limit_at words → limit < 2 ^ 8 → x ≡ unpacked_master words port → PortMasterTickIs limit x heard call put frame bytes t frame_after bytes_after → PortMasterFits t.master → words-after ≡ MasterWords.packed limit t.master.master → port-after ≡ master_words t.master
     → results ≡ tick_numbers sent told attempts t.event → sent ≡ sent_number t.sent → told ≡ (master_tells t.told).number → attempts ≡ told_attempts t.told
     → r ≡ call_number t.result
@@ -52,21 +53,11 @@ master_tick_is limit words port frame bytes x heard call put t frame_after bytes
       returned = q ∙ ap (λ (s : PortMasterStep). call_number s.result) step;
     }
 
-abbrev MasterSteps : List ℕ → List ℕ → List ℕ → List ℕ → List ℕ → List ℕ → List ℕ → List ℕ → List ℕ → List ℕ → ℕ → Heard → MasterCall → Type 0
-MasterSteps words port frame bytes put words-after port-after frame_after bytes_after results r heard call =
-    MasterStepIs (MasterWords.limit_at words) (port_master_tick (MasterWords.limit_at words) (side_of (unpacked_master words port) frame bytes) heard (call_of call put)) words-after port-after frame_after bytes_after results r
-
-pub master_tick_called : (words port frame bytes put words-after port-after frame_after bytes_after results : List ℕ) (r : ℕ) (h heard : Heard) (c call : MasterCall) → h ≡ heard → c ≡ call
-    → MasterSteps words port frame bytes put words-after port-after frame_after bytes_after results r h c → MasterSteps words port frame bytes put words-after port-after frame_after bytes_after results r heard call
-master_tick_called words port frame bytes put words-after port-after frame_after bytes_after results r h heard c call d e v =
-    subst (λ (x : MasterCall). MasterSteps words port frame bytes put words-after port-after frame_after bytes_after results r heard x) e
-    (subst (λ (x : Heard). MasterSteps words port frame bytes put words-after port-after frame_after bytes_after results r x c) d v)
-
-pub ruleset masters = (refl, master_tick_is, master_tick_called)
+pub ruleset masters = (refl, master_tick_is)
 
 -- ---- a device
 
-pub device_tick_is : (limit : ℕ) (words port frame bytes : List ℕ) (y : PortDevice) (heard : Heard) (call : PortCall) (put : List ℕ) (t : PortDeviceTicked) (frame_after bytes_after words-after port-after results : List ℕ) (sent told r : ℕ)
+pub device_tick_is : (limit : ℕ) (words port frame bytes : List ℕ) (y : PortDevice) (heard : Heard) (call : Option Wish) (put : List ℕ) (t : PortDeviceTicked) (frame_after bytes_after words-after port-after results : List ℕ) (sent told r : ℕ)
     → limit ≡ DeviceWords.limit_at words → limit < 2 ^ 8 → y ≡ unpacked_device words port → PortDeviceTickIs limit y heard call put frame bytes t frame_after bytes_after → PortDeviceFits t.device → words-after ≡ DeviceWords.packed limit t.device.device → port-after ≡ device_words t.device
     → results ≡ tick_numbers sent told 0 t.event → sent ≡ sent_number t.sent → told ≡ (device_tells t.told).number → r ≡ call_number t.result
     → DeviceStepIs (DeviceWords.limit_at words) (port_device_tick (DeviceWords.limit_at words) (D.side_of (unpacked_device words port) frame bytes) heard (D.call_of call put)) words-after port-after frame_after bytes_after results r
@@ -88,14 +79,4 @@ device_tick_is limit words port frame bytes y heard call put t frame_after bytes
       returned = q ∙ ap (λ (s : PortDeviceStep). call_number s.result) step;
     }
 
-abbrev DeviceSteps : List ℕ → List ℕ → List ℕ → List ℕ → List ℕ → List ℕ → List ℕ → List ℕ → List ℕ → List ℕ → ℕ → Heard → PortCall → Type 0
-DeviceSteps words port frame bytes put words-after port-after frame_after bytes_after results r heard call =
-    DeviceStepIs (DeviceWords.limit_at words) (port_device_tick (DeviceWords.limit_at words) (D.side_of (unpacked_device words port) frame bytes) heard (D.call_of call put)) words-after port-after frame_after bytes_after results r
-
-pub device_tick_called : (words port frame bytes put words-after port-after frame_after bytes_after results : List ℕ) (r : ℕ) (h heard : Heard) (c call : PortCall) → h ≡ heard → c ≡ call
-    → DeviceSteps words port frame bytes put words-after port-after frame_after bytes_after results r h c → DeviceSteps words port frame bytes put words-after port-after frame_after bytes_after results r heard call
-device_tick_called words port frame bytes put words-after port-after frame_after bytes_after results r h heard c call d e v =
-    subst (λ (x : PortCall). DeviceSteps words port frame bytes put words-after port-after frame_after bytes_after results r heard x) e
-    (subst (λ (x : Heard). DeviceSteps words port frame bytes put words-after port-after frame_after bytes_after results r x c) d v)
-
-pub ruleset devices = (refl, device_tick_is, device_tick_called)
+pub ruleset devices = (refl, device_tick_is)

@@ -1,6 +1,6 @@
 -- How the code stands for what is to be believed.
 -- Values within their types, as the code's masters and devices of the port hold them.
-use Rattle.std.specs.Prelude.{ℕ, ◌<◌, ◌^◌}
+use Rattle.std.specs.Prelude.{ℕ, ◌<◌, ◌^◌, Option, Some, None}
 use Rattle.line.specs.declared.Heard.{Heard}
 use Rattle.line.specs.declared.Heard.TheVariants.{Silence, Character, Damaged}
 use Rattle.master_c.specs.Words.{MasterFits}
@@ -9,12 +9,10 @@ use Rattle.port.specs.declared.Ear.{Ear}
 use Rattle.port.specs.declared.Ear.TheVariants.{Awake, PassesOver, Dozes}
 use Rattle.port.specs.declared.PortDevice.{PortDevice}
 use Rattle.port.specs.declared.PortMaster.{PortMaster}
-use Rattle.port.specs.declared.WakeUp.{WakeUp}
-use Rattle.port.specs.declared.WakeUp.TheVariants.{Off, Left}
 
-abbrev pub WakeFits : WakeUp → Type 0
-WakeFits Off = Unit {0}
-WakeFits (Left n) = n < 2 ^ 16
+abbrev pub WakeFits : Option ℕ → Type 0
+WakeFits None = Unit {0}
+WakeFits (Some n) = n < 2 ^ 16
 
 pub record PortMasterFits (x : PortMaster) : Type 0 where
   pub master : MasterFits x.master

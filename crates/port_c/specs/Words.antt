@@ -1,6 +1,6 @@
 -- How the code stands for what is to be believed.
 -- The port's words beside those of its master or device. Whatever words a program in C lends, they stand for some master or device; proofs/Kept.antt says that `unpacked_master` and `unpacked_device` give back every one that the code holds.
-use Rattle.std.specs.Prelude.{ℕ, ◌+◌, ◌-◌, ◌%◌, ◌^◌, true, false, List, [], ◌∷◌}
+use Rattle.std.specs.Prelude.{ℕ, ◌+◌, ◌-◌, ◌%◌, ◌^◌, true, false, List, [], ◌∷◌, Option, Some, None}
 use Rattle.base.specs.Choice.{when◌then◌else◌, ◌=?◌}
 use Rattle.line.specs.declared.Damage.{Damage}
 use Rattle.line.specs.declared.Damage.TheVariants.{Parity, Overrun, Framing}
@@ -14,18 +14,16 @@ use Rattle.port.specs.declared.Ear.{Ear}
 use Rattle.port.specs.declared.Ear.TheVariants.{Awake, PassesOver, Dozes}
 use Rattle.port.specs.declared.PortDevice.{PortDevice}
 use Rattle.port.specs.declared.PortMaster.{PortMaster}
-use Rattle.port.specs.declared.WakeUp.{WakeUp}
-use Rattle.port.specs.declared.WakeUp.TheVariants.{Off, Left}
 
 -- ---- the master's two words: the ticks since an answer, and the wake-up
 
 -- 0, or one more than the characters still to be sent
-abbrev pub wake_word : WakeUp → ℕ
-wake_word Off = 0
-wake_word (Left n) = n + 1
+abbrev pub wake_word : Option ℕ → ℕ
+wake_word None = 0
+wake_word (Some n) = n + 1
 
-abbrev pub wake_of : ℕ → WakeUp
-wake_of word = when word =? 0 then Off else Left ((word - 1) % 2 ^ 16)
+abbrev pub wake_of : ℕ → Option ℕ
+wake_of word = when word =? 0 then None else Some ((word - 1) % 2 ^ 16)
 
 abbrev pub master_words : PortMaster → List ℕ
 master_words x = x.since ∷ wake_word x.wake ∷ []

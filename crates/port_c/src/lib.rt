@@ -1,121 +1,71 @@
 // The infrared port's master and devices for programs in C: their states as words that the caller lends (those of a master or a device of the pair, and beside them the port's), their starts and their ticks.
-#![tactic(auto)]
+#![tactic(auto, using(base::proofs::Choices::choices))]
 
-ghost use Rattle.std.specs.Prelude.{◌<◌, ◌^◌, ◌≡◌};
+ghost use Rattle.std.specs.Prelude.{◌≡◌};
 ghost use Rattle.base.specs.Refusal.{accepted};
 ghost use Rattle.line.specs.Heard.{heard_of};
 ghost use Rattle.master_c.specs.Tick.{request_of};
 ghost use Rattle.port.specs.Device.{port_device_starts};
 ghost use Rattle.port.specs.Master.{port_master_starts};
-ghost use Rattle.port_device.specs.Calls as D;
-ghost use Rattle.port_master.specs.Calls as M;
-ghost use Rattle.port_c.specs.Words.{wake_word, wake_of, master_words, unpacked_master, damage_kind, heard_kind, heard_character, ear_number, ear_first, ear_second, ear_by, device_words, unpacked_device};
+ghost use Rattle.port_c.specs.Words.{wake_word, wake_of, master_words, unpacked_master, heard_kind, heard_character, ear_number, ear_first, ear_second, ear_by, device_words, unpacked_device};
 ghost use Rattle.port_c.specs.Fits.{WakeFits, PortMasterFits, HeardFits, EarFits, PortDeviceFits};
 ghost use Rattle.port_c.specs.Tick.{PortMasterTicks, call_by, PortDeviceTicks};
 ghost use Rattle.port_c.specs.Start.{PortMasterLeft, PortDeviceLeft};
 
-use base::Refusal;
 use line::{Damage, Heard};
-use master::MasterCall;
-use port::{Ear, PortDevice, PortMaster, WakeUp};
-use port_device::{PortCall, PortDeviceStarted};
-use port_master::PortMasterStarted;
-use turns::Wish;
+use port::{Ear, PortDevice, PortMaster};
+use turns::{Request, Wish};
 
-// The next eight do nothing. The contract of each says that the numbers of a value are within their types, which the prover knows of a parameter; `port_master_kept` and `port_device_kept` need it.
-fn u8_fits(n: u8)
-    ensures { n < 2 ^ 8 }
-{}
-
-fn u16_fits(n: u16)
-    ensures { n < 2 ^ 16 }
-{}
-
-fn wake_fits(wake: WakeUp)
+// The next five do nothing. The contract of each says that the numbers of a value are within their types, which the prover knows of a parameter; `port_master_kept` and `port_device_kept` need it.
+fn wake_fits(wake: Option<u16>)
     ensures { WakeFits wake }
-{
-    match wake {
-        WakeUp::Off => {}
-        WakeUp::Left(n) => u16_fits(n),
-    }
-}
+{}
 
 fn port_master_fits(x: PortMaster)
     ensures { PortMasterFits x }
 {
-    let m = x.master;
-    let wake = x.wake;
-    master_c::master_fits(m);
-    u16_fits(x.since);
-    wake_fits(wake);
+    master_c::master_fits(x.master);
+    wake_fits(x.wake);
 }
 
 fn heard_fits(heard: Heard)
     ensures { HeardFits heard }
-{
-    match heard {
-        Heard::Silence => {}
-        Heard::Character(c) => u8_fits(c),
-        Heard::Damaged(c, _) => u8_fits(c),
-    }
-}
-
-fn both_fit(a: Heard, b: Heard)
-    ensures { EarFits (Ear.Dozes a b) }
-{
-    heard_fits(a);
-    heard_fits(b);
-}
+{}
 
 fn ear_fits(ear: Ear)
     ensures { EarFits ear }
-{
-    match ear {
-        Ear::Awake => {}
-        Ear::PassesOver(_) => {}
-        Ear::Dozes(a, b) => both_fit(a, b),
-    }
-}
+{}
 
 fn port_device_fits(y: PortDevice)
     ensures { PortDeviceFits y }
 {
-    let d = y.device;
-    let ear = y.ear;
-    device_c::device_fits(d);
-    u16_fits(y.quiet);
-    ear_fits(ear);
+    device_c::device_fits(y.device);
+    ear_fits(y.ear);
 }
 
-fn wake_word(wake: WakeUp) -> u64
+fn wake_word(wake: Option<u16>) -> u64
     ensures { result ≡ wake_word wake }
 {
     match wake {
-        WakeUp::Off => 0,
-        WakeUp::Left(n) => (n as u64) + 1,
+        None => 0,
+        Some(n) => u64::from(n) + 1,
     }
 }
 
-fn wake_of(word: u64) -> WakeUp
+fn wake_of(word: u64) -> Option<u16>
     ensures { result ≡ wake_of word }
 {
-    if word == 0 {
-        return WakeUp::Off;
-    }
-    WakeUp::Left(((word - 1) % 65536) as u16)
+    word.checked_sub(1).map(|n| (n % 0x10000) as u16)
 }
 
 // The master that some words stand for.
 fn unpack_master(state: &[u64; 40], port: &[u64; 2]) -> PortMaster
     ensures { result ≡ unpacked_master state.now port.now }
 {
-    let m = master_c::unpack(state);
-    let since = state_words::u16_at(port, 0);
-    let wake = wake_of(state_words::word_at(port, 1));
     PortMaster {
-        master: m,
-        since: since,
-        wake: wake,
+        master: master_c::unpack(state),
+        since: state_words::u16_at(port, 0),
+        wake: wake_of(state_words::word_at(port, 1)),
     }
 }
 
@@ -123,8 +73,7 @@ fn unpack_master(state: &[u64; 40], port: &[u64; 2]) -> PortMaster
 fn master_words(x: PortMaster) -> [u64; 2]
     ensures { result ≡ master_words x }
 {
-    let wake = x.wake;
-    [x.since as u64, wake_word(wake)]
+    [u64::from(x.since), wake_word(x.wake)]
 }
 
 // A tick of the master that the words stand for.
@@ -134,7 +83,7 @@ fn tick_master(
     frame: &mut [u8; 284],
     bytes: &mut [u8; 255],
     heard: Heard,
-    call: MasterCall,
+    call: Option<Request>,
     put: &[u8],
     results: &mut [u64; 17],
 ) -> u32
@@ -143,26 +92,20 @@ fn tick_master(
     let x = unpack_master(state, port);
     let limit = master_c::limit_at(state);
     let t = port_master::tick(limit, x, heard, call, put, frame, bytes);
-    let next = t.master;
-    let sent = t.sent;
-    let told = t.told;
-    let event = t.event;
-    let result = t.result;
-    let m = next.master;
-    port_master_fits(next);
+    port_master_fits(t.master);
     master_c::limit_fits(limit);
-    master_c::pack(state, limit, m);
-    *port = master_words(next);
+    master_c::pack(state, limit, t.master.master);
+    *port = master_words(t.master);
     *results = state_words::tick_numbers(
-        party::sent_number(sent) as u64,
-        master_c::told_number(told),
-        master_c::told_attempts(told),
-        event,
+        party::sent_number(t.sent) as u64,
+        master_c::told_number(t.told),
+        master_c::told_attempts(t.told),
+        t.event,
     );
-    party::call_number(result)
+    party::call_number(t.result)
 }
 
-// A tick of the port's master; returns 0, or the number of the request's refusal.
+// A tick of the port's master; returns 0, or the number of the request's refusal. These parameters, and those of the next three, are the C interface.
 #[unsafe(no_mangle)]
 pub extern "C" fn nengapiko_port_master_tick(
     state: &mut [u64; 40],
@@ -192,28 +135,14 @@ pub extern "C" fn nengapiko_port_master_tick(
 fn master_left(limit: usize, x: PortMaster, state: &mut [u64; 40], port: &mut [u64; 2]) -> u32
     ensures { PortMasterLeft limit (accepted x) state port result }
 {
-    if base::outside(limit, 2, 255) {
-        return Refusal::DataLength.number();
-    }
-    let small = limit as u8;
-    let m = x.master;
-    port_master_fits(x);
-    master_c::pack(state, small, m);
-    *port = master_words(x);
-    0
-}
-
-fn master_started(
-    limit: usize,
-    res: PortMasterStarted,
-    state: &mut [u64; 40],
-    port: &mut [u64; 2],
-) -> u32
-    ensures { PortMasterLeft limit (M.started_as res) state port result }
-{
-    match res {
-        PortMasterStarted::Started(x) => master_left(limit, x, state, port),
-        PortMasterStarted::Refused(why) => why.number(),
+    match state_start_c::data_limit(limit) {
+        Ok(limit) => {
+            port_master_fits(x);
+            master_c::pack(state, limit, x.master);
+            *port = master_words(x);
+            0
+        }
+        Err(why) => why.number(),
     }
 }
 
@@ -228,16 +157,9 @@ pub extern "C" fn nengapiko_port_master_start(
 ) -> u32
     ensures { PortMasterLeft limit (port_master_starts primary retries) state port result }
 {
-    master_started(limit, port_master::start(primary, retries), state, port)
-}
-
-fn damage_kind(d: Damage) -> u64
-    ensures { result ≡ damage_kind d }
-{
-    match d {
-        Damage::Parity => 2,
-        Damage::Overrun => 3,
-        Damage::Framing => 4,
+    match port_master::start(primary, retries) {
+        Ok(x) => master_left(limit, x, state, port),
+        Err(why) => why.number(),
     }
 }
 
@@ -247,7 +169,9 @@ fn heard_kind(heard: Heard) -> u64
     match heard {
         Heard::Silence => 0,
         Heard::Character(_) => 1,
-        Heard::Damaged(_, d) => damage_kind(d),
+        Heard::Damaged(_, Damage::Parity) => 2,
+        Heard::Damaged(_, Damage::Overrun) => 3,
+        Heard::Damaged(_, Damage::Framing) => 4,
     }
 }
 
@@ -256,18 +180,8 @@ fn heard_character(heard: Heard) -> u64
 {
     match heard {
         Heard::Silence => 0,
-        Heard::Character(c) => c as u64,
-        Heard::Damaged(c, _) => c as u64,
+        Heard::Character(c) | Heard::Damaged(c, _) => u64::from(c),
     }
-}
-
-fn passes_number(before: bool) -> u64
-    ensures { result ≡ ear_number (Ear.PassesOver before) }
-{
-    if before {
-        return 2;
-    }
-    1
 }
 
 fn ear_number(ear: Ear) -> u64
@@ -275,61 +189,43 @@ fn ear_number(ear: Ear) -> u64
 {
     match ear {
         Ear::Awake => 0,
-        Ear::PassesOver(before) => passes_number(before),
+        Ear::PassesOver(false) => 1,
+        Ear::PassesOver(true) => 2,
         Ear::Dozes(_, _) => 3,
     }
 }
 
-// What a dozing device heard two ticks before.
-fn ear_first(ear: Ear) -> Heard
-    ensures { result ≡ ear_first ear }
+// What a dozing device heard two ticks before, and in the tick before.
+fn ear_heard(ear: Ear) -> (Heard, Heard)
+    ensures { result ≡ (ear_first ear, ear_second ear) }
 {
     match ear {
-        Ear::Awake => Heard::Silence,
-        Ear::PassesOver(_) => Heard::Silence,
-        Ear::Dozes(a, _) => a,
-    }
-}
-
-// What it heard in the tick before.
-fn ear_second(ear: Ear) -> Heard
-    ensures { result ≡ ear_second ear }
-{
-    match ear {
-        Ear::Awake => Heard::Silence,
-        Ear::PassesOver(_) => Heard::Silence,
-        Ear::Dozes(_, b) => b,
+        Ear::Dozes(a, b) => (a, b),
+        _ => (Heard::Silence, Heard::Silence),
     }
 }
 
 fn ear_by(number: u64, a: Heard, b: Heard) -> Ear
     ensures { result ≡ ear_by number a b }
 {
-    if number == 1 {
-        return Ear::PassesOver(false);
+    match number {
+        1 => Ear::PassesOver(false),
+        2 => Ear::PassesOver(true),
+        3 => Ear::Dozes(a, b),
+        _ => Ear::Awake,
     }
-    if number == 2 {
-        return Ear::PassesOver(true);
-    }
-    if number == 3 {
-        return Ear::Dozes(a, b);
-    }
-    Ear::Awake
 }
 
 // The device that some words stand for.
 fn unpack_device(state: &[u64; 41], port: &[u64; 6]) -> PortDevice
     ensures { result ≡ unpacked_device state.now port.now }
 {
-    let d = device_c::unpack(state);
     let a = line::heard_of(state_words::u8_at(port, 1), state_words::u8_at(port, 2));
     let b = line::heard_of(state_words::u8_at(port, 3), state_words::u8_at(port, 4));
-    let ear = ear_by(state_words::word_at(port, 0), a, b);
-    let quiet = state_words::u16_at(port, 5);
     PortDevice {
-        device: d,
-        ear: ear,
-        quiet: quiet,
+        device: device_c::unpack(state),
+        ear: ear_by(state_words::word_at(port, 0), a, b),
+        quiet: state_words::u16_at(port, 5),
     }
 }
 
@@ -337,33 +233,27 @@ fn unpack_device(state: &[u64; 41], port: &[u64; 6]) -> PortDevice
 fn device_words(y: PortDevice) -> [u64; 6]
     ensures { result ≡ device_words y }
 {
-    let ear = y.ear;
-    let a = ear_first(ear);
-    let b = ear_second(ear);
+    let (a, b) = ear_heard(y.ear);
     [
-        ear_number(ear),
+        ear_number(y.ear),
         heard_kind(a),
         heard_character(a),
         heard_kind(b),
         heard_character(b),
-        y.quiet as u64,
+        u64::from(y.quiet),
     ]
 }
 
 // The host's call by its number.
-fn call_by(number: u8) -> PortCall
+fn call_by(number: u8) -> Option<Wish>
     ensures { result ≡ call_by number }
 {
-    if number == 1 {
-        return PortCall::Answers(Wish::Same);
+    match number {
+        1 => Some(Wish::Same),
+        2 => Some(Wish::On),
+        3 => Some(Wish::Off),
+        _ => None,
     }
-    if number == 2 {
-        return PortCall::Answers(Wish::On);
-    }
-    if number == 3 {
-        return PortCall::Answers(Wish::Off);
-    }
-    PortCall::Nothing
 }
 
 // A tick of the device that the words stand for.
@@ -373,7 +263,7 @@ fn tick_device(
     frame: &mut [u8; 284],
     bytes: &mut [u8; 255],
     heard: Heard,
-    call: PortCall,
+    call: Option<Wish>,
     put: &[u8],
     results: &mut [u64; 17],
 ) -> u32
@@ -382,23 +272,17 @@ fn tick_device(
     let y = unpack_device(state, port);
     let limit = device_c::limit_at(state);
     let t = port_device::tick(limit, y, heard, call, put, frame, bytes);
-    let next = t.device;
-    let sent = t.sent;
-    let told = t.told;
-    let event = t.event;
-    let result = t.result;
-    let d = next.device;
-    port_device_fits(next);
+    port_device_fits(t.device);
     device_c::limit_fits(limit);
-    device_c::pack(state, limit, d);
-    *port = device_words(next);
+    device_c::pack(state, limit, t.device.device);
+    *port = device_words(t.device);
     *results = state_words::tick_numbers(
-        party::sent_number(sent) as u64,
-        device_c::told_number(told),
+        party::sent_number(t.sent) as u64,
+        device_c::told_number(t.told),
         0,
-        event,
+        t.event,
     );
-    party::call_number(result)
+    party::call_number(t.result)
 }
 
 // A tick of a device of the port; returns 0, or the number with which its host's answer is refused.
@@ -417,36 +301,30 @@ pub extern "C" fn nengapiko_port_device_tick(
     ensures { PortDeviceTicks state port frame bytes (heard_of kind character) (call_by call) put.now results result }
 {
     let heard = line::heard_of(kind, character);
-    let given = call_by(call);
-    tick_device(state, port, frame, bytes, heard, given, put, results)
+    tick_device(
+        state,
+        port,
+        frame,
+        bytes,
+        heard,
+        call_by(call),
+        put,
+        results,
+    )
 }
 
-// A fresh device, where its data limit is from 2 to 255; else refusal 9.
+// A fresh device, where its data limit is from 2 to 255; else refusal 9. It and `tick_device` are no generics with the master's, since each step is a function over words of another length.
 fn device_left(limit: usize, y: PortDevice, state: &mut [u64; 41], port: &mut [u64; 6]) -> u32
     ensures { PortDeviceLeft limit (accepted y) state port result }
 {
-    if base::outside(limit, 2, 255) {
-        return Refusal::DataLength.number();
-    }
-    let small = limit as u8;
-    let d = y.device;
-    port_device_fits(y);
-    device_c::pack(state, small, d);
-    *port = device_words(y);
-    0
-}
-
-fn device_started(
-    limit: usize,
-    res: PortDeviceStarted,
-    state: &mut [u64; 41],
-    port: &mut [u64; 6],
-) -> u32
-    ensures { PortDeviceLeft limit (D.started_as res) state port result }
-{
-    match res {
-        PortDeviceStarted::Started(y) => device_left(limit, y, state, port),
-        PortDeviceStarted::Refused(why) => why.number(),
+    match state_start_c::data_limit(limit) {
+        Ok(limit) => {
+            port_device_fits(y);
+            device_c::pack(state, limit, y.device);
+            *port = device_words(y);
+            0
+        }
+        Err(why) => why.number(),
     }
 }
 
@@ -462,10 +340,8 @@ pub extern "C" fn nengapiko_port_device_start(
 ) -> u32
     ensures { PortDeviceLeft limit (port_device_starts preamble polling unique) state port result }
 {
-    device_started(
-        limit,
-        port_device::start(preamble, polling, unique),
-        state,
-        port,
-    )
+    match port_device::start(preamble, polling, unique) {
+        Ok(y) => device_left(limit, y, state, port),
+        Err(why) => why.number(),
+    }
 }

@@ -1,6 +1,6 @@
 -- Inner contracts: nothing that is to be believed rests on them.
 -- What the parts of a device's tick promise, and a call inside it.
-use Rattle.std.specs.Prelude.{ℕ, List, ◌≡◌}
+use Rattle.std.specs.Prelude.{ℕ, List, ◌≡◌, Option}
 use Rattle.base.specs.Choice.{when◌then◌else◌}
 use Rattle.line.specs.declared.Event.{Event}
 use Rattle.line.specs.declared.Heard.{Heard}
@@ -13,9 +13,9 @@ use Rattle.port.specs.Device.{awake, hears_wake_up, port_device_takes, port_devi
 use Rattle.port.specs.Ticks.{device_data, heard_frame, device_sent, device_calls}
 use Rattle.port.specs.declared.PortDevice.{PortDevice}
 use Rattle.port.specs.declared.PortDeviceTaken.{PortDeviceTaken}
-use Rattle.port_device.specs.declared.PortCall.{PortCall}
 use Rattle.port_device.specs.declared.PortCallTaken.{PortCallTaken}
 use Rattle.port_device.specs.Ticks.{side_of, call_of}
+use Rattle.turns.specs.declared.Wish.{Wish}
 
 -- a device that is awake and hears: it reads, unless it hears 0x00 between frames
 pub record AwakeIs (y : PortDevice) (heard : Heard) (bytes frame : List ℕ) (t : PortDeviceTaken) (bytes_after frame_after : List ℕ) : Type 0 where
@@ -36,7 +36,7 @@ abbrev pub took : PortDevice → DeviceTold → Event → PortDeviceTaken
 took y told event = record { device = y; told = told; event = event }
 
 -- a call, whatever the tick told before it and whatever data it heard: `after` is the frame buffer after the call
-pub record PortCalledIs (limit : ℕ) (y : PortDevice) (call : PortCall) (put frame : List ℕ) (r : PortCallTaken) (after : List ℕ) : Type 0 where
+pub record PortCalledIs (limit : ℕ) (y : PortDevice) (call : Option Wish) (put frame : List ℕ) (r : PortCallTaken) (after : List ℕ) : Type 0 where
   pub goes : (heard : Heard) (told : DeviceTold) (event : Event) (bytes : List ℕ)
       → device_calls limit heard (took y told event) (call_of call put) frame bytes
       ≡ device_sent heard (took y told event) (port_device_sends r.device after) after bytes r.result

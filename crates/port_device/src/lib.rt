@@ -1,41 +1,24 @@
 // A device of the infrared port: its start, how it listens and dozes, its host's answers, and its tick. The functions follow the definitions of crates/port/specs/Device.antt, in their order.
-#![tactic(auto)]
+#![tactic(auto, using(base::proofs::Choices::choices))]
 
 ghost use Rattle.std.specs.Prelude.{◌≡◌, true, false};
-ghost use Rattle.line.specs.Reader.{no_damage, blank};
+ghost use Rattle.line.specs.Reader.{blank};
 ghost use Rattle.port.specs.Numbers.{sto_of};
-ghost use Rattle.port.specs.Device.{is_undamaged, is_other, both_undamaged, alternate, wakes, quiet_after, unless_quiet, device_took, listens_on, unread, passed_over, with_receiver, passes_on, dozes_on, is_idle, hears_wake_up, counted_as, reads, drops_request, past_sto, too_late, quiet_sending, port_device_sends, device_started, port_device_starts};
-ghost use Rattle.device.specs.Calls as C;
-ghost use Rattle.port.specs.Ticks.{with_device};
-ghost use Rattle.port_device.specs.Calls.{started_as, PortAnswerIs};
+ghost use Rattle.port.specs.Device.{is_undamaged, is_other, both_undamaged, alternate, wakes, quiet_after, unless_quiet, device_took, listens_on, unread, passed_over, with_receiver, passes_on, dozes_on, hears_wake_up, counted_as, reads, drops_request, past_sto, too_late, quiet_sending, port_device_sends, port_device_starts};
+ghost use Rattle.port_device.specs.Calls.{PortAnswerIs};
 ghost use Rattle.port_device.specs.Ticks.{PortDeviceTickIs};
-ghost use Rattle.port_device.specs.Parts.{uncalled, AwakeIs, PortTakeIs, PortCalledIs};
+ghost use Rattle.port_device.specs.Parts.{AwakeIs, PortTakeIs, PortCalledIs};
+ghost use Rattle.base.specs.Refusal.{called_as};
 
 use base::Refusal;
-use device::{DeviceCalled, DeviceStarted};
-use line::{Event, FrameDamage, Heard, Place, Profile, Receiver, Whole};
+use line::{Event, Heard, Place, Profile, Receiver, Whole};
 use port::{Ear, PortDevice, PortDeviceSent, PortDeviceTaken};
 use turns::{CallResult, Device, DeviceTaken, DeviceTold, Sent, Turn, Wish};
 
 // STO of every other command; a request stays in hand for so long.
 const LONGEST_STO: u16 = 87;
 
-// What a start answers.
-#[derive(Clone, Copy)]
-pub enum PortDeviceStarted {
-    Started(PortDevice),
-    Refused(Refusal),
-}
-
-// A host's call in a tick.
-#[derive(Clone, Copy)]
-pub enum PortCall {
-    Nothing,
-    // the answer, whose data are lent
-    Answers(Wish),
-}
-
-// A device after its host's call.
+// A device after its host's call. The master's is a struct of its own: one generic for both would be no plainer than these two fields.
 #[derive(Clone, Copy)]
 struct PortCallTaken {
     device: PortDevice,
@@ -56,21 +39,7 @@ pub struct PortDeviceTicked {
 fn is_undamaged(c: u8, heard: Heard) -> bool
     ensures { result ≡ is_undamaged c heard }
 {
-    match heard {
-        Heard::Silence => false,
-        Heard::Character(e) => e == c,
-        Heard::Damaged(_, _) => false,
-    }
-}
-
-// Whether a character is not 0xFF.
-fn is_not_ones(c: u8) -> bool
-    ensures { result ≡ is_other (Heard.Character c) }
-{
-    if c == 0xFF {
-        return false;
-    }
-    true
+    matches!(heard, Heard::Character(e) if e == c)
 }
 
 // Whether a character other than 0xFF was heard, damaged or not.
@@ -79,18 +48,14 @@ fn is_other(heard: Heard) -> bool
 {
     match heard {
         Heard::Silence => false,
-        Heard::Character(c) => is_not_ones(c),
-        Heard::Damaged(c, _) => is_not_ones(c),
+        Heard::Character(c) | Heard::Damaged(c, _) => c != 0xFF,
     }
 }
 
 fn both_undamaged(c: u8, e: u8, a: Heard, b: Heard) -> bool
     ensures { result ≡ both_undamaged c e a b }
 {
-    if is_undamaged(c, a) {
-        return is_undamaged(e, b);
-    }
-    false
+    is_undamaged(c, a) && is_undamaged(e, b)
 }
 
 // Whether three wake-up bytes alternate.
@@ -98,35 +63,17 @@ fn alternates(a: Heard, b: Heard, heard: Heard) -> bool
     ensures { result ≡ alternate a b heard }
 {
     if both_undamaged(0x00, 0xFF, a, b) {
-        return is_undamaged(0x00, heard);
+        is_undamaged(0x00, heard)
+    } else {
+        both_undamaged(0xFF, 0x00, a, b) && is_undamaged(0xFF, heard)
     }
-    if both_undamaged(0xFF, 0x00, a, b) {
-        return is_undamaged(0xFF, heard);
-    }
-    false
 }
 
 // Whether a dozing device wakes.
 fn wakes_up(a: Heard, b: Heard, heard: Heard) -> bool
     ensures { result ≡ wakes a b heard }
 {
-    if alternates(a, b, heard) {
-        return true;
-    }
-    if is_other(b) {
-        return is_other(heard);
-    }
-    false
-}
-
-// The quiet ticks with one more, as long as the count matters.
-fn one_more(n: u16) -> u16
-    ensures { result ≡ quiet_after n Heard.Silence }
-{
-    if n < port::DOZE_TICKS {
-        return n + 1;
-    }
-    n
+    alternates(a, b, heard) || is_other(b) && is_other(heard)
 }
 
 // The quiet ticks after what was heard.
@@ -134,9 +81,9 @@ fn quiet_after(n: u16, heard: Heard) -> u16
     ensures { result ≡ quiet_after n heard }
 {
     match heard {
-        Heard::Silence => one_more(n),
-        Heard::Character(_) => 0,
-        Heard::Damaged(_, _) => 0,
+        Heard::Silence if n < port::DOZE_TICKS => n + 1,
+        Heard::Silence => n,
+        _ => 0,
     }
 }
 
@@ -145,28 +92,24 @@ fn unless_quiet(quiet: u16, ear: Ear) -> Ear
     ensures { result ≡ unless_quiet quiet ear }
 {
     if port::DOZE_TICKS <= quiet {
-        return Ear::Dozes(Heard::Silence, Heard::Silence);
+        Ear::Dozes(Heard::Silence, Heard::Silence)
+    } else {
+        ear
     }
-    ear
 }
 
 // A device after what was heard, which then listens in this manner.
 fn took(y: PortDevice, heard: Heard, ear: Ear, t: DeviceTaken) -> PortDeviceTaken
     ensures { result ≡ device_took y heard ear t }
 {
-    let quiet = quiet_after(y.quiet, heard);
-    let d = t.device;
-    let told = t.told;
-    let event = t.event;
-    let device = PortDevice {
-        device: d,
-        ear: ear,
-        quiet: quiet,
-    };
     PortDeviceTaken {
-        device: device,
-        told: told,
-        event: event,
+        device: PortDevice {
+            device: t.device,
+            ear,
+            quiet: quiet_after(y.quiet, heard),
+        },
+        told: t.told,
+        event: t.event,
     }
 }
 
@@ -175,8 +118,7 @@ fn listens_on(y: PortDevice, heard: Heard, ear: Ear, t: DeviceTaken) -> PortDevi
     ensures { result ≡ listens_on y heard ear t }
 {
     let quiet = quiet_after(y.quiet, heard);
-    let next = unless_quiet(quiet, ear);
-    took(y, heard, next, t)
+    took(y, heard, unless_quiet(quiet, ear), t)
 }
 
 // Nothing is read.
@@ -186,7 +128,7 @@ fn not_read(d: Device, event: Event) -> DeviceTaken
     DeviceTaken {
         device: d,
         told: DeviceTold::Nothing,
-        event: event,
+        event,
     }
 }
 
@@ -196,8 +138,7 @@ fn passed_over(heard: Heard) -> Event
 {
     match heard {
         Heard::Silence => Event::Nothing,
-        Heard::Character(_) => Event::PassedOver,
-        Heard::Damaged(_, _) => Event::PassedOver,
+        _ => Event::PassedOver,
     }
 }
 
@@ -205,126 +146,53 @@ fn passed_over(heard: Heard) -> Event
 fn behind_two(d: Device) -> Device
     ensures { result ≡ with_receiver d (blank (Place.Preamble 2)) }
 {
-    let idle = line_reader::idle_reader();
-    let header = idle.header;
-    let damage = idle.damage;
     let receiver = Receiver {
-        header: header,
         place: Place::Preamble(2),
-        expansion: 0,
-        count: 0,
-        sum: 0,
-        damage: damage,
-        gap: false,
+        ..line_reader::idle_reader()
     };
-    let turn = d.turn;
-    let request = d.request;
-    let wish = d.wish;
-    device_rules::with_parts(d, receiver, turn, request, wish, d.length, d.due)
+    Device { receiver, ..d }
 }
 
 // A device that passes over characters.
 fn pass_on(y: PortDevice, heard: Heard, before: bool) -> PortDeviceTaken
     ensures { result ≡ passes_on y heard before }
 {
-    let d = y.device;
-    if is_undamaged(0xFF, heard) {
-        if before {
-            let next = behind_two(d);
-            return listens_on(y, heard, Ear::Awake, not_read(next, Event::Nothing));
-        }
-        return listens_on(
-            y,
-            heard,
-            Ear::PassesOver(true),
-            not_read(d, passed_over(heard)),
-        );
+    let ones = is_undamaged(0xFF, heard);
+    if ones && before {
+        let next = not_read(behind_two(y.device), Event::Nothing);
+        listens_on(y, heard, Ear::Awake, next)
+    } else {
+        let next = not_read(y.device, passed_over(heard));
+        listens_on(y, heard, Ear::PassesOver(ones), next)
     }
-    listens_on(
-        y,
-        heard,
-        Ear::PassesOver(false),
-        not_read(d, passed_over(heard)),
-    )
 }
 
 // A device that dozes.
 fn doze_on(y: PortDevice, heard: Heard, a: Heard, b: Heard) -> PortDeviceTaken
     ensures { result ≡ dozes_on y heard a b }
 {
-    let d = y.device;
-    if wakes_up(a, b, heard) {
-        return took(
-            y,
-            heard,
-            Ear::PassesOver(false),
-            not_read(d, Event::Nothing),
-        );
-    }
-    took(y, heard, Ear::Dozes(b, heard), not_read(d, Event::Nothing))
-}
-
-fn is_idle(place: Place) -> bool
-    ensures { result ≡ is_idle place }
-{
-    match place {
-        Place::Passing => false,
-        Place::Idle => true,
-        Place::Preamble(_) => false,
-        Place::First => false,
-        Place::Address(_) => false,
-        Place::Expansion(_) => false,
-        Place::Command => false,
-        Place::Count => false,
-        Place::Data(_) => false,
-        Place::Check => false,
-    }
+    let ear = if wakes_up(a, b, heard) {
+        Ear::PassesOver(false)
+    } else {
+        Ear::Dozes(b, heard)
+    };
+    took(y, heard, ear, not_read(y.device, Event::Nothing))
 }
 
 // Whether an awake device hears 0x00 between frames.
 fn hears_wake_up(d: Device, heard: Heard) -> bool
     ensures { result ≡ hears_wake_up d heard }
 {
-    let reader = d.receiver;
-    let place = reader.place;
-    if is_idle(place) {
-        return is_undamaged(0x00, heard);
-    }
-    false
-}
-
-fn no_damage() -> FrameDamage
-    ensures { result ≡ no_damage }
-{
-    FrameDamage {
-        parity: false,
-        overrun: false,
-        framing: false,
-        address: false,
-        check: false,
-    }
+    matches!(d.receiver.place, Place::Idle) && is_undamaged(0x00, heard)
 }
 
 // A BACK counts as a damaged frame.
-fn frame_as(w: Whole) -> Event
-    ensures { result ≡ counted_as (Event.Frame w) }
-{
-    let h = w.header;
-    if h.kind == frame::BACK {
-        return Event::Damaged(w, no_damage());
-    }
-    Event::Frame(w)
-}
-
 fn counted_as(event: Event) -> Event
     ensures { result ≡ counted_as event }
 {
     match event {
-        Event::Nothing => Event::Nothing,
-        Event::PassedOver => Event::PassedOver,
-        Event::Broken => Event::Broken,
-        Event::Frame(w) => frame_as(w),
-        Event::Damaged(w, m) => Event::Damaged(w, m),
+        Event::Frame(w) if w.header.kind == frame::BACK => Event::Damaged(w, port::NO_DAMAGE),
+        _ => event,
     }
 }
 
@@ -332,13 +200,9 @@ fn counted_as(event: Event) -> Event
 fn read(t: DeviceTaken) -> DeviceTaken
     ensures { result ≡ reads t }
 {
-    let device = t.device;
-    let told = t.told;
-    let event = t.event;
     DeviceTaken {
-        device: device,
-        told: told,
-        event: counted_as(event),
+        event: counted_as(t.event),
+        ..t
     }
 }
 
@@ -346,17 +210,11 @@ fn read(t: DeviceTaken) -> DeviceTaken
 fn drop_request(d: Device) -> Device
     ensures { result ≡ drops_request d }
 {
-    let receiver = d.receiver;
-    let request = d.request;
-    device_rules::with_parts(
-        d,
-        receiver,
-        Turn::Listens,
-        request,
-        Wish::Same,
-        d.length,
-        d.due,
-    )
+    Device {
+        turn: Turn::Listens,
+        wish: Wish::Same,
+        ..d
+    }
 }
 
 // A device that is awake.
@@ -368,18 +226,13 @@ fn take_awake(
 ) -> PortDeviceTaken
     ensures { AwakeIs y heard bytes.old frame.old result bytes.new frame.new }
 {
-    let d = y.device;
-    if hears_wake_up(d, heard) {
-        let next = drop_request(d);
-        return listens_on(
-            y,
-            heard,
-            Ear::PassesOver(false),
-            not_read(next, passed_over(heard)),
-        );
+    if hears_wake_up(y.device, heard) {
+        let next = not_read(drop_request(y.device), passed_over(heard));
+        listens_on(y, heard, Ear::PassesOver(false), next)
+    } else {
+        let next = read(device::take(y.device, heard, bytes, frame));
+        listens_on(y, heard, Ear::Awake, next)
     }
-    let t = device::take(d, heard, bytes, frame);
-    listens_on(y, heard, Ear::Awake, read(t))
 }
 
 // A device that hears nothing.
@@ -402,12 +255,10 @@ fn take(
 ) -> PortDeviceTaken
     ensures { PortTakeIs y heard bytes.old frame.old result bytes.new frame.new }
 {
-    let d = y.device;
-    let ear = y.ear;
-    if d.deaf {
+    if y.device.deaf {
         return hears_nothing(y);
     }
-    match ear {
+    match y.ear {
         Ear::Awake => take_awake(y, heard, bytes, frame),
         Ear::PassesOver(before) => pass_on(y, heard, before),
         Ear::Dozes(a, b) => doze_on(y, heard, a, b),
@@ -418,21 +269,10 @@ fn take(
 fn sto_of(command: u8) -> u16
     ensures { result ≡ sto_of command }
 {
-    if command == 0 {
-        return port::IDENTITY_STO;
+    match command {
+        0 | 11 => port::IDENTITY_STO,
+        _ => LONGEST_STO,
     }
-    if command == 11 {
-        return port::IDENTITY_STO;
-    }
-    LONGEST_STO
-}
-
-// Whether, with so many ticks left of the longest STO, a command's own STO is over.
-fn is_past(command: u8, n: u16) -> bool
-    ensures { result ≡ past_sto command (Turn.Asked n) }
-{
-    let sto = sto_of(command);
-    (n as u32) + (sto as u32) <= (LONGEST_STO as u32)
 }
 
 // Whether a request in hand is past T+STO.
@@ -440,13 +280,8 @@ fn past_sto(command: u8, turn: Turn) -> bool
     ensures { result ≡ past_sto command turn }
 {
     match turn {
-        Turn::Listens => false,
-        Turn::Asked(n) => is_past(command, n),
-        Turn::AnswerWaits => false,
-        Turn::Begins => false,
-        Turn::Answers(_) => false,
-        Turn::Follows => false,
-        Turn::Bursts(_) => false,
+        Turn::Asked(n) => u32::from(n) + u32::from(sto_of(command)) <= u32::from(LONGEST_STO),
+        _ => false,
     }
 }
 
@@ -454,77 +289,51 @@ fn past_sto(command: u8, turn: Turn) -> bool
 fn too_late(d: Device) -> bool
     ensures { result ≡ too_late d }
 {
-    let request = d.request;
-    let turn = d.turn;
-    past_sto(request.command, turn)
+    past_sto(d.request.command, d.turn)
 }
 
 // Takes the host's answer to the request in hand, or refuses it with 8, 9 or 10 and leaves the lent frame buffer as it was.
-fn answer(limit: u8, d: Device, wish: Wish, bytes: &[u8], frame: &mut [u8; 284]) -> DeviceCalled
+fn answer(
+    limit: u8,
+    d: Device,
+    wish: Wish,
+    bytes: &[u8],
+    frame: &mut [u8; 284],
+) -> Result<Device, Refusal>
     ensures { PortAnswerIs limit d wish bytes.now frame.old result frame.new }
 {
     if too_late(d) {
-        return DeviceCalled::Refused(Refusal::NoRequest);
-    }
-    device::answer(limit, d, wish, bytes, frame)
-}
-
-// The same with another device.
-fn with_device(y: PortDevice, d: Device) -> PortDevice
-    ensures { result ≡ with_device y d }
-{
-    let ear = y.ear;
-    PortDevice {
-        device: d,
-        ear: ear,
-        quiet: y.quiet,
+        Err(Refusal::NoRequest)
+    } else {
+        device::answer(limit, d, wish, bytes, frame)
     }
 }
 
-fn answer_by(
-    limit: u8,
-    y: PortDevice,
-    wish: Wish,
-    put: &[u8],
-    frame: &mut [u8; 284],
-) -> PortCallTaken
-    ensures { PortCalledIs limit y (PortCall.Answers wish) put.now frame.old result frame.new }
-{
-    let d = y.device;
-    let r = answer(limit, d, wish, put, frame);
-    match r {
-        DeviceCalled::Accepted(e) => PortCallTaken {
-            device: with_device(y, e),
-            result: CallResult::Taken,
-        },
-        DeviceCalled::Refused(why) => PortCallTaken {
-            device: y,
-            result: CallResult::Refused(why.number()),
-        },
-    }
-}
-
-fn no_call(y: PortDevice) -> PortCallTaken
-    ensures { result ≡ uncalled y }
-{
-    PortCallTaken {
-        device: y,
-        result: CallResult::Nothing,
-    }
-}
-
+#[tactic(auto, using(base::proofs::Choices::choices, crate::proofs::Laws::calls))]
 fn take_call(
     limit: u8,
     y: PortDevice,
-    call: PortCall,
+    call: Option<Wish>,
     put: &[u8],
     frame: &mut [u8; 284],
 ) -> PortCallTaken
     ensures { PortCalledIs limit y call put.now frame.old result frame.new }
 {
-    match call {
-        PortCall::Nothing => no_call(y),
-        PortCall::Answers(wish) => answer_by(limit, y, wish, put, frame),
+    let Some(wish) = call else {
+        return PortCallTaken {
+            device: y,
+            result: CallResult::Nothing,
+        };
+    };
+    match answer(limit, y.device, wish, put, frame) {
+        Ok(device) => PortCallTaken {
+            device: PortDevice { device, ..y },
+            result: CallResult::Taken,
+        },
+        Err(why) => PortCallTaken {
+            device: y,
+            result: CallResult::Refused(why.number()),
+        },
     }
 }
 
@@ -539,47 +348,34 @@ fn quiet_sending(n: u16, sent: Sent) -> u16
 }
 
 // Sends a character of the ACK in the lent frame buffer, or none.
+#[tactic(auto, using(base::proofs::Choices::choices), unfolding(port::specs::Device::port_device_sends))]
 fn send(y: PortDevice, frame: &[u8; 284]) -> PortDeviceSent
     ensures { result ≡ port_device_sends y frame.now }
 {
-    let d = y.device;
-    let ear = y.ear;
-    let s = device::sends_by(d, frame);
-    let next = s.device;
-    let sent = s.sent;
-    let quiet = quiet_sending(y.quiet, sent);
-    let device = PortDevice {
-        device: next,
-        ear: ear,
-        quiet: quiet,
-    };
+    let s = device::sends_by(y.device, frame);
     PortDeviceSent {
-        device: device,
-        sent: sent,
-    }
-}
-
-fn started_by(s: DeviceStarted) -> PortDeviceStarted
-    ensures { started_as result ≡ device_started (C.started_as s) }
-{
-    match s {
-        DeviceStarted::Started(d) => PortDeviceStarted::Started(PortDevice {
-            device: d,
-            ear: Ear::Awake,
-            quiet: 0,
-        }),
-        DeviceStarted::Refused(why) => PortDeviceStarted::Refused(why),
+        device: PortDevice {
+            device: s.device,
+            quiet: quiet_sending(y.quiet, s.sent),
+            ..y
+        },
+        sent: s.sent,
     }
 }
 
 // A device of these addresses, or refusal 3 or 4.
-pub fn start(preamble: usize, polling: u8, unique: u64) -> PortDeviceStarted
-    ensures { started_as result ≡ port_device_starts preamble polling unique }
+pub fn start(preamble: usize, polling: u8, unique: u64) -> Result<PortDevice, Refusal>
+    ensures { called_as result ≡ port_device_starts preamble polling unique }
 {
-    if preamble == port::PREAMBLE {
-        return started_by(device::start(Profile::infrared(), preamble, polling, unique));
+    if preamble != port::PREAMBLE {
+        return Err(Refusal::PreambleLength);
     }
-    PortDeviceStarted::Refused(Refusal::PreambleLength)
+    let device = device::start(Profile::infrared(), preamble, polling, unique)?;
+    Ok(PortDevice {
+        device,
+        ear: Ear::Awake,
+        quiet: 0,
+    })
 }
 
 // A tick, where data are at most the limit. Lent are the data of an answer, the buffer that holds the device's ACK and the one for the data of the frame that it hears.
@@ -587,7 +383,7 @@ pub fn tick(
     limit: u8,
     y: PortDevice,
     heard: Heard,
-    call: PortCall,
+    call: Option<Wish>,
     put: &[u8],
     frame: &mut [u8; 284],
     bytes: &mut [u8; 255],
@@ -596,20 +392,13 @@ pub fn tick(
         frame.new bytes.new }
 {
     let t = take(y, heard, bytes, frame);
-    let taken = t.device;
-    let told = t.told;
-    let event = t.event;
-    let c = take_call(limit, taken, call, put, frame);
-    let called = c.device;
-    let result = c.result;
-    let s = send(called, frame);
-    let next = s.device;
-    let sent = s.sent;
+    let c = take_call(limit, t.device, call, put, frame);
+    let s = send(c.device, frame);
     PortDeviceTicked {
-        device: next,
-        sent: sent,
-        told: told,
-        event: event,
-        result: result,
+        device: s.device,
+        sent: s.sent,
+        told: t.told,
+        event: t.event,
+        result: c.result,
     }
 }

@@ -11,90 +11,71 @@
 mod show;
 
 use line::{Damage, Event, Heard};
-use master::MasterCall;
-use port::{PortDevice, PortMaster};
-use port_device::{PortCall, PortDeviceStarted, PortDeviceTicked};
-use port_master::{PortMasterStarted, PortMasterTicked};
+use port::Ear;
+use port_device::PortDeviceTicked;
+use port_master::PortMasterTicked;
 use show::{Reception, Speech};
 use std::io;
 use turns::{CallResult, DeviceTold, MasterTold, Request, Sent, Wish};
 
-// An order of a script: a letter for what is done, 0 for none, and its number.
+// An order of a script: a letter for what is done, and its number.
 #[derive(Clone, Copy)]
 struct Order {
     what: u8,
     number: u8,
 }
 
-// The master after a tick, the buffer of its frame, and the data that it heard.
-#[derive(Clone, Copy)]
-struct MasterSide {
-    ticked: PortMasterTicked,
+// A party after a tick, the buffer of its frame, the data that it heard, what it hears in the next tick, and what it is sending.
+#[derive(Drop)]
+struct Party<T> {
+    ticked: T,
     frame: [u8; 284],
     bytes: [u8; 255],
+    hears: Reception,
+    speech: Option<Speech>,
 }
 
-// The device, likewise.
-#[derive(Clone, Copy)]
-struct DeviceSide {
-    ticked: PortDeviceTicked,
-    frame: [u8; 284],
-    bytes: [u8; 255],
-}
-
-// Both parties, what each hears in the next tick, and what each is sending.
-#[derive(Clone, Copy)]
+// Both parties.
+#[derive(Drop)]
 struct Both {
-    m: MasterSide,
-    d: DeviceSide,
-    to_m: Reception,
-    to_d: Reception,
-    by_m: Speech,
-    by_d: Speech,
+    m: Party<PortMasterTicked>,
+    d: Party<PortDeviceTicked>,
 }
 
-fn five_digits(a: u8, b: u8, c: u8, d: u8, e: u8) -> u32 {
-    let high = ((a % 16) as u32) * 10000 + ((b % 16) as u32) * 1000;
-    high + ((c % 16) as u32) * 100 + ((d % 16) as u32) * 10 + ((e % 16) as u32)
+// The number of decimal digits.
+fn number_of(digits: &[u8]) -> u32 {
+    digits.iter().fold(0u32, |n, digit| {
+        n.saturating_mul(10).saturating_add(u32::from(digit % 16))
+    })
 }
 
-// The order of this tick for this party, if there is one.
-fn look(script: &[u8], tick: u32, whom: u8) -> Order {
-    let mut at = 0;
-    while 10 <= script.len() - at {
-        if script[at + 5] == whom {
-            if five_digits(
-                script[at],
-                script[at + 1],
-                script[at + 2],
-                script[at + 3],
-                script[at + 4],
-            ) == tick
-            {
-                return Order {
-                    what: script[at + 6],
-                    number: texts::byte_of(script[at + 7], script[at + 8]),
+// The order of this tick for this party, if there is one; one whose letter is a zero byte is none.
+fn look(script: &[u8], tick: u32, whom: u8) -> Option<Order> {
+    for order in script.chunks_exact(10) {
+        if let [digits @ .., party, what, high, low, _] = order {
+            if *party == whom && number_of(digits) == tick {
+                let order = Order {
+                    what: *what,
+                    number: texts::byte_of(*high, *low),
                 };
+                return Some(order).filter(|o| o.what != 0);
             }
         }
-        at += 10;
     }
-    Order { what: 0, number: 0 }
+    None
 }
 
 fn character_of(h: Heard) -> u8 {
     match h {
         Heard::Silence => 0,
-        Heard::Character(c) => c,
-        Heard::Damaged(c, _) => c,
+        Heard::Character(c) | Heard::Damaged(c, _) => c,
     }
 }
 
 // What is heard after an order has changed it.
 fn altered(h: Heard, o: Order) -> Heard {
-    let what = o.what;
     let damaged = character_of(h) ^ o.number;
-    match what {
+    match o.what {
         b'p' => Heard::Damaged(damaged, Damage::Parity),
         b'o' => Heard::Damaged(damaged, Damage::Overrun),
         b'f' => Heard::Damaged(damaged, Damage::Framing),
@@ -106,275 +87,178 @@ fn altered(h: Heard, o: Order) -> Heard {
 
 // What the port carries where two may send.
 fn carried(a: Sent, b: Sent) -> Heard {
-    match a {
-        Sent::Silent => match b {
-            Sent::Silent => Heard::Silence,
-            Sent::Character(c) => Heard::Character(c),
-        },
-        Sent::Character(c) => match b {
-            Sent::Silent => Heard::Character(c),
-            Sent::Character(_) => Heard::Damaged(0, Damage::Framing),
-        },
+    match (a, b) {
+        (Sent::Silent, Sent::Silent) => Heard::Silence,
+        (Sent::Silent, Sent::Character(c)) | (Sent::Character(c), Sent::Silent) => {
+            Heard::Character(c)
+        }
+        (Sent::Character(_), Sent::Character(_)) => Heard::Damaged(0, Damage::Framing),
     }
 }
 
 // What a party hears of this tick in the next one.
 fn hears(script: &[u8], tick: u32, whom: u8, a: Sent, b: Sent) -> Reception {
-    let o = look(script, tick, whom);
+    let order = look(script, tick, whom);
+    let heard = carried(a, b);
     Reception {
-        heard: altered(carried(a, b), o),
-        changed: o.what != 0,
+        heard: order.map_or(heard, |o| altered(heard, o)),
+        changed: order.is_some(),
     }
 }
 
 // What a third party sends.
 fn other_sends(script: &[u8], tick: u32) -> Sent {
-    let o = look(script, tick, b'o');
-    if o.what == 0 {
-        return Sent::Silent;
-    }
-    Sent::Character(o.number)
+    look(script, tick, b'o').map_or(Sent::Silent, |o| Sent::Character(o.number))
 }
 
-fn wanted(long: bool, address: u8, command: u8) -> MasterCall {
-    MasterCall::Requests(Request {
+fn master_call(order: Option<Order>) -> Option<Request> {
+    let Order { what, number } = order?;
+    let (long, command) = match what {
+        b'r' => (false, 0),
+        b'u' => (true, 3),
+        b't' => (true, 11),
+        _ => return None,
+    };
+    Some(Request {
         preamble: 5,
         revision: 7,
-        long: long,
-        address: address as u64,
-        command: command,
+        long,
+        address: u64::from(number),
+        command,
     })
 }
 
-fn master_call(o: Order) -> MasterCall {
-    let what = o.what;
-    match what {
-        b'r' => wanted(false, o.number, 0),
-        b'u' => wanted(true, o.number, 3),
-        b't' => wanted(true, o.number, 11),
-        _ => MasterCall::Nothing,
-    }
-}
-
-fn master_ticks(side: MasterSide, input: Reception, script: &[u8], tick: u32) -> MasterSide {
-    let t = side.ticked;
-    let mut frame = side.frame;
-    let mut bytes = side.bytes;
-    let heard = input.heard;
-    let o = look(script, tick, b'm');
-    let ticked = port_master::tick(
+fn master_ticks(m: &mut Party<PortMasterTicked>, script: &[u8], tick: u32) {
+    let call = master_call(look(script, tick, b'm'));
+    m.ticked = port_master::tick(
         255,
-        t.master,
-        heard,
-        master_call(o),
+        m.ticked.master,
+        m.hears.heard,
+        call,
         b"",
-        &mut frame,
-        &mut bytes,
+        &mut m.frame,
+        &mut m.bytes,
     );
-    MasterSide {
-        ticked: ticked,
-        frame: frame,
-        bytes: bytes,
+}
+
+fn device_call(order: Option<Order>) -> Option<Wish> {
+    match order?.what {
+        b'a' => Some(Wish::Same),
+        b'n' => Some(Wish::On),
+        b'f' => Some(Wish::Off),
+        _ => None,
     }
 }
 
-fn device_call(o: Order) -> PortCall {
-    let what = o.what;
-    match what {
-        b'a' => PortCall::Answers(Wish::Same),
-        b'n' => PortCall::Answers(Wish::On),
-        b'f' => PortCall::Answers(Wish::Off),
-        _ => PortCall::Nothing,
-    }
-}
-
-fn device_ticks(side: DeviceSide, input: Reception, script: &[u8], tick: u32) -> DeviceSide {
-    let t = side.ticked;
-    let mut frame = side.frame;
-    let mut bytes = side.bytes;
-    let heard = input.heard;
-    let o = look(script, tick, b'd');
+fn device_ticks(d: &mut Party<PortDeviceTicked>, script: &[u8], tick: u32) {
+    let order = look(script, tick, b'd');
+    let count = order.map_or(0, |o| usize::from(o.number));
     let zeros = [0u8; 255];
-    let put = texts::front(&zeros, o.number as usize);
-    let call = device_call(o);
-    let ticked = port_device::tick(255, t.device, heard, call, put, &mut frame, &mut bytes);
-    DeviceSide {
-        ticked: ticked,
-        frame: frame,
-        bytes: bytes,
-    }
+    d.ticked = port_device::tick(
+        255,
+        d.ticked.device,
+        d.hears.heard,
+        device_call(order),
+        texts::front(&zeros, count),
+        &mut d.frame,
+        &mut d.bytes,
+    );
 }
 
-// What the master is sending; a line for what ended in the tick before.
-fn speak_master(rt: &impl Print, tick: u32, m: MasterSide, by: Speech) -> io::Result<Speech> {
-    let ticked = m.ticked;
-    let x = ticked.master;
-    let wake = x.wake;
-    let sent = ticked.sent;
-    let frame = m.frame;
-    show::master_speech(rt, tick, sent, wake, by, &frame)
-}
-
-fn speak_device(rt: &impl Print, tick: u32, d: DeviceSide, by: Speech) -> io::Result<Speech> {
-    let ticked = d.ticked;
-    let sent = ticked.sent;
-    let frame = d.frame;
-    show::device_speech(rt, tick, sent, by, &frame)
-}
-
-fn show_master(rt: &impl Print, tick: u32, input: Reception, m: MasterSide) -> io::Result<()> {
-    let ticked = m.ticked;
-    let told = ticked.told;
-    let event = ticked.event;
-    let result = ticked.result;
-    let bytes = m.bytes;
-    show::show_master(rt, tick, input, event, told, result, &bytes)
+fn show_master(rt: &impl Print, tick: u32, m: &Party<PortMasterTicked>) -> io::Result<()> {
+    let t = m.ticked;
+    show::show_party(
+        rt, tick, b" master", m.hears, t.event, t.told, t.result, &m.bytes,
+    )
 }
 
 fn show_device(
     rt: &impl Print,
     tick: u32,
-    input: Reception,
-    before: PortDevice,
-    d: DeviceSide,
+    before: Ear,
+    d: &Party<PortDeviceTicked>,
 ) -> io::Result<()> {
-    let ticked = d.ticked;
-    let y = ticked.device;
-    let old = before.ear;
-    let ear = y.ear;
-    let told = ticked.told;
-    let event = ticked.event;
-    let result = ticked.result;
-    let bytes = d.bytes;
-    show::show_device(rt, tick, input, event, told, result, &bytes)?;
-    show::show_ear(rt, tick, old, ear)
+    let t = d.ticked;
+    show::show_party(
+        rt, tick, b" device", d.hears, t.event, t.told, t.result, &d.bytes,
+    )?;
+    show::show_ear(rt, tick, before, t.device.ear)
 }
 
-// Both after a tick, by what each and a third party sends.
-fn both_after(
-    m: MasterSide,
-    d: DeviceSide,
-    script: &[u8],
-    tick: u32,
-    by_m: Speech,
-    by_d: Speech,
-) -> Both {
-    let m_ticked = m.ticked;
-    let d_ticked = d.ticked;
-    let m_sent = m_ticked.sent;
-    let d_sent = d_ticked.sent;
+// A tick of both, and its lines.
+fn tick_both(rt: &impl Print, b: &mut Both, tick: u32, script: &[u8]) -> io::Result<()> {
+    let before = b.d.ticked.device.ear;
+    master_ticks(&mut b.m, script, tick);
+    device_ticks(&mut b.d, script, tick);
+    let m = b.m.ticked;
+    let d = b.d.ticked;
+    b.m.speech = show::master_speech(rt, tick, m.sent, m.master.wake, b.m.speech, &b.m.frame)?;
+    b.d.speech = show::device_speech(rt, tick, d.sent, b.d.speech, &b.d.frame)?;
+    show_master(rt, tick, &b.m)?;
+    show_device(rt, tick, before, &b.d)?;
     let other = other_sends(script, tick);
-    Both {
-        m: m,
-        d: d,
-        to_m: hears(script, tick, b'M', d_sent, other),
-        to_d: hears(script, tick, b'D', m_sent, other),
-        by_m: by_m,
-        by_d: by_d,
-    }
-}
-
-fn tick_both(rt: &impl Print, b: Both, tick: u32, script: &[u8]) -> io::Result<Both> {
-    let to_m = b.to_m;
-    let to_d = b.to_d;
-    let old_d = b.d;
-    let d_ticked = old_d.ticked;
-    let before = d_ticked.device;
-    let m = master_ticks(b.m, to_m, script, tick);
-    let d = device_ticks(old_d, to_d, script, tick);
-    let by_m = speak_master(rt, tick, m, b.by_m)?;
-    let by_d = speak_device(rt, tick, d, b.by_d)?;
-    show_master(rt, tick, to_m, m)?;
-    show_device(rt, tick, to_d, before, d)?;
-    Ok(both_after(m, d, script, tick, by_m, by_d))
-}
-
-// Runs both for so many ticks.
-fn run(rt: &impl Print, start: Both, ticks: u32, script: &[u8]) -> io::Result<()> {
-    let mut b = start;
-    let mut next = 0;
-    while next < ticks {
-        let tick = next;
-        next += 1;
-        b = tick_both(rt, b, tick, script)?;
-    }
+    b.m.hears = hears(script, tick, b'M', d.sent, other);
+    b.d.hears = hears(script, tick, b'D', m.sent, other);
     Ok(())
 }
 
-fn master_side(x: PortMaster) -> MasterSide {
-    MasterSide {
-        ticked: PortMasterTicked {
-            master: x,
+// A party before its first tick.
+fn before_first<T>(ticked: T) -> Party<T> {
+    Party {
+        ticked,
+        frame: [0; 284],
+        bytes: [0; 255],
+        hears: Reception {
+            heard: Heard::Silence,
+            changed: false,
+        },
+        speech: None,
+    }
+}
+
+// A master with R 3, and a device with polling address 0 and unique address 2, for so many ticks.
+fn scene(rt: &impl Print, ticks: u32, script: &[u8]) -> io::Result<()> {
+    let Ok(master) = port_master::start(true, 3) else {
+        return Ok(());
+    };
+    let Ok(device) = port_device::start(5, 0, 2) else {
+        return Ok(());
+    };
+    let mut both = Both {
+        m: before_first(PortMasterTicked {
+            master,
             sent: Sent::Silent,
             told: MasterTold::Nothing,
             event: Event::Nothing,
             result: CallResult::Nothing,
-        },
-        frame: [0; 284],
-        bytes: [0; 255],
-    }
-}
-
-fn device_side(y: PortDevice) -> DeviceSide {
-    DeviceSide {
-        ticked: PortDeviceTicked {
-            device: y,
+        }),
+        d: before_first(PortDeviceTicked {
+            device,
             sent: Sent::Silent,
             told: DeviceTold::Nothing,
             event: Event::Nothing,
             result: CallResult::Nothing,
-        },
-        frame: [0; 284],
-        bytes: [0; 255],
+        }),
+    };
+    for tick in 0..ticks {
+        tick_both(rt, &mut both, tick, script)?;
     }
-}
-
-fn both_of(x: PortMaster, y: PortDevice) -> Both {
-    let silence = Reception {
-        heard: Heard::Silence,
-        changed: false,
-    };
-    let nothing = Speech { kind: 0, from: 0 };
-    Both {
-        m: master_side(x),
-        d: device_side(y),
-        to_m: silence,
-        to_d: silence,
-        by_m: nothing,
-        by_d: nothing,
-    }
-}
-
-// A master with R 3, and a device with polling address 0 and unique address 2.
-fn scene(rt: &impl Print, ticks: u32, script: &[u8]) -> io::Result<()> {
-    let PortMasterStarted::Started(x) = port_master::start(true, 3) else {
-        return Ok(());
-    };
-    let PortDeviceStarted::Started(y) = port_device::start(5, 0, 2) else {
-        return Ok(());
-    };
-    run(rt, both_of(x, y), ticks, script)
+    Ok(())
 }
 
 fn line(rt: &impl Print, words: &[u8]) -> io::Result<()> {
-    if 6 <= words.len() {
-        if words[5] == b':' {
-            let ticks = five_digits(words[0], words[1], words[2], words[3], words[4]);
-            return scene(rt, ticks, &words[6..]);
-        }
+    if 6 <= words.len() && words[5] == b':' {
+        scene(rt, number_of(&words[..5]), &words[6..])
+    } else {
+        rt.write_all(words)
     }
-    rt.write_all(words)
 }
 
+// Runs or prints each line; what stands behind the last end of a line is none.
 fn lines(rt: &impl Print, words: &[u8]) -> io::Result<()> {
-    let mut start = 0;
-    let mut i = 0;
-    while i < words.len() {
-        let at = i;
-        i += 1;
-        if words[at] == b'\n' {
-            line(rt, &words[start..i])?;
-            start = i;
+    for each in words.split_inclusive(|b| *b == b'\n') {
+        if let [.., b'\n'] = each {
+            line(rt, each)?;
         }
     }
     Ok(())

@@ -1,9 +1,8 @@
 // Lines of text for what a master and a device of the port do: what a party sent, how the device listens, and what a party heard, found, told its host or refused in a tick.
-use example_texts::print_line;
+// The words of what is heard, found and told stand in party_examples too, whose functions have another form; in a library each would have to promise its text, and nothing is promised of what is printed here.
 use line::{Damage, Event, Heard, Whole};
-use port::{Ear, WakeUp};
+use port::Ear;
 use std::io;
-use texts::{put_all_spaced, put_bytes, put_field, put_spaced};
 use turns::{CallResult, DeviceTold, MasterTold, Sent};
 
 // What a party hears in a tick, and whether the script changed it.
@@ -13,319 +12,257 @@ pub struct Reception {
     pub changed: bool,
 }
 
-// What a party is sending, and since when: 0 nothing, 1 a wake-up, 2 a frame.
+// What a party can be sending.
+#[derive(Clone, Copy, PartialEq, Eq)]
+pub enum Kind {
+    WakeUp,
+    Frame,
+}
+
+// What a party is sending, and since when.
 #[derive(Clone, Copy)]
 pub struct Speech {
-    pub kind: u8,
-    pub from: u32,
+    kind: Kind,
+    from: u32,
 }
 
-fn frame_kind(sent: Sent) -> u8 {
+// A line of text that is being put together.
+#[derive(Drop)]
+pub struct Line {
+    text: [u8; 4096],
+    length: usize,
+}
+
+impl Line {
+    fn new() -> Line {
+        Line {
+            text: [0; 4096],
+            length: 0,
+        }
+    }
+
+    // What a line of a party begins with.
+    fn of_party(tick: u32, name: &[u8]) -> Line {
+        let mut line = Line::new();
+        line.put_field(b"  ", tick);
+        line.put(name);
+        line
+    }
+
+    fn put(&mut self, text: &[u8]) {
+        self.length = texts::put_bytes(text, &mut self.text, self.length);
+    }
+
+    fn put_field(&mut self, name: &[u8], n: u32) {
+        self.length = texts::put_field(name, u64::from(n), &mut self.text, self.length);
+    }
+
+    fn put_spaced(&mut self, byte: u8) {
+        self.length = texts::put_spaced(byte, &mut self.text, self.length);
+    }
+
+    fn put_all_spaced(&mut self, bytes: &[u8]) {
+        self.length = texts::put_all_spaced(bytes, &mut self.text, self.length);
+    }
+
+    fn put_heard(&mut self, heard: Heard) {
+        self.put(b" hears ");
+        match heard {
+            Heard::Silence => self.put(b"silence"),
+            Heard::Character(c) => {
+                self.put(b"character");
+                self.put_spaced(c);
+            }
+            Heard::Damaged(c, kind) => {
+                self.put(damage_name(kind));
+                self.put_spaced(c);
+            }
+        }
+    }
+
+    fn put_event(&mut self, event: Event) {
+        match event {
+            Event::Nothing | Event::PassedOver => {}
+            Event::Broken => self.put(b" broken"),
+            Event::Frame(_) => self.put(b" whole"),
+            Event::Damaged(_, _) => self.put(b" damaged"),
+        }
+    }
+
+    // Command and data of a frame.
+    fn put_frame(&mut self, name: &[u8], w: Whole, bytes: &[u8; 255]) {
+        self.put_field(name, u32::from(w.header.command));
+        self.put(b" data");
+        self.put_all_spaced(texts::front(bytes, usize::from(w.count)));
+    }
+
+    fn put_result(&mut self, res: CallResult) {
+        if let CallResult::Refused(why) = res {
+            self.put_field(b" refused ", why);
+        }
+    }
+
+    fn print(&self, rt: &impl Print) -> io::Result<()> {
+        example_texts::print_line(rt, &self.text, self.length)
+    }
+}
+
+fn damage_name(kind: Damage) -> &'static [u8] {
+    match kind {
+        Damage::Parity => b"parity",
+        Damage::Overrun => b"overrun",
+        Damage::Framing => b"framing",
+    }
+}
+
+fn frame_kind(sent: Sent) -> Option<Kind> {
     match sent {
-        Sent::Silent => 0,
-        Sent::Character(_) => 2,
+        Sent::Silent => None,
+        Sent::Character(_) => Some(Kind::Frame),
     }
-}
-
-// A character that is sent during a wake-up belongs to it.
-fn master_kind(sent: Sent, wake: WakeUp) -> u8 {
-    match wake {
-        WakeUp::Off => frame_kind(sent),
-        WakeUp::Left(_) => 1,
-    }
-}
-
-fn wide(n: u32) -> u64 {
-    n as u64
-}
-
-fn size(n: u32) -> usize {
-    n as usize
-}
-
-// The first and last tick, and which party it is.
-fn put_ticks(name: &[u8], from: u32, last: u32, out: &mut [u8]) -> usize {
-    let first = put_field(b"  ", wide(from), out, 0);
-    let place = put_field(b"-", wide(last), out, first);
-    put_bytes(name, out, place)
-}
-
-fn print_wake_up(
-    rt: &impl Print,
-    name: &[u8],
-    from: u32,
-    last: u32,
-    count: u32,
-    out: &mut [u8],
-) -> io::Result<()> {
-    let begun = put_ticks(name, from, last, out);
-    let place = put_field(b" wake-up ", wide(count), out, begun);
-    print_line(rt, out, place)
-}
-
-fn print_frame(
-    rt: &impl Print,
-    name: &[u8],
-    from: u32,
-    last: u32,
-    count: u32,
-    frame: &[u8; 284],
-    out: &mut [u8],
-) -> io::Result<()> {
-    let begun = put_ticks(name, from, last, out);
-    let place = put_bytes(b" sends", out, begun);
-    let end = put_all_spaced(texts::front(frame, size(count)), out, place);
-    print_line(rt, out, end)
 }
 
 // A line for what ended in the tick before.
 fn print_speech(
     rt: &impl Print,
     name: &[u8],
-    kind: u8,
-    from: u32,
+    old: Speech,
     tick: u32,
     frame: &[u8; 284],
-    out: &mut [u8],
 ) -> io::Result<()> {
-    if tick <= from {
+    if tick <= old.from {
         return Ok(());
     }
-    let last = tick - 1;
-    let count = tick - from;
-    if kind == 1 {
-        return print_wake_up(rt, name, from, last, count, out);
+    let count = tick - old.from;
+    let mut line = Line::new();
+    line.put_field(b"  ", old.from);
+    line.put_field(b"-", tick - 1);
+    line.put(name);
+    match old.kind {
+        Kind::WakeUp => line.put_field(b" wake-up ", count),
+        Kind::Frame => {
+            line.put(b" sends");
+            line.put_all_spaced(texts::front(frame, count as usize));
+        }
     }
-    print_frame(rt, name, from, last, count, frame, out)
+    line.print(rt)
 }
 
 fn speaks(
     rt: &impl Print,
     name: &[u8],
     tick: u32,
-    kind: u8,
-    old: Speech,
+    kind: Option<Kind>,
+    old: Option<Speech>,
     frame: &[u8; 284],
-) -> io::Result<Speech> {
-    if old.kind == kind {
+) -> io::Result<Option<Speech>> {
+    if old.map(|speech| speech.kind) == kind {
         return Ok(old);
     }
-    if 0 < old.kind {
-        let mut out = [0u8; 4096];
-        print_speech(rt, name, old.kind, old.from, tick, frame, &mut out)?;
+    if let Some(speech) = old {
+        print_speech(rt, name, speech, tick, frame)?;
     }
-    Ok(Speech {
-        kind: kind,
-        from: tick,
-    })
+    Ok(kind.map(|kind| Speech { kind, from: tick }))
 }
 
+// What the master is sending; a character that is sent during a wake-up belongs to it.
 pub fn master_speech(
     rt: &impl Print,
     tick: u32,
     sent: Sent,
-    wake: WakeUp,
-    old: Speech,
+    wake: Option<u16>,
+    old: Option<Speech>,
     frame: &[u8; 284],
-) -> io::Result<Speech> {
-    speaks(rt, b" master", tick, master_kind(sent, wake), old, frame)
+) -> io::Result<Option<Speech>> {
+    let kind = match wake {
+        None => frame_kind(sent),
+        Some(_) => Some(Kind::WakeUp),
+    };
+    speaks(rt, b" master", tick, kind, old, frame)
 }
 
+// What the device is sending.
 pub fn device_speech(
     rt: &impl Print,
     tick: u32,
     sent: Sent,
-    old: Speech,
+    old: Option<Speech>,
     frame: &[u8; 284],
-) -> io::Result<Speech> {
+) -> io::Result<Option<Speech>> {
     speaks(rt, b" device", tick, frame_kind(sent), old, frame)
 }
 
-fn ear_number(ear: Ear) -> u8 {
-    match ear {
-        Ear::Awake => 0,
-        Ear::PassesOver(_) => 1,
-        Ear::Dozes(_, _) => 2,
+// What a device begins to do where it listens in another way than in the tick before.
+fn ear_change(before: Ear, after: Ear) -> Option<&'static [u8]> {
+    match (before, after) {
+        (Ear::Awake, Ear::Awake)
+        | (Ear::PassesOver(_), Ear::PassesOver(_))
+        | (Ear::Dozes(_, _), Ear::Dozes(_, _)) => None,
+        (_, Ear::Awake) => Some(b" reads"),
+        (_, Ear::Dozes(_, _)) => Some(b" dozes"),
+        (Ear::Dozes(_, _), Ear::PassesOver(_)) => Some(b" wakes"),
+        (Ear::Awake, Ear::PassesOver(_)) => Some(b" passes over"),
     }
-}
-
-fn put_ear(old: u8, now: u8, out: &mut [u8], at: usize) -> usize {
-    if now == 0 {
-        return put_bytes(b" reads", out, at);
-    }
-    if now == 2 {
-        return put_bytes(b" dozes", out, at);
-    }
-    if old == 2 {
-        return put_bytes(b" wakes", out, at);
-    }
-    put_bytes(b" passes over", out, at)
-}
-
-fn print_ear(rt: &impl Print, tick: u32, old: u8, now: u8, out: &mut [u8]) -> io::Result<()> {
-    let mut place = put_field(b"  ", tick as u64, out, 0);
-    place = put_bytes(b" device", out, place);
-    place = put_ear(old, now, out, place);
-    print_line(rt, out, place)
 }
 
 // A line for a change of how the device listens.
 pub fn show_ear(rt: &impl Print, tick: u32, before: Ear, after: Ear) -> io::Result<()> {
-    let old = ear_number(before);
-    let now = ear_number(after);
-    if old == now {
-        return Ok(());
-    }
-    let mut out = [0u8; 4096];
-    print_ear(rt, tick, old, now, &mut out)
-}
-
-fn put_damage(kind: Damage, out: &mut [u8], at: usize) -> usize {
-    match kind {
-        Damage::Parity => put_bytes(b"parity", out, at),
-        Damage::Overrun => put_bytes(b"overrun", out, at),
-        Damage::Framing => put_bytes(b"framing", out, at),
-    }
-}
-
-fn put_heard(heard: Heard, out: &mut [u8], at: usize) -> usize {
-    let place = put_bytes(b" hears ", out, at);
-    match heard {
-        Heard::Silence => put_bytes(b"silence", out, place),
-        Heard::Character(c) => {
-            let next = put_bytes(b"character", out, place);
-            put_spaced(c, out, next)
-        }
-        Heard::Damaged(c, kind) => {
-            let next = put_damage(kind, out, place);
-            put_spaced(c, out, next)
-        }
-    }
-}
-
-fn put_event(event: Event, out: &mut [u8], at: usize) -> usize {
-    match event {
-        Event::Nothing => at,
-        Event::PassedOver => at,
-        Event::Broken => put_bytes(b" broken", out, at),
-        Event::Frame(_) => put_bytes(b" whole", out, at),
-        Event::Damaged(_, _) => put_bytes(b" damaged", out, at),
-    }
-}
-
-// Command and data of a frame.
-fn put_frame(name: &[u8], w: Whole, bytes: &[u8; 255], out: &mut [u8], at: usize) -> usize {
-    let h = w.header;
-    let mut place = put_field(name, h.command as u64, out, at);
-    place = put_bytes(b" data", out, place);
-    put_all_spaced(texts::front(bytes, w.count as usize), out, place)
-}
-
-fn put_master_told(told: MasterTold, bytes: &[u8; 255], out: &mut [u8], at: usize) -> usize {
-    match told {
-        MasterTold::Nothing => at,
-        MasterTold::Answered(w) => put_frame(b" answered ", w, bytes, out, at),
-        MasterTold::GivenUp(attempts) => put_field(b" given up ", attempts as u64, out, at),
-        MasterTold::BroadcastSent => put_bytes(b" broadcast sent", out, at),
-    }
-}
-
-fn put_device_told(told: DeviceTold, bytes: &[u8; 255], out: &mut [u8], at: usize) -> usize {
-    match told {
-        DeviceTold::Nothing => at,
-        DeviceTold::Request(w) => put_frame(b" request ", w, bytes, out, at),
-        DeviceTold::Broadcast(w) => put_frame(b" broadcast ", w, bytes, out, at),
-    }
-}
-
-fn put_result(res: CallResult, out: &mut [u8], at: usize) -> usize {
-    match res {
-        CallResult::Nothing => at,
-        CallResult::Taken => at,
-        CallResult::Refused(why) => put_field(b" refused ", why as u64, out, at),
-    }
-}
-
-// What a party hears, if the script changed it.
-fn put_input(input: Reception, out: &mut [u8], at: usize) -> usize {
-    let heard = input.heard;
-    if input.changed {
-        return put_heard(heard, out, at);
-    }
-    at
-}
-
-// What a line of a party begins with; where nothing more is put, it is not printed.
-fn put_begin(tick: u32, name: &[u8], out: &mut [u8]) -> usize {
-    let place = put_field(b"  ", tick as u64, out, 0);
-    put_bytes(name, out, place)
-}
-
-fn print_more(rt: &impl Print, out: &[u8], begun: usize, place: usize) -> io::Result<()> {
-    if begun < place {
-        print_line(rt, out, place)?;
+    if let Some(change) = ear_change(before, after) {
+        let mut line = Line::of_party(tick, b" device");
+        line.put(change);
+        line.print(rt)?;
     }
     Ok(())
 }
 
-fn print_master(
-    rt: &impl Print,
-    tick: u32,
-    input: Reception,
-    event: Event,
-    told: MasterTold,
-    res: CallResult,
-    bytes: &[u8; 255],
-    out: &mut [u8],
-) -> io::Result<()> {
-    let begun = put_begin(tick, b" master", out);
-    let heard = put_input(input, out, begun);
-    let found = put_event(event, out, heard);
-    let said = put_master_told(told, bytes, out, found);
-    let place = put_result(res, out, said);
-    print_more(rt, out, begun, place)
+// What a party tells its host.
+pub trait Told {
+    // Puts it into a line.
+    fn put(self, bytes: &[u8; 255], line: &mut Line);
 }
 
-pub fn show_master(
-    rt: &impl Print,
-    tick: u32,
-    input: Reception,
-    event: Event,
-    told: MasterTold,
-    res: CallResult,
-    bytes: &[u8; 255],
-) -> io::Result<()> {
-    let mut out = [0u8; 4096];
-    print_master(rt, tick, input, event, told, res, bytes, &mut out)
+impl Told for MasterTold {
+    fn put(self, bytes: &[u8; 255], line: &mut Line) {
+        match self {
+            MasterTold::Nothing => {}
+            MasterTold::Answered(w) => line.put_frame(b" answered ", w, bytes),
+            MasterTold::GivenUp(attempts) => line.put_field(b" given up ", u32::from(attempts)),
+            MasterTold::BroadcastSent => line.put(b" broadcast sent"),
+        }
+    }
 }
 
-fn print_device(
-    rt: &impl Print,
-    tick: u32,
-    input: Reception,
-    event: Event,
-    told: DeviceTold,
-    res: CallResult,
-    bytes: &[u8; 255],
-    out: &mut [u8],
-) -> io::Result<()> {
-    let begun = put_begin(tick, b" device", out);
-    let heard = put_input(input, out, begun);
-    let found = put_event(event, out, heard);
-    let said = put_device_told(told, bytes, out, found);
-    let place = put_result(res, out, said);
-    print_more(rt, out, begun, place)
+impl Told for DeviceTold {
+    fn put(self, bytes: &[u8; 255], line: &mut Line) {
+        match self {
+            DeviceTold::Nothing => {}
+            DeviceTold::Request(w) => line.put_frame(b" request ", w, bytes),
+            DeviceTold::Broadcast(w) => line.put_frame(b" broadcast ", w, bytes),
+        }
+    }
 }
 
-pub fn show_device(
+// A line for a party that hears what the script changed, finds something, tells its host something or refuses its call in this tick.
+pub fn show_party<T: Told>(
     rt: &impl Print,
     tick: u32,
+    name: &[u8],
     input: Reception,
     event: Event,
-    told: DeviceTold,
+    told: T,
     res: CallResult,
     bytes: &[u8; 255],
 ) -> io::Result<()> {
-    let mut out = [0u8; 4096];
-    print_device(rt, tick, input, event, told, res, bytes, &mut out)
+    let mut line = Line::of_party(tick, name);
+    let begun = line.length;
+    if input.changed {
+        line.put_heard(input.heard);
+    }
+    line.put_event(event);
+    told.put(bytes, &mut line);
+    line.put_result(res);
+    if begun < line.length {
+        line.print(rt)?;
+    }
+    Ok(())
 }

@@ -1,6 +1,6 @@
 -- Inner contracts: nothing that is to be believed rests on them.
 -- What the parts of the master's tick promise, and a call inside it.
-use Rattle.std.specs.Prelude.{ℕ, List, ◌≡◌}
+use Rattle.std.specs.Prelude.{ℕ, List, ◌≡◌, Option}
 use Rattle.line.specs.declared.Event.{Event}
 use Rattle.line.specs.declared.Event.TheVariants.{Frame}
 use Rattle.line.specs.declared.Heard.{Heard}
@@ -13,12 +13,12 @@ use Rattle.turns.specs.declared.MasterTold.{MasterTold}
 use Rattle.turns.specs.declared.CallResult.{CallResult}
 use Rattle.master.specs.Takes.{heard_bytes}
 use Rattle.master.specs.Tick.{call_of}
-use Rattle.master.specs.declared.MasterCall.{MasterCall}
 use Rattle.port.specs.Master.{port_master_takes, port_master_sends}
 use Rattle.port.specs.Ticks.{port_master_sent, master_calls}
 use Rattle.port.specs.declared.PortMaster.{PortMaster}
 use Rattle.port.specs.declared.PortMasterTaken.{PortMasterTaken}
 use Rattle.port_master.specs.declared.PortCallTaken.{PortCallTaken}
+use Rattle.turns.specs.declared.Request.{Request}
 
 -- after a frame that is no BACK
 abbrev pub after_other : Master → Receiver → Whole → List ℕ → MasterTaken
@@ -42,7 +42,7 @@ abbrev pub took : PortMaster → MasterTold → Event → PortMasterTaken
 took x told event = record { master = x; told = told; event = event }
 
 -- a call, whatever the tick told before it and whatever data it heard: `after` is the frame buffer after the call
-pub record PortCalledIs (limit : ℕ) (x : PortMaster) (call : MasterCall) (put frame : List ℕ) (r : PortCallTaken) (after : List ℕ) : Type 0 where
+pub record PortCalledIs (limit : ℕ) (x : PortMaster) (call : Option Request) (put frame : List ℕ) (r : PortCallTaken) (after : List ℕ) : Type 0 where
   pub goes : (heard : Heard) (told : MasterTold) (event : Event) (bytes : List ℕ)
       → master_calls limit heard (took x told event) (call_of call put) frame bytes
       ≡ port_master_sent heard (took x told event) (port_master_sends r.master after) after bytes r.result

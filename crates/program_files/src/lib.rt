@@ -2,6 +2,7 @@
 #![tactic(auto)]
 
 ghost use Rattle.std.specs.Prelude.{◌≡◌, ◌≤◌, length, take, Some, IfSome, IsTrue};
+ghost use Rattle.std.specs.Io.{StartsWith};
 ghost use Rattle.std.specs.Io.KnownBytes.{Consumes, IsAtEnd, Keeps};
 
 use std::env::{Env, FillError};
@@ -16,8 +17,7 @@ pub const ARGUMENT: usize = 4_096;
 // How many arguments the program was started with, its own name among them.
 pub fn argument_count(rt: &impl Env) -> usize {
     for i in 0..usize::MAX {
-        let got = rt.arg(i, &mut []);
-        if matches!(got, Err(FillError::NotPresent)) {
+        if matches!(rt.arg(i, &mut []), Err(FillError::NotPresent)) {
             return i;
         }
     }
@@ -28,10 +28,7 @@ pub fn argument_count(rt: &impl Env) -> usize {
 pub fn argument(rt: &impl Env, i: usize, text: &mut [u8]) -> usize
     ensures { result ≤ length text.new }
 {
-    match rt.arg(i, text) {
-        Ok(n) => n,
-        Err(_) => 0,
-    }
+    rt.arg(i, text).unwrap_or(0)
 }
 
 // Reads until a buffer is full, the input ends or a read fails, and answers how many bytes it put at the buffer's front.
@@ -40,6 +37,7 @@ pub fn read_full<R: Read>(reader: &mut R, piece: &mut [u8]) -> usize
     ensures bytes { Consumes (R.remaining reader.old) (R.remaining reader.new) (take result piece.new) }
 {
     let mut done = 0;
+    // not a `for`: each read says how far it went
     while done < piece.len() {
         match reader.read(&mut piece[done..]) {
             Ok(0) => return done,
@@ -48,6 +46,22 @@ pub fn read_full<R: Read>(reader: &mut R, piece: &mut [u8]) -> usize
         }
     }
     done
+}
+
+// A file that is read a piece at a time, and room for a piece.
+#[derive(Drop)]
+pub struct Pieces<'a, R, const N: usize> {
+    pub file: &'a mut R,
+    pub room: [u8; N],
+}
+
+// The next piece of a file: the front of what it has left. One that does not fill the room is the last.
+pub fn next_piece<'a, R: Read, const N: usize>(pieces: &'a mut Pieces<'_, R, N>) -> &'a [u8]
+    ensures bound { length result.now ≤ N }
+    ensures front { IfSome (R.remaining pieces.old.file.now) (λ xs. StartsWith xs result.now) }
+{
+    let n = read_full(pieces.file, &mut pieces.room);
+    &pieces.room[..n]
 }
 
 // Whether nothing follows in a file: a read that failed before looks like an end.
@@ -82,30 +96,40 @@ impl Write for Words {
 
 // Text up to the system's number of an error.
 fn before_number(words: &str) -> &str {
-    match words.split_once(" (os error ") {
-        Some((front, _)) => front,
-        None => words,
-    }
+    words
+        .split_once(" (os error ")
+        .map_or(words, |(front, _)| front)
 }
 
 // Says on standard error what failed and why, in the system's words.
-pub fn say_failure(rt: &impl Eprint, what: &str, error: &Error) -> io::Result<()> {
+fn say_failure(rt: &impl Eprint, what: &str, error: &Error) -> io::Result<()> {
     let mut words = Words {
         bytes: [0; 256],
         len: 0,
     };
     write!(words, "{error}")?;
-    let why = str::from_utf8(texts::front(&words.bytes, words.len)).unwrap_or("");
-    let why = before_number(why);
+    let said = str::from_utf8(texts::front(&words.bytes, words.len)).unwrap_or("");
+    let why = before_number(said);
     eprintln!(rt; "{what}: {why}")
+}
+
+// Writes to standard output, and answers whether all was written; if not, what failed is said on standard error.
+pub fn write_out(rt: &(impl Print + Eprint), what: &str, out: &[u8]) -> io::Result<bool> {
+    match rt.write_all(out) {
+        Ok(()) => Ok(true),
+        Err(error) => {
+            say_failure(rt, what, &error)?;
+            Ok(false)
+        }
+    }
 }
 
 // A file's name is text here, as paths are.
 fn name_in(bytes: &[u8]) -> io::Result<&str> {
-    match str::from_utf8(bytes) {
-        Ok(name) => Ok(name),
-        Err(_) => Err(Error::new(ErrorKind::InvalidFilename, "a file's name is not UTF-8")),
-    }
+    str::from_utf8(bytes).map_err(|_| Error::new(
+        ErrorKind::InvalidFilename,
+        "a file's name is not UTF-8",
+    ))
 }
 
 // Opens the file that an argument names. Where it cannot be opened, that is said on standard error.

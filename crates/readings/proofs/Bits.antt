@@ -1,7 +1,7 @@
 -- The two bits that are meant for one master only, in a second data byte.
 use Prim.Native.Nat.{ℕ, ◌+◌, ◌-◌, ◌*◌, ◌/◌, ◌%◌, ◌<◌}
 use native.Mathlib.Omega.{arith}
-use mathlib.Core.Path.{◌≡◌, refl, sym, ap, ◌∙◌}
+use mathlib.Core.Path.{◌≡◌, refl}
 use Rattle.readings.specs.Table.{own_bits, common_byte, shown_byte}
 
 -- a number by its bits: 4 low ones, 0x10, 0x20, 0x40 and the others

@@ -3,13 +3,13 @@ use Prim.Native.Nat.{ℕ}
 use mathlib.Core.Bool.{Bool, true, false}
 use mathlib.Core.List.{List, [], ◌∷◌}
 use mathlib.Core.Path.{◌≡◌, refl}
-use lib.ListN.{replicate, get_or, take, drop}
+use lib.ListN.{replicate, get_or, take}
 use Rattle.base.specs.Choice.{when◌then◌else◌}
 use Rattle.base.specs.Store.{stored}
 use Rattle.line.specs.declared.Event.TheVariants.{Frame}
 use Rattle.line.specs.declared.Whole.{Whole}
-use Rattle.readings.specs.Table.{first_of, row_of, sought, Entered, entered}
-use Rattle.readings.specs.History.{Op, told, clears, Kept, after_op, after_all, fresh}
+use Rattle.readings.specs.Table.{first_of, row_of, sought, entered}
+use Rattle.readings.specs.History.{Op, told, Kept, after_op, after_all, fresh}
 use Rattle.readings.specs.Masters.{shown_in, shown_bits, mine_of}
 use Rattle.readings.specs.declared.Row.{Row}
 

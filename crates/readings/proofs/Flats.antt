@@ -3,17 +3,16 @@ use Prim.Native.Nat.{ℕ, zero, suc, ◌+◌, ◌-◌, ◌*◌, ◌/◌, ◌%◌
 use native.Mathlib.Nat.{add-zero, mod-eq_of_lt}
 use native.Mathlib.Omega.{arith}
 use native.Mathlib.Decide.{dec_lt}
-use mathlib.Core.Path.{◌≡◌, refl, sym, ap, subst, ◌∙◌}
+use mathlib.Core.Path.{◌≡◌, refl, sym, ap, ◌∙◌}
 use mathlib.Core.Bool.{Bool, true, false}
-use mathlib.Core.List.{List, [], ◌∷◌}
+use mathlib.Core.List.{List, ◌∷◌}
 use lib.ListN.{length, get_or, set}
 use lib.Seq.{set_out}
 use borrow.Author.Tests.{leb-true, leb-false}
-use Rattle.base.specs.Choice.{when◌then◌else◌, ◌≤?◌}
+use Rattle.base.specs.Choice.{◌≤?◌}
 use Rattle.base.specs.Store.{stored}
 use Rattle.base.proofs.Choices.{if_is_true, if_is_false}
 use Rattle.base.proofs.Stores.{length_stored}
-use Rattle.readings.specs.Table.{empty_row}
 use Rattle.readings.specs.Search.{row_at, rows_from, rows_of, row_numbers, numbers_put}
 use Rattle.readings.specs.declared.Row.{Row}
 use Rattle.readings.proofs.Bytes.{stored_front_stays, stored_behind_stays, stored_here}

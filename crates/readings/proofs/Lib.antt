@@ -1,7 +1,6 @@
 -- The laws of the readings table.
 pub mod Searches
 pub mod Puts
-pub mod Clears
 pub mod Enters
 pub mod Views
 mod Bytes

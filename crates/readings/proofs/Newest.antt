@@ -9,14 +9,14 @@ use mathlib.Core.Option.{Option, none, some}
 use lib.ListN.{length, get_or, set, replicate, length-set, length-replicate, get_or-replicate}
 use lib.Seq.{get_or-set_same, get_or-set_other}
 use borrow.Author.Tests.{eqb-true, eqb-false, eq-eqb, ne_eqb}
-use Rattle.base.specs.Choice.{when◌then◌else◌, ◌=?◌, ◌<?◌, ◌≤?◌}
+use Rattle.base.specs.Choice.{when◌then◌else◌, ◌=?◌, ◌≤?◌}
 use Rattle.base.specs.Store.{stored}
 use Rattle.base.proofs.Choices.{true_false, if_is_true, if_is_false, went_else}
 use Rattle.base.proofs.Tables.{chain_first, chain_second}
 use Rattle.line.specs.declared.Event.{Event}
 use Rattle.line.specs.declared.Event.TheVariants.{Nothing, PassedOver, Broken, Frame, Damaged}
 use Rattle.line.specs.declared.Whole.{Whole}
-use Rattle.readings.specs.Table.{row_bytes, is_reading, key_of, has_key, is_empty, row_of, empty_row, stored_bytes, stored_data, new_row, Entered, superseded, entered, cleared}
+use Rattle.readings.specs.Table.{row_bytes, is_reading, key_of, has_key, is_empty, row_of, empty_row, stored_bytes, stored_data, new_row, Entered, entered}
 use Rattle.readings.specs.History.{key_in, Reading, Op, told, clears, is_entered, Kept, logged, after_op, after_all, fresh, OpFits, OpsFit, FromCleared, is_of, newest_of, RowHolds, Newest}
 use Rattle.readings.specs.declared.Key.{Key}
 use Rattle.readings.specs.declared.Row.{Row}

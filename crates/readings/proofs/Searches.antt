@@ -1,5 +1,5 @@
 -- The search, row by row, finds what the definition seeks.
-use Prim.Native.Nat.{ℕ, zero, suc, ◌+◌, ◌-◌, ◌*◌, ◌/◌, ◌≤◌, ◌<◌}
+use Prim.Native.Nat.{ℕ, zero, suc, ◌+◌, ◌*◌, ◌/◌, ◌≤◌, ◌<◌}
 use native.Mathlib.Nat.{add-zero, add-suc, suc-add, zero-add}
 use native.Mathlib.Numerals.{add-one}
 use native.Mathlib.Omega.{arith}
@@ -12,17 +12,12 @@ use borrow.Author.Tests.{lt-ltb, le-ltb, ltb-false}
 use lib.Dec.{leb-suc-suc}
 use Rattle.base.specs.Choice.{when◌then◌else◌, ◌<?◌, ◌=?◌}
 use Rattle.base.proofs.Choices.{if_is_true, if_is_false}
-use Rattle.line.specs.declared.Event.{Event}
 use Rattle.readings.specs.Table.{has_key, is_empty, first_of, row_of, sought, looked_up, empty_row}
-use Rattle.readings.specs.Search.{told_key, next, sought_from, match_of, looked_up_by, row_at, rows_from, rows_of}
+use Rattle.readings.specs.Search.{next, sought_from, match_of, looked_up_by, row_at, rows_from, rows_of}
 use Rattle.readings.specs.declared.Key.{Key}
 use Rattle.readings.specs.declared.Row.{Row}
 use Rattle.readings.specs.declared.Sought.{Sought}
 use Rattle.readings.specs.declared.Sought.TheVariants.{Match, Empty, Full}
-
--- a case that a `match` has told
-pub next_at : (s q : Sought) (at : ℕ) (row : Row) (key : Key) (x : Sought) → s ≡ q → x ≡ next q at row key → x ≡ next s at row key
-next_at s q at row key x e p = p ∙ ap (λ (u : Sought). next u at row key) (sym e)
 
 -- ---- the number of the first row of which a test holds
 pub first_here : (test : Row → Bool) (row : Row) (rows : List Row) → test row ≡ true → first_of test (row ∷ rows) ≡ 0
@@ -153,13 +148,6 @@ found_is rows key s e =
     ap (λ (u : Sought). looked_up_by (length rows) u key) e
     ∙ ap (λ (n : ℕ). when key.address =? 0 then length rows else n) (match_is rows key)
 
-pub match_at : (rows : ℕ) (s q : Sought) (x : ℕ) → s ≡ q → x ≡ match_of rows q → x ≡ match_of rows s
-match_at rows s q x e p = p ∙ ap (match_of rows) (sym e)
-
--- the key that a tick tells, by the case that a `match` has shown
-pub key_told : (event shown : Event) (x : Key) → event ≡ shown → x ≡ told_key shown → x ≡ told_key event
-key_told event shown x e p = p ∙ ap told_key (sym e)
-
 -- ---- flat numbers
 pub length_rows : (numbers : List ℕ) (i n : ℕ) → length (rows_from numbers i n) ≡ n
 unfolding rows_from
@@ -172,27 +160,16 @@ row_in numbers i zero j l = absurd (omega arith)
 row_in numbers i (suc n) zero l = ap (λ (k : ℕ). row_at numbers (7 * k)) (sym (add-zero i))
 row_in numbers i (suc n) (suc j) l = row_in numbers (suc i) n j (omega arith) ∙ ap (λ (k : ℕ). row_at numbers (7 * k)) (suc-add i j ∙ sym (add-suc i j))
 
-pub record Flat (numbers : List ℕ) (key : Key) (n i : ℕ) (s : Sought) : Type 0 where
-  pub rows_are : n ≡ length numbers / 7
-  pub seeking : Seeking (rows_of numbers) key i s
-
-pub flat_none : (numbers : List ℕ) (key : Key) → Flat numbers key (length numbers / 7) 0 Full
-flat_none numbers key = record { rows_are = refl; seeking = seeking_none (rows_of numbers) key }
-
-pub flat_more : (numbers : List ℕ) (key : Key) (n i : ℕ) (s t : Sought) (row : Row) → Flat numbers key n i s → i < n → row ≡ row_at numbers (7 * i) → t ≡ next s i row key → Flat numbers key n (i + 1) t
-flat_more numbers key n i s t row v l e f =
-    let below : i < length numbers / 7 = omega (arith, v.rows_are) in
-    let small : i < length (rows_of numbers) = rw (length_rows numbers 0 (length numbers / 7)) below in
-    let same : row ≡ get_or (rows_of numbers) i empty_row = e ∙ ap (λ (k : ℕ). row_at numbers (7 * k)) (sym (zero-add i)) ∙ sym (row_in numbers 0 (length numbers / 7) i below) in
+pub flat_more : (numbers : List ℕ) (key : Key) (i : ℕ) (s t : Sought) (row : Row) → Seeking (rows_of numbers) key i s → i < length numbers / 7 → row ≡ row_at numbers (7 * i) → t ≡ next s i row key → Seeking (rows_of numbers) key (i + 1) t
+flat_more numbers key i s t row v l e f =
+    let small : i < length (rows_of numbers) = rw (length_rows numbers 0 (length numbers / 7)) l in
+    let same : row ≡ get_or (rows_of numbers) i empty_row = e ∙ ap (λ (k : ℕ). row_at numbers (7 * k)) (sym (zero-add i)) ∙ sym (row_in numbers 0 (length numbers / 7) i l) in
     rw (add-one i)
-    (record { rows_are = v.rows_are; seeking = seeking_more (rows_of numbers) key i s t v.seeking small (f ∙ ap (λ (r : Row). next s i r key) same) })
+    (seeking_more (rows_of numbers) key i s t v small (f ∙ ap (λ (r : Row). next s i r key) same))
 
-pub flat_all : (numbers : List ℕ) (key : Key) (n i : ℕ) (s : Sought) → Flat numbers key n i s → n ≤ i → s ≡ sought (rows_of numbers) key
-flat_all numbers key n i s v l =
-    let end : i ≡ length (rows_of numbers) = omega (arith, v.rows_are, v.seeking.within, length_rows numbers 0 (length numbers / 7)) in
-    seeking_all (rows_of numbers) key s (rw (sym end) v.seeking)
+pub flat_all : (numbers : List ℕ) (key : Key) (i : ℕ) (s : Sought) → Seeking (rows_of numbers) key i s → length numbers / 7 ≤ i → s ≡ sought (rows_of numbers) key
+flat_all numbers key i s v l =
+    let end : i ≡ length (rows_of numbers) = omega (arith, l, v.within, length_rows numbers 0 (length numbers / 7)) in
+    seeking_all (rows_of numbers) key s (rw (sym end) v)
 
-pub flat_room : (numbers : List ℕ) (n i : ℕ) → n ≡ length numbers / 7 → i < n → 7 * i + 7 ≤ length numbers
-flat_room numbers n i e l = omega (arith, e)
-
-pub ruleset flats = (refl, flat_none, flat_more, flat_all, flat_room, next_at)
+pub ruleset flats = (seeking_none, flat_more, flat_all)

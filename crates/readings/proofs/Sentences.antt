@@ -8,7 +8,7 @@ use mathlib.Core.Bool.{Bool, true, false}
 use mathlib.Core.List.{List, [], ◌∷◌}
 use mathlib.Core.Option.{Option, none, some}
 use lib.ListN.{length, get_or, set, length-set}
-use lib.Seq.{get_or-set_same, get_or-set_other}
+use lib.Seq.{get_or-set_other}
 use borrow.Author.Tests.{ltb-true, ltb-false, le-ltb, eqb-true, ne_eqb}
 use Rattle.base.specs.Choice.{when◌then◌else◌, ◌<?◌, ◌=?◌}
 use Rattle.base.specs.Store.{stored}
@@ -17,16 +17,16 @@ use Rattle.base.proofs.Stores.{length_stored}
 use Rattle.line.specs.declared.Event.{Event}
 use Rattle.line.specs.declared.Event.TheVariants.{Nothing, PassedOver, Broken, Frame, Damaged}
 use Rattle.line.specs.declared.Whole.{Whole}
-use Rattle.readings.specs.Table.{row_bytes, is_reading, key_of, has_key, is_empty, first_of, row_of, sought, looked_up, empty_row, own_bits, kept_bits, stored_bytes, stored_data, new_row, Entered, unchanged, superseded, entered_by, entered_of, entered}
-use Rattle.readings.specs.History.{key_in, NoRow, SoughtIs, is_match, is_first_empty, is_full, OneRow, IsFull, Refuses, Reading, Op, told, clears, is_entered, Kept, after_op, after_all, fresh, OpFits, OpsFit, FromCleared, is_of, newest_of, RowHolds, Newest, Found, OtherKey, OtherKeys, entered_then, Again}
+use Rattle.readings.specs.Table.{row_bytes, is_reading, key_of, has_key, is_empty, first_of, row_of, sought, looked_up, empty_row, own_bits, kept_bits, stored_bytes, stored_data, new_row, Entered, unchanged, superseded, entered_by, entered}
+use Rattle.readings.specs.History.{key_in, SoughtIs, is_match, is_first_empty, is_full, OneRow, IsFull, Refuses, Reading, Op, told, clears, is_entered, Kept, after_op, after_all, fresh, OpFits, OpsFit, FromCleared, is_of, newest_of, RowHolds, Newest, Found, OtherKey, OtherKeys, entered_then, Again}
 use Rattle.readings.specs.declared.Key.{Key}
 use Rattle.readings.specs.declared.Row.{Row}
 use Rattle.readings.specs.declared.Sought.{Sought}
-use Rattle.readings.specs.declared.Sought.TheVariants.{Match, Empty, Full}
+use Rattle.readings.specs.declared.Sought.TheVariants.{Match}
 use Rattle.readings.proofs.Bytes.{stored_front_stays, stored_behind_stays, length_take_most}
 use Rattle.readings.proofs.Searches.{first_most}
 use Rattle.readings.proofs.Views.{first_holds, first_before, first_match, not_frame, Goes, EnteredView, entered_view, Tells, a_frame, no_frame, tells_view}
-use Rattle.readings.proofs.Newest.{same?, key_is, is_key, same_key, reading_address, here, there, key_new, filled_new, bytes_stay, bytes_new, no_frame_kept, newest}
+use Rattle.readings.proofs.Newest.{same?, key_is, is_key, same_key, reading_address, here, there, key_new, bytes_stay, bytes_new, no_frame_kept, newest}
 
 -- ---- "Every other row and data bytes past the new count stay."
 abbrev reading_of : ℕ → Whole → List ℕ → Reading

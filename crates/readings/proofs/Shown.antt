@@ -6,22 +6,21 @@ use mathlib.Core.Bool.{Bool, true, false}
 use mathlib.Core.List.{List, [], ◌∷◌}
 use mathlib.Core.Option.{Option, none, some}
 use lib.ListN.{length, get_or, set, take, length-set}
-use lib.Seq.{get_or-set_same, get_or-set_other, get_or-take}
+use lib.Seq.{get_or-set_same, get_or-take}
 use borrow.Author.Tests.{ne_eqb, ltb-false}
 use Rattle.base.specs.Choice.{when◌then◌else◌, ◌=?◌, ◌<?◌, ◌≤?◌}
 use Rattle.base.proofs.Choices.{true_false, if_is_true, if_is_false, went_else}
 use Rattle.base.specs.Store.{stored}
-use Rattle.line.specs.declared.Event.{Event}
 use Rattle.line.specs.declared.Event.TheVariants.{Nothing, PassedOver, Broken, Frame, Damaged}
 use Rattle.line.specs.declared.Whole.{Whole}
-use Rattle.readings.specs.Table.{row_bytes, is_reading, key_of, has_key, is_empty, row_of, empty_row, own_bits, common_byte, kept_bits, shown_byte, stored_bytes, stored_data, new_row, Entered, entered}
+use Rattle.readings.specs.Table.{row_bytes, is_reading, key_of, is_empty, row_of, own_bits, common_byte, kept_bits, stored_bytes, stored_data, new_row, Entered, entered}
 use Rattle.readings.specs.History.{key_in, Reading, Op, told, clears, is_entered, Kept, after_op, after_all, fresh, OpFits, OpsFit, FromCleared, is_of, newest_of, Newest}
-use Rattle.readings.specs.Masters.{shown_in, shown_bits, is_to, Mine, mine, mine_of, last_bits, Shown, SameBits, Apart, OtherStays}
+use Rattle.readings.specs.Masters.{is_to, Mine, mine, mine_of, last_bits, Shown, Apart, OtherStays}
 use Rattle.readings.specs.declared.Key.{Key}
 use Rattle.readings.specs.declared.Row.{Row}
 use Rattle.readings.proofs.Bits.{common_own, own_shown, own_own, own_none}
 use Rattle.readings.proofs.Views.{not_frame, Goes, EnteredView, entered_view}
-use Rattle.readings.proofs.Newest.{same?, key_is, is_key, same_key, newest_later, reading_address, empty_row_in, kept_same, no_frame_kept, newest_fresh, newest_after, here, there, in_old, filled_new, key_new, bytes_stay, bytes_new, other_key, not_of}
+use Rattle.readings.proofs.Newest.{same?, key_is, same_key, newest_later, reading_address, empty_row_in, kept_same, no_frame_kept, newest_fresh, newest_after, here, there, in_old, filled_new, key_new, bytes_stay, bytes_new, not_of}
 
 -- ---- the newest bits after one frame more
 bits_of : Key → Bool → Reading → ℕ → ℕ

@@ -1,5 +1,5 @@
 -- Where a frame goes, and what entering leaves, by facts on the rows: no later proof opens the search.
-use Prim.Native.Nat.{ℕ, zero, suc, ◌+◌, ◌*◌, ◌≤◌, ◌<◌}
+use Prim.Native.Nat.{ℕ, zero, suc, ◌*◌, ◌≤◌, ◌<◌}
 use native.Mathlib.Omega.{arith}
 use mathlib.Core.Path.{◌≡◌, refl, sym, ap, ◌∙◌}
 use mathlib.Core.Bool.{Bool, true, false}
@@ -15,7 +15,6 @@ use Rattle.readings.specs.Table.{row_bytes, is_reading, key_of, has_key, is_empt
 use Rattle.readings.specs.History.{NoRow, SoughtIs, is_match, is_first_empty, is_full, Reading, is_place, is_entered}
 use Rattle.readings.specs.declared.Key.{Key}
 use Rattle.readings.specs.declared.Row.{Row}
-use Rattle.readings.specs.declared.Sought.{Sought}
 use Rattle.readings.specs.declared.Sought.TheVariants.{Match, Empty, Full}
 use Rattle.readings.proofs.Searches.{first_here, first_later, first_most}
 

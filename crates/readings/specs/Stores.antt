@@ -1,14 +1,15 @@
 -- How the code stands for what is to be believed.
 -- The data of a frame that is entered are stored first, and its row is then put into the table.
-use Rattle.std.specs.Prelude.{ℕ, ◌*◌, List, ◌≡◌, length, get_or}
+use Rattle.std.specs.Prelude.{ℕ, ◌*◌, List, ◌≡◌, length, get_or, Option, Some, None, Result}
 use Rattle.base.specs.Choice.{when◌then◌else◌, ◌<?◌, ◌=?◌}
-use Rattle.base.specs.Refusal.{number}
+use Rattle.base.specs.Refusal.{number, Called, accepted, refused, called_as}
 use Rattle.base.specs.Store.{stored}
+use Rattle.base.specs.declared.Refusal.{Refusal}
 use Rattle.base.specs.declared.Refusal.TheVariants.{BufferShort, TableFull}
 use Rattle.line.specs.declared.Event.{Event}
 use Rattle.line.specs.declared.Event.TheVariants.{Nothing, PassedOver, Broken, Frame, Damaged}
 use Rattle.line.specs.declared.Whole.{Whole}
-use Rattle.readings.specs.Table.{row_bytes, is_reading, row_for, common_byte, stored_data, empty_row, entered}
+use Rattle.readings.specs.Table.{row_bytes, is_reading, row_for, common_byte, stored_data, entered}
 use Rattle.readings.specs.declared.Put.{Put}
 use Rattle.readings.specs.declared.Row.{Row}
 use Rattle.readings.specs.declared.Sought.{Sought}
@@ -18,36 +19,36 @@ use Rattle.readings.specs.declared.Sought.TheVariants.{Match, Empty, Full}
 abbrev pub stored_byte : ℕ → ℕ → ℕ
 stored_byte i b = when i =? 1 then common_byte b else b
 
--- no row is put: its place is past the last row
-abbrev pub nothing_put : ℕ → ℕ → Put
-nothing_put rows refusal = record { at = rows; row = empty_row; refusal = refusal }
+-- no row is put
+abbrev pub nothing_put : Called (Option Put)
+nothing_put = accepted None
 
 -- a frame's row at place i, where the row `was` stands
 abbrev pub row_put : ℕ → ℕ → Whole → List ℕ → Row → Put
-row_put i tick w bytes was = record { at = i; row = row_for i tick w (get_or bytes 1 0) was; refusal = 0 }
+row_put i tick w bytes was = record { at = i; row = row_for i tick w (get_or bytes 1 0) was }
 
 -- at a place that is no row's, nothing is put
-abbrev pub put_at : ℕ → ℕ → Whole → List ℕ → ℕ → Row → Put
-put_at rows tick w bytes i was = when i <? rows then row_put i tick w bytes was else nothing_put rows 0
+abbrev pub put_at : ℕ → ℕ → Whole → List ℕ → ℕ → Row → Option Put
+put_at rows tick w bytes i was = when i <? rows then Some (row_put i tick w bytes was) else None
 
-abbrev pub put_by : ℕ → ℕ → Whole → List ℕ → Sought → Put
-put_by rows tick w bytes (Match i was) = put_at rows tick w bytes i was
-put_by rows tick w bytes (Empty i was) = put_at rows tick w bytes i was
-put_by rows tick w bytes Full = nothing_put rows (number TableFull)
+abbrev pub put_by : ℕ → ℕ → Whole → List ℕ → Sought → Called (Option Put)
+put_by rows tick w bytes (Match i was) = accepted (put_at rows tick w bytes i was)
+put_by rows tick w bytes (Empty i was) = accepted (put_at rows tick w bytes i was)
+put_by rows tick w bytes Full = refused (number TableFull)
 
-abbrev pub put_frame : ℕ → Sought → ℕ → Whole → List ℕ → Put
-put_frame rows s tick w bytes = when is_reading w bytes then put_by rows tick w bytes s else nothing_put rows 0
+abbrev pub put_frame : ℕ → Sought → ℕ → Whole → List ℕ → Called (Option Put)
+put_frame rows s tick w bytes = when is_reading w bytes then put_by rows tick w bytes s else nothing_put
 
-abbrev pub put_of : ℕ → Sought → ℕ → Event → List ℕ → Put
-put_of rows s tick Nothing bytes = nothing_put rows 0
-put_of rows s tick PassedOver bytes = nothing_put rows 0
-put_of rows s tick Broken bytes = nothing_put rows 0
+abbrev pub put_of : ℕ → Sought → ℕ → Event → List ℕ → Called (Option Put)
+put_of rows s tick Nothing bytes = nothing_put
+put_of rows s tick PassedOver bytes = nothing_put
+put_of rows s tick Broken bytes = nothing_put
 put_of rows s tick (Frame w) bytes = put_frame rows s tick w bytes
-put_of rows s tick (Damaged w m) bytes = nothing_put rows 0
+put_of rows s tick (Damaged w m) bytes = nothing_put
 
-abbrev pub put_for : ℕ → ℕ → Sought → ℕ → Event → List ℕ → Put
+abbrev pub put_for : ℕ → ℕ → Sought → ℕ → Event → List ℕ → Called (Option Put)
 put_for size rows s tick event bytes =
-    when size <? row_bytes * rows then nothing_put rows (number BufferShort) else
+    when size <? row_bytes * rows then refused (number BufferShort) else
     put_of rows s tick event bytes
 
 -- the byte area with the frame's data in row i
@@ -80,20 +81,20 @@ pub record RowIs (area area' : List ℕ) (i tick : ℕ) (w : Whole) (bytes : Lis
   pub put_is : r ≡ row_put i tick w bytes was
   pub area_is : area' ≡ area_row area w bytes i
 
-pub record PutIs (area area' : List ℕ) (rows i tick : ℕ) (w : Whole) (bytes : List ℕ) (was : Row) (r : Put) : Type 0 where
+pub record PutIs (area area' : List ℕ) (rows i tick : ℕ) (w : Whole) (bytes : List ℕ) (was : Row) (r : Option Put) : Type 0 where
   pub put_is : r ≡ put_at rows tick w bytes i was
   pub area_is : area' ≡ area_at rows area w bytes i
 
-pub record PutByIs (area area' : List ℕ) (rows : ℕ) (s : Sought) (tick : ℕ) (w : Whole) (bytes : List ℕ) (r : Put) : Type 0 where
-  pub put_is : r ≡ put_by rows tick w bytes s
+pub record PutByIs (area area' : List ℕ) (rows : ℕ) (s : Sought) (tick : ℕ) (w : Whole) (bytes : List ℕ) (r : Result (Option Put) Refusal) : Type 0 where
+  pub put_is : called_as r ≡ put_by rows tick w bytes s
   pub area_is : area' ≡ area_by rows area w bytes s
 
-pub record FrameIs (area area' : List ℕ) (rows : ℕ) (s : Sought) (tick : ℕ) (w : Whole) (bytes : List ℕ) (r : Put) : Type 0 where
-  pub put_is : r ≡ put_frame rows s tick w bytes
+pub record FrameIs (area area' : List ℕ) (rows : ℕ) (s : Sought) (tick : ℕ) (w : Whole) (bytes : List ℕ) (r : Result (Option Put) Refusal) : Type 0 where
+  pub put_is : called_as r ≡ put_frame rows s tick w bytes
   pub area_is : area' ≡ area_frame rows s area w bytes
 
-pub record StoreIs (area area' : List ℕ) (rows : ℕ) (s : Sought) (tick : ℕ) (event : Event) (bytes : List ℕ) (r : Put) : Type 0 where
-  pub put_is : r ≡ put_for (length area) rows s tick event bytes
+pub record StoreIs (area area' : List ℕ) (rows : ℕ) (s : Sought) (tick : ℕ) (event : Event) (bytes : List ℕ) (r : Result (Option Put) Refusal) : Type 0 where
+  pub put_is : called_as r ≡ put_for (length area) rows s tick event bytes
   pub area_is : area' ≡ area_for rows s area event bytes
 
 -- a table of rows and a byte area, before and after what a tick tells is entered

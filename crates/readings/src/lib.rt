@@ -1,12 +1,12 @@
 // The latest readings table (document 02, items 7 and 8): its rows, and the code that needs no table in hand, over numbers, rows by value and the lent byte area.
-#![tactic(auto)]
+#![tactic(auto, using(base::proofs::Choices::choices))]
 
 ghost use Rattle.std.specs.Prelude.{◌+◌, ◌*◌, ◌≤◌, ◌≡◌, length, take};
 ghost use Rattle.base.specs.Choice.{when◌then◌else◌};
 ghost use Rattle.base.specs.Store.{stored};
 ghost use Rattle.readings.specs.Table.{row_bytes, empty_row, has_key, is_reading, row_for, sought, own_bits, common_byte, stored_bytes, kept_bits, shown_byte};
 ghost use Rattle.readings.specs.Search.{told_key, next, looked_up_by, row_at, rows_of, row_numbers};
-ghost use Rattle.readings.specs.Stores.{stored_byte, nothing_put, RowIs, PutIs, PutByIs, FrameIs, StoreIs};
+ghost use Rattle.readings.specs.Stores.{stored_byte, RowIs, PutIs, PutByIs, FrameIs, StoreIs};
 
 use base::Refusal;
 use line::{Event, Whole};
@@ -51,12 +51,11 @@ pub enum Sought {
     Full,
 }
 
-// What is put into a table's rows: a row at a place, or none where the place is past the last row; and 0 or the refusal's number.
+// A row that is put into a table, and its place there.
 #[derive(Clone, Copy)]
 pub struct Put {
     pub at: usize,
     pub row: Row,
-    pub refusal: u32,
 }
 
 // A row of a cleared table.
@@ -78,10 +77,7 @@ pub fn empty_row() -> Row
 pub fn key_of(address: u64, command: u8) -> Key
     ensures { result ≡ record { address = address; command = command } }
 {
-    Key {
-        address: address,
-        command: command,
-    }
+    Key { address, command }
 }
 
 // The key of the frame that a tick tells.
@@ -89,11 +85,8 @@ pub fn told_key(event: Event) -> Key
     ensures { result ≡ told_key event }
 {
     match event {
-        Event::Nothing => key_of(0, 0),
-        Event::PassedOver => key_of(0, 0),
-        Event::Broken => key_of(0, 0),
         Event::Frame(w) => key_of(w.header.address, w.header.command),
-        Event::Damaged(w, m) => key_of(0, 0),
+        _ => key_of(0, 0),
     }
 }
 
@@ -101,10 +94,7 @@ pub fn told_key(event: Event) -> Key
 fn has_key(row: Row, k: Key) -> bool
     ensures { result ≡ has_key k row }
 {
-    if row.address == k.address {
-        return row.command == k.command;
-    }
-    false
+    row.address == k.address && row.command == k.command
 }
 
 // One more row is looked at.
@@ -112,22 +102,10 @@ pub fn sought_next(s: Sought, at: usize, row: Row, k: Key) -> Sought
     ensures { result ≡ next s at row k }
 {
     match s {
-        Sought::Match(i, was) => Sought::Match(i, was),
-        Sought::Empty(i, was) => {
-            if has_key(row, k) {
-                return Sought::Match(at, row);
-            }
-            Sought::Empty(i, was)
-        }
-        Sought::Full => {
-            if has_key(row, k) {
-                return Sought::Match(at, row);
-            }
-            if row.address == 0 {
-                return Sought::Empty(at, row);
-            }
-            Sought::Full
-        }
+        Sought::Match(_, _) => s,
+        _ if has_key(row, k) => Sought::Match(at, row),
+        Sought::Full if row.address == 0 => Sought::Empty(at, row),
+        _ => s,
     }
 }
 
@@ -135,13 +113,9 @@ pub fn sought_next(s: Sought, at: usize, row: Row, k: Key) -> Sought
 pub fn looked_up(rows: usize, s: Sought, k: Key) -> usize
     ensures { result ≡ looked_up_by rows s k }
 {
-    if k.address == 0 {
-        return rows;
-    }
     match s {
-        Sought::Match(i, was) => i,
-        Sought::Empty(i, was) => rows,
-        Sought::Full => rows,
+        Sought::Match(i, _) if k.address != 0 => i,
+        _ => rows,
     }
 }
 
@@ -149,23 +123,12 @@ pub fn looked_up(rows: usize, s: Sought, k: Key) -> usize
 fn is_reading(w: Whole, bytes: &[u8; 255]) -> bool
     ensures { result ≡ is_reading w bytes.now }
 {
-    let h = w.header;
-    if 128 <= bytes[0] {
-        return false;
-    }
-    if h.address == 0 {
-        return false;
-    }
-    if 274877906944 <= h.address {
-        return false;
-    }
-    if w.count < 2 {
-        return false;
-    }
-    if h.long {
-        return frame::from_device(h.kind);
-    }
-    false
+    bytes[0] < 128
+        && w.header.address != 0
+        && w.header.address < 274877906944
+        && 2 <= w.count
+        && w.header.long
+        && frame::from_device(w.header.kind)
 }
 
 // The bits of a second data byte that are meant for one master only.
@@ -186,10 +149,7 @@ fn common_byte(b: u8) -> u8
 fn stored_byte(i: usize, b: u8) -> u8
     ensures { result ≡ stored_byte i b }
 {
-    if i == 1 {
-        return common_byte(b);
-    }
-    b
+    if i == 1 { common_byte(b) } else { b }
 }
 
 // A master's bits in a row; an empty row has none.
@@ -197,21 +157,12 @@ fn kept_bits(primary: bool, row: Row) -> u8
     ensures { result ≡ kept_bits primary row }
 {
     if row.address == 0 {
-        return 0;
+        0
+    } else if primary {
+        row.primary
+    } else {
+        row.secondary
     }
-    if primary {
-        return row.primary;
-    }
-    row.secondary
-}
-
-fn chosen(first: bool, a: u8, b: u8) -> u8
-    ensures { result ≡ (when first then a else b) }
-{
-    if first {
-        return a;
-    }
-    b
 }
 
 // The second data byte as a master's host is shown it: as it is stored, with that master's bits.
@@ -222,15 +173,13 @@ pub fn shown_byte(stored: u8, bits: u8) -> u8
 }
 
 // Copies the first count bytes to the front of a part of the area, as they are stored.
+#[tactic(auto, using(base::proofs::Choices::choices, base::proofs::Stores::storing))]
 fn copy(to: &mut [u8], bytes: &[u8], count: u8)
     requires { (count ≤ length to.old) × (count ≤ length bytes.now) }
     ensures { to.new ≡ stored to.old 0 (take count (stored_bytes bytes.now)) }
 {
-    let n = count as usize;
-    let mut i = 0;
-    while i < n {
-        to[i] = stored_byte(i, bytes[i]);
-        i += 1;
+    for (i, byte) in bytes[..count as usize].iter().enumerate() {
+        to[i] = stored_byte(i, *byte);
     }
 }
 
@@ -239,18 +188,20 @@ fn row_for(i: usize, tick: u64, w: Whole, second: u8, was: Row) -> Row
     requires { row_bytes * i ≤ 9223372036854775807 }
     ensures { result ≡ row_for i tick w second was }
 {
-    let h = w.header;
     let own = own_bits(second);
-    let first = kept_bits(true, was);
-    let other = kept_bits(false, was);
+    let (primary, secondary) = if w.header.primary {
+        (own, kept_bits(false, was))
+    } else {
+        (kept_bits(true, was), own)
+    };
     Row {
-        address: h.address,
-        tick: tick,
+        address: w.header.address,
+        tick,
         place: 255 * i,
-        command: h.command,
+        command: w.header.command,
         count: w.count,
-        primary: chosen(h.primary, own, first),
-        secondary: chosen(h.primary, other, own),
+        primary,
+        secondary,
         spare: 0,
     }
 }
@@ -260,30 +211,15 @@ fn put_row(area: &mut [u8], i: usize, tick: u64, w: Whole, bytes: &[u8; 255], wa
     requires { row_bytes * i + row_bytes ≤ length area.old }
     ensures { RowIs area.old area.new i tick w bytes.now was result }
 {
-    let start = 255 * i;
-    let count = w.count;
-    copy(&mut area[start..], bytes, count);
-    let second = bytes[1];
-    let row = row_for(i, tick, w, second, was);
+    copy(&mut area[255 * i..], bytes, w.count);
     Put {
         at: i,
-        row: row,
-        refusal: 0,
-    }
-}
-
-fn nothing_put(rows: usize, refusal: u32) -> Put
-    ensures { result ≡ nothing_put rows refusal }
-{
-    let row = empty_row();
-    Put {
-        at: rows,
-        row: row,
-        refusal: refusal,
+        row: row_for(i, tick, w, bytes[1], was),
     }
 }
 
 // The same where row i is one of so many rows; else nothing is put.
+#[tactic(auto, using(base::proofs::Choices::choices, crate::proofs::Puts::puts))]
 fn put_at(
     area: &mut [u8],
     rows: usize,
@@ -292,39 +228,59 @@ fn put_at(
     w: Whole,
     bytes: &[u8; 255],
     was: Row,
-) -> Put
+) -> Option<Put>
     requires { row_bytes * rows ≤ length area.old }
     ensures { PutIs area.old area.new rows i tick w bytes.now was result }
 {
     if i < rows {
-        return put_row(area, i, tick, w, bytes, was);
+        Some(put_row(area, i, tick, w, bytes, was))
+    } else {
+        None
     }
-    nothing_put(rows, 0)
 }
 
 // The same, by where the frame goes; a full table refuses it.
-fn put_by(area: &mut [u8], rows: usize, s: Sought, tick: u64, w: Whole, bytes: &[u8; 255]) -> Put
+#[tactic(auto, using(base::proofs::Choices::choices, crate::proofs::Puts::puts))]
+fn put_by(
+    area: &mut [u8],
+    rows: usize,
+    s: Sought,
+    tick: u64,
+    w: Whole,
+    bytes: &[u8; 255],
+) -> Result<Option<Put>, Refusal>
     requires { row_bytes * rows ≤ length area.old }
     ensures { PutByIs area.old area.new rows s tick w bytes.now result }
 {
     match s {
-        Sought::Match(i, was) => put_at(area, rows, i, tick, w, bytes, was),
-        Sought::Empty(i, was) => put_at(area, rows, i, tick, w, bytes, was),
-        Sought::Full => nothing_put(rows, Refusal::TableFull.number()),
+        Sought::Match(i, was) | Sought::Empty(i, was) => {
+            Ok(put_at(area, rows, i, tick, w, bytes, was))
+        }
+        Sought::Full => Err(Refusal::TableFull),
     }
 }
 
-fn put_frame(area: &mut [u8], rows: usize, s: Sought, tick: u64, w: Whole, bytes: &[u8; 255]) -> Put
+#[tactic(auto, using(base::proofs::Choices::choices, crate::proofs::Puts::puts))]
+fn put_frame(
+    area: &mut [u8],
+    rows: usize,
+    s: Sought,
+    tick: u64,
+    w: Whole,
+    bytes: &[u8; 255],
+) -> Result<Option<Put>, Refusal>
     requires { row_bytes * rows ≤ length area.old }
     ensures { FrameIs area.old area.new rows s tick w bytes.now result }
 {
     if is_reading(w, bytes) {
-        return put_by(area, rows, s, tick, w, bytes);
+        put_by(area, rows, s, tick, w, bytes)
+    } else {
+        Ok(None)
     }
-    nothing_put(rows, 0)
 }
 
-// What is put into a table of so many rows for what a tick tells; a reading's data are stored.
+// What is put into a table of so many rows for what a tick tells, if anything is; a reading's data are stored.
+#[tactic(auto, using(base::proofs::Choices::choices, crate::proofs::Puts::stores))]
 pub fn store(
     area: &mut [u8],
     rows: usize,
@@ -332,18 +288,15 @@ pub fn store(
     tick: u64,
     event: Event,
     bytes: &[u8; 255],
-) -> Put
+) -> Result<Option<Put>, Refusal>
     ensures { StoreIs area.old area.new rows s tick event bytes.now result }
 {
     if area.len() / 255 < rows {
-        return nothing_put(rows, Refusal::BufferShort.number());
+        return Err(Refusal::BufferShort);
     }
     match event {
-        Event::Nothing => nothing_put(rows, 0),
-        Event::PassedOver => nothing_put(rows, 0),
-        Event::Broken => nothing_put(rows, 0),
         Event::Frame(w) => put_frame(area, rows, s, tick, w, bytes),
-        Event::Damaged(w, m) => nothing_put(rows, 0),
+        _ => Ok(None),
     }
 }
 
@@ -364,17 +317,14 @@ fn row_at(numbers: &[u64], i: usize) -> Row
     }
 }
 
-// The search over flat numbers, seven for a row.
+// The search over flat numbers, seven for a row. readings_rows has it over rows: document 01 wants both forms.
+#[tactic(auto, using(base::proofs::Choices::choices, crate::proofs::Searches::flats))]
 pub fn search(numbers: &[u64], k: Key) -> Sought
     ensures { result ≡ sought (rows_of numbers.now) k }
 {
-    let rows = numbers.len() / 7;
     let mut s = Sought::Full;
-    let mut i = 0;
-    while i < rows {
-        let row = row_at(numbers, 7 * i);
-        s = sought_next(s, i, row, k);
-        i += 1;
+    for i in 0..numbers.len() / 7 {
+        s = sought_next(s, i, row_at(numbers, 7 * i), k);
     }
     s
 }

@@ -13,12 +13,7 @@ use readings::Row;
 pub extern "C" fn nengapiko_readings_clear(rows: &mut [Row])
     ensures { rows.new ≡ cleared rows.old }
 {
-    let row = readings::empty_row();
-    let mut i = 0;
-    while i < rows.len() {
-        rows[i] = row;
-        i += 1;
-    }
+    rows.fill(readings::empty_row());
 }
 
 // Enters what a tick's numbers tell, or refuses it; the tick is that of the frame's last character, and bytes holds its data.
@@ -33,11 +28,15 @@ pub extern "C" fn nengapiko_readings_enter(
     ensures { EnterIs rows.old rows.new area.old area.new tick (event_at results.now) bytes.now result }
 {
     let event = state_words::event_at(results);
-    let k = readings::told_key(event);
-    let s = readings_rows::search(rows, k);
-    let p = readings::store(area, rows.len(), s, tick, event, bytes);
-    readings_rows::put(rows, p.at, p.row);
-    p.refusal
+    let s = readings_rows::search(rows, readings::told_key(event));
+    match readings::store(area, rows.len(), s, tick, event, bytes) {
+        Ok(Some(put)) => {
+            readings_rows::put(rows, put.at, put.row);
+            0
+        }
+        Ok(None) => 0,
+        Err(refusal) => refusal.number(),
+    }
 }
 
 // The number of the first row of an address and a command, or the number of rows where there is none.
@@ -46,8 +45,7 @@ pub extern "C" fn nengapiko_readings_find(rows: &[Row], address: u64, command: u
     ensures { result ≡ looked_up rows.now (record { address = address; command = command }) }
 {
     let k = readings::key_of(address, command);
-    let s = readings_rows::search(rows, k);
-    readings::looked_up(rows.len(), s, k)
+    readings::looked_up(rows.len(), readings_rows::search(rows, k), k)
 }
 
 // The second data byte of a reading as a master's host is shown it, from the stored byte and that master's bits of the row.

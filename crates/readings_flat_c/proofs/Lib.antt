@@ -1,2 +1,2 @@
 -- The laws of the table over flat numbers.
-mod Puts
+pub mod Puts

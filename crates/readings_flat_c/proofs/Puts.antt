@@ -1,5 +1,5 @@
 -- What is put into flat numbers, from its parts.
-use Prim.Native.Nat.{ℕ, ◌+◌, ◌-◌, ◌*◌, ◌/◌, ◌≤◌, ◌<◌, ◌^◌}
+use Prim.Native.Nat.{ℕ, ◌-◌, ◌*◌, ◌/◌, ◌≤◌, ◌<◌, ◌^◌}
 use native.Mathlib.Omega.{arith}
 use mathlib.Core.Path.{◌≡◌, refl, sym, ap, subst, ◌∙◌}
 use mathlib.Core.Bool.{Bool, true, false}
@@ -10,11 +10,14 @@ use Rattle.base.specs.Choice.{when◌then◌else◌, ◌<?◌}
 use Rattle.base.specs.Store.{stored}
 use Rattle.base.proofs.Choices.{if_at_most, if_above}
 use Rattle.base.proofs.Stores.{stored_part}
+use Rattle.std.specs.Prelude.{Option, Some, None, Result, Ok, Err}
+use Rattle.base.specs.Refusal.{number, Called, accepted, refused, called_as}
+use Rattle.base.specs.declared.Refusal.{Refusal}
 use Rattle.line.specs.declared.Event.{Event}
 use Rattle.line.specs.declared.Event.TheVariants.{Nothing, PassedOver, Broken, Frame, Damaged}
 use Rattle.line.specs.declared.Whole.{Whole}
 use Rattle.readings.specs.Table.{row_bytes, is_reading, sought}
-use Rattle.readings.specs.Search.{told_key, rows_of, row_numbers, numbers_put}
+use Rattle.readings.specs.Search.{told_key, rows_of, row_numbers}
 use Rattle.readings.specs.Stores.{nothing_put, row_put, put_by, put_frame, put_of, put_for, StoreIs}
 use Rattle.readings.specs.declared.Key.{Key}
 use Rattle.readings.specs.declared.Put.{Put}
@@ -22,9 +25,9 @@ use Rattle.readings.specs.declared.Row.{Row}
 use Rattle.readings.specs.declared.Sought.{Sought}
 use Rattle.readings.specs.declared.Sought.TheVariants.{Match, Empty, Full}
 use Rattle.readings.proofs.Searches.{length_rows}
-use Rattle.readings.proofs.Enters.{is_entered}
+use Rattle.readings.proofs.Enters.{put_entered, none_entered, refused_entered}
 use Rattle.readings.proofs.Flats.{RowFits, rows_put}
-use Rattle.readings_flat_c.specs.Flat.{flat_put, RowIsPut, FlatIs}
+use Rattle.readings_flat_c.specs.Flat.{flat_put, numbers_after, RowIsPut, FlatIs}
 
 -- nothing is put
 pub put_none : (numbers : List ℕ) (at : ℕ) (row : Row) → length numbers / 7 ≤ at → row.command < 2 ^ 8 → row.count < 2 ^ 8 → row.primary < 2 ^ 8 → row.secondary < 2 ^ 8 → RowIsPut numbers numbers at row
@@ -47,54 +50,65 @@ put_part numbers at row own part l e f c n p q = record {
 pub ruleset parts = (refl, put_none, put_part)
 
 -- ---- a row that is put has 0 in its last field
-abbrev Blank : Put → Type 0
-Blank p = p.row.spare ≡ 0
+abbrev Blank : Called (Option Put) → Type 0
+Blank (accepted (Some p)) = p.row.spare ≡ 0
+Blank (accepted None) = Unit {0}
+Blank (refused n) = Unit {0}
 
-if_blank : (t : Bool) (p q : Put) → Blank p → Blank q → Blank (when t then p else q)
+if_blank : (t : Bool) (p q : Called (Option Put)) → Blank p → Blank q → Blank (when t then p else q)
 unfolding when◌then◌else◌
 if_blank true p q b c = b
 if_blank false p q b c = c
 
+at_blank : (t : Bool) (p : Put) → p.row.spare ≡ 0 → Blank (accepted (when t then Some p else None))
+unfolding when◌then◌else◌
+at_blank true p b = b
+at_blank false p b = tt
+
 put_blank : (rows : ℕ) (s : Sought) (tick : ℕ) (w : Whole) (bytes : List ℕ) → Blank (put_frame rows s tick w bytes)
-put_blank rows s tick w bytes = if_blank (is_reading w bytes) (put_by rows tick w bytes s) (nothing_put rows 0) (by s) refl
+put_blank rows s tick w bytes = if_blank (is_reading w bytes) (put_by rows tick w bytes s) nothing_put (by s) tt
   where
     by : (s : Sought) → Blank (put_by rows tick w bytes s)
-    by (Match i was) = if_blank (i <? rows) (row_put i tick w bytes was) (nothing_put rows 0) refl refl
-    by (Empty i was) = if_blank (i <? rows) (row_put i tick w bytes was) (nothing_put rows 0) refl refl
-    by Full = refl
+    by (Match i was) = at_blank (i <? rows) (row_put i tick w bytes was) refl
+    by (Empty i was) = at_blank (i <? rows) (row_put i tick w bytes was) refl
+    by Full = tt
 
 all_blank : (size rows : ℕ) (s : Sought) (tick : ℕ) (event : Event) (bytes : List ℕ) → Blank (put_for size rows s tick event bytes)
-all_blank size rows s tick event bytes = if_blank (size <? row_bytes * rows) (nothing_put rows 15) (put_of rows s tick event bytes) refl (by event)
+all_blank size rows s tick event bytes = if_blank (size <? row_bytes * rows) (refused 15) (put_of rows s tick event bytes) tt (by event)
   where
     by : (event : Event) → Blank (put_of rows s tick event bytes)
-    by Nothing = refl
-    by PassedOver = refl
-    by Broken = refl
+    by Nothing = tt
+    by PassedOver = tt
+    by Broken = tt
     by (Frame w) = put_blank rows s tick w bytes
-    by (Damaged w m) = refl
+    by (Damaged w m) = tt
 
--- ---- all of it
-pub flat_entered : (numbers numbers' area area' : List ℕ) (tick : ℕ) (told event : Event) (bytes : List ℕ) (key : Key) (s : Sought) (p : Put) → told ≡ event → key ≡ told_key told → s ≡ sought (rows_of numbers) key
-    → StoreIs area area' (length numbers / 7) s tick told bytes p → RowIsPut numbers numbers' p.at p.row → FlatIs numbers numbers' area area' tick event bytes p.refusal
-flat_entered numbers numbers' area area' tick told event bytes key s p e f g v w =
-    subst (λ (x : Event). FlatIs numbers numbers' area area' tick x bytes p.refusal) e (record {
-      enters =
-          is_entered (rows_of numbers) area tick bytes told s p (rows_of numbers') area' found
-          (subst (λ (n : ℕ). StoreIs area area' n s tick told bytes p) (sym (length_rows numbers 0 (length numbers / 7))) v)
-          (ap rows_of w.numbers_are ∙ rows_put numbers p.at p.row fits);
-      numbers_are = w.numbers_are ∙ (λ i. numbers_put numbers (same i).at (same i).row);
-    })
-  where
-    found : s ≡ sought (rows_of numbers) (told_key told)
-    found = g ∙ ap (sought (rows_of numbers)) f
+-- ---- all of it, by what the store gave
+module _ (numbers area area' : List ℕ) (tick : ℕ) (event : Event) (bytes : List ℕ) (key : Key) (s : Sought) (r : Result (Option Put) Refusal)
+    (f : key ≡ told_key event) (g : s ≡ sought (rows_of numbers) key) (v : StoreIs area area' (length numbers / 7) s tick event bytes r) where
+  found : s ≡ sought (rows_of numbers) (told_key event)
+  found = g ∙ ap (sought (rows_of numbers)) f
 
-    same : p ≡ flat_put numbers area tick told bytes
-    same = v.put_is ∙ ap (λ (x : Sought). put_for (length area) (length numbers / 7) x tick told bytes) found
+  stores : StoreIs area area' (length (rows_of numbers)) s tick event bytes r
+  stores = subst (λ (n : ℕ). StoreIs area area' n s tick event bytes r) (sym (length_rows numbers 0 (length numbers / 7))) v
 
-    blank : Blank p
-    blank = subst Blank (sym v.put_is) (all_blank (length area) (length numbers / 7) s tick told bytes)
+  same : called_as r ≡ flat_put numbers area tick event bytes
+  same = v.put_is ∙ ap (λ (x : Sought). put_for (length area) (length numbers / 7) x tick event bytes) found
 
-    fits : RowFits p.row
-    fits = record { command = w.command; count = w.count; primary = w.primary; secondary = w.secondary; spare = blank }
+  pub flat_row : (numbers' : List ℕ) (p : Put) → r ≡ Ok (Some p) → RowIsPut numbers numbers' p.at p.row → FlatIs numbers numbers' area area' tick event bytes 0
+  flat_row numbers' p e w = record {
+    enters = put_entered (rows_of numbers) area tick bytes event s r p (rows_of numbers') area' found stores e (ap rows_of w.numbers_are ∙ rows_put numbers p.at p.row fits);
+    numbers_are = w.numbers_are ∙ ap (numbers_after numbers) (sym (ap called_as e) ∙ same);
+  }
+    where
+      blank : Blank (accepted (Some p))
+      blank = subst Blank (sym v.put_is ∙ ap called_as e) (all_blank (length area) (length numbers / 7) s tick event bytes)
 
-pub ruleset flats = (refl, flat_entered)
+      fits : RowFits p.row
+      fits = record { command = w.command; count = w.count; primary = w.primary; secondary = w.secondary; spare = blank }
+
+  pub flat_none : r ≡ Ok None → FlatIs numbers numbers area area' tick event bytes 0
+  flat_none e = record { enters = none_entered (rows_of numbers) area tick bytes event s r area' found stores e; numbers_are = ap (numbers_after numbers) (sym (ap called_as e) ∙ same) }
+
+  pub flat_refused : (why : Refusal) (n : ℕ) → r ≡ Err why → n ≡ number why → FlatIs numbers numbers area area' tick event bytes n
+  flat_refused why n e k = record { enters = refused_entered (rows_of numbers) area tick bytes event s r why area' n found stores e k; numbers_are = ap (numbers_after numbers) (sym (ap called_as e) ∙ same) }

@@ -23,18 +23,16 @@ fn row_numbers(row: Row) -> [u64; 7]
 }
 
 // Puts a row at a place; nothing where the place is past the last row.
+#[tactic(auto, using(crate::proofs::Puts::parts))]
 fn put(numbers: &mut [u64], at: usize, row: Row)
     ensures { RowIsPut numbers.old numbers.new at row }
 {
-    if numbers.len() / 7 <= at {
-        return;
+    if at < numbers.len() / 7 {
+        state_words::put(&mut numbers[7 * at..], 0, &row_numbers(row));
     }
-    let i = 7 * at;
-    let part = row_numbers(row);
-    state_words::put(&mut numbers[i..], 0, &part);
 }
 
-// Enters what a tick's numbers tell, or refuses it, as nengapiko_readings_enter does.
+// Enters what a tick's numbers tell, or refuses it, as nengapiko_readings_enter does over rows: document 01 wants both forms.
 #[unsafe(no_mangle)]
 pub extern "C" fn nengapiko_readings_flat(
     numbers: &mut [u64],
@@ -46,9 +44,13 @@ pub extern "C" fn nengapiko_readings_flat(
     ensures { FlatIs numbers.old numbers.new area.old area.new tick (event_at results.now) bytes.now result }
 {
     let event = state_words::event_at(results);
-    let k = readings::told_key(event);
-    let s = readings::search(numbers, k);
-    let p = readings::store(area, numbers.len() / 7, s, tick, event, bytes);
-    put(numbers, p.at, p.row);
-    p.refusal
+    let s = readings::search(numbers, readings::told_key(event));
+    match readings::store(area, numbers.len() / 7, s, tick, event, bytes) {
+        Ok(Some(p)) => {
+            put(numbers, p.at, p.row);
+            0
+        }
+        Ok(None) => 0,
+        Err(refusal) => refusal.number(),
+    }
 }

@@ -11,11 +11,8 @@ pub fn search(rows: &[Row], k: Key) -> Sought
     ensures { result ≡ sought rows.now k }
 {
     let mut s = Sought::Full;
-    let mut i = 0;
-    while i < rows.len() {
-        let row = rows[i];
-        s = readings::sought_next(s, i, row, k);
-        i += 1;
+    for (i, row) in rows.iter().enumerate() {
+        s = readings::sought_next(s, i, *row, k);
     }
     s
 }

@@ -1,11 +1,11 @@
 -- Laws of `bad_recording`, for a loop that looks at every tick.
-use Prim.Native.Nat.{ℕ, zero, suc, ◌+◌, ◌-◌, ◌*◌, ◌/◌, ◌%◌, ◌≤◌, ◌<◌}
-use native.Mathlib.Numerals.{add-one, add-two}
+use Prim.Native.Nat.{ℕ, zero, suc, ◌+◌, ◌*◌, ◌/◌, ◌%◌, ◌≤◌, ◌<◌}
+use native.Mathlib.Numerals.{add-one}
 use native.Mathlib.Omega.{arith}
 use mathlib.Core.Path.{◌≡◌, refl, sym, ap, ap₂, subst, ◌∙◌}
 use mathlib.Core.Bool.{Bool, true, false}
 use mathlib.Core.List.{List, [], ◌∷◌, ◌++◌}
-use lib.Bits.{bit_or, bit_and, or_add_and, and_le_r}
+use lib.Bits.{bit_or, or_add_and, and_le_r}
 use lib.ListN.{length, drop, get_or, length-drop}
 use borrow.Author.Tests.{eq-eqb, ne_eqb, eqb-true, eqb-false, le-ltb, lt-ltb, ltb-true, ltb-false}
 use Rattle.base.specs.Choice.{when◌then◌else◌, ◌=?◌, ◌<?◌}
@@ -150,11 +150,11 @@ bad_tick : (first c : ℕ) (recording : List ℕ) → bad_recording (first ∷ c
 unfolding bad_recording
 bad_tick first c recording = refl
 
-pub looking_more : (recording : List ℕ) (ticks bad t v n r : ℕ) → Looking recording ticks bad t → t < ticks → TickAt recording t v → BadnessIs v n → is_marked r ≡ or_marked bad n → Looking recording ticks r (t + 1)
+pub looking_more : (recording : List ℕ) (ticks bad t v n r : ℕ) → Looking recording ticks bad t → t < ticks → TickAt recording t v → BadnessIs v n → r ≡ bit_or bad n → Looking recording ticks r (t + 1)
 looking_more recording ticks bad t v n r w h tick b e = record {
   count = w.count;
   within = omega arith;
-  left = ap (λ (x : Bool). when x then true else bad_recording (drop (2 * (t + 1)) recording)) (e ∙ ap (λ (x : Bool). when is_marked bad then true else x) seen)
+  left = ap (λ (x : Bool). when x then true else bad_recording (drop (2 * (t + 1)) recording)) (or_marks bad n r e ∙ ap (λ (x : Bool). when is_marked bad then true else x) seen)
       ∙ or_or (is_marked bad) (tick_refused first c) (bad_recording (drop (2 * (t + 1)) recording))
       ∙ ap (λ (x : Bool). when is_marked bad then true else x) (sym split)
       ∙ w.left;

@@ -5,7 +5,7 @@ use native.Mathlib.Omega.{arith}
 use mathlib.Core.Path.{◌≡◌, refl, sym, ap, ◌∙◌}
 use mathlib.Core.List.{List, [], ◌∷◌}
 use lib.ListN.{length, drop, get_or, set, length-drop}
-use lib.Seq.{drop-cons, take-nil}
+use lib.Seq.{drop-cons}
 use Rattle.base.specs.Events.{RunIs}
 use Rattle.base.proofs.Filling.{Filling, filling_begun, filling_more, filling_ended, filling_full}
 use Rattle.recording.specs.Recording.{Ticked, trace}

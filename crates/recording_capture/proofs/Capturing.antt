@@ -1,4 +1,5 @@
 -- Laws of the packets: by what a tick tells, a tick, and the loop over a piece.
+use mathlib.Core.Logic.{◌⊎◌, inl, inr}
 use Rattle.std.proofs.Common.{◌≡◌, ℕ, ◌+◌, ◌*◌, ◌/◌, ◌<◌, ◌≤◌, List, [], ◌∷◌, ◌++◌, length, get_or, take, drop, sym, refl, ap, ◌∙◌, subst, append_assoc, append-nil, arith}
 use Rattle.line.specs.Reader.{passing, taken, ReaderTakeIs}
 use Rattle.line.specs.declared.Damage.{Damage}
@@ -10,7 +11,7 @@ use Rattle.line.specs.declared.Heard.TheVariants as Variant
 use Rattle.line.specs.declared.Receiver.{Receiver}
 use Rattle.line.specs.declared.Taken.{Taken}
 use Rattle.line.specs.declared.Whole.{Whole}
-use Rattle.texts.specs.Put.{Out, put, PutIs}
+use Rattle.texts.specs.Put.{Out, PutIs}
 use Rattle.texts.proofs.Puts.{put_then, put_none, put_length}
 use Rattle.line.specs.Heard.{heard_of}
 use Rattle.recording.specs.Form.{ticks_of}
@@ -69,7 +70,12 @@ module _ (h : Heard) (frame : List ℕ) (held : ℕ) where
   unfolding heard_text
   hears_damaged c kind r after e p = subst (Grows r after) (sym e) p
 
-pub ruleset heards = (refl, hears_silence, hears_character, hears_damaged)
+  -- a character, damaged or not
+  pub hears_either : (c r : ℕ) (after : List ℕ) → (h ≡ Variant.Character c) ⊎ ((kind : Damage) × (h ≡ Variant.Damaged c kind)) → PutIs (c ∷ []) frame held r after → Grows r after h
+  hears_either c r after (inl e) p = hears_character c r after e p
+  hears_either c r after (inr d) p = hears_damaged c d.0 r after d.1 p
+
+pub ruleset heards = (refl, hears_silence, hears_either)
 
 -- ---- a tick
 
@@ -113,7 +119,6 @@ tick_kept p h bytes after frame grew before at r out k = λ i. record {
 
 pub record Capturing (p : Progress) (piece bytes frame before : List ℕ) (ticks : ℕ) (q : Progress) (held grew out : List ℕ) (at t : ℕ) : Type 0 where
   pub count : ticks ≡ length piece / 2
-  pub small : ticks ≤ 18446744073709551615
   pub within : 2 * t ≤ length piece
   pub lent : length out ≡ length before
   pub lent_frame : length grew ≡ length frame
@@ -122,9 +127,9 @@ pub record Capturing (p : Progress) (piece bytes frame before : List ℕ) (ticks
   pub packets : so_far ++ packets_from (keep q held grew) (ticks_of (drop (2 * t) piece)) ≡ packets_from (keep p bytes frame) (ticks_of piece)
   pub kept : kept_behind (keep q held grew) (ticks_of (drop (2 * t) piece)) ≡ kept_behind (keep p bytes frame) (ticks_of piece)
 
-pub capturing_none : (p : Progress) (piece bytes frame before : List ℕ) (ticks : ℕ) → ticks ≡ length piece / 2 → ticks ≤ 18446744073709551615 → Capturing p piece bytes frame before ticks p bytes frame before 0 0
-capturing_none p piece bytes frame before ticks e s =
-    record { count = e; small = s; within = omega arith; lent = refl; lent_frame = refl; so_far = []; put = put_none before 0; packets = refl; kept = refl }
+pub capturing_none : (p : Progress) (piece bytes frame before : List ℕ) (ticks : ℕ) → ticks ≡ length piece / 2 → Capturing p piece bytes frame before ticks p bytes frame before 0 0
+capturing_none p piece bytes frame before ticks e =
+    record { count = e; within = omega arith; lent = refl; lent_frame = refl; so_far = []; put = put_none before 0; packets = refl; kept = refl }
 
 packets_tick : (k l : Kept) (h : Heard) (hs : List Heard) → l ≡ stepped k h → packets_from k (h ∷ hs) ≡ packet_at k h ++ packets_from l hs
 unfolding packets_from
@@ -140,7 +145,6 @@ pub capturing_more : (p : Progress) (piece bytes frame before : List ℕ) (ticks
     → Capturing p piece bytes frame before ticks z after more next m (t + 1)
 capturing_more p piece bytes frame before ticks q held grew out at t g r z after more next m v h eg kg ez em = record {
   count = v.count;
-  small = v.small;
   within = omega (arith, v.count);
   lent = put_length (packet_at (keep q held grew) heard) out at r.at next k.text ∙ v.lent;
   lent_frame = put_length (heard_text heard) grew q.held (grown grew q.held heard).at more k.frame_is ∙ v.lent_frame;

@@ -1,6 +1,5 @@
 -- Laws of a packet as it is put into the output, header by header.
 use Rattle.std.proofs.Common.{◌≡◌, ℕ, ◌+◌, ◌-◌, ◌*◌, ◌/◌, ◌%◌, List, [], ◌∷◌, ◌++◌, length, sym, refl, ap, ◌∙◌, arith}
-use lib.Arith.{digits_mod}
 use Rattle.frame.specs.declared.Header.{Header}
 use Rattle.texts.specs.Put.{PutIs}
 use Rattle.texts.proofs.Puts.{put_then, put_same}
@@ -93,20 +92,3 @@ put_packet clock tick number h n message before a b c d e after at i j k m o r x
     (ap (λ (y : ℕ). packet_of clock tick number h y message) x)
 
 pub ruleset put_packets = (refl, put_two, put_four, checksum_is, put_record, put_ip_front, put_ip_ends, put_udp, put_hart, put_packet)
-
--- ---- by the clock
-
-pub seconds_at : (clock c : Clock) (tick x : ℕ) → clock ≡ c → x ≡ seconds_of c tick → x ≡ seconds_of clock tick
-seconds_at clock c tick x e p = p ∙ ap (λ (y : Clock). seconds_of y tick) (sym e)
-
-pub microseconds_at : (clock c : Clock) (tick x : ℕ) → clock ≡ c → x ≡ microseconds_of c tick → x ≡ microseconds_of clock tick
-microseconds_at clock c tick x e p = p ∙ ap (λ (y : Clock). microseconds_of y tick) (sym e)
-
--- FSK: of the ticks behind the last whole span of 1,200 the same is left
-pub rest_is : (t : ℕ) → t % 1200 * 11 % 1200 ≡ t * 11 % 1200
-rest_is t = sym (ap (λ (x : ℕ). x % 1200) whole ∙ digits_mod (t / 1200 * 11 + t % 1200 * 11 / 1200) {m = 1200} {r = t % 1200 * 11 % 1200} (omega arith))
-  where
-    whole : t * 11 ≡ (t / 1200 * 11 + t % 1200 * 11 / 1200) * 1200 + t % 1200 * 11 % 1200
-    whole = omega arith
-
-pub ruleset clocks = (refl, seconds_at, microseconds_at)

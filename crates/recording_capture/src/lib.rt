@@ -1,5 +1,5 @@
 // What the program `capture` writes of a recording, piece by piece: a pcap file with a packet for each whole frame.
-#![tactic(auto)]
+#![tactic(auto, using(base::proofs::Choices::choices))]
 
 ghost use Rattle.std.specs.Prelude.{◌≡◌, ◌+◌, ◌-◌, ◌*◌, ◌/◌, ◌%◌, ◌≤◌, length};
 ghost use Rattle.texts.specs.Put.{PutIs};
@@ -37,13 +37,13 @@ pub struct Captured {
 }
 
 // Before the first tick.
+#[tactic(auto, using(crate::proofs::Capturing::started))]
 pub fn start(clock: Clock) -> Progress
     ensures { result ≡ start_of clock }
 {
-    let r = line_reader::passing_reader();
     Progress {
-        receiver: r,
-        clock: clock,
+        receiver: line_reader::passing_reader(),
+        clock,
         tick: 0,
         number: 0,
         held: 0,
@@ -61,20 +61,20 @@ pub fn put_file_header(out: &mut [u8], at: usize) -> usize
     )
 }
 
-// A number of two bytes, most significant first.
+// A number of two bytes, most significant first, modulo 65,536: so it takes the wide numbers of the headers as they are.
 fn put_two(n: u64, out: &mut [u8], at: usize) -> usize
     ensures { PutIs (big16 n) out.old at result out.new }
 {
-    let place = put_byte((n / 256 % 256) as u8, out, at);
-    put_byte((n % 256) as u8, out, place)
+    let at = put_byte((n / 256 % 256) as u8, out, at);
+    put_byte((n % 256) as u8, out, at)
 }
 
 // A number of four bytes.
 fn put_four(n: u64, out: &mut [u8], at: usize) -> usize
     ensures { PutIs (big32 n) out.old at result out.new }
 {
-    let place = put_two(n / 65536, out, at);
-    put_two(n, out, place)
+    let at = put_two(n / 65536, out, at);
+    put_two(n, out, at)
 }
 
 // The whole seconds up to a tick of FSK: 1,200 ticks are 11 seconds.
@@ -94,8 +94,7 @@ fn fsk_rest(tick: u64) -> u64
 fn fsk_microseconds(tick: u64) -> u64
     ensures { result ≡ tick * 11 % 1200 * 2500 / 3 }
 {
-    let rest = fsk_rest(tick);
-    rest * 2500 / 3
+    fsk_rest(tick) * 2500 / 3
 }
 
 fn seconds_of(clock: Clock, tick: u64) -> u64
@@ -120,52 +119,48 @@ fn microseconds_of(clock: Clock, tick: u64) -> u64
 fn put_record(clock: Clock, tick: u64, size: u64, out: &mut [u8], at: usize) -> usize
     ensures { PutIs (record_header clock tick size) out.old at result out.new }
 {
-    let seconds = seconds_of(clock, tick);
-    let microseconds = microseconds_of(clock, tick);
-    let a = put_four(seconds, out, at);
-    let b = put_four(microseconds, out, a);
-    let c = put_four(size, out, b);
-    put_four(size, out, c)
+    let at = put_four(seconds_of(clock, tick), out, at);
+    let at = put_four(microseconds_of(clock, tick), out, at);
+    let at = put_four(size, out, at);
+    put_four(size, out, at)
 }
 
 fn master_address(primary: bool) -> u64
     ensures { result ≡ master_address primary }
 {
-    if primary {
-        return 3232235521;
-    }
-    3232235522
+    if primary { 3232235521 } else { 3232235522 }
 }
 
 fn device_address(long: bool, address: u64) -> u64
     ensures { result ≡ device_address long address }
 {
     if long {
-        return 167772160 + address % 16777216;
+        167772160 + address % 16777216
+    } else {
+        3232235776 + address % 256
     }
-    3232235776 + address % 256
 }
 
 // The sender's address.
 fn source_of(header: Header) -> u64
     ensures { result ≡ source_of header }
 {
-    let frame = header.kind;
-    if frame == frame::STX {
-        return master_address(header.primary);
+    if header.kind == frame::STX {
+        master_address(header.primary)
+    } else {
+        device_address(header.long, header.address)
     }
-    device_address(header.long, header.address)
 }
 
 // The address of whom it speaks to.
 fn target_of(header: Header) -> u64
     ensures { result ≡ target_of header }
 {
-    let frame = header.kind;
-    if frame == frame::STX {
-        return device_address(header.long, header.address);
+    if header.kind == frame::STX {
+        device_address(header.long, header.address)
+    } else {
+        master_address(header.primary)
     }
-    master_address(header.primary)
 }
 
 // The sum of the IPv4 header's words.
@@ -186,31 +181,20 @@ fn fold(sum: u64) -> u64
     sum % 65536 + sum / 65536
 }
 
-fn complement(sum: u64) -> u64
-    ensures { result ≡ 65535 - sum }
-{
-    if sum < 65535 {
-        return 65535 - sum;
-    }
-    0
-}
-
+#[tactic(auto, using(crate::proofs::Headers::checksum_is))]
 fn checksum_of(size: u64, source: u64, target: u64) -> u64
     ensures { result ≡ checksum_of size source target }
 {
-    let sum = sum_of(size, source, target);
-    let once = fold(sum);
-    let twice = fold(once);
-    complement(twice)
+    65_535u64.saturating_sub(fold(fold(sum_of(size, source, target))))
 }
 
 // The IPv4 header up to its checksum.
 fn put_ip_front(size: u64, out: &mut [u8], at: usize) -> usize
     ensures { PutIs (ip_front size) out.old at result out.new }
 {
-    let a = put_bytes(b"\x45\x00", out, at);
-    let b = put_two(size, out, a);
-    put_bytes(b"\x00\x00\x40\x00\x40\x11", out, b)
+    let at = put_bytes(b"\x45\x00", out, at);
+    let at = put_two(size, out, at);
+    put_bytes(b"\x00\x00\x40\x00\x40\x11", out, at)
 }
 
 // The rest of it: checksum and addresses.
@@ -219,43 +203,41 @@ fn put_ip_ends(size: u64, header: Header, out: &mut [u8], at: usize) -> usize
 {
     let source = source_of(header);
     let target = target_of(header);
-    let checksum = checksum_of(size, source, target);
-    let a = put_two(checksum, out, at);
-    let b = put_four(source, out, a);
-    put_four(target, out, b)
+    let at = put_two(checksum_of(size, source, target), out, at);
+    let at = put_four(source, out, at);
+    put_four(target, out, at)
 }
 
 fn put_udp(size: u64, out: &mut [u8], at: usize) -> usize
     ensures { PutIs (udp_header size) out.old at result out.new }
 {
-    let a = put_two(5094, out, at);
-    let b = put_two(5094, out, a);
-    let c = put_two(size, out, b);
-    put_two(0, out, c)
+    let at = put_two(5094, out, at);
+    let at = put_two(5094, out, at);
+    let at = put_two(size, out, at);
+    put_two(0, out, at)
 }
 
 fn message_type(frame: u8) -> u8
     ensures { result ≡ message_type frame }
 {
     if frame == frame::STX {
-        return 0;
+        0
+    } else if frame == frame::ACK {
+        1
+    } else {
+        2
     }
-    if frame == frame::ACK {
-        return 1;
-    }
-    2
 }
 
 // The HART-IP header.
 fn put_hart(frame: u8, number: u16, size: u64, out: &mut [u8], at: usize) -> usize
     ensures { PutIs (hart_header frame number size) out.old at result out.new }
 {
-    let kind = message_type(frame);
-    let a = put_byte(1, out, at);
-    let b = put_byte(kind, out, a);
-    let c = put_bytes(b"\x03\x00", out, b);
-    let d = put_two(number as u64, out, c);
-    put_two(size, out, d)
+    let at = put_byte(1, out, at);
+    let at = put_byte(message_type(frame), out, at);
+    let at = put_bytes(b"\x03\x00", out, at);
+    let at = put_two(number as u64, out, at);
+    put_two(size, out, at)
 }
 
 // How many bytes a message has, in 16 bits.
@@ -276,114 +258,82 @@ fn put_packet(
 ) -> usize
     ensures { PutIs (packet clock tick number header message.now) out.old at result out.new }
 {
-    let frame = header.kind;
-    let count = length_of(message);
-    let n = count as u64;
-    let a = put_record(clock, tick, n + 36, out, at);
-    let b = put_ip_front(n + 36, out, a);
-    let c = put_ip_ends(n + 36, header, out, b);
-    let d = put_udp(n + 16, out, c);
-    let e = put_hart(frame, number, n + 8, out, d);
-    put_bytes(message, out, e)
+    let n = length_of(message) as u64;
+    let at = put_record(clock, tick, n + 36, out, at);
+    let at = put_ip_front(n + 36, out, at);
+    let at = put_ip_ends(n + 36, header, out, at);
+    let at = put_udp(n + 16, out, at);
+    let at = put_hart(header.kind, number, n + 8, out, at);
+    put_bytes(message, out, at)
 }
 
 // The packet of a tick, by what the reader tells in it.
+#[tactic(auto, using(crate::proofs::Capturing::put_events))]
 fn put_event(p: Progress, event: Event, message: &[u8], out: &mut [u8], at: usize) -> usize
     ensures { PutIs (packet_by p.clock p.tick p.number event message.now) out.old at result out.new }
 {
-    let clock = p.clock;
     match event {
-        Event::Nothing => at,
-        Event::PassedOver => at,
-        Event::Broken => at,
-        Event::Frame(w) => {
-            let header = w.header;
-            put_packet(clock, p.tick, p.number, header, message, out, at)
-        }
-        Event::Damaged(_, _) => at,
+        Event::Frame(w) => put_packet(p.clock, p.tick, p.number, w.header, message, out, at),
+        _ => at,
     }
 }
 
 fn next_number(n: u16) -> u16
     ensures { result ≡ next_number n }
 {
-    if n < 65535 {
-        return n + 1;
-    }
-    0
+    n.wrapping_add(1)
 }
 
+#[tactic(auto, using(crate::proofs::Capturing::number_at_lem))]
 fn number_after(event: Event, n: u16) -> u16
     ensures { result ≡ number_after event n }
 {
     match event {
-        Event::Nothing => n,
-        Event::PassedOver => n,
-        Event::Broken => n,
         Event::Frame(_) => next_number(n),
-        Event::Damaged(_, _) => n,
+        _ => n,
     }
 }
 
 // What was heard, after the bytes of its frame.
+#[tactic(auto, using(crate::proofs::Capturing::heards))]
 fn put_heard(heard: Heard, frame: &mut [u8], held: usize) -> usize
     ensures { PutIs (heard_text heard) frame.old held result frame.new }
 {
     match heard {
         Heard::Silence => held,
-        Heard::Character(c) => put_byte(c, frame, held),
-        Heard::Damaged(c, _) => put_byte(c, frame, held),
+        Heard::Character(c) | Heard::Damaged(c, _) => put_byte(c, frame, held),
     }
 }
 
 fn is_inside(place: Place) -> bool
     ensures { result ≡ is_inside place }
 {
-    match place {
-        Place::Passing => false,
-        Place::Idle => false,
-        Place::Preamble(_) => false,
-        Place::First => true,
-        Place::Address(_) => true,
-        Place::Expansion(_) => true,
-        Place::Command => true,
-        Place::Count => true,
-        Place::Data(_) => true,
-        Place::Check => true,
-    }
+    !matches!(place, Place::Passing | Place::Idle | Place::Preamble(_))
 }
 
 // How many bytes of a frame are kept for the next tick.
 fn held_behind(place: Place, held: usize) -> usize
     ensures { result ≡ held_behind place held }
 {
-    if is_inside(place) {
-        return held;
-    }
-    0
+    if is_inside(place) { held } else { 0 }
 }
 
 // What is kept after a tick of the reader, with so many bytes of the frame.
+#[tactic(auto, using(crate::proofs::Capturing::behind_is))]
 fn behind_tick(p: Progress, taken: Taken, held: usize) -> Progress
     ensures { result ≡ progress_behind p taken held }
 {
-    let clock = p.clock;
-    let event = taken.event;
-    let receiver = taken.receiver;
-    let place = receiver.place;
-    let tick = std::num::wrapping_add_u64(p.tick, 1);
-    let number = number_after(event, p.number);
-    let kept = held_behind(place, held);
     Progress {
-        receiver: receiver,
-        clock: clock,
-        tick: tick,
-        number: number,
-        held: kept,
+        receiver: taken.receiver,
+        tick: p.tick.wrapping_add(1),
+        number: number_after(taken.event, p.number),
+        held: held_behind(taken.receiver.place, held),
+        ..p
     }
 }
 
 // A tick: its packet from a place on.
+#[tactic(auto, using(crate::proofs::Capturing::taken_progress, crate::proofs::Capturing::grown_at, crate::proofs::Capturing::taken_packet))]
 fn tick(
     p: Progress,
     heard: Heard,
@@ -394,26 +344,17 @@ fn tick(
 ) -> Captured
     ensures { TickIs p heard bytes.old bytes.new frame.old frame.new out.old at result out.new }
 {
-    let r = p.receiver;
-    let taken = line_reader::take(r, heard, bytes);
-    let event = taken.event;
+    let taken = line_reader::take(p.receiver, heard, bytes);
     let held = put_heard(heard, frame, p.held);
-    let place = put_event(p, event, texts::front(frame, held), out, at);
-    let progress = behind_tick(p, taken, held);
+    let at = put_event(p, taken.event, texts::front(frame, held), out, at);
     Captured {
-        progress: progress,
-        at: place,
+        progress: behind_tick(p, taken, held),
+        at,
     }
 }
 
-// How many ticks a piece has; a last odd byte is no tick.
-fn ticks_of(piece: &[u8]) -> usize
-    ensures { (result ≡ length piece.now / 2) × (result ≤ 18446744073709551615) }
-{
-    piece.len() / 2
-}
-
 // The packets of a piece of a recording, at the front of the output, and what is kept after it.
+#[tactic(auto, using(crate::proofs::Capturing::capturings))]
 pub fn packets(
     p: Progress,
     piece: &[u8],
@@ -423,19 +364,10 @@ pub fn packets(
 ) -> Captured
     ensures { PacketsAre p (ticks_of piece.now) bytes.old bytes.new frame.old frame.new out.old result out.new }
 {
-    let ticks = ticks_of(piece);
-    let mut kept = p;
-    let mut at = 0;
-    let mut t = 0;
-    while t < ticks {
+    let mut captured = Captured { progress: p, at: 0 };
+    for t in 0..piece.len() / 2 {
         let heard = line::heard_of(piece[2 * t] / 32, piece[2 * t + 1]);
-        let captured = tick(kept, heard, bytes, frame, out, at);
-        kept = captured.progress;
-        at = captured.at;
-        t += 1;
+        captured = tick(captured.progress, heard, bytes, frame, out, captured.at);
     }
-    Captured {
-        progress: kept,
-        at: at,
-    }
+    captured
 }

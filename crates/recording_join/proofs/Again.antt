@@ -1,6 +1,6 @@
 -- Theorems: a recording joined with itself or with silence is unchanged; the other order gives the same but for damage of equal kind.
-use Prim.Native.Nat.{ℕ, zero, suc, ◌+◌, ◌*◌, ◌/◌, ◌≤◌, ◌<◌}
-use native.Mathlib.Numerals.{add-one}
+use Rattle.std.specs.Prelude.{Option, None, Result, Err}
+use Prim.Native.Nat.{ℕ, zero, suc, ◌+◌, ◌*◌, ◌/◌, ◌≤◌}
 use native.Mathlib.Omega.{arith}
 use mathlib.Core.Path.{◌≡◌, refl, sym, ap, ap₂, ◌∙◌}
 use mathlib.Core.Bool.{Bool, true, false}
@@ -18,13 +18,11 @@ use Rattle.line.specs.declared.Heard.TheVariants.{Silence, Character, Damaged}
 use Rattle.recording.specs.Form.{ticks_of, tick_refused, bad_recording}
 use Rattle.recording.proofs.Forms.{length_ticks}
 use Rattle.recording.proofs.Ticks.{good_tick, heard_as_lem}
-use Rattle.recording_join.specs.Joining.{Together, both, differ, together, all_together, bytes_of, bytes_together, recorded, joined_of, difference_from, difference_of, by_difference, join_answer}
-use Rattle.recording_join.specs.Kept.{heard_in, IsJoined, Either, in_first, in_second, Gives, WithItself, silence, SilenceAdds, WithSilence, EqualKinds, SameInOtherOrder, OtherOrder}
-use Rattle.recording_join.specs.declared.Difference.{Difference}
-use Rattle.recording_join.specs.declared.Difference.TheVariants.{Nowhere, InTick}
-use Rattle.recording_join.specs.declared.JoinAnswer.{JoinAnswer}
-use Rattle.recording_join.specs.declared.JoinAnswer.TheVariants.{Joined, Refused}
-use Rattle.recording_join.proofs.Answers.{Joinable, joinable, answered}
+use Rattle.recording_join.specs.Joining.{Together, both, differ, together, all_together, bytes_of, recorded, joined_of, difference_from, difference_of, by_difference, join_answer}
+use Rattle.recording_join.specs.Kept.{heard_in, Either, in_first, in_second, Gives, WithItself, silence, WithSilence, EqualKinds, OtherOrder}
+use Rattle.recording_join.specs.declared.JoinError.{JoinError}
+use Rattle.recording_join.specs.declared.JoinError.TheVariants.{Refused}
+use Rattle.recording_join.proofs.Answers.{joinable, answered}
 use Rattle.recording_join.proofs.Rule.{bytes_of_lem}
 use Rattle.recording_join.proofs.Kept.{joined_tick, same_both}
 
@@ -34,7 +32,7 @@ abbrev boths : List Heard → List Together
 boths [] = []
 boths (h ∷ hs) = both h ∷ boths hs
 
-boths_nowhere : (t : ℕ) (hs : List Heard) → difference_from t (boths hs) ≡ Nowhere
+boths_nowhere : (t : ℕ) (hs : List Heard) → difference_from t (boths hs) ≡ None
 unfolding difference_from
 boths_nowhere t [] = refl
 boths_nowhere t (h ∷ hs) = boths_nowhere (t + 1) hs
@@ -194,25 +192,25 @@ swapped_difference t (h ∷ hs) (g ∷ gs) =
     swapped_head t h g (together h g) (together g h) (all_together hs gs) (all_together gs hs) (swapped h g) (swapped_difference (t + 1) hs gs)
 
 -- the answer
-swapped_tests : (a b : Bool) (x y : JoinAnswer) → y ≡ x
-    → (when b then Refused BadRecording else when a then Refused BadRecording else y) ≡ (when a then Refused BadRecording else when b then Refused BadRecording else x)
+swapped_tests : (a b : Bool) (x y : Result Unit JoinError) → y ≡ x
+    → (when b then Err (Refused BadRecording) else when a then Err (Refused BadRecording) else y) ≡ (when a then Err (Refused BadRecording) else when b then Err (Refused BadRecording) else x)
 unfolding when◌then◌else◌
 swapped_tests true true x y e = refl
 swapped_tests true false x y e = refl
 swapped_tests false true x y e = refl
 swapped_tests false false x y e = e
 
-abbrev by_lengths : ℕ → ℕ → ℕ → Difference → JoinAnswer
-by_lengths m n room d = when m =? n then (when room <? m then Refused BufferShort else by_difference d) else Refused UnequalTaps
+abbrev by_lengths : ℕ → ℕ → ℕ → Option ℕ → Result Unit JoinError
+by_lengths m n room d = when m =? n then (when room <? m then Err (Refused BufferShort) else by_difference d) else Err (Refused UnequalTaps)
 
-swapped_length : (m n room : ℕ) (d e : Difference) → e ≡ d → by_lengths n m room e ≡ by_lengths m n room d
+swapped_length : (m n room : ℕ) (d e : Option ℕ) → e ≡ d → by_lengths n m room e ≡ by_lengths m n room d
 swapped_length m n room d e k = go (m =? n) refl
   where
     go : (t : Bool) → (m =? n) ≡ t → by_lengths n m room e ≡ by_lengths m n room d
     go true f =
         let same : m ≡ n = eqb-true m n f in
         if_is_true (n =? m) _ _ (eq-eqb n m (sym same))
-        ∙ ap₂ (λ (l : ℕ) (x : Difference). when room <? l then Refused BufferShort else by_difference x) (sym same) k
+        ∙ ap₂ (λ (l : ℕ) (x : Option ℕ). when room <? l then Err (Refused BufferShort) else by_difference x) (sym same) k
         ∙ sym (if_is_true (m =? n) _ _ f)
     go false f = if_is_false (n =? m) _ _ (ne_eqb n m (λ z. eqb-false m n f (sym z))) ∙ sym (if_is_false (m =? n) _ _ f)
 

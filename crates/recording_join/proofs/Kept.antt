@@ -1,15 +1,15 @@
 -- Theorems: the claims of specs/Kept.
+use Rattle.std.specs.Prelude.{Some, None}
 use Prim.Native.Nat.{ℕ, zero, suc, ◌+◌, ◌*◌, ◌/◌, ◌<◌}
-use native.Mathlib.Numerals.{add-one}
 use native.Mathlib.Omega.{arith}
 use mathlib.Core.Path.{◌≡◌, refl, sym, ap, ap₂, subst, ◌∙◌}
 use mathlib.Core.Bool.{Bool, true, false}
-use mathlib.Core.List.{List, [], ◌∷◌, ◌++◌}
+use mathlib.Core.List.{List, [], ◌∷◌}
 use lib.ListN.{length, get_or}
-use borrow.Author.Tests.{eq-eqb, eqb-true, eqb-false, ne_eqb}
+use borrow.Author.Tests.{eqb-true, eqb-false, ne_eqb}
 use Rattle.base.specs.Choice.{when◌then◌else◌, ◌=?◌, ◌<?◌}
-use Rattle.base.proofs.Choices.{if_is_true, if_is_false, went_else, true_false}
-use Rattle.line.specs.Heard.{damage_number, heard_of}
+use Rattle.base.proofs.Choices.{if_is_false, went_else, true_false}
+use Rattle.line.specs.Heard.{damage_number}
 use Rattle.line.specs.declared.Damage.{Damage}
 use Rattle.line.specs.declared.Damage.TheVariants.{Parity, Overrun, Framing}
 use Rattle.line.specs.declared.Heard.{Heard}
@@ -17,10 +17,8 @@ use Rattle.line.specs.declared.Heard.TheVariants.{Silence, Character, Damaged}
 use Rattle.recording.specs.Form.{ticks_of, tick_refused, bad_recording}
 use Rattle.recording.proofs.Forms.{length_ticks}
 use Rattle.recording.proofs.Ticks.{hears_kind}
-use Rattle.recording_join.specs.Joining.{Together, both, differ, together, all_together, bytes_of, bytes_together, recorded, joined_of, difference_from, difference_of}
-use Rattle.recording_join.specs.Kept.{heard_in, IsJoined, Either, in_first, in_second, OneOfTheTaps, NoneLost, SilentJustWhere, SilentWhereBoth, GoodIs, JoinedGood, DifferIn, FirstNamed, DifferenceNamed, FirstDifferenceNamed}
-use Rattle.recording_join.specs.declared.Difference.{Difference}
-use Rattle.recording_join.specs.declared.Difference.TheVariants.{Nowhere, InTick}
+use Rattle.recording_join.specs.Joining.{Together, both, differ, together, all_together, recorded, joined_of, difference_from, difference_of}
+use Rattle.recording_join.specs.Kept.{heard_in, Either, in_first, in_second, OneOfTheTaps, NoneLost, SilentWhereBoth, JoinedGood, DifferIn, FirstNamed, FirstDifferenceNamed}
 use Rattle.recording_join.proofs.Answers.{Joinable, joinable, difference_said}
 use Rattle.recording_join.proofs.Loops.{both_not, choice_not, nowhere_over}
 use Rattle.recording_join.proofs.Pieces.{length_together}
@@ -133,22 +131,22 @@ read_back Silence zs = refl
 read_back (Character c) zs = refl
 read_back (Damaged c kind) zs = ap (λ (h : Heard). h ∷ ticks_of (recorded zs)) (hears_kind c kind)
 
-not_first : (t : ℕ) (zs : List Together) → difference_from t (differ ∷ zs) ≡ Nowhere → ⊥
+not_first : (t : ℕ) (zs : List Together) → difference_from t (differ ∷ zs) ≡ None → ⊥
 unfolding difference_from
 not_first t zs e = let z : ◌≡◌ {A = ℕ} 0 1 = cc in omega arith
 
-later : (t : ℕ) (h : Heard) (zs : List Together) → difference_from t (both h ∷ zs) ≡ Nowhere → difference_from (t + 1) zs ≡ Nowhere
+later : (t : ℕ) (h : Heard) (zs : List Together) → difference_from t (both h ∷ zs) ≡ None → difference_from (t + 1) zs ≡ None
 unfolding difference_from
 later t h zs e = e
 
-read_all : (t : ℕ) (zs : List Together) → difference_from t zs ≡ Nowhere → ticks_of (recorded zs) ≡ heards zs
+read_all : (t : ℕ) (zs : List Together) → difference_from t zs ≡ None → ticks_of (recorded zs) ≡ heards zs
 unfolding recorded ticks_of
 read_all t [] e = refl
 read_all t (both h ∷ zs) e = read_back h zs ∙ ap (λ (l : List Heard). h ∷ l) (read_all (t + 1) zs (later t h zs e))
 read_all t (differ ∷ zs) e = absurd (not_first t zs e)
 
 -- the tick of both in the list of those taken together
-tick_both : (z : Together) (t : ℕ) (zs : List Together) → difference_from t (z ∷ zs) ≡ Nowhere → z ≡ both (get_or (heards (z ∷ zs)) 0 Silence)
+tick_both : (z : Together) (t : ℕ) (zs : List Together) → difference_from t (z ∷ zs) ≡ None → z ≡ both (get_or (heards (z ∷ zs)) 0 Silence)
 tick_both (both h) t zs e = refl
 tick_both differ t zs e = absurd (not_first t zs e)
 
@@ -156,11 +154,11 @@ tick_later : (z : Together) (zs : List Together) (k : ℕ) → get_or (heards (z
 tick_later (both h) zs k = refl
 tick_later differ zs k = refl
 
-quiet_later : (t : ℕ) (z : Together) (zs : List Together) → difference_from t (z ∷ zs) ≡ Nowhere → difference_from (t + 1) zs ≡ Nowhere
+quiet_later : (t : ℕ) (z : Together) (zs : List Together) → difference_from t (z ∷ zs) ≡ None → difference_from (t + 1) zs ≡ None
 quiet_later t (both h) zs e = later t h zs e
 quiet_later t differ zs e = absurd (not_first t zs e)
 
-ticks_both : (s : ℕ) (hs gs : List Heard) → length hs ≡ length gs → difference_from s (all_together hs gs) ≡ Nowhere → (t : ℕ)
+ticks_both : (s : ℕ) (hs gs : List Heard) → length hs ≡ length gs → difference_from s (all_together hs gs) ≡ None → (t : ℕ)
     → together (get_or hs t Silence) (get_or gs t Silence) ≡ both (get_or (heards (all_together hs gs)) t Silence)
 unfolding all_together
 ticks_both s [] [] l e t = refl
@@ -206,7 +204,7 @@ good_bytes (Damaged c Parity) zs = refl
 good_bytes (Damaged c Overrun) zs = refl
 good_bytes (Damaged c Framing) zs = refl
 
-good_all : (t : ℕ) (zs : List Together) → difference_from t zs ≡ Nowhere → bad_recording (recorded zs) ≡ false
+good_all : (t : ℕ) (zs : List Together) → difference_from t zs ≡ None → bad_recording (recorded zs) ≡ false
 unfolding bad_recording recorded
 good_all t [] e = refl
 good_all t (both h ∷ zs) e = good_bytes h zs ∙ good_all (t + 1) zs (later t h zs e)
@@ -218,7 +216,7 @@ two_bytes Silence zs = omega arith
 two_bytes (Character c) zs = omega arith
 two_bytes (Damaged c kind) zs = omega arith
 
-long_all : (t : ℕ) (zs : List Together) → difference_from t zs ≡ Nowhere → length (recorded zs) ≡ 2 * length zs
+long_all : (t : ℕ) (zs : List Together) → difference_from t zs ≡ None → length (recorded zs) ≡ 2 * length zs
 unfolding recorded
 long_all t [] e = refl
 long_all t (both h ∷ zs) e = omega (arith, two_bytes h zs, long_all (t + 1) zs (later t h zs e))
@@ -252,13 +250,13 @@ record NamedFrom (s t : ℕ) (hs gs : List Heard) : Type 0 where
   there : DifferAt place hs gs
   none_before : (j : ℕ) → j < place → DifferAt j hs gs → ⊥
 
-same_tick : (s t : ℕ) → InTick s ≡ InTick t → t ≡ s
+same_tick : (s t : ℕ) → Some s ≡ Some t → t ≡ s
 same_tick s t e = cc
 
-not_tick : (t : ℕ) → Nowhere ≡ InTick t → ⊥
+not_tick : (t : ℕ) → None ≡ Some t → ⊥
 not_tick t e = let z : ◌≡◌ {A = ℕ} 0 1 = cc in omega arith
 
-begins_here : (s : ℕ) (zs : List Together) → difference_from s (differ ∷ zs) ≡ InTick s
+begins_here : (s : ℕ) (zs : List Together) → difference_from s (differ ∷ zs) ≡ Some s
 unfolding difference_from
 begins_here s zs = refl
 
@@ -266,13 +264,13 @@ begins_later : (s : ℕ) (h : Heard) (zs : List Together) → difference_from s 
 unfolding difference_from
 begins_later s h zs = refl
 
-named_from : (s t : ℕ) (hs gs : List Heard) → difference_from s (all_together hs gs) ≡ InTick t → NamedFrom s t hs gs
+named_from : (s t : ℕ) (hs gs : List Heard) → difference_from s (all_together hs gs) ≡ Some t → NamedFrom s t hs gs
 unfolding all_together
 named_from s t [] gs e = absurd (not_tick t (sym (nowhere_over s) ∙ e))
 named_from s t (h ∷ hs) [] e = absurd (not_tick t (sym (nowhere_over s) ∙ e))
 named_from s t (h ∷ hs) (g ∷ gs) e = go (λ f. named_from (s + 1) t hs gs f) (together h g) refl
   where
-    go : (difference_from (s + 1) (all_together hs gs) ≡ InTick t → NamedFrom (s + 1) t hs gs) → (z : Together) → together h g ≡ z → NamedFrom s t (h ∷ hs) (g ∷ gs)
+    go : (difference_from (s + 1) (all_together hs gs) ≡ Some t → NamedFrom (s + 1) t hs gs) → (z : Together) → together h g ≡ z → NamedFrom s t (h ∷ hs) (g ∷ gs)
     go ih differ d = record {
       place = 0;
       is = omega (arith, same_tick s t (sym (begins_here s (all_together hs gs)) ∙ ap (λ (y : Together). difference_from s (y ∷ all_together hs gs)) (sym d) ∙ e));
@@ -292,7 +290,7 @@ named_from s t (h ∷ hs) (g ∷ gs) e = go (λ f. named_from (s + 1) t hs gs f)
         before v zero i f = both_not k (sym d ∙ f)
         before v (suc j) i f = v.none_before j (omega arith) f
 
-nowhere_none : (s : ℕ) (hs gs : List Heard) → difference_from s (all_together hs gs) ≡ Nowhere → (k : ℕ) → DifferAt k hs gs → ⊥
+nowhere_none : (s : ℕ) (hs gs : List Heard) → difference_from s (all_together hs gs) ≡ None → (k : ℕ) → DifferAt k hs gs → ⊥
 unfolding all_together
 nowhere_none s [] gs e k d = silent_first gs k d
   where
@@ -326,7 +324,7 @@ first_named first second room = record {
   none = λ e t d. nowhere_none 0 (ticks_of first) (ticks_of second) (joinable first second room e).no_difference t (differ_at t first second d);
 }
   where
-    named : (t : ℕ) → difference_of first second ≡ InTick t → FirstNamed t first second
+    named : (t : ℕ) → difference_of first second ≡ Some t → FirstNamed t first second
     named t e =
         let v : NamedFrom 0 t (ticks_of first) (ticks_of second) = named_from 0 t (ticks_of first) (ticks_of second) e in
         let same : v.place ≡ t = omega (arith, v.is) in

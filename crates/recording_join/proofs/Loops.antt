@@ -1,5 +1,6 @@
 -- Laws of the two loops: the search for a difference, and the joined ticks at the front of a buffer.
-use Prim.Native.Nat.{ℕ, suc, ◌+◌, ◌*◌, ◌/◌, ◌%◌, ◌≤◌, ◌<◌}
+use Rattle.std.specs.Prelude.{Option, Some, None}
+use Prim.Native.Nat.{ℕ, ◌+◌, ◌*◌, ◌/◌, ◌%◌, ◌≤◌, ◌<◌}
 use native.Mathlib.Numerals.{add-one, add-two}
 use native.Mathlib.Omega.{arith}
 use mathlib.Core.Path.{◌≡◌, refl, sym, ap, ap₂, subst, ◌∙◌}
@@ -10,7 +11,6 @@ use borrow.Author.Tests.{eq-eqb, ne_eqb, eqb-true, eqb-false}
 use Rattle.base.specs.Choice.{when◌then◌else◌, ◌=?◌, ◌<?◌}
 use Rattle.base.specs.Store.{stored}
 use Rattle.base.proofs.Choices.{if_is_true, if_is_false}
-use Rattle.line.specs.declared.Damage.{Damage}
 use Rattle.line.specs.Heard.{damage_number, heard_of}
 use Rattle.line.specs.declared.Heard.{Heard}
 use Rattle.line.specs.declared.Heard.TheVariants.{Silence, Character, Damaged}
@@ -20,8 +20,6 @@ use Rattle.recording.proofs.Forms.{ticks_on, ticks_over, good_here}
 use Rattle.recording.proofs.Ticks.{Good, silent, sound, hurt, good_tick, heard_as, heard_as_lem}
 use Rattle.recording_join.specs.Joining.{Together, both, differ, together, all_together, bytes_together, recorded, joined_of, difference_from, difference_of}
 use Rattle.recording_join.specs.Choosing.{takes_second, differs}
-use Rattle.recording_join.specs.declared.Difference.{Difference}
-use Rattle.recording_join.specs.declared.Difference.TheVariants.{Nowhere, InTick}
 use Rattle.recording_join.proofs.Rule.{positive, rule_is}
 
 -- ---- whether two ticks differ
@@ -112,11 +110,11 @@ unfolding difference_from
 goes_on t (both h) xs n = refl
 goes_on t differ xs n = absurd (n refl)
 
-is_here : (t : ℕ) (z : Together) (xs : List Together) → z ≡ differ → difference_from t (z ∷ xs) ≡ InTick t
+is_here : (t : ℕ) (z : Together) (xs : List Together) → z ≡ differ → difference_from t (z ∷ xs) ≡ Some t
 unfolding difference_from
 is_here t z xs e = ap (λ (y : Together). difference_from t (y ∷ xs)) e
 
-pub nowhere_over : (t : ℕ) → difference_from t [] ≡ Nowhere
+pub nowhere_over : (t : ℕ) → difference_from t [] ≡ None
 unfolding difference_from
 nowhere_over t = refl
 
@@ -173,14 +171,14 @@ search_more first second ticks t v w r s h p q e f = record {
       ∙ s.left;
 }
 
-pub search_found : (first second : List ℕ) (ticks t v w : ℕ) (r : Bool) (u : Difference) → Searching first second ticks t → t < ticks → TickAt first t v → TickAt second t w → r ≡ differs v w → r ≡ true → u ≡ InTick t → u ≡ difference_of first second
+pub search_found : (first second : List ℕ) (ticks t v w : ℕ) (r : Bool) (u : Option ℕ) → Searching first second ticks t → t < ticks → TickAt first t v → TickAt second t w → r ≡ differs v w → r ≡ true → u ≡ Some t → u ≡ difference_of first second
 search_found first second ticks t v w r u s h p q e f k =
     k
     ∙ sym (is_here t (tick_of first second t) (left_of first second (t + 1)) (not_alike (differs v w) _ (both_told first second ticks t v w s.taps h p q) (sym e ∙ f)))
     ∙ ap (difference_from t) (sym (left_on first second t (omega arith) (omega arith)))
     ∙ s.left
 
-pub search_over : (first second : List ℕ) (ticks t : ℕ) (u : Difference) → Searching first second ticks t → ticks ≤ t → u ≡ Nowhere → u ≡ difference_of first second
+pub search_over : (first second : List ℕ) (ticks t : ℕ) (u : Option ℕ) → Searching first second ticks t → ticks ≤ t → u ≡ None → u ≡ difference_of first second
 search_over first second ticks t u s h k =
     k ∙ sym (nowhere_over t) ∙ ap (difference_from t) (sym (left_over first second t (omega arith))) ∙ s.left
 
@@ -192,15 +190,15 @@ pub record Joining (first second before : List ℕ) (ticks : ℕ) (out : List �
   pub taps : Both first second ticks t
   pub room : length first ≤ length out
   pub lent : length out ≡ length before
-  pub quiet : difference_from t (left_of first second t) ≡ Nowhere
+  pub quiet : difference_from t (left_of first second t) ≡ None
   pub stores : stored out (2 * t) (recorded (left_of first second t)) ≡ stored before 0 (joined_of first second)
 
-pub joining_begun : (first second before : List ℕ) (ticks : ℕ) → ticks ≡ length first / 2 → length first ≡ length second → bad_recording first ≡ false → bad_recording second ≡ false → length first ≤ length before → difference_of first second ≡ Nowhere → Joining first second before ticks before 0
+pub joining_begun : (first second before : List ℕ) (ticks : ℕ) → ticks ≡ length first / 2 → length first ≡ length second → bad_recording first ≡ false → bad_recording second ≡ false → length first ≤ length before → difference_of first second ≡ None → Joining first second before ticks before 0
 joining_begun first second before ticks e l p q h n = record { taps = both_begun first second ticks e l p q; room = h; lent = refl; quiet = n; stores = refl }
 
 -- the tick that is taken, by its two bytes
 taken_bytes : (x c y d v w u : ℕ) (t : Bool) → t ≡ takes_second x y → v % 256 ≡ x → v / 256 ≡ c → w % 256 ≡ y → w / 256 ≡ d → v < 65536 → w < 65536 → u ≡ (when t then w else v)
-    → (when takes_second x y then y ∷ d ∷ [] else x ∷ c ∷ []) ≡ u % 256 ∷ u / 256 % 256 ∷ []
+    → (when takes_second x y then y ∷ d ∷ [] else x ∷ c ∷ []) ≡ u % 256 ∷ u / 256 ∷ []
 unfolding when◌then◌else◌
 taken_bytes x c y d v w u true e vx vc wy wd hv hw f =
     if_is_true (takes_second x y) _ _ (sym e)
@@ -217,18 +215,18 @@ record_on : (z : Together) (xs : List Together) → recorded (z ∷ xs) ≡ byte
 unfolding recorded
 record_on z xs = refl
 
-not_here : (t : ℕ) (z : Together) (xs : List Together) → difference_from t (z ∷ xs) ≡ Nowhere → z ≡ differ → ⊥
+not_here : (t : ℕ) (z : Together) (xs : List Together) → difference_from t (z ∷ xs) ≡ None → z ≡ differ → ⊥
 not_here t z xs e f = let k : ◌≡◌ {A = ℕ} 0 1 = cc (is_here t z xs f) in omega arith
 
 pub joining_more : (first second before : List ℕ) (ticks : ℕ) (out : List ℕ) (t v w u : ℕ) → Joining first second before ticks out t → t < ticks → TickAt first t v → TickAt second t w
-    → u ≡ (when takes_second (v % 256) (w % 256) then w else v) → Joining first second before ticks (set (set out (2 * t) (u % 256)) (2 * t + 1) (u / 256 % 256)) (t + 1)
+    → u ≡ (when takes_second (v % 256) (w % 256) then w else v) → Joining first second before ticks (set (set out (2 * t) (u % 256)) (2 * t + 1) (u / 256)) (t + 1)
 joining_more first second before ticks out t v w u j h p q e = record {
   taps = both_more first second ticks t j.taps h;
   room = simp length-set j.room;
   lent = simp length-set j.lent;
   quiet = sym (goes_on t (tick_of first second t) _ quiet_here) ∙ left_quiet;
-  stores = ap (λ (k : ℕ). stored (set (set out (2 * t) (u % 256)) (2 * t + 1) (u / 256 % 256)) k (recorded (left_of first second (t + 1)))) next
-      ∙ sym (store_two out (2 * t) (u % 256) (u / 256 % 256) _)
+  stores = ap (λ (k : ℕ). stored (set (set out (2 * t) (u % 256)) (2 * t + 1) (u / 256)) k (recorded (left_of first second (t + 1)))) next
+      ∙ sym (store_two out (2 * t) (u % 256) (u / 256) _)
       ∙ ap (λ (l : List ℕ). stored out (2 * t) (l ++ recorded (left_of first second (t + 1)))) (sym bytes)
       ∙ ap (stored out (2 * t)) (sym (record_on (tick_of first second t) _))
       ∙ ap (λ (l : List Together). stored out (2 * t) (recorded l)) (sym split)
@@ -247,7 +245,7 @@ joining_more first second before ticks out t v w u j h p q e = record {
     split : left_of first second t ≡ tick_of first second t ∷ left_of first second (t + 1)
     split = left_on first second t (omega arith) (omega arith)
 
-    left_quiet : difference_from t (tick_of first second t ∷ left_of first second (t + 1)) ≡ Nowhere
+    left_quiet : difference_from t (tick_of first second t ∷ left_of first second (t + 1)) ≡ None
     left_quiet = ap (difference_from t) (sym split) ∙ j.quiet
 
     quiet_here : tick_of first second t ≡ differ → ⊥
@@ -259,7 +257,7 @@ joining_more first second before ticks out t v w u j h p q e = record {
     other : TickIs second t w
     other = q.there (omega (arith, j.taps.count, j.taps.same_length))
 
-    bytes : bytes_together (tick_of first second t) ≡ u % 256 ∷ u / 256 % 256 ∷ []
+    bytes : bytes_together (tick_of first second t) ≡ u % 256 ∷ u / 256 ∷ []
     bytes =
         rule_is x (get_or first (2 * t + 1) 0) y (get_or second (2 * t + 1) 0) (good_here first t j.taps.good_first (omega arith)).0 (good_here second t j.taps.good_second (omega arith)).0 quiet_here
         ∙ taken_bytes x (get_or first (2 * t + 1) 0) y (get_or second (2 * t + 1) 0) v w u (takes_second (v % 256) (w % 256)) (ap₂ takes_second one.first other.first) one.first one.character other.first other.character one.small other.small e

@@ -1,5 +1,6 @@
 -- Theorem: what is said of two taps by their pieces (specs/Pieces).
-use Prim.Native.Nat.{ℕ, suc, ◌+◌, ◌-◌, ◌*◌, ◌/◌, ◌≤◌, ◌<◌}
+use Rattle.std.specs.Prelude.{Option, Some, None, Result, Ok, Err}
+use Prim.Native.Nat.{ℕ, suc, ◌+◌, ◌*◌}
 use native.Mathlib.Omega.{arith}
 use mathlib.Core.Path.{◌≡◌, refl, sym, ap, ap₂, ◌∙◌}
 use mathlib.Core.Bool.{Bool, true, false}
@@ -10,16 +11,14 @@ use Rattle.base.specs.Choice.{when◌then◌else◌, ◌=?◌, ◌<?◌}
 use Rattle.base.specs.Refusal.{number}
 use Rattle.base.specs.declared.Refusal.{Refusal}
 use Rattle.base.specs.declared.Refusal.TheVariants.{BadRecording, UnequalTaps}
-use Rattle.base.proofs.Choices.{if_is_true, if_is_false, if_equal, if_unequal, if_below}
+use Rattle.base.proofs.Choices.{if_is_true, if_is_false}
 use Rattle.line.specs.declared.Heard.{Heard}
 use Rattle.recording.specs.Form.{ticks_of, bad_recording}
 use Rattle.recording.proofs.Forms.{length_ticks, ticks_both, bad_both}
 use Rattle.recording_join.specs.Joining.{Together, both, differ, together, all_together, bytes_together, recorded, joined_of, difference_from, difference_of, by_difference, join_answer}
-use Rattle.recording_join.specs.Pieces.{refused_by, pieced, largest_tick, within64, Piece, piece_answer, answer_from, joined_pieces, first_tap, second_tap, IsRead, full, ended, AllRead, no_piece, piece_and, PiecesAre, InPieces}
-use Rattle.recording_join.specs.declared.Difference.{Difference}
-use Rattle.recording_join.specs.declared.Difference.TheVariants.{Nowhere, InTick}
-use Rattle.recording_join.specs.declared.JoinAnswer.{JoinAnswer}
-use Rattle.recording_join.specs.declared.JoinAnswer.TheVariants.{Joined, Refused, Differ}
+use Rattle.recording_join.specs.Pieces.{refused_by, pieced, Piece, piece_answer, answer_from, joined_pieces, first_tap, second_tap, IsRead, full, ended, AllRead, no_piece, piece_and, InPieces}
+use Rattle.recording_join.specs.declared.JoinError.{JoinError}
+use Rattle.recording_join.specs.declared.JoinError.TheVariants.{Refused, Differ}
 
 together_both : (hs gs hs2 gs2 : List Heard) → length hs ≡ length gs → all_together (hs ++ hs2) (gs ++ gs2) ≡ all_together hs gs ++ all_together hs2 gs2
 unfolding all_together
@@ -34,9 +33,9 @@ recorded_both [] ys = refl
 recorded_both (x ∷ xs) ys = ap (λ (l : List ℕ). bytes_together x ++ l) (recorded_both xs ys) ∙ sym (append_assoc (bytes_together x) (recorded xs) (recorded ys))
 
 -- what is found in some ticks and those behind them: the first difference, if they have one
-abbrev or_else : Difference → Difference → Difference
-or_else (InTick t) later = InTick t
-or_else Nowhere later = later
+abbrev or_else : Option ℕ → Option ℕ → Option ℕ
+or_else (Some t) later = Some t
+or_else None later = later
 
 difference_both : (xs ys : List Together) (t : ℕ) → difference_from t (xs ++ ys) ≡ or_else (difference_from t xs) (difference_from (t + length xs) ys)
 unfolding difference_from
@@ -61,8 +60,8 @@ length_together (h ∷ hs) (g ∷ gs) e = omega (arith, length_together hs gs (o
 abbrev either : Bool → Bool → Bool
 either a b = when a then true else b
 
-abbrev answer_by : Bool → Bool → Difference → JoinAnswer
-answer_by bad unequal d = when bad then Refused BadRecording else when unequal then Refused UnequalTaps else by_difference d
+abbrev answer_by : Bool → Bool → Option ℕ → Result Unit JoinError
+answer_by bad unequal d = when bad then Err (Refused BadRecording) else when unequal then Err (Refused UnequalTaps) else by_difference d
 
 abbrev bad : List ℕ → List ℕ → Bool
 bad first second = either (bad_recording first) (bad_recording second)
@@ -71,11 +70,11 @@ abbrev unequal : List ℕ → List ℕ → Bool
 unequal first second = when length first =? length second then false else true
 
 -- an answer with room enough
-abbrev answer_of : List ℕ → List ℕ → JoinAnswer
+abbrev answer_of : List ℕ → List ℕ → Result Unit JoinError
 answer_of first second = join_answer first second (length first)
 
-by_tests : (a b e : Bool) (x : JoinAnswer) (d : Difference) → x ≡ by_difference d
-    → (when a then Refused BadRecording else when b then Refused BadRecording else when e then x else Refused UnequalTaps) ≡ answer_by (either a b) (when e then false else true) d
+by_tests : (a b e : Bool) (x : Result Unit JoinError) (d : Option ℕ) → x ≡ by_difference d
+    → (when a then Err (Refused BadRecording) else when b then Err (Refused BadRecording) else when e then x else Err (Refused UnequalTaps)) ≡ answer_by (either a b) (when e then false else true) d
 unfolding when◌then◌else◌
 by_tests true b e x d k = refl
 by_tests false true e x d k = refl
@@ -89,32 +88,32 @@ answer_by_lem first second =
 
 -- ---- the answers of two pieces
 
-abbrev later : ℕ → Difference → Difference
-later n Nowhere = Nowhere
-later n (InTick t) = InTick (n + t)
+abbrev later : ℕ → Option ℕ → Option ℕ
+later n None = None
+later n (Some t) = Some (n + t)
 
-bad_stays : (n : ℕ) (y : JoinAnswer) → pieced n (Refused BadRecording) y ≡ Refused BadRecording
+bad_stays : (n : ℕ) (y : Result Unit JoinError) → pieced n (Err (Refused BadRecording)) y ≡ Err (Refused BadRecording)
 unfolding pieced when◌then◌else◌
-bad_stays n Joined = refl
-bad_stays n (Refused why) = refl
-bad_stays n (Differ t) = refl
+bad_stays n (Ok _) = refl
+bad_stays n (Err (Refused why)) = refl
+bad_stays n (Err (Differ t)) = refl
 
-by_parts : (n : ℕ) (p u : Bool) (d : Difference) (q v : Bool) (e : Difference)
+by_parts : (n : ℕ) (p u : Bool) (d : Option ℕ) (q v : Bool) (e : Option ℕ)
     → pieced n (answer_by p u d) (answer_by q v e) ≡ answer_by (either p q) (either u v) (or_else d (later n e))
 unfolding pieced when◌then◌else◌
 by_parts n true u d q v e = bad_stays n (answer_by q v e)
 by_parts n false true d true v e = refl
 by_parts n false true d false true e = refl
-by_parts n false true d false false Nowhere = refl
-by_parts n false true d false false (InTick t) = refl
-by_parts n false false Nowhere true v e = refl
-by_parts n false false Nowhere false true e = refl
-by_parts n false false Nowhere false false Nowhere = refl
-by_parts n false false Nowhere false false (InTick t) = refl
-by_parts n false false (InTick s) true v e = refl
-by_parts n false false (InTick s) false true e = refl
-by_parts n false false (InTick s) false false Nowhere = refl
-by_parts n false false (InTick s) false false (InTick t) = refl
+by_parts n false true d false false None = refl
+by_parts n false true d false false (Some t) = refl
+by_parts n false false None true v e = refl
+by_parts n false false None false true e = refl
+by_parts n false false None false false None = refl
+by_parts n false false None false false (Some t) = refl
+by_parts n false false (Some s) true v e = refl
+by_parts n false false (Some s) false true e = refl
+by_parts n false false (Some s) false false None = refl
+by_parts n false false (Some s) false false (Some t) = refl
 
 either_four : (a b c d : Bool) → either (either a c) (either b d) ≡ either (either a b) (either c d)
 unfolding when◌then◌else◌
@@ -141,7 +140,7 @@ bad_none : bad_recording [] ≡ false
 unfolding bad_recording
 bad_none = refl
 
-none_joined : answer_of [] [] ≡ Joined
+none_joined : answer_of [] [] ≡ Ok tt
 unfolding bad_recording ticks_of all_together difference_from when◌then◌else◌
 none_joined = refl
 
@@ -149,7 +148,7 @@ joined_none : joined_of [] [] ≡ []
 unfolding ticks_of all_together recorded
 joined_none = refl
 
-no_difference_none : difference_of [] [] ≡ Nowhere
+no_difference_none : difference_of [] [] ≡ None
 unfolding ticks_of all_together difference_from
 no_difference_none = refl
 
@@ -158,13 +157,13 @@ unfolding when◌then◌else◌
 either_none true = refl
 either_none false = refl
 
-or_nowhere : (n : ℕ) (d : Difference) → d ≡ or_else d (later n Nowhere)
-or_nowhere n Nowhere = refl
-or_nowhere n (InTick t) = refl
+or_nowhere : (n : ℕ) (d : Option ℕ) → d ≡ or_else d (later n None)
+or_nowhere n None = refl
+or_nowhere n (Some t) = refl
 
 -- where the lengths are unequal no difference is asked for
-not_asked : (b u : Bool) (d e : Difference) → u ≡ true → answer_by b u d ≡ answer_by b u e
-not_asked b u d e k = ap (λ (x : JoinAnswer). when b then Refused BadRecording else x) (if_is_true u _ _ k ∙ sym (if_is_true u _ _ k))
+not_asked : (b u : Bool) (d e : Option ℕ) → u ≡ true → answer_by b u d ≡ answer_by b u e
+not_asked b u d e k = ap (λ (x : Result Unit JoinError). when b then Err (Refused BadRecording) else x) (if_is_true u _ _ k ∙ sym (if_is_true u _ _ k))
 
 -- two lengths
 abbrev apart : ℕ → ℕ → Bool
@@ -256,7 +255,7 @@ module _ (n : ℕ) (a b a2 b2 : List ℕ) where
         (ap₂ (λ (x y : List ℕ). difference_of (a ++ x) (b ++ y)) e f
         ∙ ap₂ difference_of (append-nil a) (append-nil b)
         ∙ or_nowhere n (difference_of a b)
-        ∙ ap (λ (d : Difference). or_else (difference_of a b) (later n d)) (sym (ap₂ difference_of e f ∙ no_difference_none)));
+        ∙ ap (λ (d : Option ℕ). or_else (difference_of a b) (later n d)) (sym (ap₂ difference_of e f ∙ no_difference_none)));
   }
 
   pub answer_halves : IsRead n a a2 → IsRead n b b2 → answer_of (a ++ a2) (b ++ b2) ≡ pieced n (answer_of a b) (answer_of a2 b2)
@@ -299,55 +298,55 @@ refused_thrice a b c = go (number a =? number BadRecording) refl
         ap (λ (x : Refusal). refused_by x c) (if_is_false (number a =? number BadRecording) a b e)
         ∙ sym (if_is_false (number a =? number BadRecording) a (refused_by b c) e)
 
-pieced_thrice : (n k : ℕ) (x y z : JoinAnswer) → pieced (n + k) (pieced n x y) z ≡ pieced n x (pieced k y z)
+pieced_thrice : (n k : ℕ) (x y z : Result Unit JoinError) → pieced (n + k) (pieced n x y) z ≡ pieced n x (pieced k y z)
 unfolding pieced
-pieced_thrice n k (Refused a) (Refused b) (Refused c) = ap Refused (refused_thrice a b c)
-pieced_thrice n k (Refused a) (Refused b) (Differ t) = refl
-pieced_thrice n k (Refused a) (Refused b) Joined = refl
-pieced_thrice n k (Refused a) (Differ s) (Refused c) = refl
-pieced_thrice n k (Refused a) (Differ s) (Differ t) = refl
-pieced_thrice n k (Refused a) (Differ s) Joined = refl
-pieced_thrice n k (Refused a) Joined (Refused c) = refl
-pieced_thrice n k (Refused a) Joined (Differ t) = refl
-pieced_thrice n k (Refused a) Joined Joined = refl
-pieced_thrice n k (Differ r) (Refused b) (Refused c) = refl
-pieced_thrice n k (Differ r) (Refused b) (Differ t) = refl
-pieced_thrice n k (Differ r) (Refused b) Joined = refl
-pieced_thrice n k (Differ r) (Differ s) (Refused c) = refl
-pieced_thrice n k (Differ r) (Differ s) (Differ t) = refl
-pieced_thrice n k (Differ r) (Differ s) Joined = refl
-pieced_thrice n k (Differ r) Joined (Refused c) = refl
-pieced_thrice n k (Differ r) Joined (Differ t) = refl
-pieced_thrice n k (Differ r) Joined Joined = refl
-pieced_thrice n k Joined (Refused b) (Refused c) = refl
-pieced_thrice n k Joined (Refused b) (Differ t) = refl
-pieced_thrice n k Joined (Refused b) Joined = refl
-pieced_thrice n k Joined (Differ s) (Refused c) = refl
-pieced_thrice n k Joined (Differ s) (Differ t) = refl
-pieced_thrice n k Joined (Differ s) Joined = refl
-pieced_thrice n k Joined Joined (Refused c) = refl
-pieced_thrice n k Joined Joined (Differ t) = ap Differ (sum n k t)
+pieced_thrice n k (Err (Refused a)) (Err (Refused b)) (Err (Refused c)) = ap (λ (x : Refusal). Err (Refused x)) (refused_thrice a b c)
+pieced_thrice n k (Err (Refused a)) (Err (Refused b)) (Err (Differ t)) = refl
+pieced_thrice n k (Err (Refused a)) (Err (Refused b)) (Ok _) = refl
+pieced_thrice n k (Err (Refused a)) (Err (Differ s)) (Err (Refused c)) = refl
+pieced_thrice n k (Err (Refused a)) (Err (Differ s)) (Err (Differ t)) = refl
+pieced_thrice n k (Err (Refused a)) (Err (Differ s)) (Ok _) = refl
+pieced_thrice n k (Err (Refused a)) (Ok _) (Err (Refused c)) = refl
+pieced_thrice n k (Err (Refused a)) (Ok _) (Err (Differ t)) = refl
+pieced_thrice n k (Err (Refused a)) (Ok _) (Ok _) = refl
+pieced_thrice n k (Err (Differ r)) (Err (Refused b)) (Err (Refused c)) = refl
+pieced_thrice n k (Err (Differ r)) (Err (Refused b)) (Err (Differ t)) = refl
+pieced_thrice n k (Err (Differ r)) (Err (Refused b)) (Ok _) = refl
+pieced_thrice n k (Err (Differ r)) (Err (Differ s)) (Err (Refused c)) = refl
+pieced_thrice n k (Err (Differ r)) (Err (Differ s)) (Err (Differ t)) = refl
+pieced_thrice n k (Err (Differ r)) (Err (Differ s)) (Ok _) = refl
+pieced_thrice n k (Err (Differ r)) (Ok _) (Err (Refused c)) = refl
+pieced_thrice n k (Err (Differ r)) (Ok _) (Err (Differ t)) = refl
+pieced_thrice n k (Err (Differ r)) (Ok _) (Ok _) = refl
+pieced_thrice n k (Ok _) (Err (Refused b)) (Err (Refused c)) = refl
+pieced_thrice n k (Ok _) (Err (Refused b)) (Err (Differ t)) = refl
+pieced_thrice n k (Ok _) (Err (Refused b)) (Ok _) = refl
+pieced_thrice n k (Ok _) (Err (Differ s)) (Err (Refused c)) = refl
+pieced_thrice n k (Ok _) (Err (Differ s)) (Err (Differ t)) = refl
+pieced_thrice n k (Ok _) (Err (Differ s)) (Ok _) = refl
+pieced_thrice n k (Ok _) (Ok _) (Err (Refused c)) = refl
+pieced_thrice n k (Ok _) (Ok _) (Err (Differ t)) = ap (λ (x : ℕ). Err (Differ x)) (sum n k t)
   where
     sum : (n k t : ℕ) → n + k + t ≡ n + (k + t)
     sum n k t = omega arith
-pieced_thrice n k Joined Joined Joined = refl
+pieced_thrice n k (Ok _) (Ok _) (Ok _) = refl
 
-nothing_more : (n : ℕ) (x : JoinAnswer) → pieced n x Joined ≡ x
+nothing_more : (n : ℕ) (x : Result Unit JoinError) → pieced n x (Ok tt) ≡ x
 unfolding pieced
-nothing_more n (Refused a) = refl
-nothing_more n (Differ s) = refl
-nothing_more n Joined = refl
+nothing_more n (Err (Refused a)) = refl
+nothing_more n (Err (Differ s)) = refl
+nothing_more n (Ok _) = refl
 
-nothing_before : (x : JoinAnswer) → pieced 0 Joined x ≡ x
+nothing_before : (x : Result Unit JoinError) → pieced 0 (Ok tt) x ≡ x
 unfolding pieced
-nothing_before (Refused a) = refl
-nothing_before (Differ s) = ap Differ (none s)
+nothing_before (Err (Refused a)) = refl
+nothing_before (Err (Differ s)) = ap (λ (x : ℕ). Err (Differ x)) (none s)
   where
     none : (s : ℕ) → 0 + s ≡ s
     none s = omega arith
-nothing_before Joined = refl
+nothing_before (Ok _) = refl
 
-answers_on : (size n : ℕ) (x : JoinAnswer) (ps : List Piece) → AllRead size ps → answer_from size n x ps ≡ pieced n x (answer_of (first_tap ps) (second_tap ps))
+answers_on : (size n : ℕ) (x : Result Unit JoinError) (ps : List Piece) → AllRead size ps → answer_from size n x ps ≡ pieced n x (answer_of (first_tap ps) (second_tap ps))
 unfolding answer_from first_tap second_tap
 answers_on size n x [] no_piece = sym (ap (pieced n x) none_joined ∙ nothing_more n x)
 answers_on size n x (p ∷ ps) (piece_and r s rs) =
@@ -364,68 +363,6 @@ joined_on size (p ∷ ps) (piece_and r s rs) e =
 
 pub in_pieces : InPieces
 in_pieces size ps r = record {
-  answer = answers_on size 0 Joined ps r ∙ nothing_before (answer_of (first_tap ps) (second_tap ps));
+  answer = answers_on size 0 (Ok tt) ps r ∙ nothing_before (answer_of (first_tap ps) (second_tap ps));
   joined = joined_on size ps r;
 }
-
--- ---- the code's answer of two pieces, by the case that each is
-
-pieced_case : (n : ℕ) (earlier later x y r : JoinAnswer) → earlier ≡ x → later ≡ y → r ≡ within64 (pieced n x y) → r ≡ within64 (pieced n earlier later)
-pieced_case n earlier later x y r e f k = k ∙ sym (ap₂ (λ (a b : JoinAnswer). within64 (pieced n a b)) e f)
-
-module _ (n : ℕ) (earlier later r : JoinAnswer) where
-  abbrev Is : Type 0
-  Is = r ≡ within64 (pieced n earlier later)
-
-  pub both_joined : earlier ≡ Joined → later ≡ Joined → r ≡ Joined → Is
-  unfolding within64 pieced
-  both_joined e f k = pieced_case n earlier later Joined Joined r e f k
-
-  pub then_refused : (why : Refusal) → earlier ≡ Joined → later ≡ Refused why → r ≡ Refused why → Is
-  unfolding within64 pieced
-  then_refused why e f k = pieced_case n earlier later Joined (Refused why) r e f k
-
-  pub then_differ : (t u : ℕ) → earlier ≡ Joined → later ≡ Differ t → r ≡ Differ u → u ≡ (when largest_tick <? n + t then largest_tick else n + t) → Is
-  unfolding within64 pieced
-  then_differ t u e f k h = pieced_case n earlier later Joined (Differ t) r e f (k ∙ ap Differ h)
-
-  pub refused_joined : (why : Refusal) → earlier ≡ Refused why → later ≡ Joined → r ≡ Refused why → Is
-  unfolding within64 pieced
-  refused_joined why e f k = pieced_case n earlier later (Refused why) Joined r e f k
-
-  pub refused_both : (why other u : Refusal) → earlier ≡ Refused why → later ≡ Refused other → r ≡ Refused u → u ≡ refused_by why other → Is
-  unfolding within64 pieced
-  refused_both why other u e f k h = pieced_case n earlier later (Refused why) (Refused other) r e f (k ∙ ap Refused h)
-
-  pub refused_differ : (why : Refusal) (t : ℕ) → earlier ≡ Refused why → later ≡ Differ t → r ≡ Refused why → Is
-  unfolding within64 pieced
-  refused_differ why t e f k = pieced_case n earlier later (Refused why) (Differ t) r e f k
-
-  same_tick : (s : ℕ) → s ≤ largest_tick → Differ s ≡ within64 (Differ s)
-  unfolding within64
-  same_tick s h = ap Differ (sym (if_is_false (largest_tick <? s) largest_tick s (le-ltb largest_tick s h)))
-
-  pub differ_joined : (s u : ℕ) → earlier ≡ Differ s → later ≡ Joined → r ≡ Differ u → u ≡ s → u ≤ largest_tick → Is
-  unfolding pieced
-  differ_joined s u e f k g h = pieced_case n earlier later (Differ s) Joined r e f (k ∙ ap Differ g ∙ same_tick s (omega arith))
-
-  pub differ_refused : (s : ℕ) (why : Refusal) → earlier ≡ Differ s → later ≡ Refused why → r ≡ Refused why → Is
-  unfolding within64 pieced
-  differ_refused s why e f k = pieced_case n earlier later (Differ s) (Refused why) r e f k
-
-  pub differ_both : (s t u : ℕ) → earlier ≡ Differ s → later ≡ Differ t → r ≡ Differ u → u ≡ s → u ≤ largest_tick → Is
-  unfolding pieced
-  differ_both s t u e f k g h = pieced_case n earlier later (Differ s) (Differ t) r e f (k ∙ ap Differ g ∙ same_tick s (omega arith))
-
-pub refused_first : (n : ℕ) (why other r : Refusal) → n ≡ number why → n ≡ 21 → r ≡ why → r ≡ refused_by why other
-refused_first n why other r e f k = if_equal (number why) 21 r why other (sym e ∙ f) k
-
-pub refused_later : (n : ℕ) (why other r : Refusal) → n ≡ number why → (n ≡ 21 → ⊥) → r ≡ other → r ≡ refused_by why other
-refused_later n why other r e f k = if_unequal (number why) 21 r why other (λ z. f (e ∙ z)) k
-
-pub sum_above : (a b r : ℕ) → largest_tick - a < b → r ≡ largest_tick → r ≡ (when largest_tick <? a + b then largest_tick else a + b)
-sum_above a b r h k = if_below largest_tick (a + b) r largest_tick (a + b) (omega arith) k
-
-pub ruleset sums = (refl, refused_first, refused_later, sum_above)
-
-pub ruleset piecings = (refl, both_joined, then_refused, then_differ, refused_joined, refused_both, refused_differ, differ_joined, differ_refused, differ_both)

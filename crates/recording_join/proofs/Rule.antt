@@ -1,21 +1,20 @@
 -- The rule for two ticks: what a good tick says was heard, and that the choice by first bytes is that of Joining.
-use Prim.Native.Nat.{ℕ, ◌+◌, ◌*◌, ◌/◌, ◌%◌, ◌≤◌, ◌<◌}
+use Prim.Native.Nat.{ℕ, ◌+◌, ◌*◌, ◌/◌, ◌≤◌}
 use native.Mathlib.Omega.{arith}
-use mathlib.Core.Path.{◌≡◌, refl, sym, ap, ap₂, subst, ◌∙◌}
+use mathlib.Core.Path.{◌≡◌, refl, sym, ap, ap₂, ◌∙◌}
 use mathlib.Core.Bool.{Bool, true, false}
-use mathlib.Core.List.{List, [], ◌∷◌}
-use borrow.Author.Tests.{eq-eqb, ne_eqb, eqb-true, eqb-false, le-ltb, lt-ltb, ltb-true, ltb-false}
+use mathlib.Core.List.{[], ◌∷◌}
+use borrow.Author.Tests.{eq-eqb, ne_eqb, le-ltb, lt-ltb, ltb-true, ltb-false}
 use Rattle.base.specs.Choice.{when◌then◌else◌, ◌=?◌, ◌<?◌}
-use Rattle.base.proofs.Choices.{if_is_true, if_is_false, true_false}
+use Rattle.base.proofs.Choices.{if_is_true, if_is_false}
 use Rattle.line.specs.Heard.{damage_number, heard_of}
 use Rattle.line.specs.declared.Damage.{Damage}
 use Rattle.line.specs.declared.Damage.TheVariants.{Parity, Overrun, Framing}
-use Rattle.line.specs.declared.Heard.{Heard}
-use Rattle.line.specs.declared.Heard.TheVariants.{Silence, Character, Damaged}
+use Rattle.line.specs.declared.Heard.TheVariants.{Character, Damaged}
 use Rattle.recording.specs.Form.{tick_refused}
 use Rattle.recording.proofs.Ticks.{Good, silent, sound, hurt, good_tick, heard_as, heard_as_lem}
 use Rattle.recording_join.specs.Joining.{Together, both, differ, together, bytes_of, bytes_together}
-use Rattle.recording_join.specs.Choosing.{takes_second, differs}
+use Rattle.recording_join.specs.Choosing.{takes_second}
 
 -- ---- a good tick's bytes
 

@@ -1,12 +1,12 @@
 -- To be believed: what the engine must do, or what is claimed of it.
 -- Document 02, item 10: "Every character of the joined recording is one that a tap has, and none is lost." What is claimed of two taps that are joined, and of 23.
-use Rattle.std.specs.Prelude.{ℕ, zero, suc, ◌*◌, ◌≤◌, ◌<◌, false, ◌≡◌, List, [], ◌∷◌, length, get_or}
+use Rattle.std.specs.Prelude.{ℕ, zero, suc, ◌*◌, ◌≤◌, ◌<◌, false, ◌≡◌, List, [], ◌∷◌, length, get_or, Ok, Err}
 use Rattle.line.specs.declared.Damage.{Damage}
 use Rattle.line.specs.declared.Heard.{Heard}
 use Rattle.line.specs.declared.Heard.TheVariants.{Silence, Character, Damaged}
 use Rattle.recording.specs.Form.{ticks_of, bad_recording}
 use Rattle.recording_join.specs.Joining.{joined_of, join_answer}
-use Rattle.recording_join.specs.declared.JoinAnswer.TheVariants.{Joined, Differ}
+use Rattle.recording_join.specs.declared.JoinError.TheVariants.{Differ}
 
 -- what a recording has in a tick; past its end that is silence
 abbrev pub heard_in : ℕ → List ℕ → Heard
@@ -14,7 +14,7 @@ heard_in t recording = get_or (ticks_of recording) t Silence
 
 -- the two are joined, with so much room
 abbrev pub IsJoined : List ℕ → List ℕ → ℕ → Type 0
-IsJoined first second room = join_answer first second room ≡ Joined
+IsJoined first second room = join_answer first second room ≡ Ok tt
 
 -- one of two
 pub data Either (A B : Type 0) : Type 0 where
@@ -64,7 +64,7 @@ pub record FirstNamed (t : ℕ) (first second : List ℕ) : Type 0 where
 
 -- a join that is answered has no such tick
 pub record DifferenceNamed (first second : List ℕ) (room : ℕ) : Type 0 where
-  pub named : (t : ℕ) → join_answer first second room ≡ Differ t → FirstNamed t first second
+  pub named : (t : ℕ) → join_answer first second room ≡ Err (Differ t) → FirstNamed t first second
   pub none : IsJoined first second room → (t : ℕ) → DifferIn t first second → ⊥
 
 abbrev pub FirstDifferenceNamed : Type 0

@@ -1,42 +1,42 @@
 -- To be believed: what the engine must do, or what is claimed of it.
 -- Document 02, item 10, for taps that are read in pieces, a piece of each at a time: the answer and the joined recording for the whole, made from those of the pieces.
-use Rattle.std.specs.Prelude.{ℕ, ◌+◌, ◌*◌, ◌<◌, ◌≡◌, List, [], ◌∷◌, ◌++◌, length}
+use Rattle.std.specs.Prelude.{ℕ, ◌+◌, ◌*◌, ◌<◌, ◌≡◌, List, [], ◌∷◌, ◌++◌, length, Result, Ok, Err}
 use Rattle.base.specs.Choice.{when◌then◌else◌, ◌<?◌, ◌=?◌}
 use Rattle.base.specs.Refusal.{number}
 use Rattle.base.specs.declared.Refusal.{Refusal}
 use Rattle.base.specs.declared.Refusal.TheVariants.{BadRecording}
 use Rattle.recording_join.specs.Joining.{join_answer, joined_of}
-use Rattle.recording_join.specs.declared.JoinAnswer.{JoinAnswer}
-use Rattle.recording_join.specs.declared.JoinAnswer.TheVariants.{Joined, Refused, Differ}
+use Rattle.recording_join.specs.declared.JoinError.{JoinError}
+use Rattle.recording_join.specs.declared.JoinError.TheVariants.{Refused, Differ}
 
 -- "After 21 for either recording, it refuses unequal lengths with 22": 21 comes first, whichever piece has it
 abbrev pub refused_by : Refusal → Refusal → Refusal
 refused_by earlier later = when number earlier =? number BadRecording then earlier else later
 
 -- the answer for n ticks and what follows them, made from the answers for each
-unfoldable pub pieced : ℕ → JoinAnswer → JoinAnswer → JoinAnswer
-pieced n (Refused why) (Refused later) = Refused (refused_by why later)
-pieced n (Refused why) (Differ t) = Refused why
-pieced n (Refused why) Joined = Refused why
+unfoldable pub pieced : ℕ → Result Unit JoinError → Result Unit JoinError → Result Unit JoinError
+pieced n (Err (Refused why)) (Err (Refused later)) = Err (Refused (refused_by why later))
+pieced n (Err (Refused why)) (Err (Differ t)) = Err (Refused why)
+pieced n (Err (Refused why)) (Ok _) = Err (Refused why)
 -- 21 and 22 for what follows come before 23
-pieced n (Differ s) (Refused later) = Refused later
+pieced n (Err (Differ s)) (Err (Refused later)) = Err (Refused later)
 -- "names the first such tick"
-pieced n (Differ s) (Differ t) = Differ s
-pieced n (Differ s) Joined = Differ s
-pieced n Joined (Refused later) = Refused later
+pieced n (Err (Differ s)) (Err (Differ t)) = Err (Differ s)
+pieced n (Err (Differ s)) (Ok _) = Err (Differ s)
+pieced n (Ok _) (Err (Refused later)) = Err (Refused later)
 -- the tick is counted from the start of the n ticks on
-pieced n Joined (Differ t) = Differ (n + t)
-pieced n Joined Joined = Joined
+pieced n (Ok _) (Err (Differ t)) = Err (Differ (n + t))
+pieced n (Ok _) (Ok _) = Ok tt
 
 -- the largest number of the code's 64 bits
 abbrev pub largest_tick : ℕ
 largest_tick = 18446744073709551615
 
 -- an answer in 64 bits: a tick above the largest, which no file has, is given as the largest
-unfoldable pub within64 : JoinAnswer → JoinAnswer
-within64 Joined = Joined
-within64 (Refused why) = Refused why
-within64 (Differ t) = Differ (when largest_tick <? t then largest_tick else t)
+unfoldable pub within64 : Result Unit JoinError → Result Unit JoinError
+within64 (Ok _) = Ok tt
+within64 (Err (Refused why)) = Err (Refused why)
+within64 (Err (Differ t)) = Err (Differ (when largest_tick <? t then largest_tick else t))
 
 -- a piece of each tap
 pub record Piece : Type 0 where
@@ -44,11 +44,11 @@ pub record Piece : Type 0 where
   pub second : List ℕ
 
 -- the answer for a piece, with room enough
-abbrev pub piece_answer : Piece → JoinAnswer
+abbrev pub piece_answer : Piece → Result Unit JoinError
 piece_answer p = join_answer p.first p.second (length p.first)
 
 -- the answer for pieces of `size` ticks each, one after the other, where n ticks came before and had this answer
-unfoldable pub answer_from : ℕ → ℕ → JoinAnswer → List Piece → JoinAnswer
+unfoldable pub answer_from : ℕ → ℕ → Result Unit JoinError → List Piece → Result Unit JoinError
 answer_from size n answer [] = answer
 answer_from size n answer (p ∷ ps) = answer_from size (n + size) (pieced n answer (piece_answer p)) ps
 
@@ -76,7 +76,7 @@ pub data AllRead (size : ℕ) : List Piece → Type 0 where
       → AllRead size ps → AllRead size (p ∷ ps)
 
 pub record PiecesAre (size : ℕ) (ps : List Piece) : Type 0 where
-  pub answer : answer_from size 0 Joined ps ≡ join_answer (first_tap ps) (second_tap ps) (length (first_tap ps))
+  pub answer : answer_from size 0 (Ok tt) ps ≡ join_answer (first_tap ps) (second_tap ps) (length (first_tap ps))
   pub joined : length (first_tap ps) ≡ length (second_tap ps) → joined_pieces ps ≡ joined_of (first_tap ps) (second_tap ps)
 
 abbrev pub InPieces : Type 0

@@ -1,8 +1,8 @@
 -- Theorem: a tick's line has at most 900 bytes, so that with room for these nothing is left out.
-use Prim.Native.Nat.{ℕ, zero, suc, ◌+◌, ◌*◌, ◌≤◌}
+use Prim.Native.Nat.{ℕ, ◌*◌, ◌≤◌}
 use native.Mathlib.Omega.{arith}
 use mathlib.Core.Bool.{Bool, true, false}
-use mathlib.Core.Path.{◌≡◌, refl, sym, ap, ◌∙◌}
+use mathlib.Core.Path.{◌≡◌, refl, ap, ◌∙◌}
 use mathlib.Core.List.{List, [], ◌∷◌, ◌++◌}
 use lib.ListN.{length, take, length-append, length-take}
 use Rattle.base.specs.Choice.{when◌then◌else◌, ◌<?◌, ◌=?◌}
@@ -22,7 +22,7 @@ use Rattle.line.specs.declared.Whole.{Whole}
 use Rattle.player_listing.specs.Text.{type_name, master_digit, word}
 use Rattle.player_listing.proofs.Lengths.{if_most, decimal_most, type_most, word_length}
 use Rattle.texts.specs.Digits.{decimal, hexadecimal, spaced}
-use Rattle.texts.specs.Put.{Out, out_of, put}
+use Rattle.texts.specs.Put.{Out, out_of}
 use Rattle.texts.proofs.Puts.{put_front}
 use Rattle.recording_lines.specs.Claims.{LinesFit}
 use Rattle.recording_lines.specs.Lines.{ticks_text, broken_line, damaged_line, fields_text, whole_line, line_by, Kept, stepped, first_of, line_at, lines_from}

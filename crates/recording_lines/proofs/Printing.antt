@@ -1,11 +1,10 @@
 -- Laws of the lines as they are put into the output: a line part by part, a tick, and the loop over a piece.
-use Prim.Native.Nat.{ℕ, suc, ◌+◌, ◌-◌, ◌*◌, ◌/◌, ◌≤◌, ◌<◌}
+use Prim.Native.Nat.{ℕ, ◌+◌, ◌*◌, ◌/◌, ◌≤◌, ◌<◌}
 use native.Mathlib.Omega.{arith}
-use mathlib.Core.Bool.{Bool, true, false}
 use mathlib.Core.Path.{◌≡◌, refl, sym, ap, ap₂, subst, ◌∙◌}
 use mathlib.Core.List.{List, [], ◌∷◌, ◌++◌, append-nil, append_assoc}
 use lib.ListN.{length, take, drop, get_or}
-use Rattle.base.specs.Choice.{when◌then◌else◌, ◌=?◌}
+use Rattle.base.specs.Choice.{◌=?◌}
 use Rattle.base.proofs.Choices.{if_is_true, if_is_false}
 use borrow.Author.Tests.{eq-eqb, ne_eqb}
 use Rattle.frame.specs.declared.Header.{Header}
@@ -24,7 +23,7 @@ use Rattle.texts.proofs.Puts.{put_then, put_none, put_length}
 use Rattle.line.specs.Heard.{heard_of}
 use Rattle.recording.specs.Form.{ticks_of}
 use Rattle.recording.proofs.Forms.{ticks_on, ticks_over}
-use Rattle.recording_lines.specs.Lines.{ticks_text, broken_line, damaged_line, fields_text, whole_line, line_by, Kept, is_idle, first_of, next_tick, stepped, line_at, lines_from, kept_behind, start_of}
+use Rattle.recording_lines.specs.Lines.{ticks_text, broken_line, damaged_line, fields_text, whole_line, line_by, Kept, first_of, stepped, line_at, lines_from, kept_behind, start_of}
 use Rattle.recording_lines.specs.Promises.{keep, TickIs, LinesAre}
 use Rattle.recording_lines.specs.declared.Printed.{Printed}
 use Rattle.recording_lines.specs.declared.Progress.{Progress}

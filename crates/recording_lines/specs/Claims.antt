@@ -1,6 +1,6 @@
 -- How the code stands for what is to be believed.
 -- What is claimed of the lines and of the first bad tick: a recording may be read in pieces of any size, and nothing is left out of an output that has room for it.
-use Rattle.std.specs.Prelude.{ℕ, ◌+◌, ◌*◌, ◌≤◌, Bool, ◌≡◌, List, [], ◌∷◌, ◌++◌, length, take}
+use Rattle.std.specs.Prelude.{ℕ, ◌+◌, ◌*◌, ◌≤◌, ◌≡◌, List, ◌++◌, length, take}
 use Rattle.base.specs.Choice.{when◌then◌else◌}
 use Rattle.line.specs.declared.Heard.{Heard}
 use Rattle.recording.specs.Form.{ticks_of, bad_recording}

@@ -1,30 +1,27 @@
 -- Laws of a frame: what the tick reader finds from its parts on.
-use Prim.Native.Nat.{ℕ, zero, suc, ◌+◌, ◌-◌, ◌*◌, ◌/◌, ◌%◌, ◌≤◌, ◌<◌}
+use Rattle.std.specs.Prelude.{Result, Ok, Err, Option, Some, None}
+use Prim.Native.Nat.{ℕ, suc, ◌+◌, ◌-◌, ◌*◌, ◌/◌, ◌%◌, ◌≤◌, ◌<◌}
 use native.Mathlib.Omega.{arith}
 use mathlib.Core.Path.{◌≡◌, refl, sym, ap, ap₂, subst, ◌∙◌}
 use mathlib.Core.Bool.{Bool, true, false}
-use mathlib.Core.List.{List, [], ◌∷◌, ◌++◌}
+use mathlib.Core.List.{List, ◌++◌}
 use lib.Bits.{bit_xor}
-use lib.ListN.{length, drop, get_or}
+use lib.ListN.{length}
 use borrow.Author.Tests.{eq-eqb, ne_eqb, eqb-true, eqb-false, lt-ltb, le-ltb}
-use mir.Syntax.{w64}
-use mir.Val.{Fits}
 use Rattle.base.specs.Choice.{when◌then◌else◌, ◌=?◌, ◌<?◌}
 use Rattle.base.proofs.Choices.{if_is_true, if_is_false}
-use Rattle.frame.specs.Delimiter.{delimiter_of}
+use Rattle.frame.specs.Delimiter.{delimiter_of, delimiter_with}
 use Rattle.frame.specs.Frame.{too_few}
 use Rattle.frame.specs.declared.Delimiter.{Delimiter}
-use Rattle.frame.specs.declared.Delimiter.TheVariants.{Is, Not}
 use Rattle.line.specs.Gaps.{IsCharacter, is_sound, is_with_damage}
 use Rattle.line.specs.Reader.{idle, passing, blank, tells, breaks, begins, at_idle, at_preamble, at_count, at_check, counted, character, damaged, marked, kind_damaged, is_damaged, with_check, whole_of, ended, inside_frame, taken}
-use Rattle.line.specs.declared.Damage.{Damage}
 use Rattle.line.specs.declared.Event.{Event}
-use Rattle.line.specs.declared.Event.TheVariants.{Nothing, PassedOver, Broken, Frame}
+use Rattle.line.specs.declared.Event.TheVariants.{Nothing, Frame}
 use Rattle.line.specs.declared.FrameDamage.{FrameDamage}
 use Rattle.line.specs.declared.Heard.{Heard}
-use Rattle.line.specs.declared.Heard.TheVariants.{Silence, Character, Damaged}
+use Rattle.line.specs.declared.Heard.TheVariants.{Character, Damaged}
 use Rattle.line.specs.declared.Place.{Place}
-use Rattle.line.specs.declared.Place.TheVariants.{Passing, Idle, Preamble, First, Address, Expansion, Command, Count, Data, Check}
+use Rattle.line.specs.declared.Place.TheVariants.{Preamble, Count, Data, Check}
 use Rattle.line.specs.declared.Receiver.{Receiver}
 use Rattle.line.specs.declared.Taken.{Taken}
 use Rattle.line.specs.declared.Whole.{Whole}
@@ -32,17 +29,14 @@ use Rattle.line.proofs.Gaps.{Within}
 use Rattle.recording.specs.Form.{bad_recording}
 use Rattle.recording.specs.Recording.{TickIs}
 use Rattle.recording_list.specs.Claims.{summed_by, hurt_by}
-use Rattle.recording_list.specs.Listing.{entry, adds, found}
-use Rattle.recording_list.specs.Reading.{found_from, SilentTick, SoundTick, Reaches, at_once, behind_silence, NextAt, TwoSilent, NoMore, NextIs, harmed_by, Walk, no_character, one_more, WalkTo, WalkOver, RunIs, verdict_of, HeadPlace, at_first_place, at_address_place, at_expansion_place, at_command_place, at_count_place, TailPlace, at_data_place, at_check_place, Inside, InHead, InTail, EndsAt, OutcomeIs, TailIs, CountIs, HeadIs, FrameIs, in_preamble, MorePreamble, StepIs}
-use Rattle.recording_list.specs.declared.Next.{Next}
-use Rattle.recording_list.specs.declared.Next.TheVariants.{At, Broke, Over}
+use Rattle.recording_list.specs.Listing.{entry, adds}
+use Rattle.recording_list.specs.Reading.{found_from, SoundTick, Reaches, at_once, behind_silence, NextAt, NextIs, harmed_by, Walk, no_character, one_more, WalkTo, WalkOver, RunIs, verdict_of, HeadPlace, at_first_place, at_address_place, at_expansion_place, at_command_place, at_count_place, TailPlace, at_data_place, at_check_place, InHead, InTail, EndsAt, OutcomeIs, TailIs, CountIs, HeadIs, FrameIs, in_preamble}
 use Rattle.recording_list.specs.declared.Outcome.{Outcome}
-use Rattle.recording_list.specs.declared.Outcome.TheVariants.{Breaks, Cut}
+use Rattle.recording_list.specs.declared.Outcome.TheVariants.{Breaks}
 use Rattle.recording_list.specs.declared.Outcome.TheVariants as O
-use Rattle.recording_list.specs.declared.Step.{Step}
-use Rattle.recording_list.specs.declared.Step.TheVariants.{More, Ended}
 use Rattle.recording_list.specs.declared.Run.{Run}
-use Rattle.recording_list.specs.declared.Run.TheVariants.{To, RunBroke, RunOver}
+use Rattle.recording_list.specs.declared.Stop.{Stop}
+use Rattle.recording_list.specs.declared.Stop.TheVariants.{Broke, Over}
 use Rattle.recording_list.proofs.Walks.{sound_tick}
 use Rattle.recording_list.proofs.Readers.{found_at, found_over, SoundAs, as_character, as_damaged, SoundView, sound_view, reach_found, silent_found, over_found, HeadStep, head_step, TailStep, tail_step, tail_marked, harm_none, harm_some}
 
@@ -140,10 +134,11 @@ walk_within recording t s b (one_more walk reach k) h = omega (arith, k.within)
 
 -- ---- what an outcome says of an earlier tick
 
-earlier : (recording : List ℕ) (t u : ℕ) (l m : List ℕ) (o : Outcome) → t ≤ u → l ≡ m → OutcomeIs recording u m o → OutcomeIs recording t l o
-earlier recording t u l m (O.Ends w verdict) h e v = record { from = omega (arith, v.from); within = v.within; told = e ∙ v.told }
-earlier recording t u l m (Breaks w) h e v = record { from = omega (arith, v.from); within = v.within; told = e ∙ v.told }
-earlier recording t u l m Cut h e v = e ∙ v
+earlier : (recording : List ℕ) (t u : ℕ) (l m : List ℕ) (o : Result Outcome Stop) → t ≤ u → l ≡ m → OutcomeIs recording u m o → OutcomeIs recording t l o
+earlier recording t u l m (Ok (O.Ends w verdict)) h e v = record { from = omega (arith, v.from); within = v.within; told = e ∙ v.told }
+earlier recording t u l m (Ok (Breaks w)) h e v = record { from = omega (arith, v.from); within = v.within; told = e ∙ v.told }
+earlier recording t u l m (Err (Broke w)) h e v = record { from = omega (arith, v.from); within = v.within; told = e ∙ v.told }
+earlier recording t u l m (Err Over) h e v = e ∙ v
 
 -- ---- the check byte
 
@@ -254,11 +249,11 @@ last_step recording t s b count (one_more {u} {w} {n} {sum} {harm} walk reach k)
     same : (n count : ℕ) → n + 1 ≡ count + 1 → n ≡ count
     same n count e = omega arith
 
-pub tail_to : (recording : List ℕ) (t count s : ℕ) (b : Bool) (run : Run) (u all : ℕ) (hurt : Bool) (verdict : ℕ) (o : Outcome)
-    → bad_recording recording ≡ false → RunIs recording t (count + 1) s b run → run ≡ To u all hurt → verdict ≡ verdict_of all hurt → o ≡ O.Ends (u - 1) verdict → TailIs recording t count s b o
-tail_to recording t count s b run u all hurt verdict o g v e f k = record { each = each }
+pub tail_to : (recording : List ℕ) (t count s : ℕ) (b : Bool) (run : Result Run Stop) (q : Run) (verdict : ℕ) (o : Result Outcome Stop)
+    → bad_recording recording ≡ false → RunIs recording t (count + 1) s b run → run ≡ Ok q → verdict ≡ verdict_of q.sum q.harm → o ≡ Ok (O.Ends (q.end - 1) verdict) → TailIs recording t count s b o
+tail_to recording t count s b run q verdict o g v e f k = record { each = each }
   where
-    walk : Walk recording t s b u (count + 1) all hurt
+    walk : Walk recording t s b q.end (count + 1) q.sum q.harm
     walk = subst (RunIs recording t (count + 1) s b) e v
 
     none : (m : ℕ) → m - m ≡ 0
@@ -266,10 +261,10 @@ tail_to recording t count s b run u all hurt verdict o g v e f k = record { each
 
     each : (r : Receiver) → InTail count s b r → OutcomeIs recording t (found_from recording t r) o
     each r i =
-        let last : LastStep recording t s b u count all hurt = last_step recording t s b count walk refl in
+        let last : LastStep recording t s b q.end count q.sum q.harm = last_step recording t s b count walk refl in
         let w : TailWalked recording t last.place (count - count) last.so_far last.hurt r = tail_walk recording t count s b r g i last.walk (omega arith) in
         let at : InTail 0 last.so_far last.hurt w.reader = subst (λ (m : ℕ). InTail m last.so_far last.hurt w.reader) (none count) w.still in
-        let here : u - 1 ≡ last.tick = omega (arith, last.behind) in
+        let here : q.end - 1 ≡ last.tick = omega (arith, last.behind) in
         subst (OutcomeIs recording t (found_from recording t r)) (sym k)
         (record {
           from = omega (arith, here, walk_from recording t s b last.walk, reach_from recording last.place last.tick last.reach);
@@ -282,39 +277,41 @@ tail_to recording t count s b run u all hurt verdict o g v e f k = record { each
               ∙ ap (λ (x : ℕ). entry x verdict ++ found_from recording (x + 1) idle) (sym here);
         })
 
-pub tail_broke : (recording : List ℕ) (t count s : ℕ) (b : Bool) (run : Run) (u : ℕ) (o : Outcome)
-    → bad_recording recording ≡ false → RunIs recording t (count + 1) s b run → run ≡ RunBroke u → o ≡ O.Ends u 0 → TailIs recording t count s b o
-tail_broke recording t count s b run u o g v e k = record { each = each }
+tail_broke : (recording : List ℕ) (t count s : ℕ) (b : Bool) (u : ℕ) → bad_recording recording ≡ false → WalkTo recording t s b (count + 1) u → TailIs recording t count s b (Err (Broke u))
+tail_broke recording t count s b u g to = record { each = each }
   where
-    each : (r : Receiver) → InTail count s b r → OutcomeIs recording t (found_from recording t r) o
+    each : (r : Receiver) → InTail count s b r → OutcomeIs recording t (found_from recording t r) (Err (Broke u))
     each r i =
-        let to : WalkTo recording t s b (count + 1) u = subst (RunIs recording t (count + 1) s b) e v in
         let w : TailWalked recording t to.place (count - to.count) to.sum to.harm r = tail_walk recording t count s b r g i to.walk (omega (arith, to.fewer)) in
-        subst (OutcomeIs recording t (found_from recording t r)) (sym k)
-        (record {
+        record {
           from = omega (arith, walk_from recording t s b to.walk, to.two.next);
           within = to.two.second.within;
           told = w.same ∙ silent_found recording to.place u w.reader (tail_within (count - to.count) to.sum to.harm w.reader w.still) to.two;
-        })
+        }
 
-pub tail_over : (recording : List ℕ) (t count s : ℕ) (b : Bool) (run : Run) (o : Outcome)
-    → bad_recording recording ≡ false → RunIs recording t (count + 1) s b run → run ≡ RunOver → o ≡ Cut → TailIs recording t count s b o
-tail_over recording t count s b run o g v e k = record { each = each }
+tail_over : (recording : List ℕ) (t count s : ℕ) (b : Bool) → bad_recording recording ≡ false → WalkOver recording t s b (count + 1) → TailIs recording t count s b (Err Over)
+tail_over recording t count s b g to = record { each = each }
   where
-    each : (r : Receiver) → InTail count s b r → OutcomeIs recording t (found_from recording t r) o
+    each : (r : Receiver) → InTail count s b r → OutcomeIs recording t (found_from recording t r) (Err Over)
     each r i =
-        let to : WalkOver recording t s b (count + 1) = subst (RunIs recording t (count + 1) s b) e v in
         let w : TailWalked recording t to.place (count - to.count) to.sum to.harm r = tail_walk recording t count s b r g i to.walk (omega (arith, to.fewer)) in
-        subst (OutcomeIs recording t (found_from recording t r)) (sym k)
-        (w.same ∙ over_found recording to.place w.reader (tail_within (count - to.count) to.sum to.harm w.reader w.still) to.none)
+        w.same ∙ over_found recording to.place w.reader (tail_within (count - to.count) to.sum to.harm w.reader w.still) to.none
+
+tail_by : (recording : List ℕ) (t count s : ℕ) (b : Bool) (stop : Stop) → bad_recording recording ≡ false → RunIs recording t (count + 1) s b (Err stop) → TailIs recording t count s b (Err stop)
+tail_by recording t count s b (Broke u) g v = tail_broke recording t count s b u g v
+tail_by recording t count s b Over g v = tail_over recording t count s b g v
+
+pub tail_stop : (recording : List ℕ) (t count s : ℕ) (b : Bool) (run : Result Run Stop) (stop : Stop) (o : Result Outcome Stop)
+    → bad_recording recording ≡ false → RunIs recording t (count + 1) s b run → run ≡ Err stop → o ≡ Err stop → TailIs recording t count s b o
+tail_stop recording t count s b run stop o g v e k = subst (TailIs recording t count s b) (sym k) (tail_by recording t count s b stop g (subst (RunIs recording t (count + 1) s b) e v))
 
 -- a run of some characters goes on
-pub run_positive : (recording : List ℕ) (t count s : ℕ) (b : Bool) (run : Run) (u all : ℕ) (hurt : Bool) → RunIs recording t (count + 1) s b run → run ≡ To u all hurt → 1 ≤ u
-run_positive recording t count s b run u all hurt v e =
-    let walk : Walk recording t s b u (count + 1) all hurt = subst (RunIs recording t (count + 1) s b) e v in
+pub run_positive : (recording : List ℕ) (t count s : ℕ) (b : Bool) (run : Result Run Stop) (q : Run) → RunIs recording t (count + 1) s b run → run ≡ Ok q → 1 ≤ q.end
+run_positive recording t count s b run q v e =
+    let walk : Walk recording t s b q.end (count + 1) q.sum q.harm = subst (RunIs recording t (count + 1) s b) e v in
     omega (arith, walk_from recording t s b walk)
 
-pub ruleset tails = (refl, tail_to, tail_broke, tail_over, run_positive)
+pub ruleset tails = (refl, tail_to, tail_stop, run_positive)
 
 -- ---- the byte count
 
@@ -355,7 +352,7 @@ unfolding taken
 count_damaged frame s v b r i n h (as_character e) = absurd (n e)
 count_damaged frame s v b r i n h (as_damaged kind e) = ap (λ (p : Place). damaged p r (v / 256) kind) (count_place frame s b r i)
 
-pub count_hurt : (recording : List ℕ) (u v frame s : ℕ) (b : Bool) (o : Outcome) → bad_recording recording ≡ false → TickIs recording u v → (v ≡ 0 → ⊥) → 2 * u + 2 ≤ length recording → (v % 256 ≡ 32 → ⊥) → o ≡ Breaks u → CountIs recording u frame s b o
+pub count_hurt : (recording : List ℕ) (u v frame s : ℕ) (b : Bool) (o : Result Outcome Stop) → bad_recording recording ≡ false → TickIs recording u v → (v ≡ 0 → ⊥) → 2 * u + 2 ≤ length recording → (v % 256 ≡ 32 → ⊥) → o ≡ Ok (Breaks u) → CountIs recording u frame s b o
 count_hurt recording u v frame s b o g k n h d e = record {
   each = λ r i. subst (OutcomeIs recording u (found_from recording u r)) (sym e) (found_broken recording u r g (sound_tick recording u v k n h) (count_damaged frame s v b r i d));
 }
@@ -368,8 +365,8 @@ count_small frame s v b r i z f h (as_character e) =
     ∙ if_is_true (too_few r.header.kind (v / 256)) _ _ (ap (λ (x : ℕ). too_few x (v / 256)) i.of_frame ∙ f)
 count_small frame s v b r i z f h (as_damaged kind e) = absurd (e z)
 
-pub count_few : (recording : List ℕ) (u v frame s c : ℕ) (b few : Bool) (o : Outcome) → bad_recording recording ≡ false → TickIs recording u v → (v ≡ 0 → ⊥) → 2 * u + 2 ≤ length recording → v % 256 ≡ 32
-    → c ≡ v / 256 → few ≡ too_few frame c → few ≡ true → o ≡ Breaks u → CountIs recording u frame s b o
+pub count_few : (recording : List ℕ) (u v frame s c : ℕ) (b few : Bool) (o : Result Outcome Stop) → bad_recording recording ≡ false → TickIs recording u v → (v ≡ 0 → ⊥) → 2 * u + 2 ≤ length recording → v % 256 ≡ 32
+    → c ≡ v / 256 → few ≡ too_few frame c → few ≡ true → o ≡ Ok (Breaks u) → CountIs recording u frame s b o
 count_few recording u v frame s c b few o g k n h d q f z e = record {
   each = λ r i. subst (OutcomeIs recording u (found_from recording u r)) (sym e) (found_broken recording u r g (sound_tick recording u v k n h) (count_small frame s v b r i d (ap (too_few frame) (sym q) ∙ sym f ∙ z)));
 }
@@ -401,7 +398,7 @@ in_tail frame s c b r i = record { place = go (c =? 0) refl; inside = record { s
     go true z = at_check_place (if_is_true (c =? 0) Check (Data 0) z) (eqb-true c 0 z)
     go false z = at_data_place 0 (if_is_false (c =? 0) Check (Data 0) z) (omega (arith, eqb-false c 0 z)) (omega arith)
 
-pub count_goes : (recording : List ℕ) (u v frame s c x : ℕ) (b few : Bool) (o : Outcome) → bad_recording recording ≡ false → TickIs recording u v → (v ≡ 0 → ⊥) → 2 * u + 2 ≤ length recording → v % 256 ≡ 32
+pub count_goes : (recording : List ℕ) (u v frame s c x : ℕ) (b few : Bool) (o : Result Outcome Stop) → bad_recording recording ≡ false → TickIs recording u v → (v ≡ 0 → ⊥) → 2 * u + 2 ≤ length recording → v % 256 ≡ 32
     → c ≡ v / 256 → few ≡ too_few frame c → few ≡ false → x ≡ bit_xor s c → TailIs recording (u + 1) c x b o → CountIs recording u frame s b o
 count_goes recording u v frame s c x b few o g k n h d q f z y w = record { each = each }
   where
@@ -416,41 +413,37 @@ count_goes recording u v frame s c x b few o g k n h d q f z y w = record { each
 pub ruleset counts = (refl, count_hurt, count_few, count_goes)
 
 -- the tick of the byte count
-pub count_next : (recording : List ℕ) (t u frame s : ℕ) (b : Bool) (n : Next) (o : Outcome) → bad_recording recording ≡ false → NextIs recording t n → n ≡ At u → CountIs recording u frame s b o → CountIs recording t frame s b o
+pub count_next : (recording : List ℕ) (t u frame s : ℕ) (b : Bool) (n : Result ℕ Stop) (o : Result Outcome Stop) → bad_recording recording ≡ false → NextIs recording t n → n ≡ Ok u → CountIs recording u frame s b o → CountIs recording t frame s b o
 count_next recording t u frame s b n o g v e w =
     let next : NextAt recording t u = subst (NextIs recording t) e v in
     record {
       each = λ r i. earlier recording t u (found_from recording t r) (found_from recording u r) o (reach_from recording t u next.reaches) (reach_found recording t u r g (head_within frame 0 s b r i) next.reaches next.sound) (w.each r i);
     }
 
-pub count_broke : (recording : List ℕ) (t u frame s : ℕ) (b : Bool) (n : Next) (o : Outcome) → NextIs recording t n → n ≡ Broke u → o ≡ O.Ends u 0 → CountIs recording t frame s b o
-count_broke recording t u frame s b n o v e k =
-    let two : TwoSilent recording t u = subst (NextIs recording t) e v in
-    record {
-      each = λ r i. subst (OutcomeIs recording t (found_from recording t r)) (sym k)
-          (record { from = omega (arith, two.next); within = two.second.within; told = silent_found recording t u r (head_within frame 0 s b r i) two });
-    }
-
-pub count_over : (recording : List ℕ) (t frame s : ℕ) (b : Bool) (n : Next) (o : Outcome) → NextIs recording t n → n ≡ Over → o ≡ Cut → CountIs recording t frame s b o
-count_over recording t frame s b n o v e k = record {
-  each = λ r i. subst (OutcomeIs recording t (found_from recording t r)) (sym k) (over_found recording t r (head_within frame 0 s b r i) (subst (NextIs recording t) e v));
+count_by : (recording : List ℕ) (t frame s : ℕ) (b : Bool) (stop : Stop) → NextIs recording t (Err stop) → CountIs recording t frame s b (Err stop)
+count_by recording t frame s b (Broke u) two = record {
+  each = λ r i. record { from = omega (arith, two.next); within = two.second.within; told = silent_found recording t u r (head_within frame 0 s b r i) two };
 }
+count_by recording t frame s b Over none = record { each = λ r i. over_found recording t r (head_within frame 0 s b r i) none }
+
+pub count_stop : (recording : List ℕ) (t frame s : ℕ) (b : Bool) (n : Result ℕ Stop) (stop : Stop) (o : Result Outcome Stop) → NextIs recording t n → n ≡ Err stop → o ≡ Err stop → CountIs recording t frame s b o
+count_stop recording t frame s b n stop o v e k = subst (CountIs recording t frame s b) (sym k) (count_by recording t frame s b stop (subst (NextIs recording t) e v))
 
 -- what a call asks of the tick that was found
-pub next_sounds : (recording : List ℕ) (t u v : ℕ) (n : Next) → NextIs recording t n → n ≡ At u → TickIs recording u v → v ≡ 0 → ⊥
+pub next_sounds : (recording : List ℕ) (t u v : ℕ) (n : Result ℕ Stop) → NextIs recording t n → n ≡ Ok u → TickIs recording u v → v ≡ 0 → ⊥
 next_sounds recording t u v n w e k z =
     let next : NextAt recording t u = subst (NextIs recording t) e w in
     next.sound.sounds (omega (arith, next.sound.tick.first, next.sound.tick.character, k.first, k.character))
 
-pub ruleset next_counts = (refl, count_next, count_broke, count_over, next_sounds)
+pub ruleset next_counts = (refl, count_next, count_stop, next_sounds)
 
 -- ---- from the delimiter on
 
-pub head_to : (recording : List ℕ) (t frame need s : ℕ) (run : Run) (u all : ℕ) (hurt : Bool) (o : Outcome) → bad_recording recording ≡ false → RunIs recording t need s false run → run ≡ To u all hurt
-    → CountIs recording u frame all hurt o → HeadIs recording t frame need s o
-head_to recording t frame need s run u all hurt o g v e c = record { each = each }
+pub head_to : (recording : List ℕ) (t frame need s : ℕ) (run : Result Run Stop) (q : Run) (o : Result Outcome Stop) → bad_recording recording ≡ false → RunIs recording t need s false run → run ≡ Ok q
+    → CountIs recording q.end frame q.sum q.harm o → HeadIs recording t frame need s o
+head_to recording t frame need s run q o g v e c = record { each = each }
   where
-    walk : Walk recording t s false u need all hurt
+    walk : Walk recording t s false q.end need q.sum q.harm
     walk = subst (RunIs recording t need s false) e v
 
     none : (m : ℕ) → m - m ≡ 0
@@ -458,59 +451,62 @@ head_to recording t frame need s run u all hurt o g v e c = record { each = each
 
     each : (r : Receiver) → InHead frame need s false r → OutcomeIs recording t (found_from recording t r) o
     each r i =
-        let w : HeadWalked recording t u frame (need - need) all hurt r = head_walk recording t frame need s false r g i walk (omega arith) in
-        earlier recording t u (found_from recording t r) (found_from recording u w.reader) o (omega (arith, walk_from recording t s false walk)) w.same
-        (c.each w.reader (subst (λ (m : ℕ). InHead frame m all hurt w.reader) (none need) w.still))
+        let w : HeadWalked recording t q.end frame (need - need) q.sum q.harm r = head_walk recording t frame need s false r g i walk (omega arith) in
+        earlier recording t q.end (found_from recording t r) (found_from recording q.end w.reader) o (omega (arith, walk_from recording t s false walk)) w.same
+        (c.each w.reader (subst (λ (m : ℕ). InHead frame m q.sum q.harm w.reader) (none need) w.still))
 
-pub head_broke : (recording : List ℕ) (t frame need s : ℕ) (run : Run) (u : ℕ) (o : Outcome) → bad_recording recording ≡ false → RunIs recording t need s false run → run ≡ RunBroke u → o ≡ O.Ends u 0 → HeadIs recording t frame need s o
-head_broke recording t frame need s run u o g v e k = record { each = each }
+head_broke : (recording : List ℕ) (t frame need s u : ℕ) → bad_recording recording ≡ false → WalkTo recording t s false need u → HeadIs recording t frame need s (Err (Broke u))
+head_broke recording t frame need s u g to = record { each = each }
   where
-    each : (r : Receiver) → InHead frame need s false r → OutcomeIs recording t (found_from recording t r) o
+    each : (r : Receiver) → InHead frame need s false r → OutcomeIs recording t (found_from recording t r) (Err (Broke u))
     each r i =
-        let to : WalkTo recording t s false need u = subst (RunIs recording t need s false) e v in
         let w : HeadWalked recording t to.place frame (need - to.count) to.sum to.harm r = head_walk recording t frame need s false r g i to.walk (omega (arith, to.fewer)) in
-        subst (OutcomeIs recording t (found_from recording t r)) (sym k)
-        (record {
+        record {
           from = omega (arith, walk_from recording t s false to.walk, to.two.next);
           within = to.two.second.within;
           told = w.same ∙ silent_found recording to.place u w.reader (head_within frame (need - to.count) to.sum to.harm w.reader w.still) to.two;
-        })
+        }
 
-pub head_over : (recording : List ℕ) (t frame need s : ℕ) (run : Run) (o : Outcome) → bad_recording recording ≡ false → RunIs recording t need s false run → run ≡ RunOver → o ≡ Cut → HeadIs recording t frame need s o
-head_over recording t frame need s run o g v e k = record { each = each }
+head_over : (recording : List ℕ) (t frame need s : ℕ) → bad_recording recording ≡ false → WalkOver recording t s false need → HeadIs recording t frame need s (Err Over)
+head_over recording t frame need s g to = record { each = each }
   where
-    each : (r : Receiver) → InHead frame need s false r → OutcomeIs recording t (found_from recording t r) o
+    each : (r : Receiver) → InHead frame need s false r → OutcomeIs recording t (found_from recording t r) (Err Over)
     each r i =
-        let to : WalkOver recording t s false need = subst (RunIs recording t need s false) e v in
         let w : HeadWalked recording t to.place frame (need - to.count) to.sum to.harm r = head_walk recording t frame need s false r g i to.walk (omega (arith, to.fewer)) in
-        subst (OutcomeIs recording t (found_from recording t r)) (sym k)
-        (w.same ∙ over_found recording to.place w.reader (head_within frame (need - to.count) to.sum to.harm w.reader w.still) to.none)
+        w.same ∙ over_found recording to.place w.reader (head_within frame (need - to.count) to.sum to.harm w.reader w.still) to.none
 
-pub ruleset heads = (refl, head_to, head_broke, head_over)
+head_by : (recording : List ℕ) (t frame need s : ℕ) (stop : Stop) → bad_recording recording ≡ false → RunIs recording t need s false (Err stop) → HeadIs recording t frame need s (Err stop)
+head_by recording t frame need s (Broke u) g v = head_broke recording t frame need s u g v
+head_by recording t frame need s Over g v = head_over recording t frame need s g v
+
+pub head_stop : (recording : List ℕ) (t frame need s : ℕ) (run : Result Run Stop) (stop : Stop) (o : Result Outcome Stop) → bad_recording recording ≡ false → RunIs recording t need s false run → run ≡ Err stop → o ≡ Err stop → HeadIs recording t frame need s o
+head_stop recording t frame need s run stop o g v e k = subst (HeadIs recording t frame need s) (sym k) (head_by recording t frame need s stop g (subst (RunIs recording t need s false) e v))
+
+pub ruleset heads = (refl, head_to, head_stop)
 
 -- ---- the delimiter
 
 -- the reader behind a delimiter
 abbrev pub begun_by : ℕ → ℕ → Bool → ℕ → Receiver
-begun_by c frame long expansion = (begins c (Is frame long expansion)).receiver
+begun_by c frame long expansion = (begins c (delimiter_with frame long expansion)).receiver
 
 pub begun_head : (c frame expansion n : ℕ) (long : Bool) → n ≡ (when long then 6 else 2) + expansion → InHead frame n c false (begun_by c frame long expansion)
 unfolding when◌then◌else◌
 begun_head c frame expansion n long e = record { place = at_first_place refl e; of_frame = refl; inside = record { summed = refl; harmed = refl; unchecked = refl; no_gap = refl } }
 
-begins_by : (c : ℕ) (d : Delimiter) → (c ≡ 255 → ⊥) → d ≡ delimiter_of c → taken (blank (Preamble 2)) (Character c) ≡ begins c d
+begins_by : (c : ℕ) (d : Option Delimiter) → (c ≡ 255 → ⊥) → d ≡ delimiter_of c → taken (blank (Preamble 2)) (Character c) ≡ begins c d
 unfolding taken at_preamble
 begins_by c d n e = if_is_false (c =? 0xFF) _ _ (ne_eqb c 255 n) ∙ if_is_false (2 <? 2) _ _ (le-ltb 2 2 (omega arith)) ∙ ap (begins c) (sym e)
 
 -- 0xFF is no delimiter
-no_delimiter : delimiter_of 255 ≡ Not
+no_delimiter : delimiter_of 255 ≡ None
 unfolding delimiter_of when◌then◌else◌
 no_delimiter = refl
 
-pub delimiter_on : (c frame expansion : ℕ) (long : Bool) → delimiter_of c ≡ Is frame long expansion → taken (blank (Preamble 2)) (Character c) ≡ tells (begun_by c frame long expansion) Nothing
-delimiter_on c frame expansion long e = begins_by c (Is frame long expansion) (λ z. let k : ◌≡◌ {A = ℕ} 0 1 = cc (no_delimiter, ap delimiter_of z, e) in omega arith) (sym e)
+pub delimiter_on : (c frame expansion : ℕ) (long : Bool) → delimiter_of c ≡ delimiter_with frame long expansion → taken (blank (Preamble 2)) (Character c) ≡ tells (begun_by c frame long expansion) Nothing
+delimiter_on c frame expansion long e = begins_by c (delimiter_with frame long expansion) (λ z. let k : ◌≡◌ {A = ℕ} 0 1 = cc (no_delimiter, ap delimiter_of z, e) in omega arith) (sym e)
 
-delimiter_taken : (v : ℕ) (d : Delimiter) → v % 256 ≡ 32 → (v / 256 ≡ 255 → ⊥) → d ≡ delimiter_of (v / 256) → (h : Heard) → SoundAs v h → taken (blank (Preamble 2)) h ≡ begins (v / 256) d
+delimiter_taken : (v : ℕ) (d : Option Delimiter) → v % 256 ≡ 32 → (v / 256 ≡ 255 → ⊥) → d ≡ delimiter_of (v / 256) → (h : Heard) → SoundAs v h → taken (blank (Preamble 2)) h ≡ begins (v / 256) d
 delimiter_taken v d z n e h (as_character k) = begins_by (v / 256) d n e
 delimiter_taken v d z n e h (as_damaged kind k) = absurd (k z)
 
@@ -528,26 +524,26 @@ not_two two e = if_is_false two (blank (Preamble 2)) (blank (Preamble 1)) e
 abbrev sound_number : (recording : List ℕ) (u v : ℕ) → TickIs recording u v → v % 256 ≡ 32 → 2 * u + 2 ≤ length recording → SoundTick recording u
 sound_number recording u v k z h = record { number = v; tick = k; sounds = λ e. absurd (omega arith); within = h }
 
-pub delimiter_is : (recording : List ℕ) (u v c frame expansion n : ℕ) (two long : Bool) (d : Delimiter) (o : Outcome) → bad_recording recording ≡ false → TickIs recording u v → 2 * u + 2 ≤ length recording → v % 256 ≡ 32 → (v / 256 ≡ 255 → ⊥)
-    → two ≡ true → c ≡ v / 256 → d ≡ delimiter_of c → d ≡ Is frame long expansion → n ≡ (when long then 6 else 2) + expansion → HeadIs recording (u + 1) frame n c o → FrameIs recording u (in_preamble two) o
-delimiter_is recording u v c frame expansion n two long d o g k h z m t q e f l w = record {
+pub delimiter_is : (recording : List ℕ) (u v c n : ℕ) (two : Bool) (d : Option Delimiter) (x : Delimiter) (o : Result Outcome Stop) → bad_recording recording ≡ false → TickIs recording u v → 2 * u + 2 ≤ length recording → v % 256 ≡ 32 → (v / 256 ≡ 255 → ⊥)
+    → two ≡ true → c ≡ v / 256 → d ≡ delimiter_of c → d ≡ Some x → n ≡ (when x.long then 6 else 2) + x.expansion → HeadIs recording (u + 1) x.kind n c o → FrameIs recording u (in_preamble two) o
+delimiter_is recording u v c n two d x o g k h z m t q e f l w = record {
   this = subst (λ (r : Receiver). OutcomeIs recording u (found_from recording u r) o) (sym (two_preambles two t))
-      (earlier recording u (u + 1) (found_from recording u (blank (Preamble 2))) (found_from recording (u + 1) (begun_by (v / 256) frame long expansion)) o (omega arith)
-      (found_on recording u (blank (Preamble 2)) (begun_by (v / 256) frame long expansion) g (sound_number recording u v k z h)
-      (delimiter_taken v (Is frame long expansion) z m (sym f ∙ e ∙ ap delimiter_of q)))
-      (w.each (begun_by (v / 256) frame long expansion) (subst (λ (x : ℕ). InHead frame n x false (begun_by (v / 256) frame long expansion)) (sym q) (begun_head (v / 256) frame expansion n long l))));
+      (earlier recording u (u + 1) (found_from recording u (blank (Preamble 2))) (found_from recording (u + 1) (begun_by (v / 256) x.kind x.long x.expansion)) o (omega arith)
+      (found_on recording u (blank (Preamble 2)) (begun_by (v / 256) x.kind x.long x.expansion) g (sound_number recording u v k z h)
+      (delimiter_taken v (Some x) z m (sym f ∙ e ∙ ap delimiter_of q)))
+      (w.each (begun_by (v / 256) x.kind x.long x.expansion) (subst (λ (y : ℕ). InHead x.kind n y false (begun_by (v / 256) x.kind x.long x.expansion)) (sym q) (begun_head (v / 256) x.kind x.expansion n x.long l))));
 }
 
-pub delimiter_not : (recording : List ℕ) (u v c : ℕ) (two : Bool) (d : Delimiter) (o : Outcome) → bad_recording recording ≡ false → TickIs recording u v → 2 * u + 2 ≤ length recording → v % 256 ≡ 32 → (v / 256 ≡ 255 → ⊥)
-    → two ≡ true → c ≡ v / 256 → d ≡ delimiter_of c → d ≡ Not → o ≡ Breaks u → FrameIs recording u (in_preamble two) o
+pub delimiter_not : (recording : List ℕ) (u v c : ℕ) (two : Bool) (d : Option Delimiter) (o : Result Outcome Stop) → bad_recording recording ≡ false → TickIs recording u v → 2 * u + 2 ≤ length recording → v % 256 ≡ 32 → (v / 256 ≡ 255 → ⊥)
+    → two ≡ true → c ≡ v / 256 → d ≡ delimiter_of c → d ≡ None → o ≡ Ok (Breaks u) → FrameIs recording u (in_preamble two) o
 delimiter_not recording u v c two d o g k h z m t q e f w = record {
   this = subst (λ (r : Receiver). OutcomeIs recording u (found_from recording u r) o) (sym (two_preambles two t))
       (subst (OutcomeIs recording u (found_from recording u (blank (Preamble 2)))) (sym w)
-      (found_broken recording u (blank (Preamble 2)) g (sound_number recording u v k z h) (delimiter_taken v Not z m (sym f ∙ e ∙ ap delimiter_of q))));
+      (found_broken recording u (blank (Preamble 2)) g (sound_number recording u v k z h) (delimiter_taken v None z m (sym f ∙ e ∙ ap delimiter_of q))));
 }
 
-pub delimiter_early : (recording : List ℕ) (u v : ℕ) (two : Bool) (o : Outcome) → bad_recording recording ≡ false → TickIs recording u v → 2 * u + 2 ≤ length recording → v % 256 ≡ 32 → (v / 256 ≡ 255 → ⊥)
-    → two ≡ false → o ≡ Breaks u → FrameIs recording u (in_preamble two) o
+pub delimiter_early : (recording : List ℕ) (u v : ℕ) (two : Bool) (o : Result Outcome Stop) → bad_recording recording ≡ false → TickIs recording u v → 2 * u + 2 ≤ length recording → v % 256 ≡ 32 → (v / 256 ≡ 255 → ⊥)
+    → two ≡ false → o ≡ Ok (Breaks u) → FrameIs recording u (in_preamble two) o
 delimiter_early recording u v two o g k h z m t w = record {
   this = subst (λ (r : Receiver). OutcomeIs recording u (found_from recording u r) o) (sym (not_two two t))
       (subst (OutcomeIs recording u (found_from recording u (blank (Preamble 1)))) (sym w)
@@ -598,7 +594,7 @@ preamble_reach : (recording : List ℕ) (t u : ℕ) (two : Bool) → bad_recordi
 preamble_reach recording t u two g n = reach_found recording t u (in_preamble two) g (preamble_within two) n.reaches n.sound
 
 -- another character
-pub other_hurt : (recording : List ℕ) (u v : ℕ) (two : Bool) (o : Outcome) → bad_recording recording ≡ false → TickIs recording u v → (v ≡ 0 → ⊥) → 2 * u + 2 ≤ length recording → (v % 256 ≡ 32 → ⊥) → o ≡ Breaks u → FrameIs recording u (in_preamble two) o
+pub other_hurt : (recording : List ℕ) (u v : ℕ) (two : Bool) (o : Result Outcome Stop) → bad_recording recording ≡ false → TickIs recording u v → (v ≡ 0 → ⊥) → 2 * u + 2 ≤ length recording → (v % 256 ≡ 32 → ⊥) → o ≡ Ok (Breaks u) → FrameIs recording u (in_preamble two) o
 other_hurt recording u v two o g k n h d f = record {
   this = subst (OutcomeIs recording u (found_from recording u (in_preamble two))) (sym f) (found_broken recording u (in_preamble two) g (sound_tick recording u v k n h) (preamble_hurt v two d));
 }
@@ -608,82 +604,53 @@ other_sound v n e f = n (omega arith)
 
 pub ruleset others = (refl, other_hurt, other_sound)
 
--- a step in the preamble
-pub step_more : (recording : List ℕ) (u v : ℕ) (two : Bool) (x : Step) → bad_recording recording ≡ false → SoundTick recording u → TickIs recording u v → v ≡ 65312 → x ≡ More (u + 1) → StepIs recording u two x
-step_more recording u v two x g s k e f =
-    subst (StepIs recording u two) (sym f)
-    (record {
-      onward = omega arith;
-      within = omega (arith, s.within);
-      same = found_on recording u (in_preamble two) (blank (Preamble 2)) g (sound_number recording u v k (omega arith) s.within) (more_preamble v two (omega arith) (omega arith));
-    })
-
-pub step_ended : (recording : List ℕ) (u : ℕ) (two : Bool) (o : Outcome) (x : Step) → FrameIs recording u (in_preamble two) o → x ≡ Ended o → StepIs recording u two x
-step_ended recording u two o x v f = subst (StepIs recording u two) (sym f) v
-
-pub step_within : (recording : List ℕ) (u : ℕ) → SoundTick recording u → 2 * u + 2 ≤ length recording
-step_within recording u s = s.within
-
-pub step_fits : (recording : List ℕ) (u : ℕ) → SoundTick recording u → Fits w64 (length recording) → Fits w64 (u + 1)
-step_fits recording u s h = omega (arith, h, s.within)
-
-pub step_sounds : (recording : List ℕ) (u v : ℕ) → SoundTick recording u → TickIs recording u v → v ≡ 0 → ⊥
-step_sounds recording u v s k z = s.sounds (omega (arith, s.tick.first, s.tick.character, k.first, k.character))
-
-pub ruleset steps = (refl, step_more, step_ended, step_within, step_fits, step_sounds)
-
--- the same from before a silent tick that is passed over
-step_earlier : (recording : List ℕ) (t u : ℕ) (two : Bool) (x : Step) → t ≤ u → found_from recording t (in_preamble two) ≡ found_from recording u (in_preamble two) → StepIs recording u two x → StepIs recording t two x
-step_earlier recording t u two (More w) h e v = record { onward = omega (arith, v.onward); within = v.within; same = e ∙ v.same }
-step_earlier recording t u two (Ended o) h e v = record { this = earlier recording t u _ _ o h e v.this }
-
-pub step_next : (recording : List ℕ) (t u : ℕ) (two : Bool) (n : Next) (x : Step) → bad_recording recording ≡ false → NextIs recording t n → n ≡ At u → StepIs recording u two x → StepIs recording t two x
-step_next recording t u two n x g w e v =
-    let next : NextAt recording t u = subst (NextIs recording t) e w in
-    step_earlier recording t u two x (reach_from recording t u next.reaches) (preamble_reach recording t u two g next) v
-
-pub step_sound : (recording : List ℕ) (t u : ℕ) (n : Next) → NextIs recording t n → n ≡ At u → SoundTick recording u
-step_sound recording t u n w e =
+-- the loop: its next character
+pub loop_sound : (recording : List ℕ) (t u : ℕ) (n : Result ℕ Stop) → NextIs recording t n → n ≡ Ok u → SoundTick recording u
+loop_sound recording t u n w e =
     let next : NextAt recording t u = subst (NextIs recording t) e w in
     next.sound
 
-pub step_broke : (recording : List ℕ) (t u : ℕ) (two : Bool) (n : Next) (o : Outcome) → NextIs recording t n → n ≡ Broke u → o ≡ O.Ends u 0 → FrameIs recording t (in_preamble two) o
-step_broke recording t u two n o w e f =
-    let silent : TwoSilent recording t u = subst (NextIs recording t) e w in
-    record {
-      this = subst (OutcomeIs recording t (found_from recording t (in_preamble two))) (sym f)
-          (record { from = omega (arith, silent.next); within = silent.second.within; told = silent_found recording t u (in_preamble two) (preamble_within two) silent });
-    }
-
-pub step_over : (recording : List ℕ) (t : ℕ) (two : Bool) (n : Next) (o : Outcome) → NextIs recording t n → n ≡ Over → o ≡ Cut → FrameIs recording t (in_preamble two) o
-step_over recording t two n o w e f = record {
-  this = subst (OutcomeIs recording t (found_from recording t (in_preamble two))) (sym f) (over_found recording t (in_preamble two) (preamble_within two) (subst (NextIs recording t) e w));
-}
-
-pub ruleset next_steps = (refl, step_next, step_sound, step_broke, step_over)
-
--- the loop
-pub preamble_more : (recording : List ℕ) (r : Receiver) (from ticks t u : ℕ) (two now : Bool) (x : Step) → Preambling recording from r ticks t two → StepIs recording t two x → x ≡ More u → now ≡ true → Preambling recording from r ticks u now
-preamble_more recording r from ticks t u two now x p v e y =
-    let more : MorePreamble recording t two u = subst (StepIs recording t two) e v in
+pub preamble_more : (recording : List ℕ) (r : Receiver) (from ticks t u v : ℕ) (two now : Bool) (n : Result ℕ Stop) → Preambling recording from r ticks t two → bad_recording recording ≡ false → NextIs recording t n → n ≡ Ok u
+    → TickIs recording u v → v ≡ 65312 → now ≡ true → Preambling recording from r ticks (u + 1) now
+preamble_more recording r from ticks t u v two now n p g w e k f y =
+    let next : NextAt recording t u = subst (NextIs recording t) e w in
     record {
       count = p.count;
-      onward = omega (arith, p.onward, more.onward);
-      within = more.within;
-      same = p.same ∙ more.same ∙ ap (found_from recording u) (sym (two_preambles now y));
+      onward = omega (arith, p.onward, reach_from recording t u next.reaches);
+      within = omega (arith, next.sound.within);
+      same = p.same
+          ∙ preamble_reach recording t u two g next
+          ∙ found_on recording u (in_preamble two) (blank (Preamble 2)) g (sound_number recording u v k (omega arith) next.sound.within) (more_preamble v two (omega arith) (omega arith))
+          ∙ ap (found_from recording (u + 1)) (sym (two_preambles now y));
     }
 
-pub preamble_less : (recording : List ℕ) (ticks t u : ℕ) (two : Bool) (x : Step) → StepIs recording t two x → x ≡ More u → t < ticks → ticks - u < ticks - t
-preamble_less recording ticks t u two x v e h =
-    let more : MorePreamble recording t two u = subst (StepIs recording t two) e v in
-    omega (arith, more.onward)
+pub preamble_less : (recording : List ℕ) (ticks t u : ℕ) (n : Result ℕ Stop) → NextIs recording t n → n ≡ Ok u → t < ticks → ticks - (u + 1) < ticks - t
+preamble_less recording ticks t u n w e h =
+    let next : NextAt recording t u = subst (NextIs recording t) e w in
+    omega (arith, reach_from recording t u next.reaches)
 
-pub preamble_ends : (recording : List ℕ) (r : Receiver) (from ticks t : ℕ) (two : Bool) (o : Outcome) (x : Step) → Preambling recording from r ticks t two → StepIs recording t two x → x ≡ Ended o → FrameIs recording from r o
-preamble_ends recording r from ticks t two o x p v e =
-    let frame : FrameIs recording t (in_preamble two) o = subst (StepIs recording t two) e v in
-    record { this = earlier recording from t _ (found_from recording t (in_preamble two)) o p.onward p.same frame.this }
+-- another character than 0xFF
+pub preamble_other : (recording : List ℕ) (r : Receiver) (from ticks t u : ℕ) (two : Bool) (n : Result ℕ Stop) (o : Result Outcome Stop) → Preambling recording from r ticks t two → bad_recording recording ≡ false → NextIs recording t n → n ≡ Ok u
+    → FrameIs recording u (in_preamble two) o → FrameIs recording from r o
+preamble_other recording r from ticks t u two n o p g w e f =
+    let next : NextAt recording t u = subst (NextIs recording t) e w in
+    record {
+      this = earlier recording from u _ (found_from recording u (in_preamble two)) o (omega (arith, p.onward, reach_from recording t u next.reaches)) (p.same ∙ preamble_reach recording t u two g next) f.this;
+    }
 
-pub preamble_cut : (recording : List ℕ) (r : Receiver) (from ticks t : ℕ) (two : Bool) (o : Outcome) → Preambling recording from r ticks t two → ticks ≤ t → o ≡ Cut → FrameIs recording from r o
+-- no character
+preamble_by : (recording : List ℕ) (t : ℕ) (two : Bool) (stop : Stop) → NextIs recording t (Err stop) → FrameIs recording t (in_preamble two) (Err stop)
+preamble_by recording t two (Broke u) silent = record {
+  this = record { from = omega (arith, silent.next); within = silent.second.within; told = silent_found recording t u (in_preamble two) (preamble_within two) silent };
+}
+preamble_by recording t two Over none = record { this = over_found recording t (in_preamble two) (preamble_within two) none }
+
+pub preamble_stop : (recording : List ℕ) (r : Receiver) (from ticks t : ℕ) (two : Bool) (n : Result ℕ Stop) (stop : Stop) (o : Result Outcome Stop) → Preambling recording from r ticks t two → NextIs recording t n → n ≡ Err stop → o ≡ Err stop → FrameIs recording from r o
+preamble_stop recording r from ticks t two n stop o p w e f =
+    let frame : FrameIs recording t (in_preamble two) (Err stop) = preamble_by recording t two stop (subst (NextIs recording t) e w) in
+    subst (FrameIs recording from r) (sym f) (record { this = earlier recording from t _ (found_from recording t (in_preamble two)) (Err stop) p.onward p.same frame.this })
+
+pub preamble_cut : (recording : List ℕ) (r : Receiver) (from ticks t : ℕ) (two : Bool) (o : Result Outcome Stop) → Preambling recording from r ticks t two → ticks ≤ t → o ≡ Err Over → FrameIs recording from r o
 preamble_cut recording r from ticks t two o p h f = record {
   this = subst (OutcomeIs recording from (found_from recording from r)) (sym f) (p.same ∙ found_over recording t (in_preamble two) (omega (arith, p.count)));
 }
@@ -699,12 +666,12 @@ preamble_fast recording r from ticks t v two now p g h k e y = record {
       ∙ ap (found_from recording (t + 1)) (sym (two_preambles now y));
 }
 
-pub preamble_handed : (recording : List ℕ) (r : Receiver) (from ticks t : ℕ) (two : Bool) (o : Outcome) → Preambling recording from r ticks t two → FrameIs recording t (in_preamble two) o → FrameIs recording from r o
+pub preamble_handed : (recording : List ℕ) (r : Receiver) (from ticks t : ℕ) (two : Bool) (o : Result Outcome Stop) → Preambling recording from r ticks t two → FrameIs recording t (in_preamble two) o → FrameIs recording from r o
 preamble_handed recording r from ticks t two o p f = record { this = earlier recording from t _ (found_from recording t (in_preamble two)) o p.onward p.same f.this }
 
 pub ruleset fast_preambles = (refl, preamble_begun, preamble_fast, preamble_handed, preamble_cut)
 
-pub ruleset preambles = (refl, preamble_less, preamble_resumed, preamble_more, preamble_ends, preamble_cut)
+pub ruleset preambles = (refl, preamble_less, preamble_resumed, preamble_more, preamble_other, preamble_stop, preamble_cut, loop_sound, next_sounds)
 
 -- ---- a frame's first character
 
@@ -726,24 +693,36 @@ unfolding taken
 first_hurt v n h (as_character k) = absurd (n k)
 first_hurt v n h (as_damaged kind k) = refl
 
-pub frame_begins : (recording : List ℕ) (t v : ℕ) (o : Outcome) → bad_recording recording ≡ false → SoundTick recording t → TickIs recording t v → v % 256 ≡ 32 → v / 256 ≡ 255 → FrameIs recording (t + 1) (blank (Preamble 1)) o → FrameIs recording t idle o
-frame_begins recording t v o g s k z n f = record {
+pub frame_begins : (recording : List ℕ) (t v : ℕ) (o : Result Outcome Stop) → bad_recording recording ≡ false → SoundTick recording t → TickIs recording t v → v ≡ 65312 → FrameIs recording (t + 1) (blank (Preamble 1)) o → FrameIs recording t idle o
+frame_begins recording t v o g s k z f = record {
   this = earlier recording t (t + 1) _ (found_from recording (t + 1) (blank (Preamble 1))) o (omega arith)
-      (found_on recording t idle (blank (Preamble 1)) g (sound_number recording t v k z s.within) (first_taken v z n)) f.this;
+      (found_on recording t idle (blank (Preamble 1)) g (sound_number recording t v k (omega arith) s.within) (first_taken v (omega arith) (omega arith))) f.this;
 }
 
-pub frame_other : (recording : List ℕ) (t v : ℕ) (o : Outcome) → bad_recording recording ≡ false → SoundTick recording t → TickIs recording t v → v % 256 ≡ 32 → (v / 256 ≡ 255 → ⊥) → o ≡ Breaks t → FrameIs recording t idle o
-frame_other recording t v o g s k z n f = record {
+frame_sound : (recording : List ℕ) (t v : ℕ) (o : Result Outcome Stop) → bad_recording recording ≡ false → SoundTick recording t → TickIs recording t v → v % 256 ≡ 32 → (v / 256 ≡ 255 → ⊥) → o ≡ Ok (Breaks t) → FrameIs recording t idle o
+frame_sound recording t v o g s k z n f = record {
   this = subst (OutcomeIs recording t (found_from recording t idle)) (sym f) (found_broken recording t idle g (sound_number recording t v k z s.within) (first_other v z n));
 }
 
 same_tick : (recording : List ℕ) (t v : ℕ) (s : SoundTick recording t) → TickIs recording t v → v ≡ s.number
 same_tick recording t v s k = omega (arith, k.first, k.character, s.tick.first, s.tick.character)
 
-pub frame_hurt : (recording : List ℕ) (t v : ℕ) (o : Outcome) → bad_recording recording ≡ false → SoundTick recording t → TickIs recording t v → (v % 256 ≡ 32 → ⊥) → o ≡ Breaks t → FrameIs recording t idle o
+frame_hurt : (recording : List ℕ) (t v : ℕ) (o : Result Outcome Stop) → bad_recording recording ≡ false → SoundTick recording t → TickIs recording t v → (v % 256 ≡ 32 → ⊥) → o ≡ Ok (Breaks t) → FrameIs recording t idle o
 frame_hurt recording t v o g s k n f = record {
   this = subst (OutcomeIs recording t (found_from recording t idle)) (sym f)
       (found_broken recording t idle g s (first_hurt s.number (λ e. n (ap (λ (x : ℕ). x % 256) (same_tick recording t v s k) ∙ e))));
 }
 
-pub ruleset frames = (refl, frame_begins, frame_other, frame_hurt)
+pub frame_other : (recording : List ℕ) (t v : ℕ) (o : Result Outcome Stop) → bad_recording recording ≡ false → SoundTick recording t → TickIs recording t v → (v ≡ 65312 → ⊥) → o ≡ Ok (Breaks t) → FrameIs recording t idle o
+frame_other recording t v o g s k n f = go (v % 256 =? 32) refl
+  where
+    go : (b : Bool) → (v % 256 =? 32) ≡ b → FrameIs recording t idle o
+    go true e =
+        let z : v % 256 ≡ 32 = eqb-true (v % 256) 32 e in
+        frame_sound recording t v o g s k z (λ q. n (omega arith)) f
+    go false e = frame_hurt recording t v o g s k (eqb-false (v % 256) 32 e) f
+
+pub frame_within : (recording : List ℕ) (t : ℕ) → SoundTick recording t → 2 * t + 2 ≤ length recording
+frame_within recording t s = s.within
+
+pub ruleset frames = (refl, frame_begins, frame_other, frame_within)

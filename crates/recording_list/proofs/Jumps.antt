@@ -1,26 +1,22 @@
 -- Theorem: where a frame ends.
-use Prim.Native.Nat.{ℕ, zero, suc, ◌+◌, ◌-◌, ◌≤◌}
+use Prim.Native.Nat.{ℕ, zero, suc, ◌+◌, ◌-◌}
 use native.Mathlib.Omega.{arith}
 use mathlib.Core.Path.{◌≡◌, refl, sym, ap, ap₂, subst, ◌∙◌}
-use mathlib.Core.Bool.{Bool, true, false}
+use mathlib.Core.Bool.{Bool, false}
 use mathlib.Core.List.{List, [], ◌∷◌, ◌++◌, append-nil, append_assoc}
 use lib.Bits.{bit_xor}
 use lib.ListN.{length, length-append}
-use Rattle.base.specs.Choice.{when◌then◌else◌, ◌=?◌, ◌<?◌}
-use Rattle.frame.specs.Delimiter.{delimiter_of}
-use Rattle.frame.specs.declared.Delimiter.TheVariants.{Is}
 use Rattle.line.specs.Gaps.{IsCharacter, is_sound, is_with_damage, GapsBefore, no_more, at_once, behind_silence, Gapped, from_first}
 use Rattle.line.specs.Reader.{idle, passing, blank, tells, gapped, counted, taken}
-use Rattle.line.specs.declared.Event.{Event}
 use Rattle.line.specs.declared.Event.TheVariants.{Nothing}
 use Rattle.line.specs.declared.Heard.{Heard}
-use Rattle.line.specs.declared.Heard.TheVariants.{Silence, Character, Damaged}
+use Rattle.line.specs.declared.Heard.TheVariants.{Silence, Character}
 use Rattle.line.specs.declared.Place.TheVariants.{Preamble}
 use Rattle.line.specs.declared.Receiver.{Receiver}
 use Rattle.line.specs.declared.Taken.{Taken}
 use Rattle.line.proofs.Gaps.{Within, silent_ticks}
 use Rattle.line.proofs.Ticks.{outside_idle, two_silent_idle, gap_passed, gapped_takes}
-use Rattle.recording_list.specs.Listing.{entry, adds, found, list_of, listing_of}
+use Rattle.recording_list.specs.Listing.{entry, adds, found, list_of}
 use Rattle.recording_list.specs.Reading.{verdict_of, InHead, InTail}
 use Rattle.recording_list.specs.Claims.{behind, MayStart, frame_ended, first_silent, two_silent, outside_silent, preamble, frame_of, Complete, silences, summed_by, sum_from, hurt_by, hurt_from, frame_verdict, JumpEnd}
 use Rattle.recording_list.proofs.Readers.{found_tick, found_none, HeadStep, head_any, TailStep, tail_any}

@@ -1,35 +1,34 @@
 -- Laws of the list: an entry and what follows it, put or counted.
-use Prim.Native.Nat.{ℕ, zero, suc, ◌+◌, ◌-◌, ◌*◌, ◌/◌, ◌%◌, ◌^◌, ◌≤◌, ◌<◌}
+use Rattle.std.specs.Prelude.{Option, Some, None, Result, Ok, Err}
+use Prim.Native.Nat.{ℕ, ◌+◌, ◌-◌, ◌*◌, ◌/◌, ◌%◌, ◌≤◌, ◌<◌}
 use native.Mathlib.Omega.{arith}
 use mathlib.Core.Path.{◌≡◌, refl, sym, ap, ap₂, subst, ◌∙◌}
 use mathlib.Core.Bool.{Bool, true, false}
-use mathlib.Core.List.{List, [], ◌∷◌, ◌++◌}
-use lib.ListN.{length, take, drop, set, length-append, length-take, length-drop, length-set}
-use borrow.Author.Tests.{eq-eqb, le-leb, lt-leb, leb-true, leb-false}
+use mathlib.Core.List.{List, [], ◌++◌}
+use lib.ListN.{length, take, drop, set, length-append, length-take, length-drop}
+use borrow.Author.Tests.{le-leb, lt-leb, leb-true, leb-false}
 use borrow.Rule.Slice.PartMut.{put_mid}
 use mir.Syntax.{w64}
 use mir.Val.{Fits}
-use Rattle.base.specs.Choice.{when◌then◌else◌, ◌=?◌, ◌<?◌, ◌≤?◌}
+use Rattle.base.specs.Choice.{when◌then◌else◌, ◌≤?◌}
 use Rattle.base.specs.Store.{stored}
 use Rattle.base.specs.declared.Refusal.{Refusal}
-use Rattle.base.specs.declared.Refusal.TheVariants as Refusal
 use Rattle.base.proofs.Choices.{true_false, if_is_true, if_is_false, if_below, if_not_below, if_answer_true, if_answer_false}
 use Rattle.base.proofs.Stores.{join, stored_none, stored_part, room_behind, length_stored}
-use Rattle.line.specs.Reader.{idle, passing, tells, taken}
+use Rattle.line.specs.Reader.{idle, passing, tells}
 use Rattle.line.specs.declared.Event.TheVariants.{Nothing, PassedOver}
 use Rattle.line.specs.declared.Heard.TheVariants.{Silence}
 use Rattle.line.specs.declared.Receiver.{Receiver}
 use Rattle.line.proofs.Ticks.{outside_idle}
 use Rattle.recording.specs.Form.{bad_recording}
 use Rattle.recording.specs.Recording.{TickIs}
-use Rattle.recording_list.specs.Listing.{tick_bytes, entry, adds, listing_of, list_answer, buffer_after, ListIs}
+use Rattle.recording_list.specs.Listing.{entry, listing_of, buffer_after, ListIs}
 use Rattle.recording_list.specs.Reading.{found_from, SilentTick, SoundTick, EndsAt, OutcomeIs, FrameIs, ToldAt, ItemIs, LeftOut, SoundFrom, HasRoom, EntriesAre, RoomIs}
 use Rattle.recording_list.specs.declared.Item.{Item}
-use Rattle.recording_list.specs.declared.Item.TheVariants.{Told, Done}
-use Rattle.recording_list.specs.declared.Listed.{Listed}
-use Rattle.recording_list.specs.declared.Listed.TheVariants.{Entries, Refused}
 use Rattle.recording_list.specs.declared.Outcome.{Outcome}
 use Rattle.recording_list.specs.declared.Outcome.TheVariants as O
+use Rattle.recording_list.specs.declared.Stop.{Stop}
+use Rattle.recording_list.specs.declared.Stop.TheVariants.{Broke, Over}
 use Rattle.recording_list.proofs.Readers.{found_at, found_over, silent_left, SoundView, sound_view}
 use Rattle.recording_list.proofs.Short.{entry_nine, listing_short}
 use Rattle.recording_list.proofs.Sentences.{start_adds}
@@ -38,34 +37,44 @@ use Rattle.recording_list.proofs.Walks.{silent_tick, sound_tick}
 
 -- ---- an entry
 
-pub item_ends : (recording : List ℕ) (t u verdict : ℕ) (o : Outcome) (item : Item) → FrameIs recording t idle o → o ≡ O.Ends u verdict → item ≡ Told u verdict (u + 1) → ItemIs recording t item
+pub item_ends : (recording : List ℕ) (t u verdict : ℕ) (o : Result Outcome Stop) (item : Option Item) → FrameIs recording t idle o → o ≡ Ok (O.Ends u verdict) → item ≡ Some (record { tick = u; verdict = verdict; next = u + 1 }) → ItemIs recording t item
 item_ends recording t u verdict o item f e k =
     let v : EndsAt recording t (found_from recording t idle) u verdict idle = subst (OutcomeIs recording t (found_from recording t idle)) e f.this in
     subst (ItemIs recording t) (sym k) (record { onward = omega (arith, v.from); within = omega (arith, v.within); told = v.told })
 
-pub item_breaks : (recording : List ℕ) (t u w : ℕ) (o : Outcome) (item : Item) → FrameIs recording t idle o → o ≡ O.Breaks u → LeftOut recording (u + 1) passing w idle → item ≡ Told u 0 w → ItemIs recording t item
+pub item_broke : (recording : List ℕ) (t u : ℕ) (o : Result Outcome Stop) (item : Option Item) → FrameIs recording t idle o → o ≡ Err (Broke u) → item ≡ Some (record { tick = u; verdict = 0; next = u + 1 }) → ItemIs recording t item
+item_broke recording t u o item f e k =
+    let v : EndsAt recording t (found_from recording t idle) u 0 idle = subst (OutcomeIs recording t (found_from recording t idle)) e f.this in
+    subst (ItemIs recording t) (sym k) (record { onward = omega (arith, v.from); within = omega (arith, v.within); told = v.told })
+
+pub item_breaks : (recording : List ℕ) (t u w : ℕ) (o : Result Outcome Stop) (item : Option Item) → FrameIs recording t idle o → o ≡ Ok (O.Breaks u) → LeftOut recording (u + 1) passing w idle → item ≡ Some (record { tick = u; verdict = 0; next = w }) → ItemIs recording t item
 item_breaks recording t u w o item f e l k =
     let v : EndsAt recording t (found_from recording t idle) u 0 passing = subst (OutcomeIs recording t (found_from recording t idle)) e f.this in
     subst (ItemIs recording t) (sym k)
     (record { onward = omega (arith, v.from, l.from); within = l.within; told = v.told ∙ ap (λ (b : List ℕ). entry u 0 ++ b) l.same })
 
-pub item_done : (recording : List ℕ) (t : ℕ) (o : Outcome) (item : Item) → FrameIs recording t idle o → o ≡ O.Cut → item ≡ Done → ItemIs recording t item
+pub item_done : (recording : List ℕ) (t : ℕ) (o : Result Outcome Stop) (item : Option Item) → FrameIs recording t idle o → o ≡ Err Over → item ≡ None → ItemIs recording t item
 item_done recording t o item f e k = subst (ItemIs recording t) (sym k) (subst (OutcomeIs recording t (found_from recording t idle)) e f.this)
 
-pub breaks_within : (recording : List ℕ) (t u : ℕ) (o : Outcome) → FrameIs recording t idle o → o ≡ O.Breaks u → 2 * (u + 1) ≤ length recording
+pub breaks_within : (recording : List ℕ) (t u : ℕ) (o : Result Outcome Stop) → FrameIs recording t idle o → o ≡ Ok (O.Breaks u) → 2 * (u + 1) ≤ length recording
 breaks_within recording t u o f e =
     let v : EndsAt recording t (found_from recording t idle) u 0 passing = subst (OutcomeIs recording t (found_from recording t idle)) e f.this in
     omega (arith, v.within)
 
-pub breaks_fits : (recording : List ℕ) (t u : ℕ) (o : Outcome) → FrameIs recording t idle o → o ≡ O.Breaks u → Fits w64 (length recording) → Fits w64 (u + 1)
+pub breaks_fits : (recording : List ℕ) (t u : ℕ) (o : Result Outcome Stop) → FrameIs recording t idle o → o ≡ Ok (O.Breaks u) → Fits w64 (length recording) → Fits w64 (u + 1)
 breaks_fits recording t u o f e h = omega (arith, h, breaks_within recording t u o f e)
 
-pub ends_fits : (recording : List ℕ) (t u verdict : ℕ) (o : Outcome) → FrameIs recording t idle o → o ≡ O.Ends u verdict → Fits w64 (length recording) → Fits w64 (u + 1)
+pub ends_fits : (recording : List ℕ) (t u verdict : ℕ) (o : Result Outcome Stop) → FrameIs recording t idle o → o ≡ Ok (O.Ends u verdict) → Fits w64 (length recording) → Fits w64 (u + 1)
 ends_fits recording t u verdict o f e h =
     let v : EndsAt recording t (found_from recording t idle) u verdict idle = subst (OutcomeIs recording t (found_from recording t idle)) e f.this in
     omega (arith, h, v.within)
 
-pub ruleset items = (refl, item_ends, item_breaks, item_done, breaks_within, breaks_fits, ends_fits)
+pub broke_fits : (recording : List ℕ) (t u : ℕ) (o : Result Outcome Stop) → FrameIs recording t idle o → o ≡ Err (Broke u) → Fits w64 (length recording) → Fits w64 (u + 1)
+broke_fits recording t u o f e h =
+    let v : EndsAt recording t (found_from recording t idle) u 0 idle = subst (OutcomeIs recording t (found_from recording t idle)) e f.this in
+    omega (arith, h, v.within)
+
+pub ruleset items = (refl, item_ends, item_broke, item_breaks, item_done, breaks_within, breaks_fits, ends_fits, broke_fits)
 
 -- ---- entries put or counted
 
@@ -136,27 +145,27 @@ module _ (recording : List ℕ) (from before : ℕ) (put : Bool) (lent : List �
   pub going_silent : (r : ℕ) → ticks ≤ s → r ≡ n → EntriesAre put (found_from recording from idle) before lent r out
   going_silent r h k = ended_list r (l.left_out.same ∙ found_over recording s idle (omega (arith, g.count))) k
 
-  pub going_done : (item : Item) (r : ℕ) → ItemIs recording s item → item ≡ Done → r ≡ n → EntriesAre put (found_from recording from idle) before lent r out
+  pub going_done : (item : Option Item) (r : ℕ) → ItemIs recording s item → item ≡ None → r ≡ n → EntriesAre put (found_from recording from idle) before lent r out
   going_done item r i e k = ended_list r (l.left_out.same ∙ subst (ItemIs recording s) e i) k
 
-  module _ (u verdict next : ℕ) (item : Item) (i : ItemIs recording s item) (e : item ≡ Told u verdict next) where
-    told : ToldAt recording s u verdict next
+  module _ (it : Item) (item : Option Item) (i : ItemIs recording s item) (e : item ≡ Some it) where
+    told : ToldAt recording s it.tick it.verdict it.next
     told = subst (ItemIs recording s) e i
 
     -- what is found is an entry and what is found behind it
-    found_told : found_from recording t idle ≡ entry u verdict ++ found_from recording next idle
+    found_told : found_from recording t idle ≡ entry it.tick it.verdict ++ found_from recording it.next idle
     found_told = l.left_out.same ∙ told.told
 
-    told_length : length (found_from recording t idle) ≡ 9 + length (found_from recording next idle)
-    told_length = omega (arith, ap length found_told, length-append (entry u verdict) (found_from recording next idle), entry_nine u verdict)
+    told_length : length (found_from recording t idle) ≡ 9 + length (found_from recording it.next idle)
+    told_length = omega (arith, ap length found_told, length-append (entry it.tick it.verdict) (found_from recording it.next idle), entry_nine it.tick it.verdict)
 
-    pub going_less : t < ticks → ticks - next < ticks - t
+    pub going_less : t < ticks → ticks - it.next < ticks - t
     going_less h = omega (arith, l.left_out.from, told.onward)
 
     pub going_room : HasRoom put (9 * n + 9) out
     going_room = record { room = λ p. omega (arith, g.room p, told_length) }
 
-    pub going_more : (zs : List ℕ) → zs ≡ (when put then stored out (9 * n) (entry u verdict) else out) → Going recording from before put lent ticks zs next (n + 1)
+    pub going_more : (zs : List ℕ) → zs ≡ (when put then stored out (9 * n) (entry it.tick it.verdict) else out) → Going recording from before put lent ticks zs it.next (n + 1)
     going_more zs q = record {
       count = g.count;
       within = told.within;
@@ -165,23 +174,23 @@ module _ (recording : List ℕ) (from before : ℕ) (put : Bool) (lent : List �
       left = omega (arith, g.left, told_length);
       room = λ p. omega (arith, g.room p, long put refl, told_length);
       stores = stores;
-      kept = λ p. q ∙ if_is_false put (stored out (9 * n) (entry u verdict)) out p ∙ g.kept p;
+      kept = λ p. q ∙ if_is_false put (stored out (9 * n) (entry it.tick it.verdict)) out p ∙ g.kept p;
     }
       where
-        here : put ≡ true → zs ≡ stored out (9 * n) (entry u verdict)
-        here p = q ∙ if_is_true put (stored out (9 * n) (entry u verdict)) out p
+        here : put ≡ true → zs ≡ stored out (9 * n) (entry it.tick it.verdict)
+        here p = q ∙ if_is_true put (stored out (9 * n) (entry it.tick it.verdict)) out p
 
         long : (b : Bool) → put ≡ b → length zs ≡ length out
-        long true p = ap length (here p) ∙ length_stored out (9 * n) (entry u verdict)
-        long false p = ap length (q ∙ if_is_false put (stored out (9 * n) (entry u verdict)) out p)
+        long true p = ap length (here p) ∙ length_stored out (9 * n) (entry it.tick it.verdict)
+        long false p = ap length (q ∙ if_is_false put (stored out (9 * n) (entry it.tick it.verdict)) out p)
 
-        place : 9 * (n + 1) ≡ 9 * n + length (entry u verdict)
-        place = omega (arith, entry_nine u verdict)
+        place : 9 * (n + 1) ≡ 9 * n + length (entry it.tick it.verdict)
+        place = omega (arith, entry_nine it.tick it.verdict)
 
-        stores : put ≡ true → stored zs (9 * (n + 1)) (found_from recording next idle) ≡ stored lent (9 * before) (found_from recording from idle)
+        stores : put ≡ true → stored zs (9 * (n + 1)) (found_from recording it.next idle) ≡ stored lent (9 * before) (found_from recording from idle)
         stores p =
-            ap₂ (λ (b : List ℕ) (k : ℕ). stored b k (found_from recording next idle)) (here p) place
-            ∙ join (entry u verdict) (found_from recording next idle) out (9 * n)
+            ap₂ (λ (b : List ℕ) (k : ℕ). stored b k (found_from recording it.next idle)) (here p) place
+            ∙ join (entry it.tick it.verdict) (found_from recording it.next idle) out (9 * n)
             ∙ ap (stored out (9 * n)) (sym found_told)
             ∙ g.stores p
 
@@ -275,26 +284,26 @@ pub ruleset starts = (refl, left_within, left_from, all_none, all_silent, all_so
 pub good_said : (recording : List ℕ) (r : Bool) → r ≡ bad_recording recording → r ≡ false → bad_recording recording ≡ false
 good_said recording r e f = sym e ∙ f
 
-pub list_bad : (recording buffer : List ℕ) (bad : Bool) (r : Listed) → bad ≡ bad_recording recording → bad ≡ true → r ≡ Refused Refusal.BadRecording → ListIs recording buffer r buffer
+pub list_bad : (recording buffer : List ℕ) (bad : Bool) (r : Result ℕ Refusal) → bad ≡ bad_recording recording → bad ≡ true → r ≡ Err Refusal.BadRecording → ListIs recording buffer r buffer
 list_bad recording buffer bad r e f k = record {
   answer = if_answer_true bad (bad_recording recording) r _ _ e f k;
-  listed = ap (λ (x : Listed). buffer_after x recording buffer) (sym k);
+  listed = ap (λ (x : Result ℕ Refusal). buffer_after x recording buffer) (sym k);
 }
 
-module _ (recording buffer : List ℕ) (bad room : Bool) (mid : List ℕ) (r : Listed) (e : bad ≡ bad_recording recording) (f : bad ≡ false) (c : RoomIs recording buffer room mid) where
-  pub list_short : room ≡ false → r ≡ Refused Refusal.BufferShort → ListIs recording buffer r mid
+module _ (recording buffer : List ℕ) (bad room : Bool) (mid : List ℕ) (r : Result ℕ Refusal) (e : bad ≡ bad_recording recording) (f : bad ≡ false) (c : RoomIs recording buffer room mid) where
+  pub list_short : room ≡ false → r ≡ Err Refusal.BufferShort → ListIs recording buffer r mid
   list_short h k = record {
     answer = if_answer_false bad (bad_recording recording) r _ _ e f
         (if_below (length buffer) (length (listing_of recording)) r _ _ (leb-false (length (listing_of recording)) (length buffer) (sym c.answer ∙ h)) k);
-    listed = c.stays ∙ ap (λ (x : Listed). buffer_after x recording buffer) (sym k);
+    listed = c.stays ∙ ap (λ (x : Result ℕ Refusal). buffer_after x recording buffer) (sym k);
   }
 
-  pub list_done : (after : List ℕ) (n : ℕ) → room ≡ true → EntriesAre true (listing_of recording) 0 mid n after → r ≡ Entries n → ListIs recording buffer r after
+  pub list_done : (after : List ℕ) (n : ℕ) → room ≡ true → EntriesAre true (listing_of recording) 0 mid n after → r ≡ Ok n → ListIs recording buffer r after
   list_done after n h p k = record {
     answer = if_answer_false bad (bad_recording recording) r _ _ e f
-        (if_not_below (length buffer) (length (listing_of recording)) r _ _ (leb-true (length (listing_of recording)) (length buffer) (sym c.answer ∙ h)) (k ∙ ap Entries (omega (arith, p.number))));
+        (if_not_below (length buffer) (length (listing_of recording)) r _ _ (leb-true (length (listing_of recording)) (length buffer) (sym c.answer ∙ h)) (k ∙ ap Ok (omega (arith, p.number))));
     listed = p.buffer ∙ if_is_true true (stored mid (9 * 0) (listing_of recording)) mid refl ∙ ap (λ (l : List ℕ). stored l 0 (listing_of recording)) c.stays
-        ∙ ap (λ (x : Listed). buffer_after x recording buffer) (sym k);
+        ∙ ap (λ (x : Result ℕ Refusal). buffer_after x recording buffer) (sym k);
   }
 
 pub list_room : (recording buffer mid : List ℕ) (room put : Bool) → RoomIs recording buffer room mid → room ≡ true → HasRoom put (length (listing_of recording)) mid

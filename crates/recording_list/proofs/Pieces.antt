@@ -1,7 +1,7 @@
 -- Theorem: a recording may be listed in pieces.
-use Prim.Native.Nat.{ℕ, suc, ◌+◌, ◌*◌, ◌/◌}
+use Prim.Native.Nat.{ℕ, suc, ◌+◌}
 use native.Mathlib.Omega.{arith}
-use mathlib.Core.Path.{◌≡◌, refl, sym, ap, ap₂, subst, ◌∙◌}
+use mathlib.Core.Path.{◌≡◌, refl, sym, ap, ◌∙◌}
 use mathlib.Core.List.{List, [], ◌∷◌, ◌++◌, append_assoc}
 use lib.ListN.{length}
 use Rattle.line.specs.Reader.{taken}
@@ -10,7 +10,7 @@ use Rattle.line.specs.declared.Receiver.{Receiver}
 use Rattle.recording.specs.Form.{ticks_of}
 use Rattle.recording.proofs.Forms.{length_ticks, ticks_both}
 use Rattle.recording_list.specs.Listing.{adds, found}
-use Rattle.recording_list.specs.Claims.{behind, TwoPieces, InPieces}
+use Rattle.recording_list.specs.Claims.{behind, InPieces}
 
 pub found_ticks : (hs gs : List Heard) (t : ℕ) (r : Receiver) → found t r (hs ++ gs) ≡ found t r hs ++ found (t + length hs) (behind r hs) gs
 unfolding found behind

@@ -1,39 +1,36 @@
 -- Laws of the tick reader over a recording: what it finds from a tick on, by what that tick has.
-use Prim.Native.Nat.{ℕ, zero, suc, ◌+◌, ◌-◌, ◌*◌, ◌/◌, ◌%◌, ◌≤◌, ◌<◌}
-use native.Mathlib.Numerals.{add-one}
+use Prim.Native.Nat.{ℕ, suc, ◌+◌, ◌-◌, ◌*◌, ◌/◌, ◌%◌, ◌≤◌}
 use native.Mathlib.Omega.{arith}
 use mathlib.Core.Path.{◌≡◌, refl, sym, ap, ap₂, subst, ◌∙◌}
 use mathlib.Core.Bool.{Bool, true, false}
 use mathlib.Core.List.{List, [], ◌∷◌, ◌++◌}
 use lib.Bits.{bit_xor}
 use lib.ListN.{length, drop, get_or}
-use borrow.Author.Tests.{eq-eqb, ne_eqb, eqb-true, eqb-false, lt-ltb, le-ltb, ltb-true, ltb-false}
+use borrow.Author.Tests.{eq-eqb, ne_eqb, eqb-true, eqb-false, ltb-true, ltb-false}
 use Rattle.base.specs.Choice.{when◌then◌else◌, ◌=?◌, ◌<?◌}
 use Rattle.base.proofs.Choices.{if_is_true, if_is_false}
 use Rattle.frame.specs.declared.Header.{Header}
 use Rattle.line.specs.Gaps.{IsCharacter, is_sound, is_with_damage}
 use Rattle.line.specs.Heard.{damage_number, heard_of}
-use Rattle.line.specs.Reader.{idle, passing, blank, tells, breaks, gapped, next, behind_address, first_header, address_header, command_header, at_first, at_address, at_expansion, at_command, at_data, at_check, counted, character, damaged, marked, address_damaged, kind_damaged, is_damaged, with_check, whole_of, ended, summed, taken}
+use Rattle.line.specs.Reader.{idle, tells, gapped, next, behind_address, first_header, address_header, command_header, at_first, at_address, at_expansion, at_command, at_data, character, damaged, marked, address_damaged, kind_damaged, is_damaged, taken}
 use Rattle.line.specs.declared.Damage.{Damage}
 use Rattle.line.specs.declared.Damage.TheVariants.{Parity, Overrun, Framing}
-use Rattle.line.specs.declared.Event.{Event}
-use Rattle.line.specs.declared.Event.TheVariants.{Nothing, PassedOver, Broken, Frame}
+use Rattle.line.specs.declared.Event.TheVariants.{Nothing, Broken}
 use Rattle.line.specs.declared.FrameDamage.{FrameDamage}
 use Rattle.line.specs.declared.Heard.{Heard}
 use Rattle.line.specs.declared.Heard.TheVariants.{Silence, Character, Damaged}
 use Rattle.line.specs.declared.Place.{Place}
-use Rattle.line.specs.declared.Place.TheVariants.{Passing, Idle, Preamble, First, Address, Expansion, Command, Count, Data, Check}
+use Rattle.line.specs.declared.Place.TheVariants.{Address, Expansion, Command, Count, Data, Check}
 use Rattle.line.specs.declared.Receiver.{Receiver}
 use Rattle.line.specs.declared.Taken.{Taken}
 use Rattle.line.proofs.Gaps.{Within}
-use Rattle.line.proofs.Ticks.{outside_idle, gap_passed, gap_breaks, gapped_takes}
+use Rattle.line.proofs.Ticks.{gap_passed, gap_breaks, gapped_takes}
 use Rattle.recording.specs.Form.{ticks_of, bad_recording}
-use Rattle.recording.specs.Recording.{TickIs}
 use Rattle.recording.proofs.Forms.{ticks_on, ticks_over, good_at}
 use Rattle.recording.proofs.Ticks.{Good, silent, sound, hurt, good_tick, heard_as, heard_as_lem}
 use Rattle.recording_list.specs.Claims.{summed_by, hurt_by}
 use Rattle.recording_list.specs.Listing.{entry, adds, found}
-use Rattle.recording_list.specs.Reading.{found_from, SilentTick, SoundTick, Reaches, at_once, behind_silence, TwoSilent, NoMore, no_tick, last_silent, harmed_by, Walk, no_character, one_more, HeadPlace, at_first_place, at_address_place, at_expansion_place, at_command_place, at_count_place, TailPlace, at_data_place, at_check_place, Inside, InHead, InTail}
+use Rattle.recording_list.specs.Reading.{found_from, SilentTick, SoundTick, Reaches, at_once, behind_silence, TwoSilent, NoMore, no_tick, last_silent, harmed_by, HeadPlace, at_first_place, at_address_place, at_expansion_place, at_command_place, at_count_place, TailPlace, at_data_place, at_check_place, Inside, InHead, InTail}
 
 -- ---- one tick more
 

@@ -1,16 +1,16 @@
 -- Theorem: the list has at most an entry for every two ticks, rounded up.
-use Prim.Native.Nat.{ℕ, zero, suc, ◌+◌, ◌-◌, ◌*◌, ◌/◌, ◌≤◌, ◌<◌}
+use Rattle.std.specs.Prelude.{Option, Some, None}
+use Prim.Native.Nat.{ℕ, ◌+◌, ◌-◌, ◌*◌, ◌≤◌}
 use native.Mathlib.Omega.{arith}
-use mathlib.Core.Path.{◌≡◌, refl, sym, ap, ap₂, subst, ◌∙◌}
+use mathlib.Core.Path.{◌≡◌, refl, sym, ap, subst, ◌∙◌}
 use mathlib.Core.Bool.{Bool, true, false}
-use mathlib.Core.List.{List, [], ◌∷◌, ◌++◌}
+use mathlib.Core.List.{List, [], ◌∷◌}
 use lib.ListN.{length, length-append}
 use Rattle.base.specs.Choice.{when◌then◌else◌, ◌=?◌, ◌<?◌}
 use Rattle.base.proofs.Choices.{true_false}
 use Rattle.frame.specs.Delimiter.{delimiter_of}
 use Rattle.frame.specs.Frame.{too_few}
 use Rattle.frame.specs.declared.Delimiter.{Delimiter}
-use Rattle.frame.specs.declared.Delimiter.TheVariants.{Is, Not}
 use Rattle.frame.specs.declared.Header.{Header}
 use Rattle.line.specs.Gaps.{IsCharacter, is_sound, is_with_damage}
 use Rattle.line.specs.Reader.{idle, passing, blank, tells, breaks, gapped, next, begins, counted, marked, address_damaged, kind_damaged, behind_address, at_idle, at_preamble, at_first, at_address, at_expansion, at_command, at_count, at_data, at_check, ended, is_damaged, inside_frame, character, damaged, whole_of, with_check, silence, silent_inside, taken}
@@ -61,9 +61,9 @@ led_behind r h c = led_next r h (behind_address r) c (inside_choice (r.expansion
 led_preamble : (n : ℕ) → Led (tells (blank (Preamble n)) Nothing)
 led_preamble n = goes_on refl (record { inside = refl; no_gap = refl })
 
-led_begins : (c : ℕ) (d : Delimiter) → Led (begins c d)
-led_begins c Not = breaks_off refl
-led_begins c (Is frame long expansion) = goes_on refl (record { inside = refl; no_gap = refl })
+led_begins : (c : ℕ) (d : Option Delimiter) → Led (begins c d)
+led_begins c None = breaks_off refl
+led_begins c (Some d) = goes_on refl (record { inside = refl; no_gap = refl })
 
 led_counted : (r : Receiver) (c : ℕ) (place : Place) → inside_frame place ≡ true → Led (counted r c place)
 led_counted r c place i = goes_on refl (record { inside = i; no_gap = refl })

@@ -2,10 +2,9 @@
 use Prim.Native.Nat.{ℕ, ◌+◌, ◌*◌, ◌/◌, ◌≤◌, ◌<◌}
 use native.Mathlib.Omega.{arith}
 use mathlib.Core.Path.{◌≡◌, refl, sym, ap, ap₂, subst, ◌∙◌}
-use mathlib.Core.Bool.{Bool, true, false}
-use mathlib.Core.List.{List, [], ◌∷◌, ◌++◌}
+use mathlib.Core.Bool.{false}
+use mathlib.Core.List.{List, ◌++◌}
 use lib.ListN.{length}
-use Rattle.base.specs.Choice.{when◌then◌else◌, ◌=?◌}
 use Rattle.line.specs.Reader.{idle, passing, tells, taken}
 use Rattle.line.specs.declared.Event.TheVariants.{Nothing, PassedOver}
 use Rattle.line.specs.declared.Heard.{Heard}
@@ -14,8 +13,7 @@ use Rattle.line.specs.declared.Receiver.{Receiver}
 use Rattle.line.proofs.Ticks.{outside_idle}
 use Rattle.recording.specs.Form.{bad_recording}
 use Rattle.recording.specs.Recording.{TickIs}
-use Rattle.recording_list.specs.Listing.{entry, adds}
-use Rattle.recording_list.specs.Reading.{found_from, SilentTick, SoundTick, LeftOut, SoundFrom}
+use Rattle.recording_list.specs.Reading.{found_from, LeftOut, SoundFrom}
 use Rattle.recording_list.proofs.Sentences.{passed_none}
 use Rattle.recording_list.proofs.Walks.{silent_tick, sound_tick}
 use Rattle.recording_list.proofs.Readers.{found_at, found_over, silent_left, SoundAs, as_character, as_damaged, SoundView, sound_view}
@@ -42,8 +40,11 @@ skip_silence recording from ticks t v p h k e = record {
 pub sound_here : (recording : List ℕ) (from ticks t v : ℕ) → bad_recording recording ≡ false → Skipping recording from idle ticks t → t < ticks → TickIs recording t v → (v ≡ 0 → ⊥) → SoundFrom recording from t
 sound_here recording from ticks t v g p h k e = record { left_out = record { from = p.onward; within = p.within; same = p.same }; first = λ l. sound_tick recording t v k e (omega arith) }
 
-pub sound_none : (recording : List ℕ) (from ticks t : ℕ) → Skipping recording from idle ticks t → ticks ≤ t → SoundFrom recording from t
-sound_none recording from ticks t p h = record { left_out = record { from = p.onward; within = p.within; same = p.same }; first = λ l. absurd (omega (arith, p.count)) }
+pub sound_none : (recording : List ℕ) (from ticks t : ℕ) → Skipping recording from idle ticks t → ticks ≤ t → SoundFrom recording from ticks
+sound_none recording from ticks t p h =
+    let all : t ≡ ticks = omega (arith, p.within, p.count) in
+    subst (SoundFrom recording from) all
+    (record { left_out = record { from = p.onward; within = p.within; same = p.same }; first = λ l. absurd (omega (arith, p.count)) })
 
 pub ruleset sounds = (refl, skip_begun, skip_silence, sound_here, sound_none)
 
@@ -75,11 +76,14 @@ silence_here recording from ticks t v p h k e =
           ∙ sym (found_at recording t idle Silence (tells idle Nothing) left (outside_idle idle refl));
     }
 
-pub silence_none : (recording : List ℕ) (from ticks t : ℕ) → Skipping recording from passing ticks t → ticks ≤ t → LeftOut recording from passing t idle
-silence_none recording from ticks t p h = record {
+pub silence_none : (recording : List ℕ) (from ticks t : ℕ) → Skipping recording from passing ticks t → ticks ≤ t → LeftOut recording from passing ticks idle
+silence_none recording from ticks t p h = subst (λ (u : ℕ). LeftOut recording from passing u idle) all (record {
   from = p.onward;
   within = p.within;
   same = p.same ∙ found_over recording t passing (omega (arith, p.count)) ∙ sym (found_over recording t idle (omega (arith, p.count)));
-}
+})
+  where
+    all : t ≡ ticks
+    all = omega (arith, p.within, p.count)
 
 pub ruleset silences = (refl, skip_begun, skip_character, silence_here, silence_none)

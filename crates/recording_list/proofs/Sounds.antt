@@ -1,19 +1,19 @@
 -- Laws of a run without silence and damage.
-use Prim.Native.Nat.{ℕ, suc, ◌+◌, ◌-◌, ◌*◌, ◌/◌, ◌%◌, ◌^◌, ◌≤◌, ◌<◌}
+use Rattle.std.specs.Prelude.{Option, Some, None, Result, Ok, Err}
+use Prim.Native.Nat.{ℕ, ◌+◌, ◌*◌, ◌/◌, ◌%◌, ◌≤◌, ◌<◌}
 use native.Mathlib.Omega.{arith}
 use mathlib.Core.Path.{◌≡◌, refl, sym, ap, ap₂, subst, ◌∙◌}
-use mathlib.Core.Bool.{Bool, true, false}
+use mathlib.Core.Bool.{Bool, true}
 use mathlib.Core.List.{List}
-use lib.Bits.{bit_xor, bit_or, bit_and, or_add_and, and_le_l, and_le_r, xor_add_and, xor_shr}
+use lib.Bits.{bit_xor, bit_or, or_add_and, and_le_l, and_le_r, xor_add_and, xor_shr}
 use lib.ListN.{length}
-use borrow.Author.Tests.{eq-eqb, eqb-true}
-use Rattle.base.specs.Choice.{when◌then◌else◌, ◌=?◌}
+use borrow.Author.Tests.{eq-eqb}
+use Rattle.base.specs.Choice.{◌=?◌}
 use Rattle.base.proofs.Choices.{if_is_true}
 use Rattle.recording.specs.Recording.{TickIs}
-use Rattle.recording_list.specs.Reading.{SoundTick, at_once, harmed_by, Walk, no_character, one_more, StillSound, PlainIs, RunIs}
-use Rattle.recording_list.specs.declared.Plain.{Plain}
+use Rattle.recording_list.specs.Reading.{SoundTick, at_once, Walk, no_character, one_more, StillSound, PlainIs, RunIs}
 use Rattle.recording_list.specs.declared.Run.{Run}
-use Rattle.recording_list.specs.declared.Run.TheVariants.{To}
+use Rattle.recording_list.specs.declared.Stop.{Stop}
 
 pub still_sound : (other v r : ℕ) → r ≡ bit_or other (bit_xor (v % 256) 32) → StillSound other v r
 still_sound other v r e = record { sound = λ z. (none z, same z) }
@@ -58,17 +58,29 @@ running_more recording t need s other sum i v r w h k q = record { below = omega
         (subst (λ (x : Bool). Walk recording t s b (t + i + 1) (i + 1) (bit_xor (sum / 256) (v / 256)) x) (if_is_true (v % 256 =? 32) b true (eq-eqb (v % 256) 32 is))
         (one_more (w.so_far (q.sound z).0 b) at_once tick)))
 
-pub running_all : (recording : List ℕ) (t need s other sum i : ℕ) (p : Plain) → Running recording t need s other sum i → need ≤ i → p.plain ≡ (other =? 0) → p.sum ≡ sum / 256 → PlainIs recording t need s p
-running_all recording t need s other sum i p w h e f = record { run = λ z b. whole (eqb-true other 0 (sym e ∙ z)) b }
+pub running_all : (recording : List ℕ) (t need s other sum i c : ℕ) (p : Option ℕ) → Running recording t need s other sum i → need ≤ i → other ≡ 0 → c ≡ sum / 256 → p ≡ Some c → PlainIs recording t need s p
+running_all recording t need s other sum i c p w h z f e = record { run = λ x k b. whole x (same_sum x k) b }
   where
     all : i ≡ need
     all = omega (arith, w.below)
 
-    whole : other ≡ 0 → (b : Bool) → Walk recording t s b (t + need) need p.sum b
-    whole z b = subst (λ (x : ℕ). Walk recording t s b (t + need) need x b) (sym f) (subst (λ (n : ℕ). Walk recording t s b (t + n) n (sum / 256) b) all (w.so_far z b))
+    same_sum : (x : ℕ) → p ≡ Some x → x ≡ sum / 256
+    same_sum x k = some_same x c (sym k ∙ e) ∙ f
+      where
+        some_same : (x c : ℕ) → Some x ≡ Some c → x ≡ c
+        some_same x c k = cc
 
-pub ruleset plains = (refl, still_sound, running_none, running_more, running_all)
+    whole : (x : ℕ) → x ≡ sum / 256 → (b : Bool) → Walk recording t s b (t + need) need x b
+    whole x k b = subst (λ (y : ℕ). Walk recording t s b (t + need) need y b) (sym k) (subst (λ (n : ℕ). Walk recording t s b (t + n) n (sum / 256) b) all (w.so_far z b))
+
+pub not_plain : (recording : List ℕ) (t need s : ℕ) (p : Option ℕ) → p ≡ None → PlainIs recording t need s p
+not_plain recording t need s p e = record { run = λ x k b. absurd (none_some x (sym e ∙ k)) }
+  where
+    none_some : (x : ℕ) → None ≡ Some x → ⊥
+    none_some x k = let z : ◌≡◌ {A = ℕ} 0 1 = cc in omega arith
+
+pub ruleset plains = (refl, still_sound, running_none, running_more, running_all, not_plain)
 
 -- taken as a run
-pub plain_to : (recording : List ℕ) (t need s : ℕ) (b : Bool) (p : Plain) (r : Run) → PlainIs recording t need s p → p.plain ≡ true → r ≡ To (t + need) p.sum b → RunIs recording t need s b r
-plain_to recording t need s b p r v e f = subst (RunIs recording t need s b) (sym f) (v.run e b)
+pub plain_to : (recording : List ℕ) (t need s sum : ℕ) (b : Bool) (p : Option ℕ) (r : Result Run Stop) → PlainIs recording t need s p → p ≡ Some sum → r ≡ Ok (record { end = t + need; sum = sum; harm = b }) → RunIs recording t need s b r
+plain_to recording t need s sum b p r v e f = subst (RunIs recording t need s b) (sym f) (v.run sum e b)

@@ -1,11 +1,11 @@
 -- Computed runs: recordings and their lists, on which the claims are not empty, and what happens where a premise does not hold.
 use Prim.Native.Nat.{ℕ}
 use mathlib.Core.Path.{◌≡◌, refl}
-use mathlib.Core.List.{List, [], ◌∷◌, ◌++◌}
+use mathlib.Core.List.{List, [], ◌∷◌}
 use lib.Bits.{bit_xor}
 use Rattle.base.specs.Choice.{when◌then◌else◌}
 use Rattle.frame.specs.Delimiter.{delimiter_of}
-use Rattle.line.specs.Reader.{taken, at_idle, at_preamble, at_first, at_address, at_expansion, at_command, at_count, at_data, at_check, silent_inside}
+use Rattle.line.specs.Reader.{taken, at_idle, at_preamble, at_first, at_command, at_count, at_check, silent_inside}
 use Rattle.recording.specs.Form.{ticks_of}
 use Rattle.recording_list.specs.Listing.{entry, found, listing_of}
 

@@ -3,9 +3,8 @@
 use Rattle.std.specs.Prelude.{ℕ, zero, suc, ◌+◌, ◌*◌, ◌/◌, ◌≤◌, Bool, true, false, ◌≡◌, List, [], ◌∷◌, ◌++◌, length}
 use Rattle.std.specs.Int.Bits.{bit_xor}
 use Rattle.base.specs.Choice.{when◌then◌else◌, ◌=?◌}
-use Rattle.frame.specs.Delimiter.{delimiter_of}
+use Rattle.frame.specs.Delimiter.{delimiter_of, delimiter_with}
 use Rattle.frame.specs.Frame.{too_few}
-use Rattle.frame.specs.declared.Delimiter.TheVariants.{Is}
 use Rattle.line.specs.Gaps.{IsCharacter, Gapped}
 use Rattle.line.specs.Reader.{passing, taken}
 use Rattle.line.specs.declared.Event.{Event}
@@ -75,7 +74,7 @@ pub record Complete (preambles d : ℕ) (head : List Heard) (c : ℕ) (tail : Li
   pub long : Bool
   pub expansion : ℕ
   pub two : 2 ≤ preambles
-  pub delimiter : delimiter_of d ≡ Is frame long expansion
+  pub delimiter : delimiter_of d ≡ delimiter_with frame long expansion
   pub head_length : length head ≡ (when long then 6 else 2) + expansion
   pub enough : too_few frame c ≡ false
   pub tail_length : length tail ≡ c + 1

@@ -1,8 +1,7 @@
 -- To be believed: what the engine must do, or what is claimed of it.
 -- Document 02, item 9: "On every recording it must list the frames and breaks that the tick reader finds, at the same ticks". The tick reader is `taken` in crates/line/specs/Reader.antt.
-use Rattle.std.specs.Prelude.{ℕ, ◌+◌, ◌/◌, ◌%◌, ◌^◌, ◌≡◌, List, [], ◌∷◌, ◌++◌, length}
+use Rattle.std.specs.Prelude.{ℕ, ◌+◌, ◌/◌, ◌%◌, ◌^◌, ◌≡◌, List, [], ◌∷◌, ◌++◌, length, Result, Ok, Err}
 use Rattle.base.specs.Choice.{when◌then◌else◌, ◌<?◌, ◌=?◌}
-use Rattle.base.specs.Refusal.{number, Called, accepted, refused}
 use Rattle.base.specs.Store.{stored}
 use Rattle.base.specs.declared.Refusal.TheVariants.{BadRecording, BufferShort}
 use Rattle.line.specs.Reader.{passing, taken}
@@ -11,8 +10,7 @@ use Rattle.line.specs.declared.Event.TheVariants.{Nothing, PassedOver, Broken, F
 use Rattle.line.specs.declared.Heard.{Heard}
 use Rattle.line.specs.declared.Receiver.{Receiver}
 use Rattle.recording.specs.Form.{ticks_of, bad_recording}
-use Rattle.recording_list.specs.declared.Listed.{Listed}
-use Rattle.recording_list.specs.declared.Listed.TheVariants.{Entries, Refused}
+use Rattle.base.specs.declared.Refusal.{Refusal}
 
 -- "8 bytes of the tick that ends or breaks it, most significant first"
 abbrev pub tick_bytes : ℕ → List ℕ
@@ -45,23 +43,18 @@ abbrev pub listing_of : List ℕ → List ℕ
 listing_of recording = list_of (ticks_of recording)
 
 -- "It refuses an odd length or another value with 21, then a buffer too short with 15."
-abbrev pub list_answer : List ℕ → ℕ → Listed
+abbrev pub list_answer : List ℕ → ℕ → Result ℕ Refusal
 list_answer recording room =
-    when bad_recording recording then Refused BadRecording else
-    when room <? length (listing_of recording) then Refused BufferShort else
-    Entries (length (listing_of recording) / 9)
+    when bad_recording recording then Err BadRecording else
+    when room <? length (listing_of recording) then Err BufferShort else
+    Ok (length (listing_of recording) / 9)
 
 -- the buffer after the call: the list at its front, or as it was
-abbrev pub buffer_after : Listed → List ℕ → List ℕ → List ℕ
-buffer_after (Entries n) recording buffer = stored buffer 0 (listing_of recording)
-buffer_after (Refused why) recording buffer = buffer
+abbrev pub buffer_after : Result ℕ Refusal → List ℕ → List ℕ → List ℕ
+buffer_after (Ok n) recording buffer = stored buffer 0 (listing_of recording)
+buffer_after (Err why) recording buffer = buffer
 
 -- what a call promises
-pub record ListIs (recording buffer : List ℕ) (r : Listed) (after : List ℕ) : Type 0 where
+pub record ListIs (recording buffer : List ℕ) (r : Result ℕ Refusal) (after : List ℕ) : Type 0 where
   pub answer : r ≡ list_answer recording (length buffer)
   pub listed : after ≡ buffer_after r recording buffer
-
--- an answer's number and value
-abbrev pub listed_as : Listed → Called ℕ
-listed_as (Entries n) = accepted n
-listed_as (Refused why) = refused (number why)

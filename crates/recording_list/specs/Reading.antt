@@ -1,27 +1,21 @@
 -- Inner contracts: nothing that is to be believed rests on them.
 -- What the functions that jump from tick to tick promise, each in terms of what the tick reader finds from there on.
-use Rattle.std.specs.Prelude.{ℕ, ◌+◌, ◌-◌, ◌*◌, ◌/◌, ◌%◌, ◌≤◌, ◌<◌, ◌≡◌, Bool, true, false, List, [], ◌∷◌, ◌++◌, length, drop}
+use Rattle.std.specs.Prelude.{ℕ, ◌+◌, ◌-◌, ◌*◌, ◌/◌, ◌%◌, ◌≤◌, ◌<◌, ◌≡◌, Bool, true, false, List, [], ◌++◌, length, drop, Option, Some, None, Result, Ok, Err}
 use Rattle.std.specs.Int.Bits.{bit_xor}
 use Rattle.base.specs.Choice.{when◌then◌else◌, ◌=?◌, ◌≤?◌}
 use Rattle.base.specs.Store.{stored}
 use Rattle.line.specs.Reader.{idle, passing, blank, is_damaged}
-use Rattle.line.specs.declared.Heard.{Heard}
 use Rattle.line.specs.declared.Place.TheVariants.{Preamble, First, Address, Expansion, Command, Count, Data, Check}
 use Rattle.line.specs.declared.Receiver.{Receiver}
 use Rattle.recording.specs.Recording.{TickIs}
 use Rattle.recording.specs.Form.{ticks_of}
 use Rattle.recording_list.specs.Listing.{entry, found, listing_of}
 use Rattle.recording_list.specs.declared.Item.{Item}
-use Rattle.recording_list.specs.declared.Item.TheVariants.{Told, Done}
-use Rattle.recording_list.specs.declared.Next.{Next}
-use Rattle.recording_list.specs.declared.Next.TheVariants.{At, Broke, Over}
 use Rattle.recording_list.specs.declared.Outcome.{Outcome}
-use Rattle.recording_list.specs.declared.Outcome.TheVariants.{Ends, Breaks, Cut}
-use Rattle.recording_list.specs.declared.Plain.{Plain}
-use Rattle.recording_list.specs.declared.Step.{Step}
-use Rattle.recording_list.specs.declared.Step.TheVariants.{More, Ended}
+use Rattle.recording_list.specs.declared.Outcome.TheVariants.{Ends, Breaks}
 use Rattle.recording_list.specs.declared.Run.{Run}
-use Rattle.recording_list.specs.declared.Run.TheVariants.{To, RunBroke, RunOver}
+use Rattle.recording_list.specs.declared.Stop.{Stop}
+use Rattle.recording_list.specs.declared.Stop.TheVariants.{Broke, Over}
 
 -- what the reader r finds from tick t of a recording on
 abbrev pub found_from : List ℕ → ℕ → Receiver → List ℕ
@@ -64,10 +58,10 @@ pub data NoMore (recording : List ℕ) (t : ℕ) : Type 0 where
   no_tick : length recording / 2 ≤ t → NoMore recording t
   last_silent : SilentTick recording t → length recording / 2 ≤ t + 1 → NoMore recording t
 
-abbrev pub NextIs : List ℕ → ℕ → Next → Type 0
-NextIs recording t (At u) = NextAt recording t u
-NextIs recording t (Broke u) = TwoSilent recording t u
-NextIs recording t Over = NoMore recording t
+abbrev pub NextIs : List ℕ → ℕ → Result ℕ Stop → Type 0
+NextIs recording t (Ok u) = NextAt recording t u
+NextIs recording t (Err (Broke u)) = TwoSilent recording t u
+NextIs recording t (Err Over) = NoMore recording t
 
 -- ---- so many characters
 
@@ -99,18 +93,18 @@ pub record WalkOver (recording : List ℕ) (t s : ℕ) (b : Bool) (need : ℕ) :
   pub fewer : count < need
   pub none : NoMore recording place
 
-abbrev pub RunIs : List ℕ → ℕ → ℕ → ℕ → Bool → Run → Type 0
-RunIs recording t need s b (To u sum harm) = Walk recording t s b u need sum harm
-RunIs recording t need s b (RunBroke u) = WalkTo recording t s b need u
-RunIs recording t need s b RunOver = WalkOver recording t s b need
+abbrev pub RunIs : List ℕ → ℕ → ℕ → ℕ → Bool → Result Run Stop → Type 0
+RunIs recording t need s b (Ok run) = Walk recording t s b run.end need run.sum run.harm
+RunIs recording t need s b (Err (Broke u)) = WalkTo recording t s b need u
+RunIs recording t need s b (Err Over) = WalkOver recording t s b need
 
 -- other is 0 only where it was 0 before and the tick is an undamaged character
 pub record StillSound (other v after : ℕ) : Type 0 where
   pub sound : after ≡ 0 → (other ≡ 0) × (v % 256 ≡ 32)
 
--- where so many ticks are undamaged characters, Walk holds of them
-pub record PlainIs (recording : List ℕ) (t need s : ℕ) (p : Plain) : Type 0 where
-  pub run : p.plain ≡ true → (b : Bool) → Walk recording t s b (t + need) need p.sum b
+-- where there is a sum, so many ticks are undamaged characters and Walk holds of them
+pub record PlainIs (recording : List ℕ) (t need s : ℕ) (p : Option ℕ) : Type 0 where
+  pub run : (sum : ℕ) → p ≡ Some sum → (b : Bool) → Walk recording t s b (t + need) need sum b
 
 -- ---- the reader inside a frame
 
@@ -154,37 +148,28 @@ pub record EndsAt (recording : List ℕ) (t : ℕ) (l : List ℕ) (u verdict : �
   pub within : 2 * u + 2 ≤ length recording
   pub told : l ≡ entry u verdict ++ found_from recording (u + 1) r
 
-abbrev pub OutcomeIs : List ℕ → ℕ → List ℕ → Outcome → Type 0
-OutcomeIs recording t l (Ends u verdict) = EndsAt recording t l u verdict idle
-OutcomeIs recording t l (Breaks u) = EndsAt recording t l u 0 passing
-OutcomeIs recording t l Cut = l ≡ []
+abbrev pub OutcomeIs : List ℕ → ℕ → List ℕ → Result Outcome Stop → Type 0
+OutcomeIs recording t l (Ok (Ends u verdict)) = EndsAt recording t l u verdict idle
+OutcomeIs recording t l (Ok (Breaks u)) = EndsAt recording t l u 0 passing
+OutcomeIs recording t l (Err (Broke u)) = EndsAt recording t l u 0 idle
+OutcomeIs recording t l (Err Over) = l ≡ []
 
 -- for every reader that is there
-pub record TailIs (recording : List ℕ) (t n s : ℕ) (b : Bool) (o : Outcome) : Type 0 where
+pub record TailIs (recording : List ℕ) (t n s : ℕ) (b : Bool) (o : Result Outcome Stop) : Type 0 where
   pub each : (r : Receiver) → InTail n s b r → OutcomeIs recording t (found_from recording t r) o
 
-pub record CountIs (recording : List ℕ) (t frame s : ℕ) (b : Bool) (o : Outcome) : Type 0 where
+pub record CountIs (recording : List ℕ) (t frame s : ℕ) (b : Bool) (o : Result Outcome Stop) : Type 0 where
   pub each : (r : Receiver) → InHead frame 0 s b r → OutcomeIs recording t (found_from recording t r) o
 
-pub record HeadIs (recording : List ℕ) (t frame n s : ℕ) (o : Outcome) : Type 0 where
+pub record HeadIs (recording : List ℕ) (t frame n s : ℕ) (o : Result Outcome Stop) : Type 0 where
   pub each : (r : Receiver) → InHead frame n s false r → OutcomeIs recording t (found_from recording t r) o
 
-pub record FrameIs (recording : List ℕ) (t : ℕ) (r : Receiver) (o : Outcome) : Type 0 where
+pub record FrameIs (recording : List ℕ) (t : ℕ) (r : Receiver) (o : Result Outcome Stop) : Type 0 where
   pub this : OutcomeIs recording t (found_from recording t r) o
 
 -- in the preamble, after one 0xFF or after two
 abbrev pub in_preamble : Bool → Receiver
 in_preamble two = when two then blank (Preamble 2) else blank (Preamble 1)
-
--- a character of the preamble: another 0xFF, and the tick after it, or what became of the frame
-pub record MorePreamble (recording : List ℕ) (t : ℕ) (two : Bool) (u : ℕ) : Type 0 where
-  pub onward : t < u
-  pub within : 2 * u ≤ length recording
-  pub same : found_from recording t (in_preamble two) ≡ found_from recording u (blank (Preamble 2))
-
-abbrev pub StepIs : List ℕ → ℕ → Bool → Step → Type 0
-StepIs recording t two (More u) = MorePreamble recording t two u
-StepIs recording t two (Ended o) = FrameIs recording t (in_preamble two) o
 
 -- ---- an entry of the list
 
@@ -193,9 +178,9 @@ pub record ToldAt (recording : List ℕ) (t u verdict next : ℕ) : Type 0 where
   pub within : 2 * next ≤ length recording
   pub told : found_from recording t idle ≡ entry u verdict ++ found_from recording next idle
 
-abbrev pub ItemIs : List ℕ → ℕ → Item → Type 0
-ItemIs recording t (Told u verdict next) = ToldAt recording t u verdict next
-ItemIs recording t Done = found_from recording t idle ≡ []
+abbrev pub ItemIs : List ℕ → ℕ → Option Item → Type 0
+ItemIs recording t (Some item) = ToldAt recording t item.tick item.verdict item.next
+ItemIs recording t None = found_from recording t idle ≡ []
 
 -- the reader r may leave out the ticks from t up to but not including u, and after them it is s
 pub record LeftOut (recording : List ℕ) (t : ℕ) (r : Receiver) (u : ℕ) (s : Receiver) : Type 0 where

@@ -1,18 +1,12 @@
 // The starts for programs in C: of the tick reader, a master and a device, each in words that the caller lends.
-#![tactic(auto)]
+#![tactic(auto, using(base::proofs::Choices::choices))]
 
 ghost use Rattle.std.specs.Prelude.{◌≡◌};
-ghost use Rattle.base.specs.Refusal.{accepted};
-ghost use Rattle.line.specs.Profile.{profile_made, made_as};
-ghost use Rattle.master.specs.Answers.{started};
-ghost use Rattle.device.specs.Calls.{started_as};
-ghost use Rattle.state_start_c.specs.Start.{ReaderStarts, profile, MasterLeft, MasterStarts, DeviceLeft, DeviceStarts};
+ghost use Rattle.base.specs.Refusal.{accepted, called_as};
+ghost use Rattle.state_start_c.specs.Start.{ReaderStarts, profile, start_number, limited, MasterStarts, DeviceStarts};
 
 use base::Refusal;
-use device::DeviceStarted;
-use line::{MadeProfile, Profile};
-use master::MasterStarted;
-use turns::{Device, Master};
+use line::Profile;
 
 // A reader at its start.
 pub fn nengapiko_reader_start(state: &mut [u64; 16])
@@ -23,40 +17,57 @@ pub fn nengapiko_reader_start(state: &mut [u64; 16])
     *state = state_words::receiver_words(r);
 }
 
-// The profile with these numbers, or refusal 1.
-fn made_profile(sto: u16, hold: u16, rt2: u16, rt1p: u16, rt1s: u16) -> MadeProfile
-    ensures { made_as result ≡ profile_made (profile sto hold rt2 rt1p rt1s) }
+// The profile with these numbers.
+fn profile_of(sto: u16, hold: u16, rt2: u16, rt1p: u16, rt1s: u16) -> Profile
+    ensures { result ≡ profile sto hold rt2 rt1p rt1s }
 {
-    let p = Profile {
-        sto: sto,
-        hold: hold,
-        rt2: rt2,
-        rt1p: rt1p,
-        rt1s: rt1s,
-    };
-    p.checked()
+    Profile {
+        sto,
+        hold,
+        rt2,
+        rt1p,
+        rt1s,
+    }
 }
 
-// A fresh master, where its data limit is from 2 to 255; else refusal 9.
-fn master_left(limit: usize, m: Master, words: &mut [u64; 40]) -> u32
-    ensures { MasterLeft limit (accepted m) words result }
+// A data limit from 2 to 255; else refusal 9.
+#[tactic(auto, using(base::proofs::Choices::choices, crate::proofs::Starts::limit_byte))]
+pub fn data_limit(limit: usize) -> Result<u8, Refusal>
+    ensures { called_as result ≡ limited limit (accepted limit) }
 {
     if base::outside(limit, 2, 255) {
-        return Refusal::DataLength.number();
+        Err(Refusal::DataLength)
+    } else {
+        Ok(limit as u8)
     }
-    let small = limit as u8;
-    master_c::master_fits(m);
-    master_c::pack(words, small, m);
-    0
 }
 
-fn master_started(limit: usize, res: MasterStarted, words: &mut [u64; 40]) -> u32
-    ensures { MasterLeft limit (started res) words result }
+// What a program in C reads of a start: 0, or the refusal's number.
+fn start_number(started: Result<(), Refusal>) -> u32
+    ensures { result ≡ start_number (called_as started) }
 {
-    match res {
-        MasterStarted::Started(m) => master_left(limit, m, words),
-        MasterStarted::Refused(why) => why.number(),
+    match started {
+        Ok(()) => 0,
+        Err(why) => why.number(),
     }
+}
+
+// Puts a fresh master with a data limit into the words; or refusal 1, 2 or 9, and the words as they were.
+#[tactic(auto, using(base::proofs::Choices::choices, crate::proofs::Starts::masters))]
+fn begin_master(
+    p: Profile,
+    primary: bool,
+    retries: u8,
+    limit: usize,
+    words: &mut [u64; 40],
+) -> Result<(), Refusal>
+    ensures { MasterStarts p primary retries limit words (start_number (called_as result)) }
+{
+    let m = master::start(p.checked()?, primary, retries)?;
+    let limit = data_limit(limit)?;
+    master_c::master_fits(m);
+    master_c::pack(words, limit, m);
+    Ok(())
 }
 
 // A fresh master with a data limit; or refusal 1, 2 or 9, and the words as they were.
@@ -73,33 +84,27 @@ pub fn nengapiko_master_start(
 ) -> u32
     ensures { MasterStarts (profile sto hold rt2 rt1p rt1s) primary retries limit state result }
 {
-    let made = made_profile(sto, hold, rt2, rt1p, rt1s);
-    match made {
-        MadeProfile::Made(p) => master_started(limit, master::start(p, primary, retries), state),
-        MadeProfile::Refused(why) => why.number(),
-    }
+    let p = profile_of(sto, hold, rt2, rt1p, rt1s);
+    start_number(begin_master(p, primary, retries, limit, state))
 }
 
-// A fresh device, where its data limit is from 2 to 255; else refusal 9.
-fn device_left(limit: usize, d: Device, words: &mut [u64; 41]) -> u32
-    ensures { DeviceLeft limit (accepted d) words result }
+// Puts a fresh device with a data limit into the words; or refusal 1, 3, 4 or 9, and the words as they were. Not one function with `begin_master`: start, ranges and words are of other crates.
+#[tactic(auto, using(base::proofs::Choices::choices, crate::proofs::Starts::devices))]
+fn begin_device(
+    p: Profile,
+    preamble: usize,
+    polling: u8,
+    unique: u64,
+    limit: usize,
+    words: &mut [u64; 41],
+) -> Result<(), Refusal>
+    ensures { DeviceStarts p preamble polling unique limit words (start_number (called_as result)) }
 {
-    if base::outside(limit, 2, 255) {
-        return Refusal::DataLength.number();
-    }
-    let small = limit as u8;
+    let d = device::start(p.checked()?, preamble, polling, unique)?;
+    let limit = data_limit(limit)?;
     device_c::device_fits(d);
-    device_c::pack(words, small, d);
-    0
-}
-
-fn device_started(limit: usize, res: DeviceStarted, words: &mut [u64; 41]) -> u32
-    ensures { DeviceLeft limit (started_as res) words result }
-{
-    match res {
-        DeviceStarted::Started(d) => device_left(limit, d, words),
-        DeviceStarted::Refused(why) => why.number(),
-    }
+    device_c::pack(words, limit, d);
+    Ok(())
 }
 
 // A fresh device with a data limit; or refusal 1, 3, 4 or 9, and the words as they were.
@@ -117,13 +122,6 @@ pub fn nengapiko_device_start(
 ) -> u32
     ensures { DeviceStarts (profile sto hold rt2 rt1p rt1s) preamble polling unique limit state result }
 {
-    let made = made_profile(sto, hold, rt2, rt1p, rt1s);
-    match made {
-        MadeProfile::Made(p) => device_started(
-            limit,
-            device::start(p, preamble, polling, unique),
-            state,
-        ),
-        MadeProfile::Refused(why) => why.number(),
-    }
+    let p = profile_of(sto, hold, rt2, rt1p, rt1s);
+    start_number(begin_device(p, preamble, polling, unique, limit, state))
 }

@@ -3,7 +3,7 @@ use Prim.Native.Nat.{ℕ, ◌+◌, ◌*◌, ◌/◌, ◌%◌, ◌^◌, ◌<◌}
 use native.Mathlib.Nat.{mod-eq_of_lt}
 use native.Mathlib.Omega.{arith}
 use mathlib.Core.Bool.{Bool, true, false}
-use mathlib.Core.Path.{◌≡◌, refl, sym, ap, subst, ◌∙◌}
+use mathlib.Core.Path.{◌≡◌, refl, ap, ◌∙◌}
 use Rattle.base.specs.Choice.{when◌then◌else◌, ◌=?◌}
 use Rattle.frame.specs.declared.Header.{Header}
 use Rattle.line.specs.declared.FrameDamage.{FrameDamage}
@@ -83,7 +83,3 @@ receiver_kept r f = λ i. record {
   gap = flag_kept r.gap i;
   damage = damage_kept r.damage i;
 }
-
--- the place that a match has shown
-pub place_shown : (p q : Place) → p ≡ q → PlaceFits q → PlaceFits p
-place_shown p q e f = subst PlaceFits (sym e) f

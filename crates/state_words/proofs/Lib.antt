@@ -1,5 +1,4 @@
 -- The laws by which states are packed and unpacked.
-pub mod Fields
 pub mod Kept
 pub mod Numbers
 pub mod Puts

@@ -1,7 +1,7 @@
--- The numbers of a tick and of a call, by the case that a match has shown.
+-- What a tick tells is what its numbers tell.
 use Prim.Native.Nat.{ℕ}
-use mathlib.Core.List.{List, ◌∷◌}
-use mathlib.Core.Path.{◌≡◌, refl, sym, ap, ◌∙◌}
+use mathlib.Core.List.{◌∷◌}
+use mathlib.Core.Path.{◌≡◌, refl}
 use Rattle.line.specs.declared.Event.{Event}
 use Rattle.base.specs.Choice.{when◌then◌else◌}
 use Rattle.line.specs.Reader.{no_damage}
@@ -10,9 +10,6 @@ use Rattle.line.specs.declared.Whole.{Whole}
 use Rattle.state_words.specs.Fits.{WholeFits, EventFits}
 use Rattle.state_words.specs.Numbers.{frame_numbers, tick_numbers, whole_at, event_at}
 use Rattle.state_words.proofs.Kept.{flag_kept, number_kept, damage_kept}
-
-pub event_shown : (sent told attempts : ℕ) (event shown : Event) (r : List ℕ) → event ≡ shown → r ≡ tick_numbers sent told attempts shown → r ≡ tick_numbers sent told attempts event
-event_shown sent told attempts event shown r e p = p ∙ ap (λ (x : Event). tick_numbers sent told attempts x) (sym e)
 
 whole_kept : (sent told attempts event : ℕ) (w : Whole) (m : FrameDamage) → WholeFits w → whole_at (sent ∷ told ∷ attempts ∷ event ∷ frame_numbers w m) ≡ w
 whole_kept sent told attempts event w m f = λ i. record {

@@ -1,14 +1,15 @@
 -- Words that are put among others, one a turn; and parts that are put one behind the other.
-use Prim.Native.Nat.{ℕ, zero, suc, ◌+◌, ◌≤◌, ◌<◌}
+use Prim.Native.Nat.{ℕ, zero, suc, ◌+◌, ◌-◌, ◌≤◌, ◌<◌, min}
 use native.Mathlib.Nat.{add-zero, add-suc, suc-add, zero-add}
-use native.Mathlib.Numerals.{add-one}
 use native.Mathlib.Omega.{arith}
 use mathlib.Core.List.{List, [], ◌∷◌, ◌++◌, append-nil}
 use mathlib.Core.Path.{◌≡◌, refl, sym, ap, ◌∙◌}
-use lib.ListN.{length, drop, set, get_or, length-set}
-use lib.Seq.{drop-cons}
+use lib.ListN.{length, take, drop, set, length-drop}
+use lib.Seq.{length-take-le, drop-drop}
+use Rattle.std.proofs.lemmas.List.{take-append-drop}
+use borrow.Rule.Slice.PartMut.{put_mid}
 use Rattle.base.specs.Store.{stored}
-use Rattle.base.proofs.Stores.{stored_between}
+use Rattle.base.proofs.Stores.{stored_between, length_stored}
 
 -- nothing is stored behind the last word
 set_behind : (xs : List ℕ) (i v : ℕ) → length xs ≤ i → set xs i v ≡ xs
@@ -27,40 +28,37 @@ drop_all zero (x ∷ xs) h = absurd (omega arith)
 drop_all (suc n) [] h = refl
 drop_all (suc n) (x ∷ xs) h = drop_all n xs (omega arith)
 
--- the loop: the first i words of the part stand from the place on, and those that are left give what the whole part gives
-pub record Putting (before : List ℕ) (place : ℕ) (part words : List ℕ) (at i : ℕ) : Type 0 where
-  pub same_length : length words ≡ length before
-  pub rest : stored words at (drop i part) ≡ stored before place part
-
-pub putting_none : (before part : List ℕ) (place : ℕ) → Putting before place part before place 0
-putting_none before part place = record { same_length = refl; rest = refl }
-
-pub putting_more : (before part words : List ℕ) (place at i v : ℕ) → Putting before place part words at i → i < length part → v ≡ get_or part i 0
-    → Putting before place part (set words at v) (at + 1) (i + 1)
+stored_no_room : (vs xs : List ℕ) (i : ℕ) → min (length vs) (length xs - i) ≡ 0 → stored xs i vs ≡ xs
 unfolding stored
-putting_more before part words place at i v p h e = record {
-  same_length = length-set words at v ∙ p.same_length;
-  rest =
-      ap (λ (w : ℕ). stored (set words at w) (at + 1) (drop (i + 1) part)) e
-      ∙ ap (λ (k : ℕ). stored (set words at (get_or part i 0)) k (drop (i + 1) part)) (add-one at)
-      ∙ ap (λ (k : ℕ). stored (set words at (get_or part i 0)) (suc at) (drop k part)) (add-one i)
-      ∙ sym (ap (λ (l : List ℕ). stored words at l) (drop-cons part i 0 h))
-      ∙ p.rest;
-}
-
-pub putting_all : (before part words : List ℕ) (place at i : ℕ) → Putting before place part words at i → length part ≤ i → words ≡ stored before place part
-unfolding stored
-putting_all before part words place at i p h = sym (ap (λ (l : List ℕ). stored words at l) (drop_all i part h)) ∙ p.rest
-
-pub putting_end : (before part words : List ℕ) (place at i : ℕ) → Putting before place part words at i → length words ≤ at → words ≡ stored before place part
-putting_end before part words place at i p h = sym (stored_behind (drop i part) words at h) ∙ p.rest
-
-pub ruleset putting = (refl, putting_none, putting_more, putting_all, putting_end)
+stored_no_room [] xs i h = refl
+stored_no_room (v ∷ vs) xs i h = stored_behind (v ∷ vs) xs i (omega arith)
 
 join : (us vs xs : List ℕ) (i : ℕ) → stored (stored xs i us) (i + length us) vs ≡ stored xs i (us ++ vs)
 unfolding stored
 join [] vs xs i = ap (λ (k : ℕ). stored xs k vs) (add-zero i)
 join (u ∷ us) vs xs i = ap (λ (k : ℕ). stored (stored (set xs i u) (suc i) us) k vs) (add-suc i (length us) ∙ sym (suc-add i (length us))) ∙ join us vs (set xs i u) (suc i)
+
+-- of a part, as many words as there is room for
+stored_room : (xs vs : List ℕ) (i n : ℕ) → n ≡ min (length vs) (length xs - i) → stored xs i vs ≡ stored xs i (take n vs)
+stored_room xs vs i n e =
+    let front : length (take n vs) ≡ n = length-take-le n vs (omega arith) in
+    ap (λ (l : List ℕ). stored xs i l) (sym (take-append-drop n vs))
+    ∙ sym (join (take n vs) (drop n vs) xs i)
+    ∙ stored_no_room (drop n vs) (stored xs i (take n vs)) (i + length (take n vs)) (omega (arith, front, length-drop n vs, length_stored xs i (take n vs), e))
+
+pub put_within : (xs vs ys : List ℕ) (i n m : ℕ) → i < length xs → n ≡ min (length vs) (length xs - i) → m ≡ n → ys ≡ take n vs → put_mid i m xs ys ≡ stored xs i vs
+put_within xs vs ys i n m h e q p =
+    let front : length (take n vs) ≡ n = length-take-le n vs (omega arith) in
+    ap (λ (k : ℕ). put_mid i k xs ys) q
+    ∙ ap (λ (l : List ℕ). put_mid i n xs l) p
+    ∙ ap (λ (l : List ℕ). take i xs ++ (take n vs ++ l)) (drop-drop n i xs ∙ ap (λ (k : ℕ). drop (i + k) xs) (sym front))
+    ∙ sym (stored_between xs i (take n vs) (omega (arith, front, e)))
+    ∙ sym (stored_room xs vs i n e)
+
+pub put_behind : (xs vs : List ℕ) (i : ℕ) → length xs ≤ i → xs ≡ stored xs i vs
+put_behind xs vs i h = sym (stored_behind vs xs i h)
+
+pub ruleset putting = (put_within, put_behind)
 
 -- a part behind those that were put
 pub part_behind : (n : ℕ) (before words after us vs : List ℕ) → words ≡ stored before 0 us → n ≡ length us → after ≡ stored words n vs → after ≡ stored before 0 (us ++ vs)

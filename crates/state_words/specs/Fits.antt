@@ -1,6 +1,6 @@
 -- How the code stands for what is to be believed.
 -- Values within their types: what the code's structs can hold, whose numbers have 8, 16 or 32 bits. proofs/Kept.antt says that such a value is what its words are unpacked to.
-use Rattle.std.specs.Prelude.{ℕ, ◌<◌, ◌^◌}
+use Rattle.std.specs.Prelude.{◌<◌, ◌^◌}
 use Rattle.frame.specs.declared.Header.{Header}
 use Rattle.line.specs.declared.Event.{Event}
 use Rattle.line.specs.declared.Event.TheVariants.{Nothing, PassedOver, Broken, Frame, Damaged}

@@ -1,6 +1,6 @@
 -- How the code stands for what is to be believed.
 -- What is told of a tick, as 17 numbers for every party, in the order of the C header's `enum nengapiko_result`: what is sent, what is told and the attempts, then what the reader found.
-use Rattle.std.specs.Prelude.{ℕ, ◌+◌, List, [], ◌∷◌, ◌++◌}
+use Rattle.std.specs.Prelude.{ℕ, List, [], ◌∷◌}
 use Rattle.base.specs.Choice.{when◌then◌else◌, ◌=?◌}
 use Rattle.line.specs.Reader.{no_damage}
 use Rattle.line.specs.Told.{event_number}

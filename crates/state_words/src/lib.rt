@@ -1,27 +1,33 @@
 // A state as words of 64 bits, one for each field, in memory that a program in C lends: the fields, and the parts that master, device and tick reader share; and what is told of a tick, as numbers.
-#![tactic(auto)]
+#![tactic(auto, using(base::proofs::Choices::choices))]
 
 ghost use Rattle.std.specs.Prelude.{◌<◌, ◌^◌, ◌≡◌, ◌∷◌};
 ghost use Rattle.base.specs.Store.{stored};
 ghost use Rattle.state_words.specs.Fields.{word_at, number_at, flag_at};
 ghost use Rattle.state_words.specs.Reader.{header_at, profile_at, place_word, place_by, place_of, damage_at, receiver_words, receiver_at};
-ghost use Rattle.state_words.specs.Numbers.{no_frame, tick_numbers, whole_at, event_by, event_at};
+ghost use Rattle.state_words.specs.Numbers.{no_frame, frame_numbers, tick_numbers, whole_at, event_by, event_at};
 ghost use Rattle.state_words.specs.Fits.{HeaderFits, ProfileFits, PlaceFits, ReceiverFits};
 
 use frame::Header;
 use line::{Event, FrameDamage, Place, Profile, Receiver, Whole};
 
+// The damage of a frame that is sound.
+const NO_DAMAGE: FrameDamage = FrameDamage {
+    parity: false,
+    overrun: false,
+    framing: false,
+    address: false,
+    check: false,
+};
+
 // The word at a place, or 0 past the last.
 pub fn word_at(words: &[u64], place: usize) -> u64
     ensures { result ≡ word_at words.now place }
 {
-    if place < words.len() {
-        return words[place];
-    }
-    0
+    words.get(place).copied().unwrap_or(0)
 }
 
-// The lowest 8, 16 or 32 bits of the word at a place.
+// The lowest 8, 16 or 32 bits of the word at a place. Three functions of one line: a cast to a type parameter would want a trait of its own.
 pub fn u8_at(words: &[u64], place: usize) -> u8
     ensures { result ≡ number_at 8 words.now place }
 {
@@ -48,18 +54,14 @@ pub fn flag_at(words: &[u64], place: usize) -> bool
 }
 
 // Puts some words from a place on, as many as there is room for.
+#[tactic(auto, using(base::proofs::Choices::choices, crate::proofs::Puts::putting))]
 pub fn put(words: &mut [u64], place: u8, part: &[u64])
     ensures { words.new ≡ stored words.old place part.now }
 {
-    let mut at = place as usize;
-    let mut i = 0;
-    while i < part.len() {
-        if words.len() <= at {
-            return;
-        }
-        words[at] = part[i];
-        at += 1;
-        i += 1;
+    let start = place as usize;
+    if start < words.len() {
+        let count = part.len().min(words.len() - start);
+        words[start..start + count].copy_from_slice(&part[..count]);
     }
 }
 
@@ -111,34 +113,18 @@ fn place_word(place: Place) -> u64
 fn place_by(number: u64, n: u8) -> Place
     ensures { result ≡ place_by number n }
 {
-    if number == 1 {
-        return Place::Idle;
+    match number {
+        1 => Place::Idle,
+        2 => Place::Preamble(n),
+        3 => Place::First,
+        4 => Place::Address(n),
+        5 => Place::Expansion(n),
+        6 => Place::Command,
+        7 => Place::Count,
+        8 => Place::Data(n),
+        9 => Place::Check,
+        _ => Place::Passing,
     }
-    if number == 2 {
-        return Place::Preamble(n);
-    }
-    if number == 3 {
-        return Place::First;
-    }
-    if number == 4 {
-        return Place::Address(n);
-    }
-    if number == 5 {
-        return Place::Expansion(n);
-    }
-    if number == 6 {
-        return Place::Command;
-    }
-    if number == 7 {
-        return Place::Count;
-    }
-    if number == 8 {
-        return Place::Data(n);
-    }
-    if number == 9 {
-        return Place::Check;
-    }
-    Place::Passing
 }
 
 fn damage_at(words: &[u64], place: u16) -> FrameDamage
@@ -157,26 +143,23 @@ fn damage_at(words: &[u64], place: u16) -> FrameDamage
 pub fn receiver_words(r: Receiver) -> [u64; 16]
     ensures { result ≡ receiver_words r }
 {
-    let h = r.header;
-    let place = r.place;
-    let m = r.damage;
     [
-        h.kind as u64,
-        h.long as u64,
-        h.primary as u64,
-        h.burst as u64,
-        h.address,
-        h.command as u64,
-        place_word(place),
+        r.header.kind as u64,
+        r.header.long as u64,
+        r.header.primary as u64,
+        r.header.burst as u64,
+        r.header.address,
+        r.header.command as u64,
+        place_word(r.place),
         r.expansion as u64,
         r.count as u64,
         r.sum as u64,
         r.gap as u64,
-        m.parity as u64,
-        m.overrun as u64,
-        m.framing as u64,
-        m.check as u64,
-        m.address as u64,
+        r.damage.parity as u64,
+        r.damage.overrun as u64,
+        r.damage.framing as u64,
+        r.damage.check as u64,
+        r.damage.address as u64,
     ]
 }
 
@@ -190,57 +173,26 @@ pub fn receiver_at(words: &[u64], place: u8) -> Receiver
     ensures { result ≡ receiver_at words.now place }
 {
     let i = place as usize;
-    let header = header_at(words, place as u16);
-    let stands = place_of(word_at(words, i + 6));
-    let damage = damage_at(words, place as u16 + 11);
     Receiver {
-        header: header,
-        place: stands,
+        header: header_at(words, place as u16),
+        place: place_of(word_at(words, i + 6)),
         expansion: u8_at(words, i + 7),
         count: u8_at(words, i + 8),
         sum: u8_at(words, i + 9),
         gap: flag_at(words, i + 10),
-        damage: damage,
+        damage: damage_at(words, place as u16 + 11),
     }
 }
 
-// The next five do nothing. The contract of each says that the numbers of a value are within their types, which the prover knows of a parameter; the laws of proofs/Kept.antt need it.
-fn byte_fits(n: u8)
-    ensures { n < 2 ^ 8 }
-{}
-
-pub fn header_fits(h: Header)
-    ensures { HeaderFits h }
-{}
-
-pub fn profile_fits(p: Profile)
-    ensures { ProfileFits p }
-{}
-
+// The next two do nothing. The contract of each says that the numbers of a value are within their types, which the prover knows of a parameter; the laws of proofs/Kept.antt need it.
 fn place_fits(place: Place)
     ensures { PlaceFits place }
-{
-    match place {
-        Place::Passing => {}
-        Place::Idle => {}
-        Place::Preamble(n) => byte_fits(n),
-        Place::First => {}
-        Place::Address(n) => byte_fits(n),
-        Place::Expansion(n) => byte_fits(n),
-        Place::Command => {}
-        Place::Count => {}
-        Place::Data(n) => byte_fits(n),
-        Place::Check => {}
-    }
-}
+{}
 
 pub fn receiver_fits(r: Receiver)
     ensures { ReceiverFits r }
 {
-    let header = r.header;
-    let place = r.place;
-    header_fits(header);
-    place_fits(place);
+    place_fits(r.place);
 }
 
 fn no_frame(sent: u64, told: u64, attempts: u64, event: u64) -> [u64; 17]
@@ -251,47 +203,28 @@ fn no_frame(sent: u64, told: u64, attempts: u64, event: u64) -> [u64; 17]
     ]
 }
 
-fn whole_frame(sent: u64, told: u64, attempts: u64, w: Whole) -> [u64; 17]
-    ensures { result ≡ tick_numbers sent told attempts (Event.Frame w) }
+fn whole_frame(
+    sent: u64,
+    told: u64,
+    attempts: u64,
+    event: u64,
+    w: Whole,
+    m: FrameDamage,
+) -> [u64; 17]
+    ensures { result ≡ (sent ∷ told ∷ attempts ∷ event ∷ frame_numbers w m) }
 {
-    let h = w.header;
     [
         sent,
         told,
         attempts,
-        3,
-        h.kind as u64,
-        h.long as u64,
-        h.primary as u64,
-        h.burst as u64,
-        h.address,
+        event,
+        w.header.kind as u64,
+        w.header.long as u64,
+        w.header.primary as u64,
+        w.header.burst as u64,
+        w.header.address,
         w.expansion as u64,
-        h.command as u64,
-        w.count as u64,
-        0,
-        0,
-        0,
-        0,
-        0,
-    ]
-}
-
-fn damaged_frame(sent: u64, told: u64, attempts: u64, w: Whole, m: FrameDamage) -> [u64; 17]
-    ensures { result ≡ tick_numbers sent told attempts (Event.Damaged w m) }
-{
-    let h = w.header;
-    [
-        sent,
-        told,
-        attempts,
-        4,
-        h.kind as u64,
-        h.long as u64,
-        h.primary as u64,
-        h.burst as u64,
-        h.address,
-        w.expansion as u64,
-        h.command as u64,
+        w.header.command as u64,
         w.count as u64,
         m.parity as u64,
         m.overrun as u64,
@@ -305,28 +238,28 @@ fn damaged_frame(sent: u64, told: u64, attempts: u64, w: Whole, m: FrameDamage) 
 pub fn tick_numbers(sent: u64, told: u64, attempts: u64, event: Event) -> [u64; 17]
     ensures { result ≡ tick_numbers sent told attempts event }
 {
+    let number = event.number() as u64;
     match event {
-        Event::Nothing => no_frame(sent, told, attempts, 0),
-        Event::PassedOver => no_frame(sent, told, attempts, 1),
-        Event::Broken => no_frame(sent, told, attempts, 2),
-        Event::Frame(w) => whole_frame(sent, told, attempts, w),
-        Event::Damaged(w, m) => damaged_frame(sent, told, attempts, w, m),
+        Event::Nothing | Event::PassedOver | Event::Broken => {
+            no_frame(sent, told, attempts, number)
+        }
+        Event::Frame(w) => whole_frame(sent, told, attempts, number, w, NO_DAMAGE),
+        Event::Damaged(w, m) => whole_frame(sent, told, attempts, number, w, m),
     }
 }
 
 fn whole_at(numbers: &[u64]) -> Whole
     ensures { result ≡ whole_at numbers.now }
 {
-    let h = Header {
-        kind: u8_at(numbers, 4),
-        long: flag_at(numbers, 5),
-        primary: flag_at(numbers, 6),
-        burst: flag_at(numbers, 7),
-        address: word_at(numbers, 8),
-        command: u8_at(numbers, 10),
-    };
     Whole {
-        header: h,
+        header: Header {
+            kind: u8_at(numbers, 4),
+            long: flag_at(numbers, 5),
+            primary: flag_at(numbers, 6),
+            burst: flag_at(numbers, 7),
+            address: word_at(numbers, 8),
+            command: u8_at(numbers, 10),
+        },
         expansion: u8_at(numbers, 9),
         count: u8_at(numbers, 11),
     }
@@ -335,26 +268,22 @@ fn whole_at(numbers: &[u64]) -> Whole
 fn event_by(event: u64, w: Whole, m: FrameDamage) -> Event
     ensures { result ≡ event_by event w m }
 {
-    if event == 1 {
-        return Event::PassedOver;
+    match event {
+        1 => Event::PassedOver,
+        2 => Event::Broken,
+        3 => Event::Frame(w),
+        4 => Event::Damaged(w, m),
+        _ => Event::Nothing,
     }
-    if event == 2 {
-        return Event::Broken;
-    }
-    if event == 3 {
-        return Event::Frame(w);
-    }
-    if event == 4 {
-        return Event::Damaged(w, m);
-    }
-    Event::Nothing
 }
 
 // What a tick's numbers tell.
 pub fn event_at(numbers: &[u64; 17]) -> Event
     ensures { result ≡ event_at numbers.now }
 {
-    let w = whole_at(numbers);
-    let m = damage_at(numbers, 12);
-    event_by(word_at(numbers, 3), w, m)
+    event_by(
+        word_at(numbers, 3),
+        whole_at(numbers),
+        damage_at(numbers, 12),
+    )
 }

@@ -6,7 +6,7 @@ use native.Mathlib.Omega.{arith}
 use mathlib.Core.Path.{◌≡◌, refl, sym, ap, subst, ◌∙◌}
 use mathlib.Core.Bool.{Bool, true, false}
 use mathlib.Core.List.{List, [], ◌∷◌, ◌++◌}
-use lib.ListN.{length, take, get_or, set, length-set, length-take}
+use lib.ListN.{length, take, get_or, set, length-set}
 use lib.Seq.{take_all}
 use Rattle.base.specs.Choice.{when◌then◌else◌, ◌<?◌}
 use Rattle.base.specs.Store.{stored}
@@ -157,12 +157,3 @@ pub spacing_all : (bytes before : List ℕ) (at : ℕ) (out : List ℕ) (place i
 spacing_all bytes before at out place i v h = subst (λ (l : List ℕ). PutIs (spaced l) before at place out) (take_all i bytes h) v.so_far
 
 pub ruleset spacing = (spacing_none, spacing_more, spacing_all)
-
--- the front of some bytes, and all of them where there are fewer
-pub front_length : (bytes : List ℕ) (count : ℕ) → count ≤ length bytes → count ≡ length (take count bytes)
-front_length bytes count h = omega (arith, length-take count bytes)
-
-pub front_all : (bytes : List ℕ) (count : ℕ) → length bytes < count → bytes ≡ take count bytes
-front_all bytes count h = sym (take_all count bytes (omega arith))
-
-pub ruleset fronts = (front_length, front_all)

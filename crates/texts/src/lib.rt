@@ -1,5 +1,6 @@
 // Text in ASCII for the programs that print: it is put into a lent buffer from a place on, or read. What does not fit is left out.
-#![tactic(auto)]
+// Buffer and place are two parameters and no struct: programs keep the place between calls that are each lent the buffer anew, and PutIs, which their contracts cite, speaks of both.
+#![tactic(auto, using(base::proofs::Choices::choices))]
 
 ghost use Rattle.std.specs.Prelude.{◌≡◌, [], ◌∷◌, ◌++◌, false, take, ◌<◌, ◌+◌};
 ghost use Rattle.texts.specs.Decimal.{decimal_of};
@@ -12,9 +13,10 @@ pub fn put_byte(b: u8, out: &mut [u8], at: usize) -> usize
 {
     if at < out.len() {
         out[at] = b;
-        return at + 1;
+        at + 1
+    } else {
+        at
     }
-    at
 }
 
 // Bytes, one after the other.
@@ -22,10 +24,8 @@ pub fn put_bytes(text: &[u8], out: &mut [u8], at: usize) -> usize
     ensures { PutIs text.now out.old at result out.new }
 {
     let mut place = at;
-    let mut i = 0;
-    while i < text.len() {
-        place = put_byte(text[i], out, place);
-        i += 1;
+    for b in text {
+        place = put_byte(*b, out, place);
     }
     place
 }
@@ -35,7 +35,7 @@ fn put_digit(n: u64, out: &mut [u8], at: usize) -> usize
     requires { n < 10 }
     ensures { PutIs ((48 + n) ∷ []) out.old at result out.new }
 {
-    put_byte((48 + n) as u8, out, at)
+    put_byte(b'0' + n as u8, out, at)
 }
 
 // A number in decimal, up to this many digits.
@@ -43,13 +43,13 @@ pub fn put_digits(digits: u8, n: u64, out: &mut [u8], at: usize) -> usize
     ensures { PutIs (decimal_of digits n) out.old at result out.new }
 {
     if digits == 0 {
-        return at;
+        at
+    } else if n < 10 {
+        put_digit(n, out, at)
+    } else {
+        let place = put_digits(digits - 1, n / 10, out, at);
+        put_digit(n % 10, out, place)
     }
-    if n < 10 {
-        return put_digit(n, out, at);
-    }
-    let place = put_digits(digits - 1, n / 10, out, at);
-    put_digit(n % 10, out, place)
 }
 
 // A number in decimal.
@@ -71,10 +71,7 @@ pub fn put_field(name: &[u8], n: u64, out: &mut [u8], at: usize) -> usize
 pub fn bit(on: bool) -> u64
     ensures { result ≡ bit_of on }
 {
-    if on {
-        return 1;
-    }
-    0
+    u64::from(on)
 }
 
 // A hexadecimal digit.
@@ -83,22 +80,20 @@ fn digit(capital: bool, n: u8) -> u8
     ensures { result ≡ digit_of capital n }
 {
     if n < 10 {
-        return 48 + n;
+        b'0' + n
+    } else if capital {
+        b'A' - 10 + n
+    } else {
+        b'a' - 10 + n
     }
-    if capital {
-        return 55 + n;
-    }
-    87 + n
 }
 
 // A byte in hexadecimal, two digits.
 pub fn put_hexadecimal(capital: bool, byte: u8, out: &mut [u8], at: usize) -> usize
     ensures { PutIs (hexadecimal capital byte) out.old at result out.new }
 {
-    let high = digit(capital, byte / 16);
-    let low = digit(capital, byte % 16);
-    let place = put_byte(high, out, at);
-    put_byte(low, out, place)
+    let place = put_byte(digit(capital, byte / 16), out, at);
+    put_byte(digit(capital, byte % 16), out, place)
 }
 
 // A byte in hexadecimal, with a space before it.
@@ -114,10 +109,8 @@ pub fn put_all_spaced(bytes: &[u8], out: &mut [u8], at: usize) -> usize
     ensures { PutIs (spaced bytes.now) out.old at result out.new }
 {
     let mut place = at;
-    let mut i = 0;
-    while i < bytes.len() {
-        place = put_spaced(bytes[i], out, place);
-        i += 1;
+    for byte in bytes {
+        place = put_spaced(*byte, out, place);
     }
     place
 }
@@ -126,27 +119,19 @@ pub fn put_all_spaced(bytes: &[u8], out: &mut [u8], at: usize) -> usize
 pub fn front(bytes: &[u8], count: usize) -> &[u8]
     ensures { result.now ≡ take count bytes.now }
 {
-    if count <= bytes.len() {
-        return &bytes[..count];
-    }
-    bytes
+    &bytes[..count.min(bytes.len())]
 }
 
 // The value of a hexadecimal digit, 0 to 9 or a to f.
 fn value(c: u8) -> u8
     ensures { result ≡ value_of c }
 {
-    if c < b'a' {
-        return c % 16;
-    }
-    c % 16 + 9
+    if c < b'a' { c % 16 } else { c % 16 + 9 }
 }
 
 // The byte of two hexadecimal digits.
 pub fn byte_of(a: u8, b: u8) -> u8
     ensures { result ≡ byte_of a b }
 {
-    let high = value(a);
-    let low = value(b);
-    high % 16 * 16 + low % 16
+    value(a) % 16 * 16 + value(b) % 16
 }

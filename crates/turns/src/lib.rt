@@ -147,7 +147,7 @@ pub enum Turn {
     Bursts(u16),
 }
 
-// What the host gave for BACKs; the data stand in the lent content buffer.
+// What the host gave for BACKs; the data stand in the lent content buffer. No Option: each of the three is a word of a device in C.
 #[derive(Clone, Copy)]
 pub struct Content {
     pub given: bool,

@@ -1,9 +1,10 @@
 use mathlib.Core.List.{[]}
-use mathlib.Core.Path.{refl, ap}
+use mathlib.Core.Path.{refl, sym, ap, ◌∙◌}
 use native.Mathlib.Omega.{arith}
 use Prim.Native.Nat.{◌-◌}
 use borrow.Author.Rules.{rules}
-use Rattle.link_ticks.proofs.Follows.{is_here, device_reader, always, master_reader, follow_none, follow_begins, follow_ends, follow_absent, follow_set, follow_unset, follow_has, line_quiet}
+use Rattle.turns.specs.declared.Device.{Device}
+use Rattle.link_ticks.proofs.Follows.{is_here, no_device_in, device_reader, always, master_reader, follow_none, follow_begins, follow_ends, follow_absent, follow_set, follow_unset, follow_has, line_quiet}
 use Rattle.link_ticks.proofs.Devices.{device_absent, device_counted, device_heard, device_acted}
 use Rattle.link_ticks.proofs.Masters.{master_counted, master_heard, master_acted}
 use Rattle.link_ticks.proofs.Going.{fewer, goes_in, going_first, devices_first, masters_first, going_on, going_over, device_call_is, master_call_is}
@@ -36,18 +37,12 @@ offset_bounds-ds-i-in-Counts c = omega (arith, c.loop-n-test.true, c.loop-n.inva
 pub bounds-ds-i-in-Counts : goal.bounds-ds-i-in-Counts
 bounds-ds-i-in-Counts c = omega (arith, c.loop-n-test.true, c.loop-n.invariant.0.within)
 
-pub offset_bounds-ds-i-in-Counts-2 : goal.offset_bounds-ds-i-in-Counts-2
-offset_bounds-ds-i-in-Counts-2 c = omega (arith, c.loop-n-test.true, c.loop-n.invariant.0.within)
-
-pub bounds-ds-i-in-Counts-2 : goal.bounds-ds-i-in-Counts-2
-bounds-ds-i-in-Counts-2 c = omega (arith, c.loop-n-test.true, c.loop-n.invariant.0.within)
-
 pub bounds-ds_follow-i-in-Counts : goal.bounds-ds_follow-i-in-Counts
 bounds-ds_follow-i-in-Counts c = omega (arith, c.loop-n-test.true, c.loop-n.invariant.0.within)
 
 pub loop-n-preserved-in-Counts : goal.loop-n-preserved-in-Counts
 loop-n-preserved-in-Counts c = (
-  device_counted _ _ _ _ _ _ _ _ c.loop-n.invariant.0 c.loop-n-test.true c.if-slot.true _ (device_call_is c.loop-requests.t c.args.calls (c.loop-n.n - 1) _ _ c.device_call-call.ensures c.loop-requests.invariant.0.calls_six (omega (arith, c.loop-n-test.true, c.loop-n.invariant.0.within))) _ _ _ _ _ c.device_way-way.ensures c.in-Counts.is c.counted_device.ensures,
+  device_counted _ _ _ _ _ _ _ _ c.loop-n.invariant.0 c.loop-n-test.true _ c.in-Some.is _ (device_call_is c.loop-requests.t c.args.calls (c.loop-n.n - 1) _ _ c.device_call-call.ensures c.loop-requests.invariant.0.calls_six (omega (arith, c.loop-n-test.true, c.loop-n.invariant.0.within))) _ _ _ _ _ c.device_way-way.ensures c.in-Counts.is c.counted_device.ensures,
   follow_unset is_here device_reader 6 _ _ _ _ _ c.loop-n.invariant.1 c.loop-n-test.true _,
 )
 
@@ -66,19 +61,13 @@ offset_bounds-bytes-i c = omega (arith, c.loop-n-test.true, c.loop-n.invariant.0
 pub bounds-bytes-i : goal.bounds-bytes-i
 bounds-bytes-i c = omega (arith, c.loop-n-test.true, c.loop-n.invariant.0.within)
 
-pub offset_bounds-ds-i-in-Hears-2 : goal.offset_bounds-ds-i-in-Hears-2
-offset_bounds-ds-i-in-Hears-2 c = omega (arith, c.loop-n-test.true, c.loop-n.invariant.0.within)
-
-pub bounds-ds-i-in-Hears-2 : goal.bounds-ds-i-in-Hears-2
-bounds-ds-i-in-Hears-2 c = omega (arith, c.loop-n-test.true, c.loop-n.invariant.0.within)
-
 pub bounds-ds_follow-i-in-Hears : goal.bounds-ds_follow-i-in-Hears
 bounds-ds_follow-i-in-Hears c = omega (arith, c.loop-n-test.true, c.loop-n.invariant.0.within)
 
 pub loop-n-preserved-in-Hears : goal.loop-n-preserved-in-Hears
 loop-n-preserved-in-Hears c = (
-  device_heard _ _ _ _ _ _ _ _ c.loop-n.invariant.0 c.loop-n-test.true c.if-slot.true _ (device_call_is c.loop-requests.t c.args.calls (c.loop-n.n - 1) _ _ c.device_call-call.ensures c.loop-requests.invariant.0.calls_six (omega (arith, c.loop-n-test.true, c.loop-n.invariant.0.within))) _ _ _ _ _ _ _ c.device_way-way.ensures c.in-Hears.is (follow_has is_here device_reader 6 _ _ _ _ _ c.loop-n.invariant.1 c.loop-n-test.true _ _ c.if-slot.true) (line_quiet _ _ _ c.line_step-step.ensures) c.keep.ensures c.heard_device.ensures,
-  follow_set is_here device_reader 6 _ _ _ _ _ c.loop-n.invariant.1 c.loop-n-test.true _ (ap device_reader c.heard_device.ensures),
+  device_heard _ _ _ _ _ _ _ _ c.loop-n.invariant.0 c.loop-n-test.true _ c.in-Some.is _ (device_call_is c.loop-requests.t c.args.calls (c.loop-n.n - 1) _ _ c.device_call-call.ensures c.loop-requests.invariant.0.calls_six (omega (arith, c.loop-n-test.true, c.loop-n.invariant.0.within))) _ _ _ _ _ _ _ c.device_way-way.ensures c.in-Hears.is (λ q. ap device_reader (sym c.in-Some.is) ∙ follow_has is_here device_reader 6 _ _ _ _ _ c.loop-n.invariant.1 c.loop-n-test.true _ _ (ap is_here c.in-Some.is) q) (line_quiet _ _ _ c.line_step-step.ensures) c.keep.ensures c.heard_device.ensures,
+  follow_set is_here device_reader 6 _ _ _ _ _ c.loop-n.invariant.1 c.loop-n-test.true _ (ap (λ (d : Device). d.receiver) c.heard_device.ensures),
 )
 
 pub offset_bounds-ds-i-in-Acts : goal.offset_bounds-ds-i-in-Acts
@@ -117,12 +106,6 @@ offset_bounds-contents-i c = omega (arith, c.loop-n-test.true, c.loop-n.invarian
 pub bounds-contents-i : goal.bounds-contents-i
 bounds-contents-i c = omega (arith, c.loop-n-test.true, c.loop-n.invariant.0.within)
 
-pub offset_bounds-ds-i-in-Acts-2 : goal.offset_bounds-ds-i-in-Acts-2
-offset_bounds-ds-i-in-Acts-2 c = omega (arith, c.loop-n-test.true, c.loop-n.invariant.0.within)
-
-pub bounds-ds-i-in-Acts-2 : goal.bounds-ds-i-in-Acts-2
-bounds-ds-i-in-Acts-2 c = omega (arith, c.loop-n-test.true, c.loop-n.invariant.0.within)
-
 pub bounds-ds_follow-i-in-Acts : goal.bounds-ds_follow-i-in-Acts
 bounds-ds_follow-i-in-Acts c = omega (arith, c.loop-n-test.true, c.loop-n.invariant.0.within)
 
@@ -143,14 +126,14 @@ bounds-ds_did-i-in-Acts c = omega (arith, c.loop-n-test.true, c.loop-n.invariant
 
 pub loop-n-preserved-in-Acts : goal.loop-n-preserved-in-Acts
 loop-n-preserved-in-Acts c = (
-  device_acted _ _ _ _ _ _ _ _ c.loop-n.invariant.0 c.loop-n-test.true c.if-slot.true _ (device_call_is c.loop-requests.t c.args.calls (c.loop-n.n - 1) _ _ c.device_call-call.ensures c.loop-requests.invariant.0.calls_six (omega (arith, c.loop-n-test.true, c.loop-n.invariant.0.within))) _ _ _ _ _ _ _ _ _ _ c.device_tick-s.ensures c.in_slot.ensures c.code.ensures c.device_did.ensures c.device_tells-told.ensures c.join-next.ensures,
+  device_acted _ _ _ _ _ _ _ _ c.loop-n.invariant.0 c.loop-n-test.true _ c.in-Some.is _ (device_call_is c.loop-requests.t c.args.calls (c.loop-n.n - 1) _ _ c.device_call-call.ensures c.loop-requests.invariant.0.calls_six (omega (arith, c.loop-n-test.true, c.loop-n.invariant.0.within))) _ _ _ _ _ _ _ _ _ c.device_tick-s.ensures c.code.ensures c.device_did.ensures c.device_tells-told.ensures c.join-next.ensures,
   follow_unset is_here device_reader 6 _ _ _ _ _ c.loop-n.invariant.1 c.loop-n-test.true _,
 )
 
 pub loop-n-preserved : goal.loop-n-preserved
 loop-n-preserved c = (
-  device_absent _ _ _ _ _ _ _ _ c.loop-n.invariant.0 c.loop-n-test.true c.if-slot.false,
-  follow_absent is_here device_reader 6 _ _ _ _ _ c.loop-n.invariant.1 c.loop-n-test.true _ c.if-slot.false,
+  device_absent _ _ _ _ _ _ _ _ c.loop-n.invariant.0 c.loop-n-test.true (no_device_in _ c.in_default.not-Some),
+  follow_absent is_here device_reader 6 _ _ _ _ _ c.loop-n.invariant.1 c.loop-n-test.true _ (ap is_here (no_device_in _ c.in_default.not-Some)),
 )
 
 pub loop-k-init : goal.loop-k-init

@@ -6,4 +6,4 @@ pub returns-then-n-lt-PIECE : goal.returns-then-n-lt-PIECE
 returns-then-n-lt-PIECE g c = end_held _ _ _ c.end_of.result c.end_of.ensures
 
 pub loop-last-smaller : goal.loop-last-smaller
-loop-last-smaller g c = room_less c.args.form c.loop-last.room c.loop-last.marks c.walk_front-walked.new.marks c.loop-last.last c.in-UpTo.tick c.walk_front-walked.result c.loop-last.invariant c.walk_front-walked.ensures c.in-UpTo.is c.loop-last-test.true
+loop-last-smaller g c = room_less c.args.form c.loop-last.room c.loop-last.marks c.walk_front.new.marks c.loop-last.last c.in-Some.tick c.walk_front.result c.loop-last.invariant c.walk_front.ensures c.in-Some.is c.loop-last-test.true

@@ -1,10 +1,6 @@
 -- What the search has found among the rows that it has looked at.
-use Rattle.std.proofs.Common.{◌-◌, length}
 use Rattle.readings.proofs.Searches.{Seeking}
 use Rattle.readings_rows.proofs.search.Given as goal
 
 abbrev pub invariant-loop-i : goal.invariant-loop-i
 invariant-loop-i l = Seeking l.rows l.k l.i l.s
-
-abbrev pub decreases-loop-i : goal.decreases-loop-i
-decreases-loop-i l = length l.rows - l.i

@@ -1,2 +1,0 @@
--- The laws by which the functions for C are proved.
-pub mod Calls

@@ -1,2 +1,0 @@
--- The laws of the exclusive-or of a part.
-pub mod Parts

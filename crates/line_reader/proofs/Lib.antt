@@ -1,2 +1,0 @@
--- The laws by which the tick reader's functions are proved.
-pub mod Steps

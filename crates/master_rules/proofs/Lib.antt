@@ -1,2 +1,0 @@
--- The laws by which these functions are proved.
-pub mod Parts

@@ -1,0 +1,9 @@
+use Rattle.std.proofs.Common.{rules, arith}
+use Rattle.player_convert.proofs.Narrowing.{narrow_more, narrow_ended}
+use Rattle.player_convert.proofs.narrow.Goals as goal
+
+pub loop-at-preserved : goal.loop-at-preserved
+loop-at-preserved c = narrow_more _ _ _ _ _ c.loop-at.invariant c.loop-at-test.true (λ i. omega (arith, c.type_inv.script i)) _ _ (omega arith) (search rules)
+
+pub returns : goal.returns
+returns c = let ended = narrow_ended _ _ _ _ _ c.loop-at.invariant c.loop-at-test.false in record { count = ended.0; bytes = ended.1 }
