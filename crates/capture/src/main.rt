@@ -96,6 +96,8 @@ fn capture_file<R: Read + Seek>(
     clock: Clock,
     file: &mut R,
 ) -> io::Result<()> {
+    // Made before the passes: where it is made between them, it is cleared twice.
+    let mut out = packets_room();
     let mut recording = Pieces {
         file,
         room: [0; PIECE],
@@ -109,7 +111,6 @@ fn capture_file<R: Read + Seek>(
     if !program_files::goes_back(recording.file) {
         return eprintln!(rt; "capture: the recording is no file that can be read twice");
     }
-    let mut out = packets_room();
     if write_header(rt, &mut out)?
         && write_packets(rt, clock, &mut recording, &mut out)?
         && program_files::is_over(recording.file)

@@ -1,3 +1,2 @@
 -- The laws by which a device's burst content and its tick are proved.
-pub mod Contents
 pub mod Ticks

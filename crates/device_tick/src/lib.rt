@@ -81,11 +81,15 @@ fn content_by(limit: u8, d: Device, command: u8, count: usize) -> Result<Device,
 }
 
 // Puts the data at the front of the lent content.
+#[tactic(auto, using(base::proofs::Choices::choices, base::proofs::Stores::storing))]
 fn put_content(bytes: &[u8], contents: &mut [u8])
     requires { (length bytes.now ≤ most_data) × (most_data ≤ length contents.old) }
     ensures { contents.new ≡ stored contents.old 0 bytes.now }
 {
-    contents[..bytes.len()].copy_from_slice(bytes);
+    // Byte by byte: copy_from_slice calls memmove here, which a program in C would have to have beside memcpy and memset.
+    for (i, byte) in bytes.iter().enumerate() {
+        contents[i] = *byte;
+    }
 }
 
 // Takes the burst content, or refuses it with 5 or 9 and leaves the lent content as it was.

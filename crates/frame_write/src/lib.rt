@@ -198,7 +198,12 @@ pub fn write(
 ) -> Result<usize, Refusal>
     ensures { WriteIs preamble h bytes.now buffer.old place result buffer.new }
 {
-    let end = answer(preamble, h, bytes.len(), buffer.len(), place)?;
-    put_frame(&mut buffer[place..], preamble, h, bytes);
-    Ok(end)
+    // A match and no `?`: the must-fail edit refused_yet_written turns what a refusal gives.
+    match answer(preamble, h, bytes.len(), buffer.len(), place) {
+        Ok(end) => {
+            put_frame(&mut buffer[place..], preamble, h, bytes);
+            Ok(end)
+        }
+        Err(why) => Err(why),
+    }
 }

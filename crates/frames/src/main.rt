@@ -84,6 +84,8 @@ fn say_unread(rt: &impl Eprint) -> io::Result<()> {
 
 // Both passes.
 fn list_file<R: Read + Seek>(rt: &(impl Print + Eprint), file: &mut R) -> io::Result<()> {
+    // Made before the passes: where it is made between them, it is cleared twice.
+    let mut out = lines_room();
     let mut recording = Pieces {
         file,
         room: [0; PIECE],
@@ -97,7 +99,6 @@ fn list_file<R: Read + Seek>(rt: &(impl Print + Eprint), file: &mut R) -> io::Re
     if !program_files::goes_back(recording.file) {
         return eprintln!(rt; "frames: the recording is no file that can be read twice");
     }
-    let mut out = lines_room();
     if print(rt, &mut recording, &mut out)? && !program_files::is_over(recording.file) {
         return say_unread(rt);
     }

@@ -345,22 +345,22 @@ pub fn master_way(
 pub fn counted_master(m: Master) -> Master
     ensures { result ≡ counted_master m }
 {
-    Master {
-        receiver: line_reader::idle_reader(),
-        timer: master_rules::count_clear(m.profile, m.timer),
-        ..m
-    }
+    master_rules::with_parts(
+        m,
+        line_reader::idle_reader(),
+        m.burst,
+        m.noted,
+        master_rules::count_clear(m.profile, m.timer),
+        m.message,
+    )
 }
 
 // A master after a character that it only hears.
 pub fn heard_master(m: Master, r: Receiver) -> Master
     ensures { result ≡ heard_master m r }
 {
-    Master {
-        receiver: r,
-        timer: master_rules::timer_of(0),
-        ..m
-    }
+    let stopped = master_rules::timer_of(0);
+    master_rules::with_parts(m, r, m.burst, m.noted, stopped, m.message)
 }
 
 // A master's tick, whose call names its data in what is put.

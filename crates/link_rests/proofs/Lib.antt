@@ -2,3 +2,4 @@
 pub mod Parts
 pub mod Resting
 pub mod RestingLink
+pub mod Timers

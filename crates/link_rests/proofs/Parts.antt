@@ -9,13 +9,10 @@ use lib.ListN.{length, take, drop, get_or, set, length-set, drop_of_length-le}
 use lib.Seq.{drop-cons, drop-set-lt, take_all, take-suc-set}
 use Rattle.std.specs.Prelude.{Option}
 use Rattle.base.specs.Choice.{when◌then◌else◌}
-use Rattle.line.specs.declared.Profile.{Profile}
-use Rattle.turns.specs.Master.{count_clear}
 use Rattle.turns.specs.declared.Device.{Device}
 use Rattle.turns.specs.declared.Master.{Master}
-use Rattle.turns.specs.declared.Timer.{Timer}
 use Rattle.link_parties.specs.Stands.{any_master}
-use Rattle.link_rests.specs.Rests.{master_rests, slot_rests, slots_rest, masters_rest, timer_rested, slot_rested}
+use Rattle.link_rests.specs.Rests.{master_rests, slot_rests, slots_rest, masters_rest, slot_rested}
 
 -- ---- who rests
 
@@ -102,22 +99,3 @@ resting_all n ss₀ ss i v h =
     ∙ v.left
 
 pub ruleset resting = (resting_none, resting_more, resting_all)
-
--- ---- the loop over a timer's ticks
-
-pub record Counting (p : Profile) (ticks : ℕ) (start t : Timer) (i : ℕ) : Type 0 where
-  pub within : i ≤ ticks
-  pub is : t ≡ timer_rested i p start
-
-pub counting_begun : (p : Profile) (ticks : ℕ) (start : Timer) → Counting p ticks start start 0
-unfolding timer_rested
-counting_begun p ticks start = record { within = omega arith; is = refl }
-
-pub counting_on : (p : Profile) (ticks : ℕ) (start t u : Timer) (i : ℕ) → Counting p ticks start t i → i < ticks → u ≡ count_clear p t → Counting p ticks start u (i + 1)
-unfolding timer_rested
-counting_on p ticks start t u i c h e = record { within = omega arith; is = e ∙ ap (count_clear p) c.is ∙ ap (λ (n : ℕ). timer_rested n p start) (sym (add-one i)) }
-
-pub counting_ended : (p : Profile) (ticks : ℕ) (start t : Timer) (i : ℕ) → Counting p ticks start t i → ticks ≤ i → t ≡ timer_rested ticks p start
-counting_ended p ticks start t i c h = let k : i ≡ ticks = omega (arith, c.within) in c.is ∙ ap (λ (n : ℕ). timer_rested n p start) k
-
-pub ruleset counting = (counting_begun, counting_on, counting_ended)

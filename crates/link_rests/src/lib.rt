@@ -1,7 +1,7 @@
 // A link that rests: the line is silent, and every party only counts. Until a host calls, nothing but timers changes. What it is after any number of ticks is worked out party by party.
 #![tactic(auto, using(base::proofs::Choices::choices))]
 
-ghost use Rattle.std.specs.Prelude.{◌≡◌, map, ◌-◌};
+ghost use Rattle.std.specs.Prelude.{◌≡◌, map, ◌-◌, ◌<◌};
 ghost use Rattle.link_rests.specs.Rests.{only_counts, device_rests, master_rests, slot_rests, slots_rest, masters_rest, link_rests};
 ghost use Rattle.link_rests.specs.Rests.{device_rested, timer_rested, master_rested, slot_rested, masters_rested, link_rested};
 
@@ -71,13 +71,33 @@ fn device_rested(d: Device, ticks: u32) -> Device
     }
 }
 
+// A timer after some silent ticks with BURST clear, and how many are left: the tick that opens a window, or those before it, or all.
+fn timer_rests(p: Profile, t: Timer, ticks: u32) -> (Timer, u32)
+    requires { 0 < ticks }
+    ensures { (result.1 < ticks) × (result.0 ≡ timer_rested (ticks - result.1) p t) }
+{
+    if t.next == 1 {
+        return (master_rules::count_clear(p, t), ticks - 1);
+    }
+    let most = if t.next == 0 { ticks } else { t.next - 1 };
+    let counted = ticks.min(most);
+    let timer = Timer {
+        next: t.next.saturating_sub(counted),
+        window: t.window.saturating_sub(counted),
+        quiet: 0,
+    };
+    (timer, ticks - counted)
+}
+
 // A timer after so many silent ticks with BURST clear.
 fn timer_rested(p: Profile, start: Timer, ticks: u32) -> Timer
     ensures { result ≡ timer_rested ticks p start }
 {
     let mut t = start;
-    for _ in 0..ticks {
-        t = master_rules::count_clear(p, t);
+    let mut left = ticks;
+    // Up to a window at once. Tick by tick, the speed of a silent link hung on where the compiler keeps the two counts.
+    while 0 < left {
+        (t, left) = timer_rests(p, t, left);
     }
     t
 }
@@ -85,11 +105,14 @@ fn timer_rested(p: Profile, start: Timer, ticks: u32) -> Timer
 fn master_rested(m: Master, ticks: u32) -> Master
     ensures { result ≡ master_rested ticks m }
 {
-    Master {
-        receiver: line_reader::idle_reader(),
-        timer: timer_rested(m.profile, m.timer, ticks),
-        ..m
-    }
+    master_rules::with_parts(
+        m,
+        line_reader::idle_reader(),
+        m.burst,
+        m.noted,
+        timer_rested(m.profile, m.timer, ticks),
+        m.message,
+    )
 }
 
 fn slot_rested(s: Option<Device>, ticks: u32) -> Option<Device>

@@ -19,14 +19,14 @@ fn after_frame(m: Master, r: Receiver, w: Whole, bytes: &[u8; 255]) -> MasterTak
         master_rules::at_frame(m, w, bytes),
     );
     MasterTaken {
-        master: Master {
-            receiver: r,
+        master: master_rules::with_parts(
+            m,
+            r,
             burst,
-            noted: master_rules::noted_after(m.noted, w.header),
-            timer: master_rules::timer_after(m, burst, w.header),
-            message: ending.message,
-            ..m
-        },
+            master_rules::noted_after(m.noted, w.header),
+            master_rules::timer_after(m, burst, w.header),
+            ending.message,
+        ),
         told: ending.told,
         event: Event::Frame(w),
     }
@@ -38,12 +38,14 @@ pub fn after_break(m: Master, r: Receiver, event: Event) -> MasterTaken
 {
     let ending = master_rules::if_awaiting(m.message.stage, m.message, master_rules::at_break(m));
     MasterTaken {
-        master: Master {
-            receiver: r,
-            timer: master_rules::broken_timer(m),
-            message: ending.message,
-            ..m
-        },
+        master: master_rules::with_parts(
+            m,
+            r,
+            m.burst,
+            m.noted,
+            master_rules::broken_timer(m),
+            ending.message,
+        ),
         told: ending.told,
         event,
     }
@@ -53,11 +55,8 @@ pub fn after_break(m: Master, r: Receiver, event: Event) -> MasterTaken
 fn inside_frame(m: Master, r: Receiver) -> MasterTaken
     ensures { result ≡ frame_goes_on m r }
 {
-    tells_nothing(Master {
-        receiver: r,
-        timer: master_rules::timer_of(0),
-        ..m
-    })
+    let stopped = master_rules::timer_of(0);
+    tells_nothing(master_rules::with_parts(m, r, m.burst, m.noted, stopped, m.message))
 }
 
 // After a character, by what the reader tells.
@@ -129,12 +128,14 @@ fn count(m: Master, told: MasterTold, event: Event) -> MasterTaken
 {
     let ending = counted_message(m, told);
     MasterTaken {
-        master: Master {
-            burst: master_rules::burst_counted(m),
-            timer: counted_timer(m, ending.message.stage),
-            message: ending.message,
-            ..m
-        },
+        master: master_rules::with_parts(
+            m,
+            m.receiver,
+            master_rules::burst_counted(m),
+            m.noted,
+            counted_timer(m, ending.message.stage),
+            ending.message,
+        ),
         told: ending.told,
         event,
     }
@@ -169,11 +170,14 @@ fn passed_over(m: Master) -> MasterTaken
 fn timer_ticked(m: Master) -> Master
     ensures { result ≡ timer_ticked m }
 {
-    Master {
-        burst: master_rules::burst_counted(m),
-        timer: master_rules::timer_counted(m),
-        ..m
-    }
+    master_rules::with_parts(
+        m,
+        m.receiver,
+        master_rules::burst_counted(m),
+        m.noted,
+        master_rules::timer_counted(m),
+        m.message,
+    )
 }
 
 // The second silent tick in a row breaks the frame, and both count.

@@ -108,8 +108,8 @@ pub fn count_clear(p: Profile, t: Timer) -> Timer
         open_window(p)
     } else {
         Timer {
-            next: t.next.saturating_sub(1),
-            window: t.window.saturating_sub(1),
+            next: party::one_less(t.next),
+            window: party::one_less(t.window),
             quiet: 0,
         }
     }
@@ -119,7 +119,7 @@ pub fn count_clear(p: Profile, t: Timer) -> Timer
 fn count_burst(p: Profile, t: Timer) -> Timer
     ensures { result ≡ count_burst p t }
 {
-    let quiet = t.quiet.saturating_sub(1);
+    let quiet = party::one_less(t.quiet);
     if t.next == 1 {
         Timer {
             next: 0,
@@ -128,8 +128,8 @@ fn count_burst(p: Profile, t: Timer) -> Timer
         }
     } else {
         Timer {
-            next: t.next.saturating_sub(1),
-            window: t.window.saturating_sub(1),
+            next: party::one_less(t.next),
+            window: party::one_less(t.window),
             quiet,
         }
     }

@@ -324,7 +324,8 @@ fn behind_tick(p: Progress, taken: Taken, held: usize) -> Progress
     ensures { result ≡ progress_behind p taken held }
 {
     Progress {
-        receiver: taken.receiver,
+        // Field by field: copied as a block, the reader stays in memory, and each tick takes longer.
+        receiver: line_reader::copy_receiver(taken.receiver),
         tick: p.tick.wrapping_add(1),
         number: number_after(taken.event, p.number),
         held: held_behind(taken.receiver.place, held),

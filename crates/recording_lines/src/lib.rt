@@ -149,7 +149,8 @@ fn tick(p: Progress, first: u8, c: u8, bytes: &mut [u8; 255], out: &mut [u8], at
     let taken = hear(p.receiver, first, c, bytes);
     Printed {
         progress: Progress {
-            receiver: taken.receiver,
+            // Field by field: copied as a block, the reader stays in memory, and each tick takes longer.
+            receiver: line_reader::copy_receiver(taken.receiver),
             tick: next_tick(p.tick),
             first: begun,
         },
@@ -180,7 +181,14 @@ pub fn lines(p: Progress, piece: &[u8], bytes: &mut [u8; 255], out: &mut [u8]) -
 fn is_refused(first: u8, c: u8) -> bool
     ensures { result ≡ tick_refused first c }
 {
-    first % 32 != 0 || 4 < first / 32 || first / 32 == 0 && c != 0
+    // One after the other: as one condition it looks at both bytes of each tick.
+    if first % 32 != 0 || 4 < first / 32 {
+        true
+    } else if first / 32 == 0 {
+        c != 0
+    } else {
+        false
+    }
 }
 
 // The first bad tick.

@@ -1,8 +1,7 @@
-use Rattle.std.proofs.Common.{◌≤◌, length, arith}
-use Rattle.device_tick.proofs.Contents.{stored_at_front}
+use Rattle.std.proofs.Common.{length, slice_index_or}
+use mathlib.Core.Path.{refl}
+use Rattle.base.proofs.Stores.{storing_more}
 use Rattle.device_tick.proofs.put_content.Goals as goal
 
-pub returns : goal.returns
-returns c =
-    let room : length c.args.bytes.now ≤ length c.args.contents.now = omega arith in
-    stored_at_front c.args.contents.now c.args.bytes.now c.copy_from_slice.new.self room c.copy_from_slice.ensures.after
+pub loop-i-preserved : goal.loop-i-preserved
+loop-i-preserved c = storing_more c.args.contents.now c.args.bytes.now (length c.args.bytes.now) c.loop-i.contents c.loop-i.i (slice_index_or c.args.bytes.now c.loop-i.i 0) c.loop-i.invariant c.loop-i-test.true refl
